@@ -1,0 +1,4 @@
+pub mod GroupLemmas
+pub mod NormalLemmas
+pub mod PathLemmas
+pub mod SearchLemmas

@@ -1,0 +1,6 @@
+pub mod Component
+pub mod Hash
+pub mod Home
+pub mod Normal
+pub mod Path
+pub mod Search

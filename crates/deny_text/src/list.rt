@@ -1,0 +1,61 @@
+//! Lists that contracts see as lists.
+ghost use Rattle.std.specs.Prelude.{◌≡◌, List, [], ◌∷◌, ◌++◌, OnOk, OnErr};
+
+use crate::text::Text;
+use std::alloc::{AllocError, Global};
+use std::marker::Model;
+
+/// A growing list. It keeps the allocator that it was made with.
+#[derive(Drop)]
+pub struct ListOf<T> {
+    inner: Vec<T>,
+}
+
+/// A list of bytes.
+pub type Bytes = ListOf<u8>;
+
+/// A list of texts.
+pub type Texts = ListOf<Text>;
+
+impl<T> Model for ListOf<T> {
+    ghost Value = { List T };
+
+    ghost view = { λ l. l.inner.items };
+}
+
+impl<T> ListOf<T> {
+    /// The empty list, which takes no memory.
+    pub fn new(alloc: Global) -> ListOf<T>
+        ensures { result ≡ [] }
+    {
+        ListOf {
+            inner: Vec::new(alloc),
+        }
+    }
+
+    /// Appends an item. An item that finds no room is dropped.
+    pub fn push(&mut self, item: T) -> Result<(), AllocError>
+    where
+        T: Drop,
+        ensures ok { OnOk result (self.new ≡ self.old ++ item ∷ []) }
+        ensures err { OnErr result (self.new ≡ self.old) }
+    {
+        self.inner.push(item)?;
+        Ok(())
+    }
+
+    /// The items in order.
+    pub fn items(&self) -> &[T]
+        ensures { result.now ≡ self.now }
+    {
+        &self.inner
+    }
+}
+
+impl<T> From<Vec<T>> for ListOf<T> {
+    ghost from_gives = { λ items list. list ≡ items.items };
+
+    fn from(inner: Vec<T>) -> ListOf<T> {
+        ListOf { inner }
+    }
+}
