@@ -1,0 +1,132 @@
+-- What stands right in a folder, and that its names rise.
+use Rattle.std.proofs.Common.{◌≡◌, ◌≢◌, ℕ, Bool, true, false, cond, T, List, [], ◌∷◌, ◌++◌, map, Option, Some, None, refl, sym, ap, ◌∙◌, subst, append_assoc, append-nil, ◌&&◌}
+use Rattle.std.specs.Ordering.{nat_cmp, is_lt, ordering_then}
+use Rattle.std.specs.declared.cmp.Ordering.{Ordering}
+use Rattle.std.specs.declared.cmp.Ordering.TheVariants.{Less, Equal, Greater}
+use Rattle.std.specs.Cmp.{tied_itself}
+use Rattle.std.specs.Cmp.Lexicographic.{slice_cmp, nat_list_cmp_total}
+use Rattle.std.specs.List.{filter_map, cons_option, AllByRecursion}
+use Rattle.std.specs.List.Sorted.{IsStrictlySortedBy, IsSorted}
+use Rattle.std.specs.Option.{option_to_list}
+use Rattle.std.specs.Str.{bytes_eq}
+use Rattle.std.specs.FinMap as finite
+use Rattle.std.specs.FinMap.{entries-from_sorted}
+use Rattle.std.specs.FinMap.Entries.{below_all}
+use Rattle.std.proofs.lemmas.Slice.Eq.{bytes_eq-Decides}
+use Rattle.tree_core.specs.Answer.{listed, IsInNameOrder}
+use Rattle.tree_core.specs.Content.{Place, Node, Listed, folder, is_file, place_cmp, entry_in, entries_in}
+use Rattle.tree_core.specs.Stored.{entry_of, with_root, content_of}
+use Rattle.tree_core.specs.declared.nodes.Stored.{Stored}
+use Rattle.tree_core.specs.declared.tree.Entry.{Entry}
+use Rattle.tree_core.proofs.NameOrderLemmas.{names_of, IsInNameOrder-names_of, IsSorted-strictly}
+
+bytes_eq-itself : (xs : List ℕ) → bytes_eq xs xs ≡ true
+bytes_eq-itself xs = (bytes_eq-Decides xs xs).1 refl
+
+pub entry_in-there : (above : Place) (name : List ℕ) (node : Node) → entry_in above (above ++ name ∷ []) node ≡ Some (name, is_file node)
+entry_in-there [] name node = refl
+entry_in-there (at ∷ above) name node = rw (bytes_eq-itself at) (entry_in-there above name node)
+
+-- only what stands right in a folder is an entry of it
+pub entry_in-is : (above place : Place) (node : Node) (entry : Listed) → entry_in above place node ≡ Some entry → place ≡ above ++ entry.0 ∷ []
+entry_in-is [] [] node entry e = cc
+entry_in-is [] (name ∷ []) node entry e = let same : (name, is_file node) ≡ entry = cc in ap (λ (l : Listed). l.0 ∷ []) same
+entry_in-is [] (name ∷ below ∷ rest) node entry e = cc
+entry_in-is (at ∷ above) [] node entry e = cc
+entry_in-is (at ∷ above) (name ∷ rest) node entry e =
+    elim (bytes_eq at name) as (λ b. bytes_eq at name ≡ b → cond b (entry_in above rest node) None ≡ Some entry → name ∷ rest ≡ at ∷ (above ++ entry.0 ∷ [])) [
+      | true ↦ λ same there.
+          let name_is : at ≡ name = (bytes_eq-Decides at name).0 same in
+          let rest_is : rest ≡ above ++ entry.0 ∷ [] = entry_in-is above rest node entry there in cc
+      | false ↦ λ _ there. cc
+    ] refl e
+
+pub entry_in-elsewhere : (above place : Place) (node : Node) → ((name : List ℕ) → place ≢ above ++ name ∷ []) → entry_in above place node ≡ None
+entry_in-elsewhere above place node nowhere =
+    elim (entry_in above place node) as (λ (o : Option Listed). entry_in above place node ≡ o → entry_in above place node ≡ None) [
+      | None ↦ λ e. e
+      | Some entry ↦ λ e. absurd (nowhere entry.0 (entry_in-is above place node entry e))
+    ] refl
+
+-- one more item of a list that is filtered
+pub filter_map-step : {X Y : Type 0} (f : X → Option Y) (done : List Y) (x : X) (rest : List X) → (done ++ option_to_list (f x)) ++ filter_map f rest ≡ done ++ filter_map f (x ∷ rest)
+filter_map-step f done x rest =
+    elim (f x) as (λ o. (done ++ option_to_list o) ++ filter_map f rest ≡ done ++ cons_option o (filter_map f rest)) [
+      | None ↦ ap (λ front. front ++ filter_map f rest) (append-nil done)
+      | Some y ↦ append_assoc done (y ∷ []) (filter_map f rest)
+    ]
+
+-- the entries of a folder, among those of the tree
+abbrev pub listing_of : Place → List (Place × Stored) → List Listed
+listing_of above entries = filter_map (λ e. entry_in above e.0 e.1) (map entry_of entries)
+
+root_nowhere : (above : Place) (node : Node) (rest : List Listed) → cons_option (entry_in above [] node) rest ≡ rest
+root_nowhere [] node rest = refl
+root_nowhere (at ∷ above) node rest = refl
+
+pub entries_in-content_of : (above : Place) (entries : List (Place × Stored)) → T (finite.is_sorted place_cmp (with_root entries)) → entries_in (content_of entries) above ≡ listing_of above entries
+entries_in-content_of above entries ordered =
+    ap (filter_map (λ e. entry_in above e.0 e.1)) (entries-from_sorted place_cmp (with_root entries) ordered) ∙ root_nowhere above folder (listing_of above entries)
+
+then_equal : (o : Ordering) → ordering_then o Equal ≡ o
+then_equal Less = refl
+then_equal Equal = refl
+then_equal Greater = refl
+
+-- what stands in one folder is ordered by its names
+place_cmp-siblings : (above : Place) (a b : List ℕ) → place_cmp (above ++ a ∷ []) (above ++ b ∷ []) ≡ slice_cmp nat_cmp a b
+place_cmp-siblings [] a b = then_equal (slice_cmp nat_cmp a b)
+place_cmp-siblings (at ∷ above) a b =
+    ap (λ o. ordering_then o (place_cmp (above ++ a ∷ []) (above ++ b ∷ []))) (tied_itself nat_list_cmp_total at) ∙ place_cmp-siblings above a b
+
+is_lt_less : (o : Ordering) → T (is_lt o) → o ≡ Less
+is_lt_less Less t = refl
+is_lt_less Equal t = absurd t
+is_lt_less Greater t = absurd t
+
+first_part : (a b : Bool) → T (a && b) → T a
+first_part true b t = tt
+first_part false b t = absurd t
+
+second_part : (a b : Bool) → T (a && b) → T b
+second_part true b t = t
+second_part false b t = absurd t
+
+names_above : (above : Place) (name : List ℕ) (entries : List (Place × Node)) → T (below_all place_cmp (above ++ name ∷ []) entries) → AllByRecursion (λ other. slice_cmp nat_cmp name other ≡ Less) (map (λ (l : Listed). l.0) (filter_map (λ e. entry_in above e.0 e.1) entries))
+names_above above name [] below = tt
+names_above above name (e ∷ es) below =
+    let rest = names_above above name es (second_part _ _ below) in
+    elim (entry_in above e.0 e.1) as (λ (o : Option Listed). entry_in above e.0 e.1 ≡ o → AllByRecursion (λ other. slice_cmp nat_cmp name other ≡ Less) (map (λ (l : Listed). l.0) (cons_option o (filter_map (λ e. entry_in above e.0 e.1) es)))) [
+      | None ↦ λ _. rest
+      | Some entry ↦ λ there.
+          let here : place_cmp (above ++ name ∷ []) e.0 ≡ Less = is_lt_less _ (first_part _ _ below) in
+          let is : e.0 ≡ above ++ entry.0 ∷ [] = entry_in-is above e.0 e.1 entry there in
+          let less : slice_cmp nat_cmp name entry.0 ≡ Less = sym (place_cmp-siblings above name entry.0) ∙ ap (place_cmp (above ++ name ∷ [])) (sym is) ∙ here in
+          (less, rest)
+    ] refl
+
+names_rise : (above : Place) (entries : List (Place × Node)) → T (finite.is_sorted place_cmp entries) → IsStrictlySortedBy (slice_cmp nat_cmp) (map (λ (l : Listed). l.0) (filter_map (λ e. entry_in above e.0 e.1) entries))
+unfolding IsStrictlySortedBy
+names_rise above [] ordered = tt
+names_rise above (e ∷ es) ordered =
+    let rest = names_rise above es (second_part _ _ ordered) in
+    elim (entry_in above e.0 e.1) as (λ (o : Option Listed). entry_in above e.0 e.1 ≡ o → IsStrictlySortedBy (slice_cmp nat_cmp) (map (λ (l : Listed). l.0) (cons_option o (filter_map (λ e. entry_in above e.0 e.1) es)))) [
+      | None ↦ λ _. rest
+      | Some entry ↦ λ there.
+          let is : e.0 ≡ above ++ entry.0 ∷ [] = entry_in-is above e.0 e.1 entry there in
+          (names_above above entry.0 es (subst (λ (p : Place). T (below_all place_cmp p es)) is (first_part _ _ ordered)), rest)
+    ] refl
+
+names_of_listed : (entries : List Entry) → map (λ (l : Listed). l.0) (map listed entries) ≡ names_of entries
+names_of_listed [] = refl
+names_of_listed (e ∷ es) = ap (λ rest. e.name ∷ rest) (names_of_listed es)
+
+pub IsInNameOrder-listing_of : (above : Place) (stored : List (Place × Stored)) (entries : List Entry) → T (finite.is_sorted place_cmp (with_root stored)) → map listed entries ≡ listing_of above stored → IsInNameOrder entries
+IsInNameOrder-listing_of above stored entries ordered is =
+    let names_are : map (λ (l : Listed). l.0) (listing_of above stored) ≡ names_of entries = ap (map (λ (l : Listed). l.0)) (sym is) ∙ names_of_listed entries in
+    let rise : IsStrictlySortedBy (slice_cmp nat_cmp) (map (λ (l : Listed). l.0) (listing_of above stored)) = names_rise above (map entry_of stored) (second_part _ _ ordered) in
+    IsInNameOrder-names_of entries (subst (λ (ns : List (List ℕ)). IsSorted (slice_cmp nat_cmp) ns) names_are (IsSorted-strictly _ rise))
+
+pub map_listed-push : (entries : List Entry) (entry : Entry) → map listed (entries ++ entry ∷ []) ≡ map listed entries ++ listed entry ∷ []
+map_listed-push [] entry = refl
+map_listed-push (e ∷ es) entry = ap (λ rest. listed e ∷ rest) (map_listed-push es entry)

@@ -1,0 +1,30 @@
+-- Entries in order of their names.
+use Rattle.std.proofs.Common.{◌≡◌, ℕ, ◌+◌, ◌<◌, false, List, length, get_or, map, ap, ◌∙◌, arith}
+use Rattle.std.specs.Ordering.{nat_cmp, is_lt, ordering_reverse}
+use Rattle.std.specs.declared.cmp.Ordering.TheVariants.{Less}
+use Rattle.std.specs.Cmp.Lexicographic.{slice_cmp, nat_list_cmp_total}
+use Rattle.std.specs.List.Sorted.{IsStrictlySortedBy, IsSorted}
+use Rattle.std.proofs.lemmas.List.{get_or-map, length-map}
+use Rattle.std.proofs.lemmas.Map.Keys.{Less-from_sorted}
+use Rattle.tree_core.specs.Answer.{IsInNameOrder}
+use Rattle.tree_core.specs.declared.tree.Entry.{Entry}
+
+abbrev pub names_of : List Entry → List (List ℕ)
+names_of = map (λ (e : Entry). e.name)
+
+pub IsInNameOrder-names_of : (entries : List Entry) → IsSorted (slice_cmp nat_cmp) (names_of entries) → IsInNameOrder entries
+IsInNameOrder-names_of entries sorted =
+    λ k d low inside.
+    let more : k + 1 < length (names_of entries) = omega (arith, length-map entries (λ (e : Entry). e.name)) in
+    let first : get_or (names_of entries) k d.name ≡ (get_or entries k d).name = get_or-map (λ (e : Entry). e.name) entries k d d.name (omega arith) in
+    let second : get_or (names_of entries) (k + 1) d.name ≡ (get_or entries (k + 1) d).name = get_or-map (λ (e : Entry). e.name) entries (k + 1) d d.name inside in
+    let here : is_lt (slice_cmp nat_cmp (get_or (names_of entries) (k + 1) d.name) (get_or (names_of entries) k d.name)) ≡ false = sorted k d.name low more in
+    rw (first, second) at here
+
+not_lt_back : (a b : List ℕ) → slice_cmp nat_cmp a b ≡ Less → is_lt (slice_cmp nat_cmp b a) ≡ false
+not_lt_back a b less = ap is_lt (nat_list_cmp_total.antisymm b a ∙ ap ordering_reverse less)
+
+-- names that strictly rise are in order
+pub IsSorted-strictly : (names : List (List ℕ)) → IsStrictlySortedBy (slice_cmp nat_cmp) names → IsSorted (slice_cmp nat_cmp) names
+IsSorted-strictly names rise =
+    λ k d low inside. not_lt_back (get_or names k d) (get_or names (k + 1) d) (Less-from_sorted (slice_cmp nat_cmp) names k (k + 1) d rise (omega arith) inside)

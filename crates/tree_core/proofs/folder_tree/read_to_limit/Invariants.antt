@@ -1,0 +1,7 @@
+use Rattle.std.proofs.Common.{◌≤◌, vec_len}
+use Rattle.std.specs.Io.KnownBytes.{Consumes}
+use Rattle.tree_core.proofs.folder_tree.read_to_limit.Given as goal
+
+-- the bytes so far are within the limit, and are those that the reader has lost
+abbrev pub invariant-pieces : goal.invariant-pieces
+invariant-pieces g l = (vec_len l.bytes ≤ l.limit) × Consumes (g.F.Read.remaining l.initial.file) (g.F.Read.remaining l.file) l.bytes.items

@@ -1,0 +1,7 @@
+pub mod Answer
+pub mod Content
+pub mod Faults
+pub mod Found
+pub mod SinkState
+pub mod Stored
+pub mod TreeState

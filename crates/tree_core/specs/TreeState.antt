@@ -1,0 +1,70 @@
+-- A tree in memory.
+use Rattle.std.specs.Prelude.{◌≡◌, ℕ, ◌+◌, ◌-◌, ◌<◌, ◌==◌, Bool, List, [], ◌∷◌, map, Option, Some, None, length, take, if◌then◌else◌, refl}
+use Rattle.std.specs.Coded.{Coded, code_by, coded×, coded_ℕ, coded_list, coded_option}
+use Rattle.std.specs.List.{list_any}
+use Rattle.std.specs.FinMap as map
+use Rattle.tree_core.specs.Content.{Content, Place, Node, file, folder}
+use Rattle.tree_core.specs.Faults.{counted}
+
+-- what it holds, how often it failed, and which of its calls will fail, counted from 1 at the next (0 is a call gone by)
+pub record TreeState : Type 0 where
+  pub content : Content
+  pub faults : ℕ
+  pub failing : List ℕ
+
+abbrev pub bytes_of : Node → Option (List ℕ)
+bytes_of (file bytes) = Some bytes
+bytes_of folder = None
+
+abbrev pub node_from : Option (List ℕ) → Node
+node_from (Some bytes) = file bytes
+node_from None = folder
+
+pub node_from-bytes_of : (node : Node) → node_from (bytes_of node) ≡ node
+node_from-bytes_of (file bytes) = refl
+node_from-bytes_of folder = refl
+
+-- a node is stored as the bytes of a file, if it is one
+abbrev pub node_code : Coded Node
+node_code = code_by (Option (List ℕ)) (coded_option (coded_list coded_ℕ)) bytes_of node_from node_from-bytes_of
+
+-- a state is stored as the pairs of its fields
+abbrev pub state_code : Coded TreeState
+state_code =
+    code_by (Content × (ℕ × List ℕ)) (coded× (map.code (coded_list (coded_list coded_ℕ)) node_code) (coded× coded_ℕ (coded_list coded_ℕ)))
+    (λ s. (s.content, (s.faults, s.failing))) (λ p. record { content = p.0; faults = p.1.0; failing = p.1.1 }) (λ _. refl)
+
+-- the root folder alone
+abbrev pub root_alone : Content
+root_alone = map.from_entries (([], folder) ∷ [])
+
+-- whether the next call is one of those that will fail
+abbrev pub fails_next : TreeState → Bool
+fails_next state = list_any (λ n. n == 1) state.failing
+
+-- what a call leaves: the same content, a call less to wait for each that will fail, and a failure counted
+abbrev pub after_call : TreeState → TreeState
+after_call state = record {
+  content = state.content;
+  faults = if fails_next state then counted state.faults else state.faults;
+  failing = map (λ n. n - 1) state.failing;
+}
+
+-- the first names of a place, or all of them
+abbrev pub IsFront : Place → Place → Type 0
+IsFront front place = take (length front) place ≡ front
+
+-- nothing can be put there: a folder stands there, or a file stands above it
+pub data Clashes (content : Content) (place : Place) : Type 0 where
+  at_folder : map.get content place ≡ Some folder → Clashes content place
+  below_file : (above : Place) (bytes : List ℕ) → IsFront above place → length above < length place → map.get content above ≡ Some (file bytes) → Clashes content place
+
+-- the node stands there, and what stands above it are folders; all else is as it was
+pub record Puts (old new : Content) (place : Place) (node : Node) : Type 0 where
+  pub there : map.get new place ≡ Some node
+  pub above : (front : Place) → IsFront front place → length front < length place → map.get new front ≡ Some folder
+  pub others : (other : Place) → ¬ (IsFront other place) → map.get new other ≡ map.get old other
+
+-- what stands above a place, but not right above it, stands in folders
+pub record IsClosedAbove (content : Content) (place : Place) : Type 0 where
+  pub folders : (count : ℕ) (node : Node) → count + 1 < length place → map.get content (take (count + 1) place) ≡ Some node → map.get content (take count place) ≡ Some folder

@@ -1,0 +1,191 @@
+//! A tree in memory.
+ghost use Rattle.std.specs.Prelude.{◌≡◌, ℕ, ◌↔◌, ◌≤◌, ◌<◌, ◌++◌, [], ◌∷◌, Some, None, Ok, IsTrue, IfOk, OnOk, OnErr, map, if◌then◌else◌};
+ghost use Rattle.tree_core.specs.Content.{Content, IsRooted, entries_in, file, node_at, resolve};
+ghost use Rattle.tree_core.specs.Answer.{ReadAnswers, ListAnswers, FileAnswers, ExistsAnswers, FailsOrLacksMemory, IsInNameOrder, listed};
+ghost use Rattle.tree_core.specs.Faults.{HasCause};
+ghost use Rattle.tree_core.specs.Found.{found_node};
+ghost use Rattle.tree_core.specs.TreeState.{root_alone, fails_next, after_call, Clashes, Puts};
+
+use crate::nodes::{Found, Nodes, PutError, Stored, entries_at, find, put_at};
+use crate::place::Place;
+use crate::tree::{Entries, Tree, TreeError};
+use deny_text::Bytes;
+use std::alloc::{AllocError, Global};
+use std::collections::BTreeMap;
+use std::marker::Model;
+
+/// A tree in memory, which tells its content. Calls of it can be named to fail.
+#[derive(Drop)]
+pub struct MemTree {
+    alloc: Global,
+    nodes: Nodes,
+    waits: Vec<u64>,
+    failed: u64,
+}
+
+impl Model for MemTree {
+    ghost use Rattle.std.specs.Prelude.{ℕ};
+    ghost use Rattle.tree_core.specs.TreeState.{TreeState, state_code};
+
+    ghost Value = { TreeState };
+
+    ghost coded = { state_code };
+
+    ghost use Rattle.tree_core.specs.Stored.{content_of, IsSound};
+
+    ghost view = { λ t. record { content = content_of t.nodes.entries; faults = t.failed; failing = t.waits.items } };
+
+    ghost invariant = { λ t. IsSound t.nodes.entries };
+}
+
+impl MemTree {
+    /// The root folder alone. It takes no memory.
+    pub fn new(alloc: Global) -> MemTree
+        ensures content { result.content ≡ root_alone }
+        ensures rooted { IsRooted result.content }
+        ensures no_faults { result.faults ≡ 0 }
+        ensures no_failing { result.failing ≡ [] }
+    {
+        MemTree {
+            alloc,
+            nodes: BTreeMap::new(alloc),
+            waits: Vec::new(alloc),
+            failed: 0,
+        }
+    }
+
+    /// Names the `n`-th call of the four from now, counted from 1, to fail.
+    pub fn fail_call(&mut self, n: u64) -> Result<(), AllocError>
+        requires { 1 ≤ n }
+        ensures ok { OnOk result (self.new ≡ record self.old { failing = self.old.failing ++ n ∷ [] }) }
+        ensures err { OnErr result (self.new ≡ self.old) }
+    {
+        self.waits.push(n)?;
+        Ok(())
+    }
+
+    /// Puts a file, in place of one that stands there. The parents that are missing become folders.
+    pub fn put(&mut self, path: &str, bytes: &[u8]) -> Result<(), PutError>
+        ensures ok { OnOk result (Puts self.old.content self.new.content (resolve path.now) (file bytes.now)) }
+        ensures ok_only { OnOk result (¬ (Clashes self.old.content (resolve path.now))) }
+        ensures clash_only { result ≡ Err PutError.Clash → Clashes self.old.content (resolve path.now) }
+        ensures err { OnErr result (self.new ≡ self.old) }
+
+        ensures rooted { IsRooted self.new.content }
+        ensures same_faults { self.new.faults ≡ self.old.faults }
+        ensures same_failing { self.new.failing ≡ self.old.failing }
+    {
+        let place = Place::resolve(self.alloc, path)?;
+        let copy = Vec::from_slice(self.alloc, bytes)?;
+        let node = Stored::File(Bytes::from(copy));
+        put_at(&mut self.nodes, self.alloc, &place, node)
+    }
+
+    /// Begins a call of the four: counts the waits down, and fails where the call was named.
+    fn start_call(&mut self) -> Result<(), TreeError>
+        ensures cause { HasCause self.old.faults self.new.faults result }
+        ensures answer { result ≡ (if fails_next self.old then Err TreeError.Failed else Ok tt) }
+        ensures after { self.new ≡ after_call self.old }
+    {
+        let fails = self.waits.contains(&1);
+        'waits: for wait in self.waits.iter_mut() {
+            *wait = wait.saturating_sub(1);
+        }
+        if fails {
+            self.failed = self.failed.saturating_add(1);
+            return Err(TreeError::Failed);
+        }
+        Ok(())
+    }
+
+    /// What stands at a path.
+    fn look(&self, alloc: Global, path: &str) -> Result<Found<'_>, AllocError>
+        ensures { IfOk result (λ found. found_node found ≡ node_at self.now.content path.now) }
+    {
+        let place = Place::resolve(alloc, path)?;
+        Ok(find(&self.nodes, &place))
+    }
+
+    /// What stands right in the folder at a path.
+    fn entries(&self, alloc: Global, path: &str) -> Result<Entries, AllocError>
+        ensures answer { IfOk result (λ entries. map listed entries ≡ entries_in self.now.content (resolve path.now)) }
+        ensures ordered { IfOk result IsInNameOrder }
+    {
+        let place = Place::resolve(alloc, path)?;
+        let entries = entries_at(&self.nodes, alloc, &place)?;
+        Ok(entries)
+    }
+}
+
+impl Tree for MemTree {
+    ghost content = { λ t. Some t.content };
+
+    ghost fault_count = { λ t. t.faults };
+
+    fn read(&mut self, alloc: Global, path: &str) -> Result<Bytes, TreeError>
+        ensures answer { ReadAnswers (node_at self.old.content path.now) result }
+        ensures cause { HasCause self.old.faults self.new.faults result }
+        ensures fails { (result ≡ Err TreeError.Failed) ↔ IsTrue (fails_next self.old) }
+        ensures after { self.new ≡ after_call self.old }
+    {
+        self.start_call()?;
+        match self.look(alloc, path)? {
+            Found::Nothing => Err(TreeError::Absent),
+            Found::Folder => Err(TreeError::WrongKind),
+            Found::File(bytes) => {
+                let copy = Vec::from_slice(alloc, bytes.items())?;
+                Ok(Bytes::from(copy))
+            }
+        }
+    }
+
+    fn list(&mut self, alloc: Global, path: &str) -> Result<Entries, TreeError>
+        ensures answer { ListAnswers self.old.content path.now result }
+        ensures ordered { IfOk result IsInNameOrder }
+        ensures cause { HasCause self.old.faults self.new.faults result }
+        ensures fails { (result ≡ Err TreeError.Failed) ↔ IsTrue (fails_next self.old) }
+        ensures after { self.new ≡ after_call self.old }
+    {
+        self.start_call()?;
+        match self.look(alloc, path)? {
+            Found::Nothing => Err(TreeError::Absent),
+            Found::File(_) => Err(TreeError::WrongKind),
+            Found::Folder => {
+                let entries = self.entries(alloc, path)?;
+                Ok(entries)
+            }
+        }
+    }
+
+    fn is_file(&mut self, alloc: Global, path: &str) -> Result<bool, TreeError>
+        ensures answer { FileAnswers (node_at self.old.content path.now) result }
+        ensures refusal { FailsOrLacksMemory result }
+        ensures cause { HasCause self.old.faults self.new.faults result }
+        ensures fails { (result ≡ Err TreeError.Failed) ↔ IsTrue (fails_next self.old) }
+        ensures after { self.new ≡ after_call self.old }
+    {
+        self.start_call()?;
+        match self.look(alloc, path)? {
+            Found::File(_) => Ok(true),
+            Found::Nothing | Found::Folder => Ok(false),
+        }
+    }
+
+    fn exists(&mut self, alloc: Global, path: &str) -> Result<bool, TreeError>
+        ensures answer { ExistsAnswers (node_at self.old.content path.now) result }
+        ensures refusal { FailsOrLacksMemory result }
+        ensures cause { HasCause self.old.faults self.new.faults result }
+        ensures fails { (result ≡ Err TreeError.Failed) ↔ IsTrue (fails_next self.old) }
+        ensures after { self.new ≡ after_call self.old }
+    {
+        self.start_call()?;
+        match self.look(alloc, path)? {
+            Found::Nothing => Ok(false),
+            Found::File(_) | Found::Folder => Ok(true),
+        }
+    }
+
+    fn faults(&self) -> u64 {
+        self.failed
+    }
+}

@@ -1,0 +1,166 @@
+//! What a tree in memory stores.
+ghost use Rattle.std.specs.Prelude.{◌≡◌, ◌++◌, None, IfOk, OnOk, OnErr, T, map};
+ghost use Rattle.std.specs.Option.{option_to_list};
+ghost use Rattle.std.specs.FinMap as finite;
+ghost use Rattle.tree_core.specs.Content.{entries_in, entry_in, place_cmp};
+ghost use Rattle.tree_core.specs.Answer.{IsInNameOrder, listed};
+ghost use Rattle.tree_core.specs.Stored.{IsSound, content_of, node_of, stored_at, with_root};
+ghost use Rattle.tree_core.specs.Found.{found_node};
+ghost use Rattle.tree_core.specs.TreeState.{Clashes, IsClosedAbove, Puts};
+
+use crate::place::Place;
+use crate::tree::{Entries, Entry};
+use deny_text::{Bytes, Text};
+use std::alloc::{AllocError, Global};
+use std::collections::BTreeMap;
+use thiserror::Error;
+
+/// Why a file was not put.
+#[derive(Clone, Copy, Debug, PartialEq, Eq, Error)]
+pub enum PutError {
+    /// A folder stands there, or a file where a parent belongs.
+    #[error("a file or a folder is in the way")]
+    Clash,
+    #[error("out of memory")]
+    Memory,
+}
+
+impl From<AllocError> for PutError {
+    ghost use Rattle.tree_core.specs.declared.nodes.PutError.TheVariants.{Memory};
+
+    ghost from_gives = { λ _ e. e ≡ Memory };
+
+    fn from(_: AllocError) -> PutError {
+        PutError::Memory
+    }
+}
+
+/// What stands at a place below the root.
+#[derive(Drop)]
+pub enum Stored {
+    File(Bytes),
+    Folder,
+}
+
+impl Stored {
+    ghost use Rattle.tree_core.specs.Content.{is_file};
+    ghost use Rattle.tree_core.specs.Stored.{node_of};
+
+    fn is_file(&self) -> bool
+        ensures { result ≡ is_file (node_of self.now) }
+    {
+        matches!(self, Stored::File(_))
+    }
+}
+
+/// The nodes below the root, by their places.
+pub type Nodes = BTreeMap<Place, Stored>;
+
+/// What a look-up finds.
+pub enum Found<'a> {
+    Nothing,
+    File(&'a Bytes),
+    Folder,
+}
+
+/// What stands at a place.
+pub fn find<'a>(nodes: &'a Nodes, place: &Place) -> Found<'a>
+    ensures { found_node result ≡ stored_at nodes.now.entries place.now }
+{
+    if place.is_root() {
+        return Found::Folder;
+    }
+    match nodes.get(place) {
+        None => Found::Nothing,
+        Some(Stored::Folder) => Found::Folder,
+        Some(Stored::File(bytes)) => Found::File(bytes),
+    }
+}
+
+/// Puts a node in place of a file, or where nothing stands, and makes its missing parents folders.
+pub fn put_at(nodes: &mut Nodes, alloc: Global, place: &Place, node: Stored) -> Result<(), PutError>
+    requires { IsSound nodes.old.entries }
+    ensures sound { IsSound nodes.new.entries }
+    ensures ok { OnOk result (Puts (content_of nodes.old.entries) (content_of nodes.new.entries) place.now (node_of node)) }
+    ensures ok_only { OnOk result (¬ (Clashes (content_of nodes.old.entries) place.now)) }
+    ensures clash_only { result ≡ Err PutError.Clash → Clashes (content_of nodes.old.entries) place.now }
+    ensures err { OnErr result (nodes.new.entries ≡ nodes.old.entries) }
+{
+    match find(nodes, place) {
+        Found::Folder => Err(PutError::Clash),
+        Found::Nothing => add(nodes, alloc, place, node),
+        Found::File(_) => {
+            let key = place.copy(alloc)?;
+            match nodes.insert(key, node) {
+                Ok(_) => Ok(()),
+                Err(_) => Err(PutError::Memory),
+            }
+        }
+    }
+}
+
+/// Adds a node where nothing stands, and makes its missing parents folders.
+fn add(nodes: &mut Nodes, alloc: Global, place: &Place, node: Stored) -> Result<(), PutError>
+    requires ordered { T (finite.is_sorted place_cmp (with_root nodes.old.entries)) }
+    requires absent { stored_at nodes.old.entries place.now ≡ None }
+    requires closed { IsClosedAbove (content_of nodes.old.entries) place.now }
+    ensures ordered { T (finite.is_sorted place_cmp (with_root nodes.new.entries)) }
+    ensures ok { OnOk result (Puts (content_of nodes.old.entries) (content_of nodes.new.entries) place.now (node_of node)) }
+    ensures ok_only { OnOk result (¬ (Clashes (content_of nodes.old.entries) place.now)) }
+    ensures clash_only { result ≡ Err PutError.Clash → Clashes (content_of nodes.old.entries) place.now }
+    ensures err { OnErr result (nodes.new.entries ≡ nodes.old.entries) }
+{
+    let key = place.copy(alloc)?;
+    let above = place.above(alloc)?;
+    match nodes.insert(key, node) {
+        Ok(_) => {}
+        Err(_) => return Err(PutError::Memory),
+    }
+    match find(nodes, &above) {
+        Found::Folder => return Ok(()),
+        Found::File(_) => {
+            let _added = nodes.remove(place);
+            return Err(PutError::Clash);
+        }
+        Found::Nothing => {}
+    }
+    match add(nodes, alloc, &above, Stored::Folder) {
+        Ok(()) => Ok(()),
+        Err(error) => {
+            let _added = nodes.remove(place);
+            Err(error)
+        }
+    }
+}
+
+/// What stands right in a folder, in order.
+pub fn entries_at(nodes: &Nodes, alloc: Global, folder: &Place) -> Result<Entries, AllocError>
+    requires { T (finite.is_sorted place_cmp (with_root nodes.now.entries)) }
+    ensures answer { IfOk result (λ entries. map listed entries ≡ entries_in (content_of nodes.now.entries) folder.now) }
+    ensures ordered { IfOk result IsInNameOrder }
+{
+    let mut entries = Entries::new(alloc);
+    'nodes: for (place, node) in nodes {
+        push_entry(&mut entries, alloc, folder, place, node)?;
+    }
+    Ok(entries)
+}
+
+/// Appends what stands at the place, where that is right in the folder.
+fn push_entry(
+    entries: &mut Entries,
+    alloc: Global,
+    folder: &Place,
+    place: &Place,
+    node: &Stored,
+) -> Result<(), AllocError>
+    ensures { OnOk result (map listed entries.new
+        ≡ map listed entries.old ++ option_to_list (entry_in folder.now place.now (node_of node.now))) }
+{
+    if let Some(name) = place.name_in(folder) {
+        let name = Text::copy(alloc, name)?;
+        let is_file = node.is_file();
+        entries.push(Entry { name, is_file })?;
+    }
+    Ok(())
+}

@@ -1,0 +1,86 @@
+//! A tree of files, and what its calls answer.
+ghost use Rattle.std.specs.Prelude.{◌≡◌, ℕ, Option, IfOk};
+ghost use Rattle.std.specs.Option.{ForSome};
+ghost use Rattle.tree_core.specs.Content.{Content, node_at};
+ghost use Rattle.tree_core.specs.Answer.{ReadAnswers, ListAnswers, FileAnswers, ExistsAnswers, FailsOrLacksMemory, IsInNameOrder};
+ghost use Rattle.tree_core.specs.Faults.{HasCause};
+
+use deny_text::{Bytes, ListOf, Text};
+use std::alloc::{AllocError, Global};
+use thiserror::Error;
+
+/// Why a tree did not answer.
+#[derive(Clone, Copy, Debug, PartialEq, Eq, Error)]
+pub enum TreeError {
+    /// Nothing stands at the path.
+    #[error("not found")]
+    Absent,
+    /// A folder was to be read, or a file to be listed.
+    #[error("is of the wrong kind")]
+    WrongKind,
+    /// The tree failed, and counted it.
+    #[error("read failed")]
+    Failed,
+    #[error("out of memory")]
+    Memory,
+}
+
+impl From<AllocError> for TreeError {
+    ghost use Rattle.tree_core.specs.declared.tree.TreeError.TheVariants.{Memory};
+
+    ghost from_gives = { λ _ e. e ≡ Memory };
+
+    fn from(_: AllocError) -> TreeError {
+        TreeError::Memory
+    }
+}
+
+/// What stands right in a folder.
+#[derive(Debug, Drop)]
+pub struct Entry {
+    pub name: Text,
+    pub is_file: bool,
+}
+
+/// The entries of a folder, in byte order of their names.
+pub type Entries = ListOf<Entry>;
+
+/// Files and folders, by paths. A relative path is read from the root.
+pub trait Tree {
+    /// What the tree holds, where it tells it.
+    ghost content: { Self → Option Content };
+
+    /// How often a call has failed.
+    ghost fault_count: { Self → ℕ };
+
+    /// The bytes of a file.
+    fn read(&mut self, alloc: Global, path: &str) -> Result<Bytes, TreeError>
+        ensures answer { ForSome (content self.old) (λ c. ReadAnswers (node_at c path.now) result) }
+        ensures same { content self.new ≡ content self.old }
+        ensures cause { HasCause (fault_count self.old) (fault_count self.new) result };
+
+    /// What stands right in a folder.
+    fn list(&mut self, alloc: Global, path: &str) -> Result<Entries, TreeError>
+        ensures answer { ForSome (content self.old) (λ c. ListAnswers c path.now result) }
+        ensures ordered { IfOk result IsInNameOrder }
+        ensures same { content self.new ≡ content self.old }
+        ensures cause { HasCause (fault_count self.old) (fault_count self.new) result };
+
+    /// Whether a file stands at the path.
+    fn is_file(&mut self, alloc: Global, path: &str) -> Result<bool, TreeError>
+        ensures answer { ForSome (content self.old) (λ c. FileAnswers (node_at c path.now) result) }
+        ensures refusal { FailsOrLacksMemory result }
+        ensures same { content self.new ≡ content self.old }
+        ensures cause { HasCause (fault_count self.old) (fault_count self.new) result };
+
+    /// Whether a file or a folder stands at the path.
+    fn exists(&mut self, alloc: Global, path: &str) -> Result<bool, TreeError>
+        ensures answer { ForSome (content self.old) (λ c. ExistsAnswers (node_at c path.now) result) }
+        ensures refusal { FailsOrLacksMemory result }
+        ensures same { content self.new ≡ content self.old }
+        ensures cause { HasCause (fault_count self.old) (fault_count self.new) result };
+
+    /// How often a call has failed; it stops at the last number.
+    fn faults(&self) -> u64
+        ensures { result ≡ fault_count self.now };
+}
