@@ -1,0 +1,64 @@
+//! What a catalogue of licences answers.
+ghost use Rattle.std.specs.Prelude.{◌≡◌, ◌↔◌, ℕ, List, IsTrue, IfSome, IfNone, Contains};
+ghost use Rattle.spdx_core.specs.declared.catalog.LicenseEntry.{LicenseEntry};
+ghost use Rattle.spdx_core.specs.Satisfaction.{Satisfies};
+ghost use Rattle.spdx_core.specs.Catalog.{entry_of, IsLongestImprecise, BeginsNone, IsCatalog};
+
+/// What a catalogue says of one licence name.
+#[derive(Clone, Copy, PartialEq, Eq, Debug)]
+pub struct LicenseEntry {
+    /// The number of the family whose versions may stand for one another.
+    pub family: u32,
+    /// Orders the versions of a family: ten times the major number plus the minor number.
+    pub rank: u32,
+    /// The name means this version or any later one.
+    pub later: bool,
+    /// The name is no longer to be used in expressions.
+    pub deprecated: bool,
+    /// The name belongs to a family of the GNU licences.
+    pub gnu: bool,
+}
+
+impl LicenseEntry {
+    /// Whether a policy that allows this licence is content with `term`.
+    pub fn satisfies(&self, term: &LicenseEntry) -> bool
+        ensures { IsTrue result ↔ Satisfies self.now term.now }
+    {
+        let same_version = self.rank == term.rank && (!self.later || term.later);
+        let later_version = term.later && term.rank < self.rank;
+        self.family == term.family && (same_version || later_version)
+    }
+}
+
+/// A known way to write a licence that is no licence name, found at the start of a text.
+#[derive(Clone, Copy, Debug)]
+pub struct Imprecise<'c> {
+    /// The bytes of the text that it takes.
+    pub len: usize,
+    /// The licence that is meant.
+    pub name: &'c str,
+}
+
+/// A catalogue of licence names, exception names, and imprecise texts with the licences that they mean.
+pub trait Catalog {
+    ghost license_list: { Self → List (List ℕ × LicenseEntry) };
+
+    ghost exception_list: { Self → List (List ℕ) };
+
+    ghost imprecise_list: { Self → List (List ℕ × List ℕ) };
+
+    /// What is known of a licence name, which is told apart by its letters' case.
+    fn license(&self, name: &str) -> Option<LicenseEntry>
+        ensures { result ≡ entry_of (license_list self.now) name.now };
+
+    /// Whether this is the name of a licence exception.
+    fn exception(&self, name: &str) -> bool
+        ensures { IsTrue result ↔ Contains (exception_list self.now) name.now };
+
+    /// The longest imprecise text that begins `text`, without regard to ASCII case.
+    fn imprecise(&self, text: &str) -> Option<Imprecise<'_>>
+        ensures found { IfSome result (λ found. IsLongestImprecise (imprecise_list self.now) text.now found.len found.name.now) }
+        ensures none { IfNone result (BeginsNone (imprecise_list self.now) text.now) };
+
+    ghost lawful: { (c : Self) → IsCatalog (license_list c) (exception_list c) (imprecise_list c) };
+}
