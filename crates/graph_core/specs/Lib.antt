@@ -1,0 +1,2 @@
+pub mod Krate
+pub mod Records
