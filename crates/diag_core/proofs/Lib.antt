@@ -1,0 +1,5 @@
+pub mod CodeLemmas
+pub mod FileLemmas
+pub mod IndexLemmas
+pub mod ListLemmas
+pub mod PositionLemmas

@@ -1,0 +1,16 @@
+pub mod Code
+pub mod CodeLevels
+pub mod CodeTable
+pub mod Deprecated
+pub mod Diagnostic
+pub mod File
+pub mod FileName
+pub mod GeneralCode
+pub mod Label
+pub mod LicenseCode
+pub mod Lines
+pub mod Overrides
+pub mod Pack
+pub mod PathIds
+pub mod Position
+pub mod Severity

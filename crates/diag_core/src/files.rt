@@ -1,0 +1,346 @@
+//! The files that findings point into.
+ghost use Rattle.std.specs.Prelude.{◌≡◌, ◌<◌, ◌+◌, ◌⊎◌, ◌↔◌, [], ◌∷◌, ◌++◌, length, IfOk, IfErr, OnOk, OnErr, IsSome, Some, None, Ok, Err, true, false, slice_get};
+ghost use Rattle.std.specs.Option.{option_copied, option_and_then};
+ghost use Rattle.diag_core.specs.File.{File, with_source_at, source_of, name_of, id_at, asked_of_text};
+ghost use Rattle.diag_core.specs.FileName.{name_text, is_path};
+ghost use Rattle.diag_core.specs.Position.{line_of, line_range_of, location_of};
+
+use crate::path_index::PathIndex;
+use crate::position::{FileId, FilesErr, Location};
+use crate::source_file::{FileName, SourceFile};
+use deny_text::{PathBuf, Span, Text};
+use std::alloc::{AllocError, Global};
+use std::fmt;
+use std::marker::Model;
+use thiserror::Error;
+
+/// Why a file was not added.
+#[derive(Drop, Error)]
+pub enum AddError {
+    /// A file with an equal path is there; the path and the text come back.
+    #[error("a file with this path is there")]
+    PathTaken(PathBuf, Text),
+    #[error("out of memory")]
+    Memory,
+}
+
+impl fmt::Debug for AddError {
+    fn fmt<W: fmt::Write>(&self, f: &mut fmt::Formatter<W>) -> fmt::Result {
+        match self {
+            AddError::PathTaken(path, _) => write!(f, "PathTaken({:?})", path.as_path()),
+            AddError::Memory => write!(f, "Memory"),
+        }
+    }
+}
+
+impl From<AllocError> for AddError {
+    ghost use Rattle.diag_core.specs.declared.files.AddError.TheVariants.{Memory};
+
+    ghost from_gives = { λ _ error. error ≡ Memory };
+
+    fn from(_error: AllocError) -> AddError {
+        AddError::Memory
+    }
+}
+
+/// Files by number, in the order in which they were added. Those that were added with a path are also found by it:
+/// among n of them, in about log2 n comparisons.
+#[derive(Drop)]
+pub struct Files {
+    files: Vec<SourceFile>,
+    index: PathIndex,
+    alloc: Global,
+}
+
+impl Model for Files {
+    ghost use Rattle.std.specs.Prelude.{List};
+    ghost use Rattle.diag_core.specs.File.{File};
+    ghost use Rattle.diag_core.specs.PathIds.{Finds};
+
+    ghost Value = { List File };
+
+    ghost view = { λ files. files.files.items };
+
+    ghost invariant = { λ files. Finds files.index files.files.items };
+}
+
+/// Puts a file at the end.
+fn append(
+    alloc: Global,
+    files: &mut Vec<SourceFile>,
+    name: FileName,
+    source: Text,
+) -> Result<FileId, AllocError>
+    ensures number { IfOk result (λ id. id ≡ length files.old.items) }
+    ensures ok { OnOk result (files.new.items ≡ files.old.items ++ record { name = name_text name; source = source; has_path = is_path name } ∷ []) }
+    ensures err { OnErr result (files.new.items ≡ files.old.items) }
+{
+    let id = files.len();
+    let file = SourceFile::new(alloc, name, source)?;
+    files.push(file)?;
+    Ok(id)
+}
+
+impl Files {
+    pub fn new(alloc: Global) -> Files
+        ensures { result ≡ [] }
+    {
+        Files {
+            files: Vec::new(alloc),
+            index: PathIndex::new(alloc),
+            alloc,
+        }
+    }
+
+    /// Adds a file that is found by its path.
+    pub fn add(&mut self, path: PathBuf, source: Text) -> Result<FileId, AddError>
+        ensures number { IfOk result (λ id. id ≡ length self.old) }
+        ensures ok { OnOk result (self.new ≡ self.old ++ record { name = path; source = source; has_path = true } ∷ []) }
+        ensures taken { (result ≡ Err (AddError.PathTaken path source)) ↔ IsSome (id_at self.old path) }
+        ensures otherwise { IfErr result (λ error. (error ≡ AddError.PathTaken path source) ⊎ (error ≡ AddError.Memory)) }
+        ensures err { OnErr result (self.new ≡ self.old) }
+    {
+        if self.index.get(path.as_path()).is_some() {
+            return Err(AddError::PathTaken(path, source));
+        }
+        let key = PathBuf::copy(self.alloc, path.as_path())?;
+        let id = append(self.alloc, &mut self.files, FileName::Path(path), source)?;
+        match self.index.insert(key, id) {
+            Ok(()) => Ok(id),
+            Err(_) => {
+                self.files.truncate(id);
+                Err(AddError::Memory)
+            }
+        }
+    }
+
+    /// Adds a file that no path finds.
+    pub fn add_unnamed(&mut self, name: Text, source: Text) -> Result<FileId, AllocError>
+        ensures number { IfOk result (λ id. id ≡ length self.old) }
+        ensures ok { OnOk result (self.new ≡ self.old ++ record { name = name; source = source; has_path = false } ∷ []) }
+        ensures err { OnErr result (self.new ≡ self.old) }
+    {
+        append(self.alloc, &mut self.files, FileName::Label(name), source)
+    }
+
+    /// Gives a file another text. The other files stay.
+    pub fn update(&mut self, id: FileId, source: Text) -> Result<(), AllocError>
+        requires { id < length self.old }
+        ensures ok { OnOk result (self.new ≡ with_source_at self.old id source) }
+        ensures err { OnErr result (self.new ≡ self.old) }
+    {
+        let alloc = self.alloc;
+        self.files[id].update(alloc, source)
+    }
+
+    /// The text of a file.
+    pub fn source(&self, id: FileId) -> Result<&str, FilesErr>
+        ensures source { IfOk result (λ text. source_of self.now id ≡ Some text.now) }
+        ensures missing { IfErr result (λ error. (error ≡ FilesErr.FileMissing) × (source_of self.now id ≡ None)) }
+    {
+        match self.files.get(id) {
+            Some(file) => Ok(file.source()),
+            None => Err(FilesErr::FileMissing),
+        }
+    }
+
+    /// The name of a file: its path, where it has one.
+    pub fn name(&self, id: FileId) -> Result<&str, FilesErr>
+        ensures name { IfOk result (λ text. name_of self.now id ≡ Some text.now) }
+        ensures missing { IfErr result (λ error. (error ≡ FilesErr.FileMissing) × (name_of self.now id ≡ None)) }
+    {
+        match self.files.get(id) {
+            Some(file) => Ok(file.name()),
+            None => Err(FilesErr::FileMissing),
+        }
+    }
+
+    /// The number of the file that is found by the path.
+    pub fn id_for_path(&self, path: &str) -> Option<FileId>
+        ensures { result ≡ id_at self.now path.now }
+    {
+        self.index.get(path)
+    }
+
+    /// The text of the file that is found by the path.
+    pub fn source_by_path(&self, path: &str) -> Option<&str>
+        ensures { option_copied result ≡ option_and_then (source_of self.now) (id_at self.now path.now) }
+    {
+        match self.id_for_path(path) {
+            Some(id) => Some(self.files[id].source()),
+            None => None,
+        }
+    }
+
+    /// The line of a place, from 0. A place past the end counts as the end.
+    pub fn line_index(&self, id: FileId, byte_index: usize) -> Result<usize, FilesErr>
+        ensures { result ≡ asked_of_text (source_of self.now id) (λ text. Ok (line_of text byte_index)) }
+    {
+        match self.files.get(id) {
+            Some(file) => Ok(file.line_index(byte_index)),
+            None => Err(FilesErr::FileMissing),
+        }
+    }
+
+    /// The bytes of a line, with its line feed.
+    pub fn line_range(&self, id: FileId, line_index: usize) -> Result<Span, FilesErr>
+        ensures { result ≡ asked_of_text (source_of self.now id) (line_range_of line_index) }
+    {
+        match self.files.get(id) {
+            Some(file) => file.line_range(line_index),
+            None => Err(FilesErr::FileMissing),
+        }
+    }
+
+    /// The line and the column of a place.
+    pub fn location(&self, id: FileId, byte_index: usize) -> Result<Location, FilesErr>
+        ensures { result ≡ asked_of_text (source_of self.now id) (location_of byte_index) }
+    {
+        match self.files.get(id) {
+            Some(file) => file.location(byte_index),
+            None => Err(FilesErr::FileMissing),
+        }
+    }
+}
+
+#[cfg(test)]
+mod tests {
+    use super::*;
+    use std::test::Fail;
+
+    fn copied(alloc: Global, source: &str) -> Result<Files, AllocError>
+        ensures { IfOk result (λ files. length files ≡ 1) }
+    {
+        let mut files = Files::new(alloc);
+        files.add_unnamed(Text::copy(alloc, "named")?, Text::copy(alloc, source)?)?;
+        Ok(files)
+    }
+
+    fn place(files: &Files, byte_index: usize) -> Result<(usize, usize), FilesErr> {
+        let place = files.location(0, byte_index)?;
+        Ok((place.line, place.column))
+    }
+
+    fn line(files: &Files, line_index: usize) -> Result<(usize, usize), FilesErr> {
+        let span = files.line_range(0, line_index)?;
+        Ok((span.start, span.end))
+    }
+
+    #[test]
+    fn finds_places(rt: HostRuntime) -> Result<(), Fail> {
+        let files = copied(rt.alloc(), "ab\né")?;
+        assert_eq!(rt; place(&files, 3), Ok((1, 0)));
+        assert_eq!(rt;
+            place(&files, 4),
+            Err(FilesErr::InvalidCharBoundary { given: 4 })
+        );
+        assert_eq!(rt; place(&files, 5), Ok((1, 1)));
+        assert_eq!(rt;
+            place(&files, 6),
+            Err(FilesErr::IndexTooLarge { given: 6, max: 4 })
+        );
+        assert_eq!(rt; line(&files, 1), Ok((3, 5)));
+        assert_eq!(rt;
+            line(&files, 2),
+            Err(FilesErr::LineTooLarge { given: 2, max: 2 })
+        );
+        let empty = copied(rt.alloc(), "")?;
+        assert_eq!(rt; place(&empty, 0), Ok((0, 0)));
+        assert_eq!(rt;
+            place(&empty, 1),
+            Err(FilesErr::IndexTooLarge { given: 1, max: 0 })
+        );
+        let none = Files::new(rt.alloc());
+        assert_eq!(rt; place(&none, 0), Err(FilesErr::FileMissing));
+        assert_eq!(rt; line(&none, 0), Err(FilesErr::FileMissing));
+        Ok(())
+    }
+
+    #[test]
+    fn counts_characters(rt: HostRuntime) -> Result<(), Fail> {
+        let files = copied(rt.alloc(), "é\r\n漢字 x\n")?;
+        for (byte_index, want) in [
+            (0, (0, 0)),
+            (2, (0, 1)),
+            (3, (0, 2)),
+            (4, (1, 0)),
+            (7, (1, 1)),
+            (10, (1, 2)),
+            (12, (1, 4)),
+            (13, (2, 0)),
+        ] {
+            assert_eq!(rt; place(&files, byte_index), Ok(want), "place {byte_index}");
+        }
+        for given in [1, 5, 9] {
+            assert_eq!(rt;
+                place(&files, given),
+                Err(FilesErr::InvalidCharBoundary { given })
+            );
+        }
+        for (line_index, want) in [(0, (0, 4)), (1, (4, 13)), (2, (13, 13))] {
+            assert_eq!(rt; line(&files, line_index), Ok(want), "line {line_index}");
+        }
+        Ok(())
+    }
+
+    fn add(files: &mut Files, alloc: Global, path: &str, source: &str) -> Result<FileId, AddError> {
+        files.add(PathBuf::copy(alloc, path)?, Text::copy(alloc, source)?)
+    }
+
+    fn source_at<'f>(files: &'f Files, path: &str) -> Option<&'f str> {
+        files.source_by_path(path)
+    }
+
+    #[test]
+    fn finds_files(rt: HostRuntime) -> Result<(), Fail> {
+        let mut files = copied(rt.alloc(), "two")?;
+        add(&mut files, rt.alloc(), "a/b", "one")?;
+        match add(&mut files, rt.alloc(), "a/./b", "three") {
+            Err(AddError::PathTaken(path, source)) => {
+                assert_eq!(rt; path.as_path(), "a/./b");
+                assert_eq!(rt; source.as_str(), "three");
+            }
+            _ => assert!(rt; false, "a path was added twice"),
+        }
+        assert_eq!(rt; source_at(&files, "a//b"), Some("one"));
+        assert_eq!(rt; source_at(&files, "named"), None);
+        Ok(())
+    }
+
+    #[test]
+    fn finds_each_of_many(rt: HostRuntime) -> Result<(), Fail> {
+        let mut files = Files::new(rt.alloc());
+        for path in ["m", "c/d", "a", "z", "/r", "c", "../u", "./k"] {
+            add(&mut files, rt.alloc(), path, path)?;
+        }
+        for (path, want) in [
+            ("a/.", Some("a")),
+            ("c", Some("c")),
+            ("c//d", Some("c/d")),
+            ("m", Some("m")),
+            ("z/", Some("z")),
+            ("//r", Some("/r")),
+            ("..//u", Some("../u")),
+            ("./k", Some("./k")),
+            ("", None),
+            ("b", None),
+            ("c/d/e", None),
+            ("k", None),
+            ("r", None),
+            ("zz", None),
+        ] {
+            assert_eq!(rt; source_at(&files, path), want, "the file at {path}");
+        }
+        Ok(())
+    }
+
+    #[test]
+    fn updates_files(rt: HostRuntime) -> Result<(), Fail> {
+        let mut files = copied(rt.alloc(), "one")?;
+        files.update(0, Text::copy(rt.alloc(), "x\ny")?)?;
+        assert_eq!(rt; files.source(0).ok(), Some("x\ny"));
+        assert_eq!(rt; files.name(0).ok(), Some("named"));
+        assert_eq!(rt; line(&files, 1), Ok((2, 3)));
+        Ok(())
+    }
+}

@@ -1,0 +1,28 @@
+//! Files, findings, their codes and their overrides.
+#![tactic(auto)]
+
+pub mod code;
+mod code_table;
+pub mod deprecated;
+pub mod diagnostic;
+pub mod files;
+pub mod general;
+pub mod label;
+pub mod licenses;
+pub mod overrides;
+pub mod pack;
+mod path_index;
+pub mod position;
+pub mod severity;
+mod source_file;
+
+pub use code::{DiagnosticCode, DiagnosticCodeIter};
+pub use code_table::Unknown;
+pub use deprecated::{Deprecated, DeprecationReason};
+pub use diagnostic::{Diagnostic, Notes};
+pub use files::{AddError, Files};
+pub use label::{CfgCoord, Coord, KrateCoord, Label, LabelStyle, Labels};
+pub use overrides::{CodeMap, DiagnosticOverrides, ErrorSink, LevelPair, LevelPairs, Packs};
+pub use pack::{Check, Diag, GraphNode, GraphNodes, Pack, PackIntoIter, PackIter};
+pub use position::{FileId, FilesErr, Location};
+pub use severity::{LevelFilter, LintLevel, Severity, log_level_to_severity};

@@ -1,0 +1,229 @@
+//! Other levels for findings, by their codes and by their levels.
+ghost use Rattle.std.specs.Prelude.{◌≡◌, map, [], ◌∷◌, ◌++◌, IfOk, OnOk, OnErr};
+ghost use Rattle.std.specs.Option.{option_copied};
+ghost use Rattle.std.specs.FinMap as finmap;
+ghost use Rattle.diag_core.specs.Overrides.{level_of, overridden, pack_overridden, first_output_of};
+
+use crate::pack::{Diag, Pack};
+use crate::severity::Severity;
+use deny_text::{ListOf, Text};
+use std::alloc::{AllocError, Global};
+use std::marker::Model;
+
+/// Levels by the names of codes, seen as a map.
+#[derive(Drop)]
+pub struct CodeMap {
+    entries: Vec<(Text, Severity)>,
+}
+
+impl Model for CodeMap {
+    ghost use Rattle.std.specs.FinMap as finmap;
+    ghost use Rattle.std.specs.Coded.{coded_list, coded_ℕ};
+    ghost use Rattle.diag_core.specs.contracts.severity.Severity as severity;
+    ghost use Rattle.diag_core.specs.CodeLevels.{CodeLevels};
+
+    ghost Value = { CodeLevels };
+
+    ghost coded = { finmap.code (coded_list coded_ℕ) severity.the_row.coded };
+
+    ghost view = { λ levels. finmap.from_entries levels.entries.items };
+}
+
+impl CodeMap {
+    pub fn new(alloc: Global) -> CodeMap
+        ensures { result ≡ finmap.empty }
+    {
+        CodeMap {
+            entries: Vec::new(alloc),
+        }
+    }
+
+    /// Sets the level of a code, in place of the one that it had.
+    pub fn insert(&mut self, key: Text, value: Severity) -> Result<(), AllocError>
+        ensures ok { OnOk result (self.new ≡ finmap.insert self.old key value) }
+        ensures err { OnErr result (self.new ≡ self.old) }
+    {
+        self.entries.insert(0, (key, value))?;
+        Ok(())
+    }
+
+    /// The level of a code.
+    pub fn get(&self, key: &str) -> Option<&Severity>
+        ensures { option_copied result ≡ finmap.get self.now key.now }
+    {
+        'entries: for entry in &self.entries {
+            if key.cmp(entry.0.as_str()).is_eq() {
+                return Some(&entry.1);
+            }
+        }
+        None
+    }
+}
+
+/// Findings at one level come out at another.
+#[derive(Clone, Copy, Debug, PartialEq, Eq)]
+pub struct LevelPair {
+    pub input: Severity,
+    pub output: Severity,
+}
+
+/// A list of level pairs.
+pub type LevelPairs = ListOf<LevelPair>;
+
+/// Other levels for findings.
+#[derive(Drop)]
+pub struct DiagnosticOverrides {
+    pub code_overrides: CodeMap,
+    pub level_overrides: LevelPairs,
+}
+
+/// The output of the first pair whose input is that level; the level where there is none.
+fn first_output(pairs: &[LevelPair], severity: Severity) -> Severity
+    ensures { result ≡ first_output_of pairs.now severity }
+{
+    'pairs: for pair in pairs {
+        if pair.input == severity {
+            return pair.output;
+        }
+    }
+    severity
+}
+
+impl DiagnosticOverrides {
+    /// The level of a finding with the code `name` and its own level `severity`: first by code, and then by level.
+    pub fn get(&self, name: &str, severity: Severity) -> Severity
+        ensures { result ≡ level_of self.now name.now severity }
+    {
+        let severity = match self.code_overrides.get(name) {
+            Some(other) => *other,
+            None => severity,
+        };
+        first_output(self.level_overrides.items(), severity)
+    }
+
+    /// Sets the level of a finding that has a code.
+    fn apply(&self, finding: &mut Diag)
+        ensures { finding.new ≡ overridden self.now finding.old }
+    {
+        if let Some(code) = &finding.diag.code {
+            let severity = self.get(code.as_str(), finding.diag.severity);
+            finding.diag.severity = severity;
+        }
+    }
+
+    /// Sets the level of each finding that has a code.
+    pub(crate) fn apply_all(&self, findings: &mut [Diag])
+        ensures { findings.new ≡ map (overridden self.now) findings.old }
+    {
+        'findings: for finding in findings.iter_mut() {
+            self.apply(finding);
+        }
+    }
+}
+
+/// A list of packs.
+pub type Packs = ListOf<Pack>;
+
+/// The packs of a run, at the levels that the overrides say.
+#[derive(Drop)]
+pub struct ErrorSink {
+    pub overrides: Option<DiagnosticOverrides>,
+    pub packs: Packs,
+}
+
+impl ErrorSink {
+    /// No packs yet.
+    pub fn new(alloc: Global, overrides: Option<DiagnosticOverrides>) -> ErrorSink
+        ensures { result ≡ record { overrides = overrides; packs = [] } }
+    {
+        ErrorSink {
+            overrides,
+            packs: Packs::new(alloc),
+        }
+    }
+
+    /// Appends a pack, with the overrides applied to each finding that has a code.
+    pub fn push(&mut self, pack: Pack) -> Result<(), AllocError>
+        ensures ok { OnOk result (self.new ≡ record self.old { packs = self.old.packs ++ pack_overridden self.old.overrides pack ∷ [] }) }
+        ensures err { OnErr result (self.new ≡ self.old) }
+    {
+        let mut pack = pack;
+        if let Some(overrides) = &self.overrides {
+            pack.override_levels(overrides);
+        }
+        self.packs.push(pack)?;
+        Ok(())
+    }
+}
+
+#[cfg(test)]
+mod tests {
+    use super::*;
+    use crate::diagnostic::Diagnostic;
+    use crate::pack::Check;
+    use std::test::Fail;
+
+    fn stricter(alloc: Global) -> Result<DiagnosticOverrides, AllocError> {
+        let mut code_overrides = CodeMap::new(alloc);
+        code_overrides.insert(Text::copy(alloc, "accepted")?, Severity::Help)?;
+        code_overrides.insert(Text::copy(alloc, "accepted")?, Severity::Warning)?;
+        let mut level_overrides = LevelPairs::new(alloc);
+        for (input, output) in [
+            (Severity::Warning, Severity::Error),
+            (Severity::Error, Severity::Bug),
+        ] {
+            level_overrides.push(LevelPair { input, output })?;
+        }
+        Ok(DiagnosticOverrides {
+            code_overrides,
+            level_overrides,
+        })
+    }
+
+    fn level(overrides: &DiagnosticOverrides, name: &str, severity: Severity) -> Severity {
+        overrides.get(name, severity)
+    }
+
+    #[test]
+    fn codes_then_levels(rt: HostRuntime) -> Result<(), Fail> {
+        let overrides = stricter(rt.alloc())?;
+        assert_eq!(rt;
+            level(&overrides, "accepted", Severity::Note),
+            Severity::Error
+        );
+        assert_eq!(rt;
+            level(&overrides, "rejected", Severity::Error),
+            Severity::Bug
+        );
+        assert_eq!(rt;
+            level(&overrides, "rejected", Severity::Note),
+            Severity::Note
+        );
+        Ok(())
+    }
+
+    fn pushed(alloc: Global) -> Result<ErrorSink, AllocError> {
+        let mut pack = Pack::new(alloc, Check::Licenses);
+        let accepted = Diagnostic::new(alloc, Severity::Note).with_code("accepted")?;
+        pack.push(Diag::new(accepted, None)?)?;
+        let plain = Diagnostic::new(alloc, Severity::Warning);
+        pack.push(Diag::new(plain, None)?)?;
+        let mut sink = ErrorSink::new(alloc, Some(stricter(alloc)?));
+        sink.push(pack)?;
+        Ok(sink)
+    }
+
+    #[test]
+    fn spares_what_has_no_code(rt: HostRuntime) -> Result<(), Fail> {
+        let sink = pushed(rt.alloc())?;
+        for pack in sink.packs.items() {
+            let mut findings = pack.iter();
+            let first = findings.next().map(|finding| finding.diag.severity);
+            assert_eq!(rt; first, Some(Severity::Error));
+            let second = findings.next().map(|finding| finding.diag.severity);
+            assert_eq!(rt; second, Some(Severity::Warning));
+        }
+        assert_eq!(rt; sink.packs.items().len(), 1);
+        Ok(())
+    }
+}

@@ -1,0 +1,43 @@
+-- Where a label points: a file, a place in its text, and the text that it cuts out.
+use Rattle.std.specs.Prelude.{ℕ, ◌+◌, ◌<◌, ◌≤◌, List, [], length, All, slice_range, unwrap_or}
+use Rattle.std.specs.Str.{IsCharBoundary}
+use Rattle.diag_core.specs.declared.label.Label.{Label}
+use Rattle.diag_core.specs.declared.diagnostic.Diagnostic.{Diagnostic}
+use Rattle.diag_core.specs.declared.pack.Diag.{Diag}
+use Rattle.diag_core.specs.File.{File, source_of, name_of}
+use Rattle.diag_core.specs.Position.{line_of, column_of}
+
+-- the text of the label's file; empty where there is no such file
+abbrev pub source_under : List File → Label → List ℕ
+source_under files label = unwrap_or (source_of files label.file_id) []
+
+-- the name of the label's file; empty where there is no such file
+abbrev pub file_under : List File → Label → List ℕ
+file_under files label = unwrap_or (name_of files label.file_id) []
+
+-- the label's file is there, and the label's range lies in its text, between characters
+pub record LabelLies (files : List File) (label : Label) : Type 0 where
+  pub live : label.file_id < length files
+  pub ordered : label.range.start ≤ label.range.end
+  pub starts : IsCharBoundary (source_under files label) label.range.start
+  pub ends : IsCharBoundary (source_under files label) label.range.end
+
+-- each label of the finding lies in its file
+abbrev pub LabelsLie : List File → Diagnostic → Type 0
+LabelsLie files diag = All (LabelLies files) diag.labels
+
+-- each label of each finding lies in its file
+abbrev pub AllLabelsLie : List File → List Diag → Type 0
+AllLabelsLie files findings = All (λ finding. LabelsLie files finding.diag) findings
+
+-- the line at which the label starts, from 1
+abbrev pub line_number : List File → Label → ℕ
+line_number files label = line_of (source_under files label) label.range.start + 1
+
+-- the column at which the label starts, in characters, from 1
+abbrev pub column_number : List File → Label → ℕ
+column_number files label = column_of (source_under files label) label.range.start + 1
+
+-- the text that the label cuts out
+abbrev pub text_under : List File → Label → List ℕ
+text_under files label = slice_range (source_under files label) label.range.start label.range.end

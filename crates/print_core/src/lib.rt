@@ -1,0 +1,18 @@
+//! The printer of findings, over any sink.
+#![tactic(auto)]
+
+pub mod context;
+mod flat;
+mod human;
+mod json;
+pub mod lines;
+pub mod place;
+pub mod printer;
+
+pub use context::{Color, Format, LogContext};
+pub use lines::printed;
+pub use place::{labels_lie, pack_labels_lie};
+pub use printer::{DiagPrinter, OutputLock, PrintError};
+
+#[cfg(test)]
+mod tests;

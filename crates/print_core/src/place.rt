@@ -1,0 +1,90 @@
+//! Where a label points.
+ghost use Rattle.std.specs.Prelude.{◌≡◌, ◌↔◌, IsTrue};
+ghost use Rattle.print_core.specs.Places.{LabelLies, LabelsLie, AllLabelsLie, source_under, file_under, text_under, line_number, column_number};
+
+use diag_core::{Diagnostic, Files, Label, Pack};
+
+/// A line and a column, both from 1. The column counts characters.
+#[derive(Clone, Copy)]
+pub(crate) struct Place {
+    pub(crate) line: usize,
+    pub(crate) column: usize,
+}
+
+/// Whether the label's file is there, and the label's range lies in its text, between characters.
+fn label_lies(files: &Files, label: &Label) -> bool
+    ensures { IsTrue result ↔ LabelLies files.now label.now }
+{
+    match files.source(label.file_id) {
+        Ok(text) => {
+            label.range.start <= label.range.end
+                && text.is_char_boundary(label.range.start)
+                && text.is_char_boundary(label.range.end)
+        }
+        Err(_) => false,
+    }
+}
+
+/// Whether each label of a finding lies in its file, as the calls that print require.
+pub fn labels_lie(diag: &Diagnostic, files: &Files) -> bool
+    ensures { IsTrue result ↔ LabelsLie files.now diag.now }
+{
+    diag.labels
+        .items()
+        .iter()
+        .all(|label| label_lies(files, label))
+}
+
+/// Whether each label of each finding of a pack lies in its file.
+pub fn pack_labels_lie(pack: &Pack, files: &Files) -> bool
+    ensures { IsTrue result ↔ AllLabelsLie files.now pack.now.findings }
+{
+    pack.iter().all(|finding| labels_lie(&finding.diag, files))
+}
+
+/// The text of the label's file.
+fn source<'f>(files: &'f Files, label: &Label) -> &'f str
+    requires { LabelLies files.now label.now }
+    ensures { result.now ≡ source_under files.now label.now }
+{
+    match files.source(label.file_id) {
+        Ok(text) => text,
+        Err(_) => unreachable!(),
+    }
+}
+
+/// The name of the label's file.
+pub(crate) fn file_name<'f>(files: &'f Files, label: &Label) -> &'f str
+    requires { LabelLies files.now label.now }
+    ensures { result.now ≡ file_under files.now label.now }
+{
+    match files.name(label.file_id) {
+        Ok(name) => name,
+        Err(_) => unreachable!(),
+    }
+}
+
+/// The text that the label cuts out.
+pub(crate) fn cut<'f>(files: &'f Files, label: &Label) -> &'f str
+    requires { LabelLies files.now label.now }
+    ensures { result.now ≡ text_under files.now label.now }
+{
+    let text = source(files, label);
+    &text[label.range.start..label.range.end]
+}
+
+/// Where the label starts.
+pub(crate) fn start(files: &Files, label: &Label) -> Place
+    requires { LabelLies files.now label.now }
+    ensures line { result.line ≡ line_number files.now label.now }
+    ensures column { result.column ≡ column_number files.now label.now }
+{
+    let _text = source(files, label);
+    match files.location(label.file_id, label.range.start) {
+        Ok(place) => Place {
+            line: place.line + 1,
+            column: place.column + 1,
+        },
+        Err(_) => unreachable!(),
+    }
+}
