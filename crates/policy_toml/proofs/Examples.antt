@@ -1,0 +1,4 @@
+pub mod Inside
+pub mod Outside
+pub mod Shapes
+pub mod Spans
