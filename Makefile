@@ -1,0 +1,18 @@
+# Everything here stands on the toolchain's command `rt` alone.
+PREFIX ?= /usr/local
+PROJECT ?= examples/first
+PROGRAM = crates/cargo_deny/out/cargo_deny
+
+.PHONY: run test install
+
+# Builds the proved program and runs it on a small project.
+run:
+	@cd crates/cargo_deny && rt run cargo_deny -- --metadata-path ../../$(PROJECT)/metadata.json --config ../../$(PROJECT)/deny.toml check licenses
+
+# The merge gate.
+test:
+	rt ci
+
+# Puts the proved program where `cargo deny ..` finds it.
+install: run
+	install -D -m 755 $(PROGRAM) $(DESTDIR)$(PREFIX)/bin/cargo-deny

@@ -1,0 +1,4 @@
+pub mod HeadlineLemmas
+pub mod HeardLemmas
+pub mod Pieces
+pub mod ReadBack

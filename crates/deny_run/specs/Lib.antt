@@ -1,0 +1,12 @@
+pub mod Agrees
+pub mod Counts
+pub mod Error
+pub mod Headline
+pub mod Heard
+pub mod Load
+pub mod Policy
+pub mod Refusals
+pub mod Request
+pub mod Run
+pub mod Stages
+pub mod Words

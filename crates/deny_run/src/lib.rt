@@ -1,0 +1,12 @@
+//! The run of the licence gate: from words and files to verdicts, a summary and a status.
+#![tactic(auto)]
+
+pub mod error;
+mod judge;
+mod load;
+pub mod policy;
+pub mod report;
+pub mod run;
+pub mod words;
+
+pub use print_core::{Color, DiagPrinter, Format, LogContext, OutputLock, PrintError};
