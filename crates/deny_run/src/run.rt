@@ -62,6 +62,7 @@ fn write_summary<O: Sink>(out: &mut O, report: &Report, before: u64) -> Result<(
     ensures ok { OnOk result (Gained (O.written out.old) (O.written out.new) (summary_line report.now)) }
     ensures err { IfErr result (RefusesWrite before (O.fault_count out.new)) }
     ensures cut { OnErr result (GainedPrefix (O.written out.old) (O.written out.new) (summary_line report.now)) }
+    ensures later { O.fault_count out.old ≤ O.fault_count out.new }
 {
     let summary = if report.stats.has_errors() {
         "licenses FAILED\n"
@@ -94,6 +95,7 @@ fn check<T: Tree, O: Sink, C: Catalog>(
     ensures counts { IfErr result (ReadCounts (T.fault_count tree.old) (T.fault_count tree.new)) }
     ensures written { SummaryWritten (O.written out.old) (O.written out.new) (O.fault_count out.old) (O.fault_count out.new) result }
     ensures cut { ForSome (T.content tree.old) (λ c. IfErr result (CutsSummary (judged_of (C.license_list catalog.now) (texts words.now) cwd.now c) (O.written out.old) (O.written out.new))) }
+    ensures out_later { O.fault_count out.old ≤ O.fault_count out.new }
 {
     let before = out.faults();
     let report = report(alloc, words, cwd, tree, catalog)?;
@@ -144,6 +146,9 @@ pub fn run<T: Tree, O: Sink, E: Sink, C: Catalog, I: Identifier>(
     ensures summary { SummaryWritten (O.written out.old) (O.written out.new) (O.fault_count out.old) (O.fault_count out.new) (answer_of result.ended) }
     ensures cut { ForSome (T.content tree.old) (λ c. IfErr (answer_of result.ended) (CutsSummary (judged_of (C.license_list catalog.now) (texts words.now) cwd.now c) (O.written out.old) (O.written out.new))) }
     ensures fault { FaultWritten (E.written err.old) (E.written err.new) (E.fault_count err.old) (E.fault_count err.new) (answer_of result.ended) }
+
+    ensures out_later { O.fault_count out.old ≤ O.fault_count out.new }
+    ensures err_later { E.fault_count err.old ≤ E.fault_count err.new }
 
     ensures status { result.status ≡ exit_status (answer_of result.ended) }
 
