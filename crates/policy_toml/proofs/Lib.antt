@@ -1,8 +1,2 @@
-pub mod Counts
-pub mod Examples
-pub mod NumberRuns
 pub mod Paths
-pub mod Plain
-pub mod PlainStrings
-pub mod Runs
 pub mod ValueViews

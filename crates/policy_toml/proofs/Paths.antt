@@ -3,7 +3,7 @@ use Rattle.std.proofs.Common.{◌≡◌, ◌≢◌, ℕ, suc, ◌+◌, ◌<◌, 
 use Rattle.std.proofs.lemmas.Bool.Decides.{nat_tests}
 use Rattle.std.proofs.lemmas.List.Splits.{slice_split_first}
 use Rattle.std.specs.List.{slice_split, onto_first, position_or_len, before_first, after_first}
-use Rattle.policy_toml.specs.Data.{Toml}
+use Rattle.toml_subset.specs.Data.{Toml}
 use Rattle.policy_toml.specs.Lookup.{step_to, steps_to, pointed_at}
 
 abbrev pub is_slash : ℕ → Bool

@@ -1,17 +1,2 @@
-pub mod Bytes
-pub mod Classes
-pub mod Data
-pub mod Faults
-pub mod Keys
-pub mod Lines
 pub mod Lookup
-pub mod Numbers
-pub mod Places
-pub mod Raw
-pub mod Reading
-pub mod StrView
-pub mod Strings
-pub mod Tables
-pub mod Text
 pub mod Views
-pub mod Written

@@ -2,13 +2,13 @@
 use Rattle.std.specs.Prelude.{ℕ, zero, suc, ◌^◌, Bool, true, false, ◌&&◌, ◌==◌, nat_lt, if◌then◌else◌, List, [], ◌∷◌, Option, Some, None, option_and_then}
 use Rattle.std.specs.List.{slice_split}
 use Rattle.std.specs.Str.{bytes_eq}
-use Rattle.policy_toml.specs.Data.{Content, Items, Entries, Toml, text, integer, decimal, boolean, array, table, none, item, empty, entry}
-use Rattle.policy_toml.specs.Numbers.{is_whole, are_digits, count}
-use Rattle.policy_toml.specs.declared.value.Key.{Key}
+use Rattle.toml_subset.specs.Data.{Content, Items, Entries, Toml, string, integer, decimal, boolean, array, table, no_item, item, no_entry, entry}
+use Rattle.toml_subset.specs.Numbers.{is_whole, are_digits, count}
+use Rattle.toml_subset.specs.declared.string.Key.{Key}
 
 -- the text of a string
 abbrev pub as_text : Content → Option (List ℕ)
-as_text (text w) = Some w.text
+as_text (string w) = Some w.text
 as_text (integer z) = None
 as_text (decimal z) = None
 as_text (boolean b) = None
@@ -17,23 +17,23 @@ as_text (table entries) = None
 
 -- whether it is a table with a key
 abbrev pub has_entries : Content → Bool
-has_entries (text w) = false
+has_entries (string w) = false
 has_entries (integer z) = false
 has_entries (decimal z) = false
 has_entries (boolean b) = false
 has_entries (array items) = false
-has_entries (table empty) = false
+has_entries (table no_entry) = false
 has_entries (table (entry key span content more)) = true
 
 -- the value at a key, by the text that the key stands for
 abbrev pub value_at : List ℕ → Entries → Option Toml
-value_at name empty = None
+value_at name no_entry = None
 value_at name (entry key span content more) =
     if bytes_eq key.name.text name then Some (record { content = content; span = span }) else value_at name more
 
 -- the item at a place from 0
 abbrev pub item_at : ℕ → Items → Option Toml
-item_at i none = None
+item_at i no_item = None
 item_at zero (item span content more) = Some (record { content = content; span = span })
 item_at (suc i) (item span content more) = item_at i more
 
@@ -44,7 +44,7 @@ place_of s =
 
 -- what one part of a path leads to: a key of a table, or a place of an array
 abbrev pub step_to : List ℕ → Content → Option Toml
-step_to part (text w) = None
+step_to part (string w) = None
 step_to part (integer z) = None
 step_to part (decimal z) = None
 step_to part (boolean b) = None
@@ -62,9 +62,9 @@ pointed_at (c ∷ cs) value = if c == 47 then steps_to (slice_split (λ b. b == 
 
 -- a further item, and a further entry, at the end
 abbrev pub with_item : Items → Toml → Items
-with_item none x = item x.span x.content none
+with_item no_item x = item x.span x.content no_item
 with_item (item span content more) x = item span content (with_item more x)
 
 abbrev pub with_entry : Entries → Key → Toml → Entries
-with_entry empty new x = entry new x.span x.content empty
+with_entry no_entry new x = entry new x.span x.content no_entry
 with_entry (entry key span content more) new x = entry key span content (with_entry more new x)

@@ -1,81 +1,17 @@
-use crate::error::SyntaxReason;
-use crate::number::{Number, classify, read_number};
-use crate::scan::{
-    after_blanks, after_comment, after_space, after_white, char_end, line_end, next_line,
-};
-use crate::value::{Entries, Key, Str, Value, ValueInner, Values};
+use crate::value::{Entries, Value, ValueInner, Values};
 use deny_text::{Span, Text};
 use std::test::Fail;
-
-#[test]
-fn classes(rt: HostRuntime) -> Result<(), Fail> {
-    let rows: [(&str, Result<Number, SyntaxReason>); 20] = [
-        ("+99", Ok(Number::Integer(99))),
-        ("-17", Ok(Number::Integer(-17))),
-        ("1_000", Ok(Number::Integer(1000))),
-        ("0xDEAD_beef", Ok(Number::Integer(3735928559))),
-        ("0o755", Ok(Number::Integer(493))),
-        ("0b11010110", Ok(Number::Integer(214))),
-        ("9223372036854775807", Ok(Number::Integer(i64::MAX))),
-        ("-9223372036854775808", Ok(Number::Integer(i64::MIN))),
-        ("9223372036854775808", Err(SyntaxReason::NumberRange)),
-        ("0.8", Ok(Number::Decimal(80))),
-        ("-3.14", Ok(Number::Decimal(-314))),
-        ("92233720368547758.08", Err(SyntaxReason::NumberRange)),
-        ("01", Err(SyntaxReason::NumberForm)),
-        ("1_", Err(SyntaxReason::NumberForm)),
-        ("1.5_0e3", Err(SyntaxReason::NumberForm)),
-        ("0.801", Err(SyntaxReason::Unsupported)),
-        ("5e+22", Err(SyntaxReason::Unsupported)),
-        ("1979-05-27", Err(SyntaxReason::Unsupported)),
-        ("07:32:00", Err(SyntaxReason::Unsupported)),
-        ("-inf", Err(SyntaxReason::Unsupported)),
-    ];
-    for (run, class) in rows {
-        assert_eq!(rt; classify(run.as_bytes()), class, "{run}");
-    }
-    Ok(())
-}
-
-#[test]
-fn numbers_in_a_text(rt: HostRuntime) -> Result<(), Fail> {
-    assert_eq!(rt;
-        read_number("a = 0.8", 4).ok(),
-        Some((Number::Decimal(80), 7))
-    );
-    let fault = read_number("a = 01 # b", 4).err().ok_or("a number")?;
-    assert_eq!(rt; fault.reason, SyntaxReason::NumberForm);
-    assert_eq!(rt; fault.span, Span { start: 4, end: 6 });
-    Ok(())
-}
-
-#[test]
-fn places(rt: HostRuntime) -> Result<(), Fail> {
-    let text = " \t# \u{e9}\r\n\n  x";
-    let bytes = text.as_bytes();
-    assert_eq!(rt; bytes.len(), 12);
-    assert_eq!(rt; after_blanks(bytes, 0), 2);
-    assert_eq!(rt; after_comment(bytes, 2), 6);
-    assert_eq!(rt; line_end(bytes, 6), Some(8));
-    assert_eq!(rt; line_end(bytes, 7), Some(8));
-    assert_eq!(rt; next_line(bytes, 0), Some(8));
-    assert_eq!(rt; next_line(bytes, 9), None);
-    assert_eq!(rt; after_space(bytes, 0), 11);
-    assert_eq!(rt; after_white(bytes, 0), 2);
-    assert_eq!(rt; after_white(bytes, 6), 11);
-    assert_eq!(rt; char_end(text, 4), 6);
-    Ok(())
-}
+use toml_subset::{Key, escaped_string, plain_string};
 
 #[test]
 fn values(rt: HostRuntime) -> Result<(), Fail> {
     let span = Span { start: 4, end: 7 };
     let mut inner = Entries::new(rt.alloc());
-    let name = Str::owned(Text::copy(rt.alloc(), "b")?);
+    let name = escaped_string(Text::copy(rt.alloc(), "b")?);
     assert!(rt; name.has_escapes());
     inner.push(
         Key { name, span },
-        Value::new(ValueInner::String(Str::borrowed("deep")), span),
+        Value::new(ValueInner::String(plain_string("deep")), span),
     )?;
     let mut items = Values::new(rt.alloc());
     items.push(Value::new(ValueInner::Integer(1), span))?;
@@ -83,7 +19,7 @@ fn values(rt: HostRuntime) -> Result<(), Fail> {
     let mut outer = Entries::new(rt.alloc());
     outer.push(
         Key {
-            name: Str::borrowed("a"),
+            name: plain_string("a"),
             span,
         },
         Value::new(ValueInner::Array(items), span),

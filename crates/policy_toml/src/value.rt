@@ -2,46 +2,14 @@
 ghost use Rattle.std.specs.Prelude.{◌≡◌, ◌==◌, [], ◌∷◌, map, option_map, true, false, IfOk, OnOk, OnErr};
 ghost use Rattle.std.specs.List.{slice_split};
 ghost use Rattle.std.specs.Option.{option_copied};
-ghost use Rattle.policy_toml.specs.Data.{boolean};
+ghost use Rattle.toml_subset.specs.Data.{boolean};
 ghost use Rattle.policy_toml.specs.Lookup.{as_text, has_entries, value_at, item_at, place_of, step_to, steps_to, pointed_at, with_item, with_entry};
-ghost use Rattle.policy_toml.specs.Views.{value_view, content_view, values_view, entries_view, items_of, entries_of};
+ghost use Rattle.policy_toml.specs.Views.{value_view, content_view, values_view, entries_view, items_from_list, entries_from_list};
 
-use crate::number::{are_digits, count, is_whole};
-use deny_text::{Span, Text};
+use deny_text::Span;
 use std::alloc::{AllocError, Global};
-use std::marker::Model;
 use std::mem;
-
-/// Where the bytes of a string are.
-#[derive(Drop)]
-enum Bytes<'de> {
-    /// In the text that was read, which had no escape there.
-    Borrowed(&'de str),
-    Owned(Text),
-}
-
-/// A string of the text.
-#[derive(Drop)]
-pub struct Str<'de> {
-    bytes: Bytes<'de>,
-}
-
-impl<'de> Model for Str<'de> {
-    ghost use Rattle.policy_toml.specs.Written.{Written};
-
-    ghost Value = { Written };
-
-    ghost use Rattle.policy_toml.specs.StrView.{str_view};
-
-    ghost view = { str_view };
-}
-
-/// A key of a table, with its place in the text, without quotes.
-#[derive(Drop)]
-pub struct Key<'de> {
-    pub name: Str<'de>,
-    pub span: Span,
-}
+use toml_subset::{Key, Str, are_digits, count, is_whole};
 
 /// A value and its place, which no caller can set.
 #[derive(Drop)]
@@ -76,46 +44,6 @@ pub struct Values<'de> {
 #[cycle(value)]
 pub struct Entries<'de> {
     items: Vec<(Key<'de>, Value<'de>)>,
-}
-
-impl<'de> Str<'de> {
-    /// A string that stands in the text as it is meant.
-    pub(crate) fn borrowed(text: &'de str) -> Str<'de>
-        ensures { result ≡ record { text = text.now; escaped = false } }
-    {
-        Str {
-            bytes: Bytes::Borrowed(text),
-        }
-    }
-
-    /// A string that was written with escapes.
-    pub(crate) fn owned(text: Text) -> Str<'de>
-        ensures { result ≡ record { text = text; escaped = true } }
-    {
-        Str {
-            bytes: Bytes::Owned(text),
-        }
-    }
-
-    /// The text that the string stands for.
-    pub fn as_str(&self) -> &str
-        ensures { result.now ≡ self.now.text }
-    {
-        match &self.bytes {
-            Bytes::Borrowed(text) => text,
-            Bytes::Owned(text) => text.as_str(),
-        }
-    }
-
-    /// Whether it was written with escapes.
-    pub fn has_escapes(&self) -> bool
-        ensures { result ≡ self.now.escaped }
-    {
-        match &self.bytes {
-            Bytes::Borrowed(_) => false,
-            Bytes::Owned(_) => true,
-        }
-    }
 }
 
 impl<'de> Value<'de> {
@@ -218,7 +146,7 @@ impl<'de> Values<'de> {
 
     /// The empty list, which takes no memory.
     pub fn new(alloc: Global) -> Values<'de>
-        ensures { values_view result ≡ items_of [] }
+        ensures { values_view result ≡ items_from_list [] }
     {
         Values {
             items: Vec::new(alloc),
@@ -227,7 +155,7 @@ impl<'de> Values<'de> {
 
     /// The items in order.
     pub fn items(&self) -> &[Value<'de>]
-        ensures { items_of (map (λ v. value_view v) result.now) ≡ values_view self.now }
+        ensures { items_from_list (map (λ v. value_view v) result.now) ≡ values_view self.now }
     {
         &self.items
     }
@@ -244,7 +172,7 @@ impl<'de> Values<'de> {
 
 impl<'de> Entries<'de> {
     pub(crate) fn new(alloc: Global) -> Entries<'de>
-        ensures { entries_view result ≡ entries_of [] }
+        ensures { entries_view result ≡ entries_from_list [] }
     {
         Entries {
             items: Vec::new(alloc),
@@ -269,7 +197,7 @@ impl<'de> Entries<'de> {
 }
 
 fn find<'v, 'de>(entries: &'v [(Key<'de>, Value<'de>)], name: &str) -> Option<&'v Value<'de>>
-    ensures { option_map (λ v. value_view v.now) result ≡ value_at name.now (entries_of (map (λ p. (p.0, value_view p.1)) entries.now)) }
+    ensures { option_map (λ v. value_view v.now) result ≡ value_at name.now (entries_from_list (map (λ p. (p.0, value_view p.1)) entries.now)) }
 {
     let mut place = 0;
     'entries: while place < entries.len() {

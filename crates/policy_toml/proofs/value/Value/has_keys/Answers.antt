@@ -1,5 +1,5 @@
 use Rattle.std.proofs.Common.{not, eqb, sym, ap, ◌∙◌}
-use Rattle.policy_toml.specs.Data as «data»
+use Rattle.toml_subset.specs.Data as «data»
 use Rattle.policy_toml.specs.Views.{content_view}
 use Rattle.policy_toml.specs.Lookup.{has_entries}
 use Rattle.policy_toml.proofs.ValueViews.{entries_view-is, content_view-Table, value_view-content, has_entries-is}

@@ -1,5 +1,5 @@
 use Rattle.std.proofs.Common.{map, sym, ap, ◌∙◌}
-use Rattle.policy_toml.specs.Views.{value_view, items_of}
+use Rattle.policy_toml.specs.Views.{value_view, items_from_list}
 use Rattle.policy_toml.specs.Lookup.{with_item}
 use Rattle.policy_toml.proofs.ValueViews.{values_view-is, values_view-roll, items_of-push}
 use Rattle.std.proofs.lemmas.List.{map-append}
@@ -7,5 +7,5 @@ use Rattle.policy_toml.proofs.value.Values.push.Goals as goal
 
 pub returns-clause-ok : goal.returns-clause-ok
 returns-clause-ok c =
-    values_view-roll _ ∙ ap (λ xs. items_of (map (λ x. value_view x) xs)) c.in_ok-push.ensures.items
+    values_view-roll _ ∙ ap (λ xs. items_from_list (map (λ x. value_view x) xs)) c.in_ok-push.ensures.items
     ∙ rw map-append (items_of-push _ (value_view c.args.item)) ∙ ap (λ xs. with_item xs (value_view c.args.item)) (sym (values_view-is c.args.self.now))

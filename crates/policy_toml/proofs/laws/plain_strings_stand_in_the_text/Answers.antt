@@ -1,5 +1,0 @@
-use Rattle.policy_toml.proofs.PlainStrings.{plain_string}
-use Rattle.policy_toml.proofs.laws.plain_strings_stand_in_the_text.Goals as goal
-
-pub returns : goal.returns
-returns c = plain_string

@@ -1,0 +1,100 @@
+-- Places in a text, counted in bytes from 0: what stands at one, and how far a run goes from it
+-- (TOML 1.0: Spec on white space and line ends, Comment).
+use Rattle.std.specs.Prelude.{ℕ, suc, ◌+◌, Bool, false, not, ◌||◌, ◌&&◌, ◌==◌, if◌then◌else◌, List, [], ◌∷◌, Option, Some, None, length, take, drop}
+use Rattle.std.specs.List.{prefix_len}
+use Rattle.deny_text.specs.declared.span.Span.{Span}
+use Rattle.toml_subset.specs.Bytes.{line_feed, carriage_return, hash, is_blank, is_bare, is_run, is_digit, is_point, is_e, may_stand, goes_on}
+use Rattle.toml_subset.specs.declared.scan.Gap.{Gap}
+use Rattle.toml_subset.specs.declared.scan.Gap.TheVariants.{White, Space, Comment}
+use Rattle.toml_subset.specs.declared.scan.Run.{Run}
+use Rattle.toml_subset.specs.declared.scan.Run.TheVariants as run
+
+-- the places from one up to another
+abbrev pub from_to : ℕ → ℕ → Span
+from_to i j = record { start = i; end = j }
+
+-- whether there is a byte at the front that passes
+abbrev pub front_is : (ℕ → Bool) → List ℕ → Bool
+front_is p [] = false
+front_is p (c ∷ cs) = p c
+
+-- whether a byte that passes stands at a place
+abbrev pub passes_at : (ℕ → Bool) → List ℕ → ℕ → Bool
+passes_at p text i = front_is p (drop i text)
+
+-- whether this byte stands at a place
+abbrev pub stands : List ℕ → ℕ → ℕ → Bool
+stands text i c = passes_at (λ b. b == c) text i
+
+-- whether a byte belongs to a run of a kind
+abbrev pub belongs : Run → ℕ → Bool
+belongs run.Blanks = is_blank
+belongs run.Bare = is_bare
+belongs run.Number = is_run
+belongs run.Comment = may_stand
+belongs run.Character = goes_on
+belongs run.Digits = is_digit
+belongs run.Whole = λ c. not (is_point c)
+belongs run.Mantissa = λ c. not (is_e c)
+
+-- the place behind the longest run of bytes that pass
+abbrev pub run_end : (ℕ → Bool) → List ℕ → ℕ → ℕ
+run_end p text i = i + prefix_len p (drop i text)
+
+-- the longest run itself
+abbrev pub run_at : (ℕ → Bool) → List ℕ → ℕ → List ℕ
+run_at p text i = take (prefix_len p (drop i text)) (drop i text)
+
+abbrev pub after_blanks : List ℕ → ℕ → ℕ
+after_blanks = run_end is_blank
+
+-- the place behind a line end, where one stands: LF, or CR LF
+abbrev pub line_end : List ℕ → ℕ → Option ℕ
+line_end text i =
+    if stands text i line_feed then Some (i + 1)
+    else (if stands text i carriage_return && stands text (i + 1) line_feed then Some (i + 2) else None)
+
+-- A comment runs from `#` over all that may stand in it. Where none begins, the place itself.
+abbrev pub after_comment : List ℕ → ℕ → ℕ
+after_comment text i = if stands text i hash then run_end may_stand text (i + 1) else i
+
+-- The place where the next line begins, if blanks and a comment alone stand before this line's end. The text may
+-- end in place of a line.
+abbrev pub next_line : List ℕ → ℕ → Option ℕ
+next_line text i =
+    let j = after_comment text (after_blanks text i) in
+    if j == length text then Some j else line_end text j
+
+-- whether a gap goes on over a byte that begins no line end
+abbrev pub spans_byte : Gap → ℕ → Bool
+spans_byte White c = is_blank c
+spans_byte Space c = is_blank c || (c == hash)
+spans_byte Comment c = may_stand c
+
+-- whether a line end begins with a byte that these follow: LF, or CR before LF
+abbrev pub breaks : ℕ → List ℕ → Bool
+breaks c rest = (c == line_feed) || ((c == carriage_return) && front_is (λ b. b == line_feed) rest)
+
+-- In space a comment begins at `#`, and ends at the line's end.
+abbrev pub gap_after : Gap → ℕ → Gap
+gap_after White c = White
+gap_after Space c = if c == hash then Comment else Space
+gap_after Comment c = if c == line_feed then Space else Comment
+
+-- How far a gap goes from the front: white space and line ends, and in space comments too.
+abbrev pub gap_len : Gap → List ℕ → ℕ
+gap_len gap [] = 0
+gap_len gap (c ∷ cs) =
+    if breaks c cs || spans_byte gap c then suc (gap_len (gap_after gap c) cs) else 0
+
+-- the place behind white space, line ends and comments, as they may stand between the tokens of an array
+abbrev pub after_space : List ℕ → ℕ → ℕ
+after_space text i = i + gap_len Space (drop i text)
+
+-- the place behind white space and line ends, as they may stand behind a backslash at a line's end
+abbrev pub after_white : List ℕ → ℕ → ℕ
+after_white text i = i + gap_len White (drop i text)
+
+-- the place behind the character that begins at a place
+abbrev pub char_end : List ℕ → ℕ → ℕ
+char_end text i = run_end goes_on text (i + 1)

@@ -1,0 +1,15 @@
+-- Which text stands for which value. A text is read as lines, these make a table, and no value in it stands deeper than
+-- the limit. The root is the whole text.
+use Rattle.std.specs.Prelude.{◌≡◌, ℕ, ◌≤◌, List, Some, length}
+use Rattle.toml_subset.specs.Data.{Toml, table, entries_depth, depth_limit}
+use Rattle.toml_subset.specs.Lines.{Statement, Document, AreLines, after_lines, no_lines}
+use Rattle.toml_subset.specs.Places.{from_to}
+use Rattle.toml_subset.specs.Tables.{entries_of}
+
+pub record IsText (text : List ℕ) (value : Toml) : Type 0 where
+  pub lines : List Statement
+  pub document : Document
+  pub stand : AreLines text 0 lines
+  pub makes : after_lines lines no_lines ≡ Some document
+  pub shallow : entries_depth (entries_of document.root) ≤ depth_limit
+  pub is : value ≡ record { content = table (entries_of document.root); span = from_to 0 (length text) }

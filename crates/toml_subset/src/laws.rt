@@ -1,0 +1,18 @@
+//! Laws of the definition, as contracts of functions that do nothing.
+ghost use Rattle.std.specs.Prelude.{◌≡◌, ℕ, List, false, slice_range};
+ghost use Rattle.deny_text.specs.declared.span.Span.{Span};
+ghost use Rattle.toml_subset.specs.Data.{Toml};
+ghost use Rattle.toml_subset.specs.Strings.{Quoting, IsString};
+ghost use Rattle.toml_subset.specs.Text.{IsText};
+ghost use Rattle.toml_subset.specs.Written.{Written};
+
+/// A text stands for at most one value.
+pub fn at_most_one_value()
+    ensures { (text : List ℕ) (a b : Toml) → IsText text a → IsText text b → a ≡ b }
+{}
+
+/// A string that was written without an escape is the text's own slice at its span.
+pub fn plain_strings_stand_in_the_text()
+    ensures { (text : List ℕ) (i : ℕ) (kind : Quoting) (w : Written) (span : Span) (next : ℕ)
+        → IsString text i kind w span next → w.escaped ≡ false → w.text ≡ slice_range text span.start span.end }
+{}

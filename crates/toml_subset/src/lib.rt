@@ -1,0 +1,19 @@
+//! A subset of TOML 1.0: what its texts stand for, the scanners of its tokens, its numbers and its strings.
+#![tactic(auto)]
+
+mod error;
+mod fault;
+pub mod laws;
+mod number;
+mod scan;
+mod string;
+#[cfg(test)]
+mod tests;
+
+pub use error::{SyntaxError, SyntaxReason, TomlError};
+pub use fault::{control_character, unexpected};
+pub use number::{Number, are_digits, classify, count, is_whole, read_number};
+pub use scan::{
+    after_blanks, after_comment, after_space, after_white, char_end, line_end, next_line, run_end,
+};
+pub use string::{Key, Str, escaped_string, plain_string};

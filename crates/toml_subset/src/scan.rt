@@ -1,0 +1,267 @@
+//! How far a run goes from a place.
+ghost use Rattle.std.specs.Prelude.{◌≡◌, ◌+◌, ◌<◌, ◌≤◌, length, drop, slice_index};
+ghost use Rattle.std.specs.Str.{IsCharBoundary};
+ghost use Rattle.toml_subset.specs.Bytes.{is_blank as blank, may_stand as may, is_digit as digit, is_letter as letter, is_sign as sign, is_bare as bare, is_run as run, goes_on as on};
+ghost use Rattle.toml_subset.specs.Places.{stands as stands_at, belongs, run_end as run_ends, after_blanks as blanks_end, line_end as line_ends, after_comment as comment_end, next_line as line_after, gap_len, gap_after as gap_behind, spans_byte, breaks, after_space as space_end, after_white as white_end, char_end as character_end};
+
+/// What stands between tokens.
+#[derive(Clone, Copy)]
+pub enum Gap {
+    /// White space and line ends.
+    White,
+    /// White space, line ends and comments.
+    Space,
+    /// The rest of a comment, and then space.
+    Comment,
+}
+
+/// What a run is made of.
+#[derive(Clone, Copy)]
+pub enum Run {
+    /// Spaces and tabs.
+    Blanks,
+    /// Letters, digits, `_` and `-`.
+    Bare,
+    /// A number run.
+    Number,
+    /// What may stand in a comment.
+    Comment,
+    /// The bytes of a character behind its first.
+    Character,
+    Digits,
+    /// All up to a point.
+    Whole,
+    /// All up to an `e` or `E`.
+    Mantissa,
+}
+
+impl Run {
+    /// Whether a byte belongs to it.
+    pub fn has(self, byte: u8) -> bool
+        ensures { result ≡ belongs self byte }
+    {
+        match self {
+            Run::Blanks => is_blank(byte),
+            Run::Bare => is_bare(byte),
+            Run::Number => is_run(byte),
+            Run::Comment => may_stand(byte),
+            Run::Character => goes_on(byte),
+            Run::Digits => is_digit(byte),
+            Run::Whole => byte != b'.',
+            Run::Mantissa => byte != b'e' && byte != b'E',
+        }
+    }
+}
+
+/// A space or a tab.
+pub fn is_blank(byte: u8) -> bool
+    ensures { result ≡ blank byte }
+{
+    byte == b' ' || byte == b'\t'
+}
+
+/// What may stand in a comment or a string: no control character but a tab.
+pub fn may_stand(byte: u8) -> bool
+    ensures { result ≡ may byte }
+{
+    !(byte < 32 || byte == 127) || byte == b'\t'
+}
+
+/// An ASCII digit.
+pub fn is_digit(byte: u8) -> bool
+    ensures { result ≡ digit byte }
+{
+    b'0' <= byte && byte <= b'9'
+}
+
+/// An ASCII letter.
+pub fn is_letter(byte: u8) -> bool
+    ensures { result ≡ letter byte }
+{
+    (b'A' <= byte && byte <= b'Z') || (b'a' <= byte && byte <= b'z')
+}
+
+/// What a bare key is made of.
+pub fn is_bare(byte: u8) -> bool
+    ensures { result ≡ bare byte }
+{
+    is_letter(byte) || is_digit(byte) || byte == b'-' || byte == b'_'
+}
+
+/// What a number run is made of.
+pub fn is_run(byte: u8) -> bool
+    ensures { result ≡ run byte }
+{
+    is_bare(byte) || byte == b'+' || byte == b'.' || byte == b':'
+}
+
+pub fn is_sign(byte: u8) -> bool
+    ensures { result ≡ sign byte }
+{
+    byte == b'+' || byte == b'-'
+}
+
+/// A byte that goes on with a character.
+fn goes_on(byte: u8) -> bool
+    ensures { result ≡ on byte }
+{
+    128 <= byte && byte < 192
+}
+
+/// Whether this byte stands at a place, which may lie behind the text.
+pub fn stands(text: &[u8], place: usize, byte: u8) -> bool
+    ensures { result ≡ stands_at text.now place byte }
+{
+    match text.get(place) {
+        Some(found) => *found == byte,
+        None => false,
+    }
+}
+
+/// The place behind the longest run from a place on.
+pub fn run_end(text: &[u8], place: usize, run: Run) -> usize
+    requires { place ≤ length text.now }
+    ensures end { result ≡ run_ends (belongs run) text.now place }
+    ensures within { result ≤ length text.now }
+{
+    let mut end = place;
+    'bytes: while end < text.len() && run.has(text[end]) {
+        end += 1;
+    }
+    end
+}
+
+/// The place behind the blanks at a place.
+pub fn after_blanks(text: &[u8], place: usize) -> usize
+    requires { place ≤ length text.now }
+    ensures end { result ≡ blanks_end text.now place }
+    ensures within { result ≤ length text.now }
+{
+    run_end(text, place, Run::Blanks)
+}
+
+/// The place behind the line end at a place, where one stands there.
+pub fn line_end(text: &[u8], place: usize) -> Option<usize>
+    requires { place ≤ length text.now }
+    ensures { result ≡ line_ends text.now place }
+{
+    if stands(text, place, b'\n') {
+        Some(place + 1)
+    } else if stands(text, place, b'\r') && stands(text, place + 1, b'\n') {
+        Some(place + 2)
+    } else {
+        None
+    }
+}
+
+/// The place behind the comment at a place, or the place where none begins there.
+pub fn after_comment(text: &[u8], place: usize) -> usize
+    requires { place ≤ length text.now }
+    ensures end { result ≡ comment_end text.now place }
+    ensures within { result ≤ length text.now }
+{
+    if stands(text, place, b'#') {
+        run_end(text, place + 1, Run::Comment)
+    } else {
+        place
+    }
+}
+
+/// The place of the next line, where nothing but blanks and a comment stands before this one's end.
+pub fn next_line(text: &[u8], place: usize) -> Option<usize>
+    requires { place ≤ length text.now }
+    ensures { result ≡ line_after text.now place }
+{
+    let end = after_comment(text, after_blanks(text, place));
+    if end == text.len() {
+        Some(end)
+    } else {
+        line_end(text, end)
+    }
+}
+
+/// Whether a line end begins at a place: LF, or CR before LF.
+fn breaks_at(text: &[u8], place: usize) -> bool
+    requires { place < length text.now }
+    ensures { result ≡ breaks (slice_index text.now place) (drop (place + 1) text.now) }
+{
+    text[place] == b'\n' || (text[place] == b'\r' && stands(text, place + 1, b'\n'))
+}
+
+impl Gap {
+    /// Whether it goes on over a byte that begins no line end.
+    fn spans(self, byte: u8) -> bool
+        ensures { result ≡ spans_byte self byte }
+    {
+        match self {
+            Gap::White => is_blank(byte),
+            Gap::Space => is_blank(byte) || byte == b'#',
+            Gap::Comment => may_stand(byte),
+        }
+    }
+
+    /// What it is behind a byte that it went over.
+    fn after(self, byte: u8) -> Gap
+        ensures { result ≡ gap_behind self byte }
+    {
+        match self {
+            Gap::White => Gap::White,
+            Gap::Space => {
+                if byte == b'#' {
+                    Gap::Comment
+                } else {
+                    Gap::Space
+                }
+            }
+            Gap::Comment => {
+                if byte == b'\n' {
+                    Gap::Space
+                } else {
+                    Gap::Comment
+                }
+            }
+        }
+    }
+}
+
+/// The place behind the gap from a place on.
+pub fn gap_end(text: &[u8], place: usize, gap: Gap) -> usize
+    requires { place ≤ length text.now }
+    ensures end { result ≡ place + gap_len gap (drop place text.now) }
+    ensures within { result ≤ length text.now }
+{
+    let mut end = place;
+    let mut inside = gap;
+    'bytes: while end < text.len() && (breaks_at(text, end) || inside.spans(text[end])) {
+        inside = inside.after(text[end]);
+        end += 1;
+    }
+    end
+}
+
+/// The place behind the space between the tokens of an array.
+pub fn after_space(text: &[u8], place: usize) -> usize
+    requires { place ≤ length text.now }
+    ensures end { result ≡ space_end text.now place }
+    ensures within { result ≤ length text.now }
+{
+    gap_end(text, place, Gap::Space)
+}
+
+/// The place behind white space and line ends.
+pub fn after_white(text: &[u8], place: usize) -> usize
+    requires { place ≤ length text.now }
+    ensures end { result ≡ white_end text.now place }
+    ensures within { result ≤ length text.now }
+{
+    gap_end(text, place, Gap::White)
+}
+
+/// The place behind the character that begins at a place.
+pub fn char_end(text: &str, place: usize) -> usize
+    requires { place < length text.now }
+    ensures end { result ≡ character_end text.now place }
+    ensures border { IsCharBoundary text.now result }
+{
+    run_end(text.as_bytes(), place + 1, Run::Character)
+}
