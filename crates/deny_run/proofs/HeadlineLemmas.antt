@@ -1,6 +1,7 @@
 -- The headline, from what a run answers.
 use Rattle.std.proofs.Common.{◌≡◌, ℕ, zero, suc, ◌+◌, ◌↔◌, IfErr, cond, nat_lt, List, [], ◌∷◌, map, count_by, Option, Some, None, Result, Ok, Err, All, refl, sym, ap, subst, ◌∙◌, option_and_then, arith, IsOkAnd}
-use Rattle.spdx_core.specs.declared.catalog.LicenseEntry.{LicenseEntry}
+use Rattle.catalog_core.specs.declared.catalog.LicenseEntry.{LicenseEntry}
+use Rattle.catalog_core.specs.Catalog.{CatalogLists}
 use Rattle.spdx_core.specs.Expression.{ExpressionView, expression_of}
 use Rattle.graph_core.specs.declared.krate.Krate.{Krate}
 use Rattle.graph_core.specs.Records.{record_of}
@@ -38,33 +39,33 @@ or_refused-Ok : {X : Type 0} (error : Error) (value : Option X) (x : X) → or_r
 or_refused-Ok error None x e = absurd (cc)
 or_refused-Ok error (Some value) x e = cc
 
-policy_heard-Ok : (licences : List (List ℕ × LicenseEntry)) (heard : Result (List ℕ) ReadFault) (allowed : List LicenseEntry) → policy_heard licences heard ≡ Ok allowed → (text : List ℕ) × (heard ≡ Ok text) × (policy_of licences text ≡ Some allowed)
-policy_heard-Ok licences (Ok text) allowed e = (text, refl, or_refused-Ok _ (policy_of licences text) allowed e)
-policy_heard-Ok licences (Err (Failed before after)) allowed e = absurd (cc)
-policy_heard-Ok licences (Err Absent) allowed e = absurd (cc)
-policy_heard-Ok licences (Err Folder) allowed e = absurd (cc)
-policy_heard-Ok licences (Err (NotUtf8 at)) allowed e = absurd (cc)
+policy_heard-Ok : (lists : CatalogLists) (heard : Result (List ℕ) ReadFault) (allowed : List LicenseEntry) → policy_heard lists heard ≡ Ok allowed → (text : List ℕ) × (heard ≡ Ok text) × (policy_of lists text ≡ Some allowed)
+policy_heard-Ok lists (Ok text) allowed e = (text, refl, or_refused-Ok _ (policy_of lists text) allowed e)
+policy_heard-Ok lists (Err (Failed before after)) allowed e = absurd (cc)
+policy_heard-Ok lists (Err Absent) allowed e = absurd (cc)
+policy_heard-Ok lists (Err Folder) allowed e = absurd (cc)
+policy_heard-Ok lists (Err (NotUtf8 at)) allowed e = absurd (cc)
 
 metadata_heard-Ok : (heard : Result (List ℕ) ReadFault) (krate : Krate) → metadata_heard heard ≡ Ok krate → (text : List ℕ) × (heard ≡ Ok text) × (record_of text ≡ Some krate)
 metadata_heard-Ok (Ok text) krate e = (text, refl, or_refused-Ok _ (record_of text) krate e)
 metadata_heard-Ok (Err fault) krate e = absurd (cc)
 
-read_field : (licences : List (List ℕ × LicenseEntry)) (license : Option (List ℕ)) (expression : ExpressionView) → option_and_then (expression_of licences) license ≡ Some expression → (field : List ℕ) × (license ≡ Some field) × (expression_of licences field ≡ Some expression)
-read_field licences None expression e = absurd (cc)
-read_field licences (Some field) expression e = (field, refl, e)
+read_field : (lists : CatalogLists) (license : Option (List ℕ)) (expression : ExpressionView) → option_and_then (expression_of lists) license ≡ Some expression → (field : List ℕ) × (license ≡ Some field) × (expression_of lists field ≡ Some expression)
+read_field lists None expression e = absurd (cc)
+read_field lists (Some field) expression e = (field, refl, e)
 
 -- what is asked to be judged is asked by the words, the policy, the metadata and the field
-pub Asks-from_judged_of : (licences : List (List ℕ × LicenseEntry)) (words : List (List ℕ)) (cwd : List ℕ) (content : Content) (judged : Judged) → judged_of licences words cwd content ≡ Ok judged → Asks licences words cwd content judged
-Asks-from_judged_of licences words cwd content judged e =
+pub Asks-from_judged_of : (lists : CatalogLists) (words : List (List ℕ)) (cwd : List ℕ) (content : Content) (judged : Judged) → judged_of lists words cwd content ≡ Ok judged → Asks lists words cwd content judged
+Asks-from_judged_of lists words cwd content judged e =
     let (paths, asked, e1) = then_do-Ok (or_refused (NotYet Words) (request_of words cwd)) _ judged e in
-    let (allowed, policy, e2) = then_do-Ok (policy_heard licences (heard_at content paths.policy)) _ judged e1 in
+    let (allowed, policy, e2) = then_do-Ok (policy_heard lists (heard_at content paths.policy)) _ judged e1 in
     let (krate, metadata, e3) = then_do-Ok (metadata_heard (heard_at content paths.metadata)) _ judged e2 in
-    let (expression, field, e4) = then_do-Ok (field_of licences krate) _ judged e3 in
-    let (policy_text, policy_heard, allows) = policy_heard-Ok licences (heard_at content paths.policy) allowed policy in
+    let (expression, field, e4) = then_do-Ok (field_of lists krate) _ judged e3 in
+    let (policy_text, policy_heard, allows) = policy_heard-Ok lists (heard_at content paths.policy) allowed policy in
     let (metadata_text, metadata_heard, tells) = metadata_heard-Ok (heard_at content paths.metadata) krate metadata in
-    let (text, there, reads) = read_field licences krate.license expression (or_refused-Ok (NotYet (Crate krate.id)) (option_and_then (expression_of licences) krate.license) expression field) in
+    let (text, there, reads) = read_field lists krate.license expression (or_refused-Ok (NotYet (Crate krate.id)) (option_and_then (expression_of lists) krate.license) expression field) in
     let same : ◌≡◌ {A = Judged} (record { allowed = allowed; krate = krate; expression = expression }) judged = cc in
-    subst (Asks licences words cwd content) same
+    subst (Asks lists words cwd content) same
     (record {
       request = paths;
       asked = or_refused-Ok (NotYet Words) (request_of words cwd) paths asked;
@@ -74,26 +75,26 @@ Asks-from_judged_of licences words cwd content judged e =
     })
 
 -- what the words, the policy, the metadata and the field ask for is what is asked to be judged
-pub judged_of-from_Asks : (licences : List (List ℕ × LicenseEntry)) (words : List (List ℕ)) (cwd : List ℕ) (content : Content) (judged : Judged) → Asks licences words cwd content judged → judged_of licences words cwd content ≡ Ok judged
-judged_of-from_Asks licences words cwd content judged asks =
-    let field : field_of licences judged.krate ≡ Ok judged.expression =
-    ap (λ license. or_refused (NotYet (Crate judged.krate.id)) (option_and_then (expression_of licences) license)) asks.expression.there
+pub judged_of-from_Asks : (lists : CatalogLists) (words : List (List ℕ)) (cwd : List ℕ) (content : Content) (judged : Judged) → Asks lists words cwd content judged → judged_of lists words cwd content ≡ Ok judged
+judged_of-from_Asks lists words cwd content judged asks =
+    let field : field_of lists judged.krate ≡ Ok judged.expression =
+    ap (λ license. or_refused (NotYet (Crate judged.krate.id)) (option_and_then (expression_of lists) license)) asks.expression.there
     ∙ ap (or_refused (NotYet (Crate judged.krate.id))) asks.expression.reads in
     let metadata : metadata_heard (heard_at content asks.request.metadata) ≡ Ok judged.krate =
     ap metadata_heard asks.metadata.heard ∙ ap (or_refused (NotYet Metadata)) asks.metadata.tells in
-    let policy : policy_heard licences (heard_at content asks.request.policy) ≡ Ok judged.allowed =
-    ap (policy_heard licences) asks.policy.heard ∙ ap (or_refused (NotYet Policy)) asks.policy.allows in
+    let policy : policy_heard lists (heard_at content asks.request.policy) ≡ Ok judged.allowed =
+    ap (policy_heard lists) asks.policy.heard ∙ ap (or_refused (NotYet Policy)) asks.policy.allows in
     let last : (krate : Krate) → Result ExpressionView Error → Result Judged Error = λ krate read. then_do read (λ expression. Ok (record { allowed = judged.allowed; krate = krate; expression = expression })) in
     ap (λ asked. then_do (or_refused (NotYet Words) asked) (λ paths.
-    then_do (policy_heard licences (heard_at content paths.policy)) (λ allowed.
+    then_do (policy_heard lists (heard_at content paths.policy)) (λ allowed.
     then_do (metadata_heard (heard_at content paths.metadata)) (λ krate.
-    then_do (field_of licences krate) (λ expression.
+    then_do (field_of lists krate) (λ expression.
     Ok (record { allowed = allowed; krate = krate; expression = expression })))))) asks.asked
     ∙ ap (λ heard. then_do heard (λ allowed.
     then_do (metadata_heard (heard_at content asks.request.metadata)) (λ krate.
-    then_do (field_of licences krate) (λ expression.
+    then_do (field_of lists krate) (λ expression.
     Ok (record { allowed = allowed; krate = krate; expression = expression }))))) policy
-    ∙ ap (λ heard. then_do heard (λ krate. last krate (field_of licences krate))) metadata
+    ∙ ap (λ heard. then_do heard (λ krate. last krate (field_of lists krate))) metadata
     ∙ ap (last judged.krate) field
 
 -- lawful input without a fault ends in a report or in want of memory
@@ -158,12 +159,12 @@ ok_value (Ok x) P h = (x, refl, h)
 ok_value (Err error) P h = absurd h
 
 -- the headline, from the answer, the counts of faults, what was written and the status
-pub Headline-from_answers : (licences : List (List ℕ × LicenseEntry)) (words : List (List ℕ)) (cwd : List ℕ) (content : Content) (counts : FaultCounts) (old new : Option (List ℕ)) (outcome : Outcome) → CheckAnswers (judged_of licences words cwd content) (answer_of outcome.ended) → IfErr (answer_of outcome.ended) (ReadCounts counts.tree_before counts.tree_after) → SummaryWritten old new counts.out_before counts.out_after (answer_of outcome.ended) → outcome.status ≡ exit_status (answer_of outcome.ended) → Headline licences words cwd content counts outcome
-Headline-from_answers licences words cwd content counts old new outcome answers reads writes status =
-    let asked = judged_of licences words cwd content in
+pub Headline-from_answers : (lists : CatalogLists) (words : List (List ℕ)) (cwd : List ℕ) (content : Content) (counts : FaultCounts) (old new : Option (List ℕ)) (outcome : Outcome) → CheckAnswers (judged_of lists words cwd content) (answer_of outcome.ended) → IfErr (answer_of outcome.ended) (ReadCounts counts.tree_before counts.tree_after) → SummaryWritten old new counts.out_before counts.out_after (answer_of outcome.ended) → outcome.status ≡ exit_status (answer_of outcome.ended) → Headline lists words cwd content counts outcome
+Headline-from_answers lists words cwd content counts old new outcome answers reads writes status =
+    let asked = judged_of lists words cwd content in
     let checked = λ (report : Report) (e : outcome.ended ≡ Checked report). ok_value asked (λ judged. IsCheckOf judged report) (subst (λ ended. CheckAnswers asked (answer_of ended)) e answers) in
     record {
-      verdicts = λ report e. let (judged, is, check) = checked report e in (judged, Asks-from_judged_of licences words cwd content judged is, GivesVerdicts-from_IsCheckOf judged report check);
+      verdicts = λ report e. let (judged, is, check) = checked report e in (judged, Asks-from_judged_of lists words cwd content judged is, GivesVerdicts-from_IsCheckOf judged report check);
       status = λ report e. let (judged, is, check) = checked report e in status-IsAccepted report outcome.status check.stats (status ∙ ap (λ ended. exit_status (answer_of ended)) e);
-      lawful = λ judged asks quiet. EndsInReport-lawful asked judged (judged_of-from_Asks licences words cwd content judged asks) counts quiet old new outcome.ended answers reads writes;
+      lawful = λ judged asks quiet. EndsInReport-lawful asked judged (judged_of-from_Asks lists words cwd content judged asks) counts quiet old new outcome.ended answers reads writes;
     }

@@ -49,7 +49,7 @@ names_in-policy_text (name ∷ names) plain =
     ∙ ap (λ l. name ∷ l) (later_names names plain.1)
 
 pub reads_back : PolicyReadsBack
-reads_back licences names plain =
+reads_back lists names plain =
     let same = names_in-policy_text names plain in
-    ap (λ found. cond (bytes_eq (policy_text found) (policy_text names)) (entries_of licences found) None) same
-    ∙ ap (λ test. cond test (entries_of licences names) None) ((bytes_eq-Decides (policy_text names) (policy_text names)).1 refl)
+    ap (λ found. cond (bytes_eq (policy_text found) (policy_text names)) (entries_of lists found) None) same
+    ∙ ap (λ test. cond test (entries_of lists names) None) ((bytes_eq-Decides (policy_text names) (policy_text names)).1 refl)

@@ -1,8 +1,8 @@
 -- When an answer of a run, or of a part of it, is what the words and the content ask for.
 use Rattle.std.specs.Prelude.{◌≡◌, ℕ, List, Result, Ok, Err, Some, IsOkAnd, Any}
-use Rattle.spdx_core.specs.declared.catalog.LicenseEntry.{LicenseEntry}
+use Rattle.catalog_core.specs.declared.catalog.LicenseEntry.{LicenseEntry}
 use Rattle.spdx_core.specs.Expression.{ExpressionView}
-use Rattle.spdx_core.specs.Satisfaction.{Satisfies}
+use Rattle.catalog_core.specs.Satisfaction.{Satisfies}
 use Rattle.graph_core.specs.declared.krate.Krate.{Krate}
 use Rattle.deny_run.specs.declared.error.Error.{Error}
 use Rattle.deny_run.specs.declared.error.Error.TheVariants.{Memory, ConfigRead, MetadataRead, WriteFault, NotYet}

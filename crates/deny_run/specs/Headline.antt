@@ -8,7 +8,8 @@
 -- So far the words name no overrides, one crate is selected, a verdict is Accepted or Rejected, and no file of a crate
 -- is read.
 use Rattle.std.specs.Prelude.{◌≡◌, ℕ, ◌↔◌, List, [], ◌∷◌, Some, Ok, map, All}
-use Rattle.spdx_core.specs.declared.catalog.LicenseEntry.{LicenseEntry}
+use Rattle.catalog_core.specs.declared.catalog.LicenseEntry.{LicenseEntry}
+use Rattle.catalog_core.specs.Catalog.{CatalogLists}
 use Rattle.spdx_core.specs.Expression.{ExpressionView, expression_of}
 use Rattle.graph_core.specs.declared.krate.Krate.{Krate}
 use Rattle.graph_core.specs.Records.{record_of}
@@ -28,10 +29,10 @@ use Rattle.deny_run.specs.Policy.{policy_of}
 use Rattle.deny_run.specs.Words.{Paths, request_of}
 
 -- the policy's bytes: the file at the path is a text, and as a policy it allows these licences
-pub record PolicyAt (licences : List (List ℕ × LicenseEntry)) (content : Content) (path : List ℕ) (allowed : List LicenseEntry) : Type 0 where
+pub record PolicyAt (lists : CatalogLists) (content : Content) (path : List ℕ) (allowed : List LicenseEntry) : Type 0 where
   pub text : List ℕ
   pub heard : heard_at content path ≡ Ok text
-  pub allows : policy_of licences text ≡ Some allowed
+  pub allows : policy_of lists text ≡ Some allowed
 
 -- the crate's record: the file at the path is a text, and as metadata it tells of this crate
 pub record CrateAt (content : Content) (path : List ℕ) (krate : Krate) : Type 0 where
@@ -40,18 +41,18 @@ pub record CrateAt (content : Content) (path : List ℕ) (krate : Krate) : Type 
   pub tells : record_of text ≡ Some krate
 
 -- the crate's field is this licence expression
-pub record ExpressionOf (licences : List (List ℕ × LicenseEntry)) (krate : Krate) (expression : ExpressionView) : Type 0 where
+pub record ExpressionOf (lists : CatalogLists) (krate : Krate) (expression : ExpressionView) : Type 0 where
   pub field : List ℕ
   pub there : krate.license ≡ Some field
-  pub reads : expression_of licences field ≡ Some expression
+  pub reads : expression_of lists field ≡ Some expression
 
 -- lawful input: the words, the policy, the metadata and the field are of the forms that are built, and ask to judge this
-pub record Asks (licences : List (List ℕ × LicenseEntry)) (words : List (List ℕ)) (cwd : List ℕ) (content : Content) (judged : Judged) : Type 0 where
+pub record Asks (lists : CatalogLists) (words : List (List ℕ)) (cwd : List ℕ) (content : Content) (judged : Judged) : Type 0 where
   pub request : Paths
   pub asked : request_of words cwd ≡ Some request
-  pub policy : PolicyAt licences content request.policy judged.allowed
+  pub policy : PolicyAt lists content request.policy judged.allowed
   pub metadata : CrateAt content request.metadata judged.krate
-  pub expression : ExpressionOf licences judged.krate judged.expression
+  pub expression : ExpressionOf lists judged.krate judged.expression
 
 -- the ids of the crates that are checked
 abbrev pub selected_of : Krate → List (List ℕ)
@@ -87,7 +88,7 @@ pub record IsWithoutFault (counts : FaultCounts) : Type 0 where
   pub tree : ¬ (Rose counts.tree_before counts.tree_after)
   pub out : ¬ (Rose counts.out_before counts.out_after)
 
-pub record Headline (licences : List (List ℕ × LicenseEntry)) (words : List (List ℕ)) (cwd : List ℕ) (content : Content) (counts : FaultCounts) (outcome : Outcome) : Type 0 where
-  pub verdicts : (report : Report) → outcome.ended ≡ Checked report → (judged : Judged) × Asks licences words cwd content judged × GivesVerdicts judged report
+pub record Headline (lists : CatalogLists) (words : List (List ℕ)) (cwd : List ℕ) (content : Content) (counts : FaultCounts) (outcome : Outcome) : Type 0 where
+  pub verdicts : (report : Report) → outcome.ended ≡ Checked report → (judged : Judged) × Asks lists words cwd content judged × GivesVerdicts judged report
   pub status : (report : Report) → outcome.ended ≡ Checked report → (outcome.status ≡ 0) ↔ All IsAccepted report.crates
-  pub lawful : (judged : Judged) → Asks licences words cwd content judged → IsWithoutFault counts → EndsInReport outcome.ended
+  pub lawful : (judged : Judged) → Asks lists words cwd content judged → IsWithoutFault counts → EndsInReport outcome.ended

@@ -3,7 +3,8 @@ use Rattle.std.specs.Prelude.{ℕ, List, Option, Some, None, Result, Ok, Err, op
 use Rattle.std.specs.Str.{is_utf8}
 use Rattle.std.specs.Str.Lossy.{utf8_valid_len}
 use Rattle.tree_core.specs.Content.{Content, Node, file, folder, node_at}
-use Rattle.spdx_core.specs.declared.catalog.LicenseEntry.{LicenseEntry}
+use Rattle.catalog_core.specs.declared.catalog.LicenseEntry.{LicenseEntry}
+use Rattle.catalog_core.specs.Catalog.{CatalogLists}
 use Rattle.spdx_core.specs.Expression.{ExpressionView, expression_of}
 use Rattle.graph_core.specs.declared.krate.Krate.{Krate}
 use Rattle.graph_core.specs.Records.{record_of}
@@ -36,12 +37,12 @@ then_do (Ok value) next = next value
 then_do (Err error) next = Err error
 
 -- what a policy allows, from what was heard of its file
-abbrev pub policy_heard : List (List ℕ × LicenseEntry) → Result (List ℕ) ReadFault → Result (List LicenseEntry) Error
-policy_heard licences (Ok text) = or_refused (NotYet Policy) (policy_of licences text)
-policy_heard licences (Err (Failed before after)) = Err (ConfigRead (Failed before after))
-policy_heard licences (Err Absent) = Err (NotYet Policy)
-policy_heard licences (Err Folder) = Err (ConfigRead Folder)
-policy_heard licences (Err (NotUtf8 at)) = Err (ConfigRead (NotUtf8 at))
+abbrev pub policy_heard : CatalogLists → Result (List ℕ) ReadFault → Result (List LicenseEntry) Error
+policy_heard lists (Ok text) = or_refused (NotYet Policy) (policy_of lists text)
+policy_heard lists (Err (Failed before after)) = Err (ConfigRead (Failed before after))
+policy_heard lists (Err Absent) = Err (NotYet Policy)
+policy_heard lists (Err Folder) = Err (ConfigRead Folder)
+policy_heard lists (Err (NotUtf8 at)) = Err (ConfigRead (NotUtf8 at))
 
 -- the crate that metadata tells of, from what was heard of its file
 abbrev pub metadata_heard : Result (List ℕ) ReadFault → Result Krate Error
@@ -49,8 +50,8 @@ metadata_heard (Ok text) = or_refused (NotYet Metadata) (record_of text)
 metadata_heard (Err fault) = Err (MetadataRead fault)
 
 -- the licence expression of a crate's field
-abbrev pub field_of : List (List ℕ × LicenseEntry) → Krate → Result ExpressionView Error
-field_of licences krate = or_refused (NotYet (Crate krate.id)) (option_and_then (expression_of licences) krate.license)
+abbrev pub field_of : CatalogLists → Krate → Result ExpressionView Error
+field_of lists krate = or_refused (NotYet (Crate krate.id)) (option_and_then (expression_of lists) krate.license)
 
 -- what is judged: a crate and its licence expression, by the licences that a policy allows
 pub record Judged : Type 0 where
@@ -59,10 +60,10 @@ pub record Judged : Type 0 where
   pub expression : ExpressionView
 
 -- What the words and the files ask to judge, or the first refusal: of the words, the policy, the metadata, the field.
-abbrev pub judged_of : List (List ℕ × LicenseEntry) → List (List ℕ) → List ℕ → Content → Result Judged Error
-judged_of licences words cwd content =
+abbrev pub judged_of : CatalogLists → List (List ℕ) → List ℕ → Content → Result Judged Error
+judged_of lists words cwd content =
     then_do (or_refused (NotYet Words) (request_of words cwd)) (λ paths.
-    then_do (policy_heard licences (heard_at content paths.policy)) (λ allowed.
+    then_do (policy_heard lists (heard_at content paths.policy)) (λ allowed.
     then_do (metadata_heard (heard_at content paths.metadata)) (λ krate.
-    then_do (field_of licences krate) (λ expression.
+    then_do (field_of lists krate) (λ expression.
     Ok (record { allowed = allowed; krate = krate; expression = expression })))))

@@ -2,8 +2,8 @@
 use Rattle.std.specs.Prelude.{◌≡◌, ℕ, ◌==◌, Bool, false, All, List, [], ◌∷◌, ◌++◌, Option, Some, None, option_map, option_and_then, codes, if◌then◌else◌}
 use Rattle.std.specs.Str.{bytes_eq}
 use Rattle.std.specs.List.{AllByRecursion, flat_map, slice_split}
-use Rattle.spdx_core.specs.declared.catalog.LicenseEntry.{LicenseEntry}
-use Rattle.spdx_core.specs.Catalog.{entry_of}
+use Rattle.catalog_core.specs.declared.catalog.LicenseEntry.{LicenseEntry}
+use Rattle.catalog_core.specs.Catalog.{CatalogLists, entry_of}
 
 -- a name in double quotes
 abbrev pub quoted : List ℕ → List ℕ
@@ -37,15 +37,15 @@ abbrev pub names_in : List ℕ → List (List ℕ)
 names_in text = every_second (slice_split is_quote text)
 
 -- what the catalogue says of each name; none where it does not know one
-abbrev pub entries_of : List (List ℕ × LicenseEntry) → List (List ℕ) → Option (List LicenseEntry)
-entries_of licences [] = Some []
-entries_of licences (name ∷ names) =
-    option_and_then (λ entry. option_map (λ entries. entry ∷ entries) (entries_of licences names)) (entry_of licences name)
+abbrev pub entries_of : CatalogLists → List (List ℕ) → Option (List LicenseEntry)
+entries_of lists [] = Some []
+entries_of lists (name ∷ names) =
+    option_and_then (λ entry. option_map (λ entries. entry ∷ entries) (entries_of lists names)) (entry_of lists.licences name)
 
 -- The licences that a policy allows. The text is that of the policy that allows the names in its quotes, and the
 -- catalogue knows each name. There is none where the text is of another form.
-abbrev pub policy_of : List (List ℕ × LicenseEntry) → List ℕ → Option (List LicenseEntry)
-policy_of licences text = if bytes_eq (policy_text (names_in text)) text then entries_of licences (names_in text) else None
+abbrev pub policy_of : CatalogLists → List ℕ → Option (List LicenseEntry)
+policy_of lists text = if bytes_eq (policy_text (names_in text)) text then entries_of lists (names_in text) else None
 
 -- a name has no double quote
 abbrev pub HasNoQuote : List ℕ → Type 0
@@ -53,4 +53,4 @@ HasNoQuote name = All (λ byte. is_quote byte ≡ false) name
 
 -- A policy reads back: the text that allows these names allows what the catalogue says of them, in whatever catalogue.
 abbrev pub PolicyReadsBack : Type 0
-PolicyReadsBack = (licences : List (List ℕ × LicenseEntry)) (names : List (List ℕ)) → AllByRecursion HasNoQuote names → policy_of licences (policy_text names) ≡ entries_of licences names
+PolicyReadsBack = (lists : CatalogLists) (names : List (List ℕ)) → AllByRecursion HasNoQuote names → policy_of lists (policy_text names) ≡ entries_of lists names

@@ -1,7 +1,7 @@
 //! The parts of a check: what the policy allows, the crate, and the verdict on it.
 ghost use Rattle.std.specs.Prelude.{◌≡◌, ◌≤◌, ◌↔◌, IfErr, IsTrue, Any};
 ghost use Rattle.std.specs.Option.{ForSome};
-ghost use Rattle.spdx_core.specs.Satisfaction.{Satisfies};
+ghost use Rattle.catalog_core.specs.Satisfaction.{Satisfies};
 ghost use Rattle.deny_run.specs.Heard.{heard_at, policy_heard, metadata_heard, field_of};
 ghost use Rattle.deny_run.specs.Agrees.{Agrees, ReadCounts, IsVerdictOf, ReportAnswers};
 ghost use Rattle.deny_run.specs.Stages.{PolicyTells, MetadataTells, IsPolicyRefusal, IsMetadataRefusal, IsFieldRefusal};
@@ -45,7 +45,7 @@ pub(crate) fn read_policy<T: Tree, C: Catalog>(
     catalog: &C,
 ) -> Result<ListOf<LicenseEntry>, Error>
     requires { before ≤ T.fault_count tree.old }
-    ensures answer { ForSome (T.content tree.old) (λ c. Agrees (policy_heard (C.license_list catalog.now) (heard_at c path.now)) result) }
+    ensures answer { ForSome (T.content tree.old) (λ c. Agrees (policy_heard (C.lists catalog.now) (heard_at c path.now)) result) }
     ensures refusal { IfErr result IsPolicyRefusal }
     ensures same { T.content tree.new ≡ T.content tree.old }
     ensures later { T.fault_count tree.old ≤ T.fault_count tree.new }
@@ -108,7 +108,7 @@ pub(crate) fn judge<C: Catalog>(
     krate: Krate,
     catalog: &C,
 ) -> Result<CrateReport, Error>
-    ensures answer { ReportAnswers allowed.now krate (field_of (C.license_list catalog.now) krate) result }
+    ensures answer { ReportAnswers allowed.now krate (field_of (C.lists catalog.now) krate) result }
     ensures refusal { IfErr result IsFieldRefusal }
 {
     let Krate { id, license } = krate;

@@ -15,7 +15,7 @@ pub fn allowed<C: Catalog>(
     text: &str,
     catalog: &C,
 ) -> Result<Option<ListOf<LicenseEntry>>, AllocError>
-    ensures { IfOk result (λ allowed. allowed ≡ policy_of (C.license_list catalog.now) text.now) }
+    ensures { IfOk result (λ allowed. allowed ≡ policy_of (C.lists catalog.now) text.now) }
 {
     let names = names_in(alloc, text)?;
     if !is_written(alloc, names.items(), text)? {
@@ -100,7 +100,7 @@ fn entries<C: Catalog>(
     names: &[Text],
     catalog: &C,
 ) -> Result<Option<ListOf<LicenseEntry>>, AllocError>
-    ensures { IfOk result (λ entries. entries ≡ entries_of (C.license_list catalog.now) names.now) }
+    ensures { IfOk result (λ entries. entries ≡ entries_of (C.lists catalog.now) names.now) }
 {
     let mut entries = ListOf::new(alloc);
     'names: for name in names {

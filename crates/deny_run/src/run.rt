@@ -38,7 +38,7 @@ fn report<T: Tree, C: Catalog>(
     tree: &mut T,
     catalog: &C,
 ) -> Result<Report, Error>
-    ensures answer { ForSome (T.content tree.old) (λ c. CheckAnswers (judged_of (C.license_list catalog.now) (texts words.now) cwd.now c) result) }
+    ensures answer { ForSome (T.content tree.old) (λ c. CheckAnswers (judged_of (C.lists catalog.now) (texts words.now) cwd.now c) result) }
     ensures words { WordsAnswer (request_of (texts words.now) cwd.now) result }
     ensures refusal { IfErr result IsCheckRefusal }
     ensures same { T.content tree.new ≡ T.content tree.old }
@@ -87,14 +87,14 @@ fn check<T: Tree, O: Sink, C: Catalog>(
     out: &mut O,
     catalog: &C,
 ) -> Result<Report, Error>
-    ensures answer { ForSome (T.content tree.old) (λ c. CheckAnswers (judged_of (C.license_list catalog.now) (texts words.now) cwd.now c) result) }
+    ensures answer { ForSome (T.content tree.old) (λ c. CheckAnswers (judged_of (C.lists catalog.now) (texts words.now) cwd.now c) result) }
     ensures words { WordsAnswer (request_of (texts words.now) cwd.now) result }
     ensures refusal { IfErr result IsRunRefusal }
     ensures same { T.content tree.new ≡ T.content tree.old }
     ensures later { T.fault_count tree.old ≤ T.fault_count tree.new }
     ensures counts { IfErr result (ReadCounts (T.fault_count tree.old) (T.fault_count tree.new)) }
     ensures written { SummaryWritten (O.written out.old) (O.written out.new) (O.fault_count out.old) (O.fault_count out.new) result }
-    ensures cut { ForSome (T.content tree.old) (λ c. IfErr result (CutsSummary (judged_of (C.license_list catalog.now) (texts words.now) cwd.now c) (O.written out.old) (O.written out.new))) }
+    ensures cut { ForSome (T.content tree.old) (λ c. IfErr result (CutsSummary (judged_of (C.lists catalog.now) (texts words.now) cwd.now c) (O.written out.old) (O.written out.new))) }
     ensures out_later { O.fault_count out.old ≤ O.fault_count out.new }
 {
     let before = out.faults();
@@ -133,7 +133,7 @@ pub fn run<T: Tree, O: Sink, E: Sink, C: Catalog, I: Identifier>(
     identifier: &I,
 ) -> Outcome
     // What the content of the tree asks for is answered, and nothing else: each refusal by its cause.
-    ensures answer { ForSome (T.content tree.old) (λ c. CheckAnswers (judged_of (C.license_list catalog.now) (texts words.now) cwd.now c) (answer_of result.ended)) }
+    ensures answer { ForSome (T.content tree.old) (λ c. CheckAnswers (judged_of (C.lists catalog.now) (texts words.now) cwd.now c) (answer_of result.ended)) }
     ensures words { WordsAnswer (request_of (texts words.now) cwd.now) (answer_of result.ended) }
     ensures refusal { IfErr (answer_of result.ended) IsRunRefusal }
 
@@ -144,7 +144,7 @@ pub fn run<T: Tree, O: Sink, E: Sink, C: Catalog, I: Identifier>(
 
     // What was written, and when a write was refused.
     ensures summary { SummaryWritten (O.written out.old) (O.written out.new) (O.fault_count out.old) (O.fault_count out.new) (answer_of result.ended) }
-    ensures cut { ForSome (T.content tree.old) (λ c. IfErr (answer_of result.ended) (CutsSummary (judged_of (C.license_list catalog.now) (texts words.now) cwd.now c) (O.written out.old) (O.written out.new))) }
+    ensures cut { ForSome (T.content tree.old) (λ c. IfErr (answer_of result.ended) (CutsSummary (judged_of (C.lists catalog.now) (texts words.now) cwd.now c) (O.written out.old) (O.written out.new))) }
     ensures fault { FaultWritten (E.written err.old) (E.written err.new) (E.fault_count err.old) (E.fault_count err.new) (answer_of result.ended) }
 
     ensures out_later { O.fault_count out.old ≤ O.fault_count out.new }
@@ -153,7 +153,7 @@ pub fn run<T: Tree, O: Sink, E: Sink, C: Catalog, I: Identifier>(
     ensures status { result.status ≡ exit_status (answer_of result.ended) }
 
     // The headline, in the words of policies, records and verdicts.
-    ensures headline { ForSome (T.content tree.old) (λ c. Headline (C.license_list catalog.now) (texts words.now) cwd.now c
+    ensures headline { ForSome (T.content tree.old) (λ c. Headline (C.lists catalog.now) (texts words.now) cwd.now c
         (record { tree_before = T.fault_count tree.old; tree_after = T.fault_count tree.new; out_before = O.fault_count out.old; out_after = O.fault_count out.new })
         result) }
 {

@@ -2,7 +2,7 @@
 ghost use Rattle.std.specs.Prelude.{◌≡◌, IfOk, Some};
 ghost use Rattle.spdx_core.specs.Expression.{expression_of};
 
-use crate::catalog::{Catalog, LicenseEntry};
+use catalog_core::{Catalog, LicenseEntry};
 use deny_text::Text;
 use std::alloc::{AllocError, Global};
 use std::fmt;
@@ -31,7 +31,7 @@ impl Expression {
         name: &str,
         catalog: &C,
     ) -> Result<Option<Expression>, AllocError>
-        ensures { IfOk result (λ read. read ≡ expression_of (C.license_list catalog.now) name.now) }
+        ensures { IfOk result (λ read. read ≡ expression_of (C.lists catalog.now) name.now) }
     {
         match catalog.license(name) {
             Some(term) if !term.deprecated => {

@@ -5,5 +5,5 @@ use Rattle.deny_run.proofs.policy.entries.Given as goal
 -- the entries so far, and those of the names that are left
 abbrev pub invariant-names : goal.invariant-names
 invariant-names g l =
-    option_map (λ entries. l.entries ++ entries) (entries_of (g.C.Catalog.license_list l.catalog) (drop l.name-index l.names))
-    ≡ entries_of (g.C.Catalog.license_list l.catalog) l.names
+    option_map (λ entries. l.entries ++ entries) (entries_of (g.C.Catalog.lists l.catalog) (drop l.name-index l.names))
+    ≡ entries_of (g.C.Catalog.lists l.catalog) l.names

@@ -1,6 +1,6 @@
 //! Finding the licence that a text is.
 ghost use Rattle.std.specs.Prelude.{◌≡◌, ◌≤◌, ℕ, List, IfOk};
-ghost use Rattle.spdx_core.specs.declared.identifier.Match.{Match};
+ghost use Rattle.catalog_core.specs.declared.identifier.Match.{Match};
 
 use deny_text::Text;
 use std::alloc::{AllocError, Global};

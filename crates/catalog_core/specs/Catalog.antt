@@ -1,10 +1,17 @@
--- A catalogue: the licences with what is known of each, the exceptions, and imprecise texts with the licence of each.
+-- What a catalogue knows, and what holds of every one.
 use Rattle.std.specs.Prelude.{◌≡◌, ◌≤◌, ℕ, Bool, true, not, ◌&&◌, List, [], ◌∷◌, Option, IsTrue, is_some, length, take, drop, map, Contains}
 use Rattle.std.specs.Map.{lookup}
 use Rattle.std.specs.Str.{bytes_eq, str_eq_ignore_ascii_case}
 use Rattle.std.specs.List.{list_all, list_any}
-use Rattle.spdx_core.specs.declared.catalog.LicenseEntry.{LicenseEntry}
-use Rattle.spdx_core.specs.Words.{is_name, is_imprecise, ends_word}
+use Rattle.catalog_core.specs.declared.catalog.LicenseEntry.{LicenseEntry}
+use Rattle.catalog_core.specs.Words.{is_name, is_imprecise, ends_word}
+
+-- a catalogue as one value: licence names with what is known of each, exception names, and imprecise texts with the
+-- name of the licence that each means
+pub record CatalogLists : Type 0 where
+  pub licences : List (List ℕ × LicenseEntry)
+  pub exceptions : List (List ℕ)
+  pub imprecise : List (List ℕ × List ℕ)
 
 -- what is known of the licence of this name
 abbrev pub entry_of : List (List ℕ × LicenseEntry) → List ℕ → Option LicenseEntry
@@ -38,11 +45,11 @@ all_distinct same (text ∷ texts) = not (list_any (same text) texts) && all_dis
 
 -- What holds of every catalogue. Licences and exceptions have names, each of them once. An imprecise text is made of
 -- words, stands once in whatever case, and means a licence of the catalogue.
-pub record IsCatalog (licences : List (List ℕ × LicenseEntry)) (exceptions : List (List ℕ)) (imprecise : List (List ℕ × List ℕ)) : Type 0 where
-  pub licence_names : IsTrue (list_all is_name (names_of licences))
-  pub licences_once : IsTrue (all_distinct bytes_eq (names_of licences))
-  pub exception_names : IsTrue (list_all is_name exceptions)
-  pub exceptions_once : IsTrue (all_distinct bytes_eq exceptions)
-  pub imprecise_texts : IsTrue (list_all is_imprecise (names_of imprecise))
-  pub imprecise_once : IsTrue (all_distinct str_eq_ignore_ascii_case (names_of imprecise))
-  pub imprecise_known : IsTrue (list_all (λ pair. is_some (entry_of licences pair.1)) imprecise)
+pub record IsCatalog (lists : CatalogLists) : Type 0 where
+  pub licence_names : IsTrue (list_all is_name (names_of lists.licences))
+  pub licences_once : IsTrue (all_distinct bytes_eq (names_of lists.licences))
+  pub exception_names : IsTrue (list_all is_name lists.exceptions)
+  pub exceptions_once : IsTrue (all_distinct bytes_eq lists.exceptions)
+  pub imprecise_texts : IsTrue (list_all is_imprecise (names_of lists.imprecise))
+  pub imprecise_once : IsTrue (all_distinct str_eq_ignore_ascii_case (names_of lists.imprecise))
+  pub imprecise_known : IsTrue (list_all (λ pair. is_some (entry_of lists.licences pair.1)) lists.imprecise)

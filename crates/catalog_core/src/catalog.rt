@@ -1,8 +1,7 @@
 //! What a catalogue of licences answers.
-ghost use Rattle.std.specs.Prelude.{◌≡◌, ◌↔◌, ℕ, List, IsTrue, IfSome, IfNone, Contains};
-ghost use Rattle.spdx_core.specs.declared.catalog.LicenseEntry.{LicenseEntry};
-ghost use Rattle.spdx_core.specs.Satisfaction.{Satisfies};
-ghost use Rattle.spdx_core.specs.Catalog.{entry_of, IsLongestImprecise, BeginsNone, IsCatalog};
+ghost use Rattle.std.specs.Prelude.{◌≡◌, ◌↔◌, IsTrue, IfSome, IfNone, Contains};
+ghost use Rattle.catalog_core.specs.Satisfaction.{Satisfies};
+ghost use Rattle.catalog_core.specs.Catalog.{CatalogLists, entry_of, IsLongestImprecise, BeginsNone, IsCatalog};
 
 /// What a catalogue says of one licence name.
 #[derive(Clone, Copy, PartialEq, Eq, Debug)]
@@ -41,24 +40,20 @@ pub struct Imprecise<'c> {
 
 /// A catalogue of licence names, exception names, and imprecise texts with the licences that they mean.
 pub trait Catalog {
-    ghost license_list: { Self → List (List ℕ × LicenseEntry) };
-
-    ghost exception_list: { Self → List (List ℕ) };
-
-    ghost imprecise_list: { Self → List (List ℕ × List ℕ) };
+    ghost lists: { Self → CatalogLists };
 
     /// What is known of a licence name, which is told apart by its letters' case.
     fn license(&self, name: &str) -> Option<LicenseEntry>
-        ensures { result ≡ entry_of (license_list self.now) name.now };
+        ensures { result ≡ entry_of (lists self.now).licences name.now };
 
     /// Whether this is the name of a licence exception.
     fn exception(&self, name: &str) -> bool
-        ensures { IsTrue result ↔ Contains (exception_list self.now) name.now };
+        ensures { IsTrue result ↔ Contains (lists self.now).exceptions name.now };
 
     /// The longest imprecise text that begins `text`, without regard to ASCII case.
     fn imprecise(&self, text: &str) -> Option<Imprecise<'_>>
-        ensures found { IfSome result (λ found. IsLongestImprecise (imprecise_list self.now) text.now found.len found.name.now) }
-        ensures none { IfNone result (BeginsNone (imprecise_list self.now) text.now) };
+        ensures found { IfSome result (λ found. IsLongestImprecise (lists self.now).imprecise text.now found.len found.name.now) }
+        ensures none { IfNone result (BeginsNone (lists self.now).imprecise text.now) };
 
-    ghost lawful: { (c : Self) → IsCatalog (license_list c) (exception_list c) (imprecise_list c) };
+    ghost lawful: { (c : Self) → IsCatalog (lists c) };
 }

@@ -1,6 +1,6 @@
 -- What an identifier says of a text.
 use Rattle.std.specs.Prelude.{None}
-use Rattle.spdx_core.specs.declared.identifier.Match.{Match}
+use Rattle.catalog_core.specs.declared.identifier.Match.{Match}
 
 -- no licence was found
 abbrev pub no_match : Match

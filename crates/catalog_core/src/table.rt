@@ -1,8 +1,8 @@
 //! This project's own catalogue.
-ghost use Rattle.std.specs.Prelude.{◌≡◌, ◌<◌, ◌^◌, IfSome, [], map, position, length};
+ghost use Rattle.std.specs.Prelude.{◌≡◌, ◌<◌, ◌^◌, IfSome, map, position, length};
 ghost use Rattle.std.specs.Str.{bytes_eq};
-ghost use Rattle.spdx_core.specs.Catalog.{entry_of};
-ghost use Rattle.spdx_core.specs.Table.{table_licenses, table_is_catalog, single_entry, numbered_from};
+ghost use Rattle.catalog_core.specs.Catalog.{entry_of};
+ghost use Rattle.catalog_core.specs.Table.{table_lists, table_is_catalog, single_entry, numbered_from};
 
 use crate::catalog::{Catalog, Imprecise, LicenseEntry};
 
@@ -85,11 +85,7 @@ fn entry_among(names: &[&str], name: &str) -> Option<LicenseEntry>
 }
 
 impl Catalog for Table {
-    ghost license_list = { λ _. table_licenses };
-
-    ghost exception_list = { λ _. [] };
-
-    ghost imprecise_list = { λ _. [] };
+    ghost lists = { λ _. table_lists };
 
     ghost lawful = { λ _. table_is_catalog };
 

@@ -1,6 +1,6 @@
 -- When a licence of a policy is content with a term of an expression.
 use Rattle.std.specs.Prelude.{◌≡◌, ◌<◌, ◌⊎◌, IsTrue}
-use Rattle.spdx_core.specs.declared.catalog.LicenseEntry.{LicenseEntry}
+use Rattle.catalog_core.specs.declared.catalog.LicenseEntry.{LicenseEntry}
 
 -- both are this version, and the licensee takes no later ones unless the term does
 pub record IsSameVersion (licensee term : LicenseEntry) : Type 0 where

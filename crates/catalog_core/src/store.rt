@@ -1,7 +1,7 @@
 //! The identifier over stored licence texts.
 ghost use Rattle.std.specs.Prelude.{◌≡◌, ℕ, List};
 ghost use Rattle.std.proofs.Common.{rules};
-ghost use Rattle.spdx_core.specs.Identifier.{no_match};
+ghost use Rattle.catalog_core.specs.Identifier.{no_match};
 
 use crate::identifier::{Identifier, Match};
 use std::alloc::{AllocError, Global};

@@ -1,7 +1,7 @@
 -- The catalogue `Table`: forty licence names.
 use Rattle.std.specs.Prelude.{ℕ, ◌+◌, List, [], ◌∷◌, codes, false, refl}
-use Rattle.spdx_core.specs.declared.catalog.LicenseEntry.{LicenseEntry}
-use Rattle.spdx_core.specs.Catalog.{IsCatalog}
+use Rattle.catalog_core.specs.declared.catalog.LicenseEntry.{LicenseEntry}
+use Rattle.catalog_core.specs.Catalog.{CatalogLists, IsCatalog}
 
 -- the licences that are each a family of their own, in the order of their families' numbers
 unfoldable pub single_names : List (List ℕ)
@@ -23,9 +23,10 @@ abbrev pub numbered_from : ℕ → List (List ℕ) → List (List ℕ × License
 numbered_from family [] = []
 numbered_from family (name ∷ names) = (name, single_entry family) ∷ numbered_from (family + 1) names
 
-abbrev pub table_licenses : List (List ℕ × LicenseEntry)
-table_licenses = numbered_from 0 single_names
+-- the table: its licences, with no exceptions and no imprecise texts
+abbrev pub table_lists : CatalogLists
+table_lists = record { licences = numbered_from 0 single_names; exceptions = []; imprecise = [] }
 
-pub table_is_catalog : IsCatalog table_licenses [] []
+pub table_is_catalog : IsCatalog table_lists
 unfolding single_names
 table_is_catalog = record { licence_names = refl; licences_once = refl; exception_names = refl; exceptions_once = refl; imprecise_texts = refl; imprecise_once = refl; imprecise_known = refl }

@@ -4,9 +4,9 @@ use Rattle.std.proofs.lemmas.Iterator.Adapters.{position_from-zero}
 use Rattle.std.specs.Option.{option_map}
 use Rattle.std.specs.List.{position_from}
 use Rattle.std.specs.Str.{bytes_eq}
-use Rattle.spdx_core.specs.declared.catalog.LicenseEntry.{LicenseEntry}
-use Rattle.spdx_core.specs.Catalog.{entry_of}
-use Rattle.spdx_core.specs.Table.{numbered_from, single_entry}
+use Rattle.catalog_core.specs.declared.catalog.LicenseEntry.{LicenseEntry}
+use Rattle.catalog_core.specs.Catalog.{entry_of}
+use Rattle.catalog_core.specs.Table.{numbered_from, single_entry}
 
 entry_of-numbered_from : (name : List ℕ) (family : ℕ) (names : List (Bor (List ℕ))) → entry_of (numbered_from family (map (λ listed. listed.now) names)) name ≡ option_map single_entry (position_from (λ listed. bytes_eq name listed.now) family names)
 entry_of-numbered_from name family [] = refl

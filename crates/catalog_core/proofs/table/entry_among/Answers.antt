@@ -1,6 +1,6 @@
 use Rattle.std.proofs.Common.{Some, None, ap}
-use Rattle.spdx_core.proofs.TableLemmas.{entry_at}
-use Rattle.spdx_core.proofs.table.entry_among.Goals as goal
+use Rattle.catalog_core.proofs.TableLemmas.{entry_at}
+use Rattle.catalog_core.proofs.table.entry_among.Goals as goal
 
 pub returns-in_err-place : goal.returns-in_err-place
 returns-in_err-place c = entry_at c.args.name.now c.args.names.now None _ c.in_err-place.ensures.place c.from_residual.ensures
