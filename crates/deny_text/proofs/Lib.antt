@@ -1,4 +1,5 @@
 pub mod GroupLemmas
+pub mod MapLemmas
 pub mod NormalLemmas
 pub mod PathLemmas
 pub mod SearchLemmas

@@ -4,3 +4,5 @@ pub mod Home
 pub mod Normal
 pub mod Path
 pub mod Search
+pub mod TextMap
+pub mod TextMapLends

@@ -11,6 +11,7 @@ pub mod search;
 pub mod span;
 pub mod steps;
 pub mod text;
+pub mod text_map;
 
 pub use ancestors::AncestorIter;
 pub use home::{HomeEnv, HomeError};
@@ -19,3 +20,4 @@ pub use path::{Component, ComponentIter, PathBuf};
 pub use span::{Span, Spanned};
 pub use steps::Steps;
 pub use text::Text;
+pub use text_map::{TextMap, TextMapIter};

@@ -36,6 +36,12 @@ impl Text {
     {
         self.inner.as_str()
     }
+
+    pub(crate) fn into_string(self) -> String
+        ensures { string_bytes result ≡ self }
+    {
+        self.inner
+    }
 }
 
 impl From<String> for Text {
