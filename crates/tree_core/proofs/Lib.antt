@@ -1,5 +1,6 @@
 pub mod AddLemmas
 pub mod GainedLemmas
+pub mod HearingLemmas
 pub mod ListingLemmas
 pub mod NameOrderLemmas
 pub mod PlaceLemmas
