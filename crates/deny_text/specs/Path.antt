@@ -1,5 +1,5 @@
 -- Paths as their texts, read by components.
-use Rattle.std.specs.Prelude.{◌≡◌, ℕ, zero, suc, ◌-◌, ◌||◌, List, [], ◌∷◌, length, slice_get, Option, None, Some, if◌then◌else◌, codes}
+use Rattle.std.specs.Prelude.{◌≡◌, ◌≢◌, ◌↔◌, ◌⊎◌, ℕ, zero, suc, ◌-◌, ◌<◌, ◌||◌, List, [], ◌∷◌, ◌++◌, length, take, slice_index, slice_get, Option, None, Some, if◌then◌else◌, codes}
 use Rattle.std.specs.Option.{option_and_then}
 use Rattle.std.specs.Ordering.{on, then_cmp, nat_cmp}
 use Rattle.std.specs.declared.cmp.Ordering.{Ordering}
@@ -21,6 +21,26 @@ join_of = path_join
 -- all but the last part; none where the path has no part or is the root alone
 abbrev pub parent_of : List ℕ → Option (List ℕ)
 parent_of = path_parent
+
+-- where there is a parent, the parts of the path are the parent's and one more
+abbrev pub ParentDropsLast : Type 0
+ParentDropsLast = (path parent : List ℕ) → parent_of path ≡ Some parent → (last : List ℕ) × (components_of path ≡ components_of parent ++ last ∷ [])
+
+-- the parts without a `.` at their front
+abbrev pub without_dot : List (List ℕ) → List (List ℕ)
+without_dot [] = []
+without_dot (part ∷ parts) = if bytes_eq part (codes ".") then parts else part ∷ parts
+
+-- the path begins with a slash
+abbrev pub BeginsAtRoot : List ℕ → Type 0
+BeginsAtRoot = IsAbsolute
+
+-- The parts of a join are those of both paths, less a leading `.` of the second. Those of an absolute second path, and
+-- of a second path behind an empty one, are its own.
+pub record JoinsByParts : Type 0 where
+  pub relative : (base path : List ℕ) → base ≢ [] → ¬ (BeginsAtRoot path) → components_of (join_of base path) ≡ components_of base ++ without_dot (components_of path)
+  pub absolute : (base path : List ℕ) → BeginsAtRoot path → components_of (join_of base path) ≡ components_of path
+  pub behind_nothing : (path : List ℕ) → components_of (join_of [] path) ≡ components_of path
 
 -- the path, and then the ancestors of its parent, of which the first `count` are listed
 abbrev pub ancestors_within : ℕ → Option (List ℕ) → List (List ℕ)
@@ -57,10 +77,6 @@ file_name_of path = last_name (components_of path)
 abbrev pub EndsWithParts : List ℕ → List ℕ → Type 0
 EndsWithParts = PathEndsWith
 
--- the path begins with a slash
-abbrev pub BeginsAtRoot : List ℕ → Type 0
-BeginsAtRoot = IsAbsolute
-
 -- the root, then `.`, then `..`, then the names
 abbrev pub part_rank : List ℕ → ℕ
 part_rank part =
@@ -76,3 +92,11 @@ path_order = on components_of (slice_cmp part_cmp)
 
 pub path_order_total : IsTotalOrder path_order
 path_order_total = on_total components_of (lists_total (then_total (on_total part_rank nat_cmp_total) nat_list_cmp_total))
+
+-- the texts are the same up to the place, and a slash stands there in both
+pub record IsSharedSlash (x y : List ℕ) (place : ℕ) : Type 0 where
+  pub in_first : place < length x
+  pub in_second : place < length y
+  pub same : take place x ≡ take place y
+  pub at_first : slice_index x place ≡ 47
+  pub at_second : slice_index y place ≡ 47

@@ -50,6 +50,13 @@ impl<T> ListOf<T> {
     {
         &self.inner
     }
+
+    /// The items by value, in order.
+    pub fn into_vec(self) -> Vec<T>
+        ensures { result.items ≡ self }
+    {
+        self.inner
+    }
 }
 
 impl<T> From<Vec<T>> for ListOf<T> {

@@ -1,17 +1,18 @@
 //! Paths, read by their components.
-ghost use Rattle.std.specs.Prelude.{◌≡◌, ℕ, ◌↔◌, List, IfOk, IsTrue, string_bytes, Some};
+ghost use Rattle.std.specs.Prelude.{◌≡◌, ℕ, ◌↔◌, ◌==◌, List, IfOk, IfSome, IsTrue, string_bytes, Some, if◌then◌else◌};
 ghost use Rattle.std.specs.Option.{option_copied};
 ghost use Rattle.std.specs.Path.{components_remaining};
-ghost use Rattle.std.specs.Iterator.{YieldsFirstBy, item_count};
+ghost use Rattle.std.specs.Iterator.{item_count};
 ghost use Rattle.std.specs.Ordering.{eq_by_cmp};
 ghost use Rattle.std.specs.Cmp.{eq_by_cmp_equiv, partial_equiv_from_equiv, partial_order_from_total};
 ghost use Rattle.std.specs.Cmp.Rules.{comparing};
 ghost use Rattle.std.proofs.Common.{rules};
-ghost use Rattle.deny_text.specs.Path.{components_of, join_of, parent_of, part_rank, part_cmp, path_order, path_order_total, file_name_of, EndsWithParts, BeginsAtRoot};
+ghost use Rattle.deny_text.specs.Path.{components_of, join_of, parent_of, ParentDropsLast, JoinsByParts, IsSharedSlash, part_rank, part_cmp, path_order, path_order_total, file_name_of, EndsWithParts, BeginsAtRoot};
 
 use crate::text::Text;
 use std::alloc::{AllocError, Global};
 use std::cmp::Ordering;
+use std::fmt;
 use std::marker::Model;
 use std::path;
 
@@ -55,11 +56,11 @@ impl<'a> Model for ComponentIter<'a> {
 }
 
 impl<'a> Iterator for ComponentIter<'a> {
-    ghost use Rattle.deny_text.specs.Component.{component_text};
+    ghost use Rattle.deny_text.specs.Component.{YieldsPart};
 
     type Item = Component<'a>;
 
-    ghost next_gives = { YieldsFirstBy component_text (λ parts. parts) };
+    ghost next_gives = { YieldsPart };
 
     ghost remaining = { item_count (λ parts. parts) };
 
@@ -103,8 +104,39 @@ fn compare_parts(x: &str, y: &str) -> Ordering
     rank(x).cmp(&rank(y)).then(x.cmp(y))
 }
 
+/// The last place at which both texts have a slash, and up to which they are the same.
+fn last_shared_slash(x: &str, y: &str) -> Option<usize>
+    ensures { IfSome result (IsSharedSlash x.now y.now) }
+{
+    let (x, y) = (x.as_bytes(), y.as_bytes());
+    let shorter = x.len().min(y.len());
+    let mut slash = None;
+    let mut place = 0;
+    'shared: while place < shorter && x[place] == y[place] {
+        slash = slash_at(x[place], place, slash);
+        place += 1;
+    }
+    slash
+}
+
+/// The place where a slash stands there, and else the one before.
+fn slash_at(byte: u8, place: usize, before: Option<usize>) -> Option<usize>
+    ensures { result ≡ (if byte == 47 then Some place else before) }
+{
+    if byte == b'/' { Some(place) } else { before }
+}
+
 /// By components: the first parts that differ decide, and a proper front comes first.
 pub fn compare(x: &str, y: &str) -> Ordering
+    ensures { result ≡ path_order x.now y.now }
+{
+    match last_shared_slash(x, y) {
+        Some(place) => compare_components(x.split_at(place).1, y.split_at(place).1),
+        None => compare_components(x, y),
+    }
+}
+
+fn compare_components(x: &str, y: &str) -> Ordering
     ensures { result ≡ path_order x.now y.now }
 {
     let mut xs = components(x);
@@ -147,6 +179,20 @@ impl PathBuf {
         ensures { result.now ≡ self.now }
     {
         self.text.as_str()
+    }
+}
+
+impl fmt::Display for PathBuf {
+    ghost output = { λ path. Some path };
+
+    fn fmt<W: fmt::Write>(&self, f: &mut fmt::Formatter<W>) -> fmt::Result {
+        fmt::Display::fmt(&self.text, f)
+    }
+}
+
+impl fmt::Debug for PathBuf {
+    fn fmt<W: fmt::Write>(&self, f: &mut fmt::Formatter<W>) -> fmt::Result {
+        fmt::Debug::fmt(&self.text, f)
     }
 }
 
@@ -205,6 +251,16 @@ pub fn parent(path: &str) -> Option<&str>
     let above = path::Path::new(path).parent()?;
     Some(above.as_str())
 }
+
+/// The parent of a path has all its parts but the last.
+pub fn parent_drops_last()
+    ensures { ParentDropsLast }
+{}
+
+/// The parts of a join are the parts of the paths.
+pub fn joins_by_parts()
+    ensures { JoinsByParts }
+{}
 
 /// The last part where it is a name.
 pub fn file_name(path: &str) -> Option<&str>

@@ -58,7 +58,7 @@ impl PartialEq for Text {
     ghost laws = { partial_equiv_from_equiv (eq_by_cmp_equiv nat_list_cmp_total) };
 
     fn eq(&self, other: &Text) -> bool {
-        self.as_str().cmp(other.as_str()).is_eq()
+        self.as_str() == other.as_str()
     }
 }
 

@@ -1,7 +1,7 @@
 use Rattle.std.proofs.Common.{◌≡◌, length}
 use Rattle.std.specs.Cmp.Lexicographic.{slice_cmp}
 use Rattle.deny_text.specs.Path.{part_cmp, path_order}
-use Rattle.deny_text.proofs.path.compare.Given as goal
+use Rattle.deny_text.proofs.path.compare_components.Given as goal
 
 -- the parts that are left compare as the paths do
 abbrev pub invariant-parts : goal.invariant-parts
