@@ -1,0 +1,4 @@
+pub mod Git
+pub mod Matching
+pub mod Reading
+pub mod Source

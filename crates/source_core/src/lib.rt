@@ -1,0 +1,15 @@
+//! Where crates come from: registries and git repositories, and the addresses of both.
+#![tactic(auto)]
+
+pub mod git;
+pub mod matching;
+pub mod order;
+mod query;
+pub mod reading;
+pub mod source;
+#[cfg(test)]
+mod tests;
+
+pub use git::normalize_git_url;
+pub use matching::matches_address;
+pub use source::{GitSpec, Source, SourceError};
