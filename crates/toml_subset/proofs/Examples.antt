@@ -2,3 +2,4 @@ pub mod Inside
 pub mod Outside
 pub mod Shapes
 pub mod Spans
+pub mod Values

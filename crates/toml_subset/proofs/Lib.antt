@@ -1,6 +1,8 @@
 pub mod Counts
 pub mod Examples
+pub mod Gaps
+pub mod Groups
+pub mod Law
 pub mod NumberRuns
-pub mod Plain
 pub mod PlainStrings
 pub mod Runs

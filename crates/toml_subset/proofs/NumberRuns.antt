@@ -1,19 +1,18 @@
 -- Number runs in a text.
 use Rattle.std.proofs.Common.{◌≡◌, ℕ, ◌+◌, ◌-◌, ◌<◌, ◌≤◌, ◌⊎◌, inl, inr, ⊎_elim, Bool, true, false, cond, ◌||◌, List, [], ◌∷◌, length, get_or, take, drop, Ok, Err, true≢false, refl, ap, sym, subst, ◌∙◌, arith}
 use Rattle.std.proofs.lemmas.Bool.Decides.{nat_tests}
-use Rattle.std.proofs.lemmas.Str.{IsCharBoundary-before_ascii, IsCharBoundary-after_ascii}
 use Rattle.std.specs.List.{prefix_len}
-use Rattle.std.specs.Str.{IsCharBoundary, IsUtf8}
 use Rattle.toml_subset.specs.Bytes.{is_run, begins_run, is_letter, is_digit}
-use Rattle.toml_subset.specs.Classes.{class_answer, class_by}
-use Rattle.toml_subset.specs.Faults.{begins_number, StandsThere}
+use Rattle.toml_subset.specs.Answer.{fault_at}
+use Rattle.toml_subset.specs.Classes.{class_answer, number_found}
+use Rattle.toml_subset.specs.Faults.{begins_number}
 use Rattle.toml_subset.specs.Numbers.{Class, unsupported, number_form, number_range, integer, decimal, class_of, is_special, is_unsupported, form_of, begins_date}
-use Rattle.toml_subset.specs.Places.{front_is, passes_at, run_end, run_at, from_to}
-use Rattle.toml_subset.specs.declared.number.Number.{Number}
-use Rattle.toml_subset.specs.declared.number.Number.TheVariants.{Integer, Decimal}
+use Rattle.toml_subset.specs.Places.{front_is, passes_at, run_end, run_at}
+use Rattle.toml_subset.specs.Reading.{number_read}
 use Rattle.toml_subset.specs.declared.error.SyntaxReason.{SyntaxReason}
 use Rattle.toml_subset.specs.declared.error.SyntaxReason.TheVariants.{Unsupported, NumberForm, NumberRange}
-use Rattle.toml_subset.proofs.Runs.{run_end_passes}
+use Rattle.toml_subset.specs.declared.number.Number.{Number}
+use Rattle.toml_subset.specs.declared.number.Number.TheVariants.{Integer, Decimal}
 
 or_cases : (a b : Bool) → (a || b) ≡ true → (a ≡ true) ⊎ (b ≡ true)
 or_cases true b h = inl refl
@@ -25,16 +24,6 @@ or_right false b h = h
 
 pub or_left : (a b : Bool) → a ≡ true → (a || b) ≡ true
 or_left a b h = ap (λ x. x || b) h
-
-letter_ascii : (c : ℕ) → is_letter c ≡ true → c < 128
-letter_ascii c h = grind (arith, nat_tests)
-
-digit_ascii : (c : ℕ) → is_digit c ≡ true → c < 128
-digit_ascii c h = grind (arith, nat_tests)
-
--- what a number run is made of is ASCII
-pub is_run_ascii : (c : ℕ) → is_run c ≡ true → c < 128
-is_run_ascii c h = grind (arith, nat_tests, letter_ascii, digit_ascii)
 
 -- what a number begins with belongs to its run
 begins_in_run : (c : ℕ) → begins_run c ≡ true → is_run c ≡ true
@@ -62,47 +51,23 @@ special_unsupported run h =
     let yes : is_unsupported run ≡ true = or_left _ _ (or_left _ _ (or_right (begins_date run) _ h)) in
     ap (λ b. cond b unsupported (form_of run)) yes
 
-unread : (number : Number) → unsupported ≡ class_by number → ⊥
-unread (Integer z) e = cc
-unread (Decimal z) e = cc
+-- a run with a value begins with a digit or a sign
+pub begins_read : (text : List ℕ) (i : ℕ) → begins_number text i ≡ true → (class_of (run_at is_run text i) ≡ unsupported → ⊥) → passes_at begins_run text i ≡ true
+begins_read text i h read =
+    ⊎_elim (λ here. here) (λ special. absurd (read (special_unsupported (run_at is_run text i) special))) (or_cases _ _ h)
 
--- a run that is read begins with a digit or a sign
-pub begins_read : (text : List ℕ) (i : ℕ) (number : Number) → begins_number text i ≡ true → class_of (run_at is_run text i) ≡ class_by number → passes_at begins_run text i ≡ true
-begins_read text i number h is =
-    ⊎_elim (λ yes. yes) (λ special. absurd (unread number (sym (special_unsupported (run_at is_run text i) special) ∙ is))) (or_cases _ _ h)
+pub class_read : (text : List ℕ) (i : ℕ) (class : Class) (number : Number) → class_answer class ≡ Ok number
+    → number_read text i class ≡ Ok (number_found i (number, run_end is_run text i))
+class_read text i unsupported number e = absurd (cc)
+class_read text i number_form number e = absurd (cc)
+class_read text i number_range number e = absurd (cc)
+class_read text i (integer z) number e = let same : Integer z ≡ number = cc in ap (λ (n : Number). Ok (number_found i (n, run_end is_run text i))) same
+class_read text i (decimal z) number e = let same : Decimal z ≡ number = cc in ap (λ (n : Number). Ok (number_found i (n, run_end is_run text i))) same
 
-pub class_read : (class : Class) (number : Number) → class_answer class ≡ Ok number → class ≡ class_by number
-class_read unsupported number e = cc
-class_read number_form number e = cc
-class_read number_range number e = cc
-class_read (integer z) number e = let same : Integer z ≡ number = cc in ap class_by same
-class_read (decimal z) number e = let same : Decimal z ≡ number = cc in ap class_by same
-
-pub class_refused : (class : Class) (number : Number) (reason : SyntaxReason) → class_answer class ≡ Err reason → class ≡ class_by number → ⊥
-class_refused class (Integer z) reason e is = let other = rw is at e in cc
-class_refused class (Decimal z) reason e is = let other = rw is at e in cc
-
--- a run that is refused has the class that its reason says
-pub refused_there : (class : Class) (reason : SyntaxReason) (text : List ℕ) (i : ℕ) → class_answer class ≡ Err reason → begins_number text i ≡ true
-    → class_of (run_at is_run text i) ≡ class → StandsThere reason text (from_to i (run_end is_run text i))
-refused_there unsupported reason text i e begins is =
-    let same : Unsupported ≡ reason = cc in
-    subst (λ x. StandsThere x text (from_to i (run_end is_run text i))) same (record { begins = begins; ends = refl; is = is })
-refused_there number_form reason text i e begins is =
-    let same : NumberForm ≡ reason = cc in
-    subst (λ x. StandsThere x text (from_to i (run_end is_run text i))) same (record { begins = begins; ends = refl; is = is })
-refused_there number_range reason text i e begins is =
-    let same : NumberRange ≡ reason = cc in
-    subst (λ x. StandsThere x text (from_to i (run_end is_run text i))) same (record { begins = begins; ends = refl; is = is })
-refused_there (integer z) reason text i e begins is = absurd (cc)
-refused_there (decimal z) reason text i e begins is = absurd (cc)
-
--- a run ends on character borders
-pub run_borders : (text : List ℕ) (i : ℕ) → IsUtf8 text → i < run_end is_run text i → run_end is_run text i ≤ length text
-    → IsCharBoundary text i × IsCharBoundary text (run_end is_run text i)
-run_borders text i utf8 some inside =
-    let end = run_end is_run text i in
-    let first = is_run_ascii (get_or text i 0) (run_end_passes is_run text i i (omega arith) some) in
-    let last = is_run_ascii (get_or text (end - 1) 0) (run_end_passes is_run text i (end - 1) (omega arith) (omega arith)) in
-    let back : end - 1 + 1 ≡ end = omega arith in
-    (IsCharBoundary-before_ascii text i (omega arith) first, subst (λ x. IsCharBoundary text x) back (IsCharBoundary-after_ascii text (end - 1) utf8 (omega arith) last))
+pub class_refused : (text : List ℕ) (i : ℕ) (class : Class) (reason : SyntaxReason) → class_answer class ≡ Err reason
+    → number_read text i class ≡ Err (fault_at reason i (run_end is_run text i))
+class_refused text i unsupported reason e = let same : Unsupported ≡ reason = cc in ap (λ x. Err (fault_at x i (run_end is_run text i))) same
+class_refused text i number_form reason e = let same : NumberForm ≡ reason = cc in ap (λ x. Err (fault_at x i (run_end is_run text i))) same
+class_refused text i number_range reason e = let same : NumberRange ≡ reason = cc in ap (λ x. Err (fault_at x i (run_end is_run text i))) same
+class_refused text i (integer z) reason e = absurd (cc)
+class_refused text i (decimal z) reason e = absurd (cc)

@@ -1,7 +1,9 @@
+pub mod Answer
 pub mod Bytes
 pub mod Classes
 pub mod Data
 pub mod Faults
+pub mod Gaps
 pub mod Keys
 pub mod Lines
 pub mod Numbers
@@ -9,7 +11,9 @@ pub mod Places
 pub mod Raw
 pub mod Reading
 pub mod StrView
+pub mod StringReading
 pub mod Strings
+pub mod TableFaults
 pub mod Tables
 pub mod Text
 pub mod Written

@@ -1,7 +1,7 @@
 -- Number runs and their classes (TOML 1.0: Integer, Float, Offset Date-Time and the three after it). What TOML has and
 -- the subset has not is Unsupported; what neither has is a wrong form.
 use Rattle.std.specs.Prelude.{ℕ, ◌+◌, ◌-◌, ◌*◌, ◌^◌, Bool, false, ◌||◌, ◌&&◌, not, ◌==◌, nat_eq, nat_le, nat_lt, if◌then◌else◌, List, [], ◌∷◌, length, take, drop, ℤ, pos, neg_ℤ, codes}
-use Rattle.std.specs.List.{list_all, before_first, after_first, prefix_len, starts_with}
+use Rattle.std.specs.List.{list_all, before_first, after_first, prefix_len, starts_with, slice_split}
 use Rattle.std.specs.Str.{bytes_eq}
 use Rattle.toml_subset.specs.Bytes.{colon, minus, underscore, is_digit, is_letter, is_sign, is_point, is_e}
 use Rattle.toml_subset.specs.Places.{front_is}
@@ -22,15 +22,13 @@ digit_value c = if is_digit c then c - 48 else (if nat_le 97 c then c - 87 else 
 abbrev pub is_digit_in : ℕ → ℕ → Bool
 is_digit_in base c = (is_digit c || is_letter c) && nat_lt (digit_value c) base
 
--- Digits with single underscores between them: each byte is a digit, or an underscore behind a digit, and the last
--- is a digit. The first argument says whether a digit stands before.
-abbrev pub groups_after : Bool → ℕ → List ℕ → Bool
-groups_after digit base [] = digit
-groups_after digit base (c ∷ cs) =
-    (is_digit_in base c || (digit && (c == underscore))) && groups_after (is_digit_in base c) base cs
+-- digits in a base alone, and at least one
+abbrev pub are_digits_in : ℕ → List ℕ → Bool
+are_digits_in base s = not (length s == 0) && list_all (is_digit_in base) s
 
+-- digits with single underscores between them: the parts between the underscores are digits alone
 abbrev pub are_grouped : ℕ → List ℕ → Bool
-are_grouped = groups_after false
+are_grouped base s = list_all (are_digits_in base) (slice_split (λ c. c == underscore) s)
 
 -- digits alone, and at least one
 abbrev pub are_digits : List ℕ → Bool

@@ -1,11 +1,9 @@
 -- Places in a text, counted in bytes from 0: what stands at one, and how far a run goes from it
 -- (TOML 1.0: Spec on white space and line ends, Comment).
-use Rattle.std.specs.Prelude.{ℕ, suc, ◌+◌, Bool, false, not, ◌||◌, ◌&&◌, ◌==◌, if◌then◌else◌, List, [], ◌∷◌, Option, Some, None, length, take, drop}
+use Rattle.std.specs.Prelude.{ℕ, zero, suc, ◌+◌, Bool, false, not, ◌&&◌, ◌==◌, if◌then◌else◌, List, [], ◌∷◌, Option, Some, None, length, take, drop}
 use Rattle.std.specs.List.{prefix_len}
 use Rattle.deny_text.specs.declared.span.Span.{Span}
 use Rattle.toml_subset.specs.Bytes.{line_feed, carriage_return, hash, is_blank, is_bare, is_run, is_digit, is_point, is_e, may_stand, goes_on}
-use Rattle.toml_subset.specs.declared.scan.Gap.{Gap}
-use Rattle.toml_subset.specs.declared.scan.Gap.TheVariants.{White, Space, Comment}
 use Rattle.toml_subset.specs.declared.scan.Run.{Run}
 use Rattle.toml_subset.specs.declared.scan.Run.TheVariants as run
 
@@ -65,35 +63,30 @@ next_line text i =
     let j = after_comment text (after_blanks text i) in
     if j == length text then Some j else line_end text j
 
--- whether a gap goes on over a byte that begins no line end
-abbrev pub spans_byte : Gap → ℕ → Bool
-spans_byte White c = is_blank c
-spans_byte Space c = is_blank c || (c == hash)
-spans_byte Comment c = may_stand c
+-- blanks and a comment, as they may stand before a line's end between the tokens of an array
+abbrev pub after_blanks_and_comment : List ℕ → ℕ → ℕ
+after_blanks_and_comment text i = after_comment text (after_blanks text i)
 
--- whether a line end begins with a byte that these follow: LF, or CR before LF
-abbrev pub breaks : ℕ → List ℕ → Bool
-breaks c rest = (c == line_feed) || ((c == carriage_return) && front_is (λ b. b == line_feed) rest)
+-- The place behind lines of which `over` goes over all: where the last line begins that it does not reach the end of.
+-- The number bounds how many lines there are.
+abbrev pub lines_over : (List ℕ → ℕ → ℕ) → ℕ → List ℕ → ℕ → ℕ
+lines_over over zero text i = i
+lines_over over (suc n) text i = elim (line_end text (over text i)) [ Some next ↦ lines_over over n text next | None ↦ i ]
 
--- In space a comment begins at `#`, and ends at the line's end.
-abbrev pub gap_after : Gap → ℕ → Gap
-gap_after White c = White
-gap_after Space c = if c == hash then Comment else Space
-gap_after Comment c = if c == line_feed then Space else Comment
-
--- How far a gap goes from the front: white space and line ends, and in space comments too.
-abbrev pub gap_len : Gap → List ℕ → ℕ
-gap_len gap [] = 0
-gap_len gap (c ∷ cs) =
-    if breaks c cs || spans_byte gap c then suc (gap_len (gap_after gap c) cs) else 0
+abbrev pub after_lines_of : (List ℕ → ℕ → ℕ) → List ℕ → ℕ → ℕ
+after_lines_of over text = lines_over over (length text) text
 
 -- the place behind white space, line ends and comments, as they may stand between the tokens of an array
 abbrev pub after_space : List ℕ → ℕ → ℕ
-after_space text i = i + gap_len Space (drop i text)
+after_space text i = after_blanks_and_comment text (after_lines_of after_blanks_and_comment text i)
+
+-- whether they end within a comment
+abbrev pub in_comment : List ℕ → ℕ → Bool
+in_comment text i = stands text (after_blanks text (after_lines_of after_blanks_and_comment text i)) hash
 
 -- the place behind white space and line ends, as they may stand behind a backslash at a line's end
 abbrev pub after_white : List ℕ → ℕ → ℕ
-after_white text i = i + gap_len White (drop i text)
+after_white text i = after_blanks text (after_lines_of after_blanks text i)
 
 -- the place behind the character that begins at a place
 abbrev pub char_end : List ℕ → ℕ → ℕ

@@ -1,66 +1,222 @@
--- What each reader of the crate answers at a place of a text. `Ok` says what stands there and where it ends; a fault
--- says that nothing of the kind stands there, and stands itself at the place or behind it. Memory may end anywhere.
-use Rattle.std.specs.Prelude.{◌≡◌, ℕ, ◌+◌, ◌≤◌, List, Some, Result, Ok, Err, ⊤, Option, None}
+-- A text read from left to right: the value that it stands for, or else its first fault.
+use Rattle.std.specs.Prelude.{ℕ, zero, suc, ◌+◌, ◌-◌, Bool, true, false, ◌||◌, ◌&&◌, ◌==◌, nat_lt, if◌then◌else◌, List, [], ◌∷◌, Option, Some, None, Ok, Err, length, drop}
 use Rattle.deny_text.specs.declared.span.Span.{Span}
-use Rattle.toml_subset.specs.Data.{Toml, depth_of, depth_limit}
-use Rattle.toml_subset.specs.Faults.{IsFault, IsFirstFault}
-use Rattle.toml_subset.specs.Keys.{IsKey, AreKeys}
-use Rattle.toml_subset.specs.Classes.{class_by}
-use Rattle.toml_subset.specs.Lines.{Statement, IsLine}
-use Rattle.toml_subset.specs.Places.{from_to}
-use Rattle.toml_subset.specs.Raw.{Raw, IsValue, IsNumber}
-use Rattle.toml_subset.specs.declared.number.Number.{Number}
-use Rattle.toml_subset.specs.Strings.{Quoting, IsString}
-use Rattle.toml_subset.specs.Tables.{meant}
-use Rattle.toml_subset.specs.Text.{IsText}
-use Rattle.toml_subset.specs.Written.{Written}
-use Rattle.toml_subset.specs.declared.error.TomlError.{TomlError}
-use Rattle.toml_subset.specs.declared.error.TomlError.TheVariants.{Syntax, Memory}
+use Rattle.toml_subset.specs.Answer.{Read, fault_at, stuck, then_read, unless}
+use Rattle.toml_subset.specs.Bytes.{quote, apostrophe, hash, comma, line_feed, carriage_return, open_bracket, close_bracket, open_brace, close_brace, is_run}
+use Rattle.toml_subset.specs.Data as «data»
+use Rattle.toml_subset.specs.Data.{Content, Items, Toml, depth_limit}
+use Rattle.toml_subset.specs.Faults.{begins_number}
+use Rattle.toml_subset.specs.Lines.{Document, no_lines}
+use Rattle.toml_subset.specs.Numbers.{Class, unsupported, number_form, number_range, integer, decimal, class_of}
+use Rattle.toml_subset.specs.Places.{from_to, stands, run_end, run_at, after_blanks, after_comment, next_line, after_space, in_comment}
+use Rattle.toml_subset.specs.Raw.{word_of}
+use Rattle.toml_subset.specs.StringReading.{StringFound, KeysFound, read_string, keys_at, read_left}
+use Rattle.toml_subset.specs.TableFaults.{Inside, node_at, inside_any, put_fault, header_fault, array_header_fault}
+use Rattle.toml_subset.specs.Tables.{Branches, unbranched, closed, implicit, put, along, within, through_any, open_table, open_array, entries_of}
+use Rattle.toml_subset.specs.declared.error.SyntaxError.{SyntaxError}
+use Rattle.toml_subset.specs.declared.error.SyntaxReason.TheVariants.{ControlCharacter, NumberForm, NumberRange, Unsupported, TooDeep}
 use Rattle.toml_subset.specs.declared.string.Key.{Key}
 
--- what a fault says where nothing of a kind stands
-abbrev pub Refused : {A : Type 0} → List ℕ → ℕ → (A → ℕ → Type 0) → TomlError → Type 0
-Refused {A} text i Stands (Syntax fault) = IsFault text i fault × ((x : A) (next : ℕ) → Stands x next → ⊥)
-Refused text i Stands Memory = ⊤
+-- a value, its span first, and the place behind it
+abbrev pub Found : Type 0
+Found = Span × Content × ℕ
 
--- The answer of a reader of things of a kind: one that stands at the place, seen by `view`, with the place behind it.
-abbrev pub Answers : {A B : Type 0} → List ℕ → ℕ → (A → ℕ → Type 0) → (B → A) → Result (B × ℕ) TomlError → Type 0
-Answers text i Stands view (Ok found) = Stands (view found.0) found.1
-Answers text i Stands view (Err e) = Refused text i Stands e
+-- a number run by its class
+abbrev pub number_read : List ℕ → ℕ → Class → Read Found
+number_read text i unsupported = Err (fault_at Unsupported i (run_end is_run text i))
+number_read text i number_form = Err (fault_at NumberForm i (run_end is_run text i))
+number_read text i number_range = Err (fault_at NumberRange i (run_end is_run text i))
+number_read text i (integer z) = Ok (from_to i (run_end is_run text i), data.integer z, run_end is_run text i)
+number_read text i (decimal z) = Ok (from_to i (run_end is_run text i), data.decimal z, run_end is_run text i)
 
--- a string of any kind, with its span
-abbrev pub StringStands : List ℕ → ℕ → Written × Span → ℕ → Type 0
-StringStands text i x next = (kind : Quoting) × IsString text i kind x.0 x.1 next
+-- how many bytes of a word stand at the front of another text
+abbrev pub shared_len : List ℕ → List ℕ → ℕ
+shared_len [] s = 0
+shared_len (c ∷ cs) [] = 0
+shared_len (c ∷ cs) (d ∷ ds) = if c == d then suc (shared_len cs ds) else 0
 
--- a number
-abbrev pub NumberStands : List ℕ → ℕ → Number → ℕ → Type 0
-NumberStands text i number next = IsNumber text i (class_by number) (from_to i next) next
+abbrev pub word_read : Bool → List ℕ → ℕ → Read Found
+word_read b text i =
+    let shared = shared_len (word_of b) (drop i text) in
+    if shared == length (word_of b) then Ok (from_to i (i + shared), data.boolean b, i + shared) else Err (stuck text (i + shared))
 
--- a part of a key, and all parts of one
-abbrev pub KeyStands : List ℕ → ℕ → Key → ℕ → Type 0
-KeyStands = IsKey
+-- a value that is no array and no inline table
+abbrev pub read_scalar : List ℕ → ℕ → Read Found
+read_scalar text i =
+    if begins_number text i then number_read text i (class_of (run_at is_run text i))
+    else (if stands text i quote || stands text i apostrophe
+    then then_read (λ (r : StringFound). Ok (r.1, data.string r.0, r.2)) (read_string text i)
+    else (if stands text i 116 then word_read true text i
+    else (if stands text i 102 then word_read false text i else Err (stuck text i))))
 
-abbrev pub KeysStand : List ℕ → ℕ → List Key → ℕ → Type 0
-KeysStand = AreKeys
+-- whether the space from a place on in an array ends in a comment, at a character that may not stand there
+abbrev pub cut_in_comment : List ℕ → ℕ → Bool
+cut_in_comment text i = in_comment text i && nat_lt (after_space text i) (length text)
 
--- a value that keeps the table rules and stands below so many tables and arrays
-abbrev pub ValueStands : ℕ → List ℕ → ℕ → Toml → ℕ → Type 0
-ValueStands above text i x next =
-    (raw : Raw) × IsValue text i x.span raw next × (meant raw ≡ Some x.content) × (above + depth_of x.content ≤ depth_limit)
+-- what is wrong behind that space, where no token may stand there
+abbrev pub space_fault : List ℕ → ℕ → SyntaxError
+space_fault text i =
+    let j = after_space text i in if cut_in_comment text i then fault_at ControlCharacter j (j + 1) else stuck text j
 
--- a line with its statement, the place of the next line being the place behind it
-abbrev pub LineStands : List ℕ → ℕ → Statement → ℕ → Type 0
-LineStands = IsLine
+-- the rest of an array, and the place behind it
+abbrev pub ItemsFound : Type 0
+ItemsFound = Items × ℕ
 
--- The answer of an edit of a tree, of which `wanted` says what the table rules make: the edited tree, or a fault exactly
--- where they refuse the edit.
-abbrev pub AnswersEdit : {A B : Type 0} → Option A → (B → A) → Result B TomlError → Type 0
-AnswersEdit wanted view (Ok x) = wanted ≡ Some (view x)
-AnswersEdit wanted view (Err (Syntax fault)) = wanted ≡ None
-AnswersEdit wanted view (Err Memory) = ⊤
+-- from behind an item on
+abbrev pub items_behind : (ℕ → Read ItemsFound) → List ℕ → Found → Read ItemsFound
+items_behind rest text v =
+    let j = after_space text v.2 in
+    if stands text j close_bracket then Ok (data.item v.0 v.1 data.no_item, j + 1)
+    else (if stands text j comma then then_read (λ (r : ItemsFound). Ok (data.item v.0 v.1 r.0, r.1)) (rest (j + 1))
+    else Err (space_fault text v.2))
 
--- the answer to a whole text
-abbrev pub AnswersText : {B : Type 0} → List ℕ → (B → Toml) → Result B TomlError → Type 0
-AnswersText text view (Ok value) = IsText text (view value)
-AnswersText text view (Err (Syntax fault)) = IsFirstFault text fault
-AnswersText text view (Err Memory) = ⊤
+-- from behind the opening or a comma on
+abbrev pub items_from : (ℕ → Read Found) → (ℕ → Read ItemsFound) → List ℕ → ℕ → Read ItemsFound
+items_from value rest text i =
+    let j = after_space text i in
+    if cut_in_comment text i then Err (space_fault text i)
+    else (if stands text j close_bracket then Ok (data.no_item, j + 1) else then_read (items_behind rest text) (value j))
+
+-- the entries of an inline table, and the place behind it
+abbrev pub EntriesFound : Type 0
+EntriesFound = Branches × ℕ
+
+-- an edit that no fault refuses
+abbrev pub made : {A : Type 0} → List ℕ → Option A → Read A
+made text (Some x) = Ok x
+made text None = Err (stuck text (length text))
+
+-- from behind an entry on
+abbrev pub entries_behind : (Branches → ℕ → Read EntriesFound) → List ℕ → ℕ → Branches → Read EntriesFound
+entries_behind rest text i branches =
+    let j = after_blanks text i in
+    if stands text j close_brace then Ok (branches, j + 1)
+    else (if stands text j comma then rest branches (after_blanks text (j + 1)) else Err (stuck text j))
+
+abbrev pub entry_put : (Branches → ℕ → Read EntriesFound) → List ℕ → List Key → Branches → Found → Read EntriesFound
+entry_put rest text keys branches v = then_read (entries_behind rest text v.2) (made text (put keys (closed v.0 v.1) branches))
+
+-- from an entry's place on, so many tables and arrays standing around the entry
+abbrev pub entries_from : (ℕ → ℕ → Read Found) → (Branches → ℕ → Read EntriesFound) → List ℕ → ℕ → Branches → ℕ → Read EntriesFound
+entries_from value rest text above branches i =
+    then_read (λ (left : KeysFound). unless (put_fault left.0 branches above)
+    (then_read (entry_put rest text left.0 branches) (value (above + (length left.0 - 1)) left.1))) (read_left text i)
+
+abbrev pub array_read : ℕ → ItemsFound → Read Found
+array_read i r = Ok (from_to i r.1, data.array r.0, r.1)
+
+abbrev pub table_read : ℕ → EntriesFound → Read Found
+table_read i r = Ok (from_to i r.1, data.table (entries_of r.0), r.1)
+
+-- an inline table from its opening on: empty, or its entries
+abbrev pub table_from : (ℕ → Read EntriesFound) → List ℕ → ℕ → Read EntriesFound
+table_from entries text i =
+    let j = after_blanks text (i + 1) in if stands text j close_brace then Ok (unbranched, j + 1) else entries j
+
+abbrev pub value_from : (ℕ → Read ItemsFound) → (ℕ → Read EntriesFound) → List ℕ → ℕ → ℕ → Read Found
+value_from items entries text above i =
+    if stands text i open_bracket || stands text i open_brace
+    then (if above == depth_limit then Err (fault_at TooDeep i (i + 1))
+    else (if stands text i open_bracket then then_read (array_read i) (items (i + 1)) else then_read (table_read i) (table_from entries text i)))
+    else read_scalar text i
+
+-- a value, so many tables and arrays standing around it; the rest of an array; the rest of an inline table
+abbrev mutual
+  pub read_value : ℕ → List ℕ → ℕ → ℕ → Read Found
+  read_value zero text above i = Err (stuck text i)
+  read_value (suc n) text above i = value_from (read_items n text (above + 1)) (read_entries n text (above + 1) unbranched) text above i
+
+  pub read_items : ℕ → List ℕ → ℕ → ℕ → Read ItemsFound
+  read_items zero text above i = Err (stuck text i)
+  read_items (suc n) text above i = items_from (read_value n text above) (read_items n text above) text i
+
+  pub read_entries : ℕ → List ℕ → ℕ → Branches → ℕ → Read EntriesFound
+  read_entries zero text above branches i = Err (stuck text i)
+  read_entries (suc n) text above branches i = entries_from (read_value n text) (read_entries n text above) text above branches i
+
+-- each call of a second kind within another goes one place on at least
+abbrev pub enough : List ℕ → ℕ
+enough text = suc (suc (suc (length text + length text)))
+
+abbrev pub value_at : List ℕ → ℕ → ℕ → Read Found
+value_at text = read_value (enough text) text
+
+-- the table that a header opened, and how many tables and arrays stand around its entries
+abbrev pub section_of : List Key → Branches → ℕ → Inside
+section_of [] branches above = (branches, above)
+section_of (key ∷ more) branches above =
+    elim (node_at key branches) [
+      | Some node ↦ elim (inside_any node) [ Some found ↦ section_of more found.0 (above + found.1) | None ↦ (unbranched, above) ]
+      | None ↦ (unbranched, above)
+    ]
+
+-- what some lines make, and the place of the next line
+abbrev pub LineFound : Type 0
+LineFound = Document × ℕ
+
+-- the rest of a line: nothing but blanks and a comment
+abbrev pub line_rest : List ℕ → ℕ → Document → Read LineFound
+line_rest text i document =
+    elim (next_line text i) [
+      | Some next ↦ Ok (document, next)
+      | None ↦ (let j = after_comment text (after_blanks text i) in
+          if stands text (after_blanks text i) hash then Err (fault_at ControlCharacter j (j + 1)) else Err (stuck text j))
+    ]
+
+abbrev pub with_root : List ℕ → ℕ → List Key → Option Branches → Read LineFound
+with_root text i section root = then_read (λ (r : Branches). line_rest text i (record { root = r; section = section })) (made text root)
+
+abbrev pub pair_put : List ℕ → List Key → Document → Found → Read LineFound
+pair_put text keys document v =
+    with_root text v.2 document.section (within document.section (put keys (closed v.0 v.1)) document.root)
+
+-- a key and a value, the table rules asked before the value is looked at
+abbrev pub pair_from : List ℕ → Document → KeysFound → Read LineFound
+pair_from text document left =
+    let here = section_of document.section document.root 0 in
+    unless (put_fault left.0 here.0 here.1) (then_read (pair_put text left.0 document) (value_at text (here.1 + (length left.0 - 1)) left.1))
+
+abbrev pub header_from : List ℕ → ℕ → Document → KeysFound → Read LineFound
+header_from text i document keys =
+    let j = after_blanks text keys.1 in
+    if stands text j close_bracket
+    then unless (header_fault keys.0 document.root)
+    (with_root text (j + 1) keys.0 (along implicit through_any (open_table (from_to i (j + 1))) keys.0 document.root))
+    else Err (stuck text j)
+
+abbrev pub array_header_from : List ℕ → ℕ → Document → KeysFound → Read LineFound
+array_header_from text i document keys =
+    let j = after_blanks text keys.1 in
+    if stands text j close_bracket
+    then (if stands text (j + 1) close_bracket
+    then unless (array_header_fault keys.0 document.root)
+    (with_root text (j + 2) keys.0 (along implicit through_any (open_array (from_to i (j + 2))) keys.0 document.root))
+    else Err (stuck text (j + 1)))
+    else Err (stuck text j)
+
+abbrev pub is_blank_line : List ℕ → ℕ → Bool
+is_blank_line text i =
+    (i == length text) || (stands text i hash || (stands text i line_feed || (stands text i carriage_return && stands text (i + 1) line_feed)))
+
+-- a line, what it says standing at a place behind its blanks
+abbrev pub line_from : List ℕ → Document → ℕ → Read LineFound
+line_from text document i =
+    if is_blank_line text i then line_rest text i document
+    else (if stands text i open_bracket
+    then (if stands text (i + 1) open_bracket
+    then then_read (array_header_from text i document) (keys_at text (after_blanks text (i + 2)))
+    else then_read (header_from text i document) (keys_at text (after_blanks text (i + 1))))
+    else then_read (pair_from text document) (read_left text i))
+
+abbrev pub read_lines : ℕ → List ℕ → ℕ → Document → Read Document
+read_lines zero text i document = Err (stuck text i)
+read_lines (suc n) text i document =
+    if nat_lt i (length text) then then_read (λ (r : LineFound). read_lines n text r.1 r.0) (line_from text document (after_blanks text i))
+    else Ok document
+
+abbrev pub whole : List ℕ → Document → Toml
+whole text document = record { content = data.table (entries_of document.root); span = from_to 0 (length text) }
+
+-- the value of a text, or its first fault
+abbrev pub read_text : List ℕ → Read Toml
+read_text text = then_read (λ (document : Document). Ok (whole text document)) (read_lines (suc (length text)) text 0 no_lines)

@@ -1,50 +1,37 @@
-//! Faults at a place, as the readers of the crate answer them.
-ghost use Rattle.std.specs.Prelude.{◌≡◌, IsTrue, not, nat_lt, if◌then◌else◌, length};
-ghost use Rattle.std.specs.Str.{IsCharBoundary};
-ghost use Rattle.toml_subset.specs.Bytes.{may_stand};
-ghost use Rattle.toml_subset.specs.Faults.{IsFault};
-ghost use Rattle.toml_subset.specs.Places.{passes_at};
+//! Faults at a place, as all readers answer them.
+ghost use Rattle.std.specs.Prelude.{◌≡◌, ◌+◌, ◌<◌, length};
+ghost use Rattle.toml_subset.specs.Answer.{fault_at as fault_from, stuck as stuck_at};
 
 use crate::error::{SyntaxError, SyntaxReason};
 use crate::scan::char_end;
 use deny_text::Span;
 
-/// Nothing can go on at a place: the text ends there, or another character stands there.
-pub fn unexpected(text: &str, place: usize) -> SyntaxError
-    requires { IsCharBoundary text.now place }
-    ensures fault { IsFault text.now place result }
-    ensures reason { result.reason ≡ (if nat_lt place (length text.now) then SyntaxReason.Unexpected else SyntaxReason.UnexpectedEnd) }
+/// A fault from a place up to another.
+pub fn fault_at(reason: SyntaxReason, start: usize, end: usize) -> SyntaxError
+    ensures { result ≡ fault_from reason start end }
+{
+    SyntaxError {
+        reason,
+        span: Span { start, end },
+    }
+}
+
+/// Nothing can go on at a place: another character stands there, or the text ends.
+pub fn stuck(text: &str, place: usize) -> SyntaxError
+    ensures { result ≡ stuck_at text.now place }
 {
     if place < text.len() {
-        SyntaxError {
-            reason: SyntaxReason::Unexpected,
-            span: Span {
-                start: place,
-                end: char_end(text, place),
-            },
-        }
+        fault_at(SyntaxReason::Unexpected, place, char_end(text, place))
     } else {
-        SyntaxError {
-            reason: SyntaxReason::UnexpectedEnd,
-            span: Span {
-                start: place,
-                end: place,
-            },
-        }
+        fault_at(SyntaxReason::UnexpectedEnd, text.len(), text.len())
     }
 }
 
 /// A control character stands at a place where none may.
 pub fn control_character(text: &str, place: usize) -> SyntaxError
-    requires { IsTrue (passes_at (λ c. not (may_stand c)) text.now place) }
-    ensures fault { IsFault text.now place result }
-    ensures reason { result.reason ≡ SyntaxReason.ControlCharacter }
+    requires { place < length text.now }
+    ensures { result ≡ fault_from SyntaxReason.ControlCharacter place (place + 1) }
 {
-    SyntaxError {
-        reason: SyntaxReason::ControlCharacter,
-        span: Span {
-            start: place,
-            end: place + 1,
-        },
-    }
+    let end = place + 1;
+    fault_at(SyntaxReason::ControlCharacter, place, end)
 }

@@ -1,10 +1,17 @@
 //! Laws of the definition, as contracts of functions that do nothing.
-ghost use Rattle.std.specs.Prelude.{◌≡◌, ℕ, List, false, slice_range};
+ghost use Rattle.std.specs.Prelude.{◌≡◌, ℕ, List, Ok, false, slice_range};
 ghost use Rattle.deny_text.specs.declared.span.Span.{Span};
 ghost use Rattle.toml_subset.specs.Data.{Toml};
+ghost use Rattle.toml_subset.specs.Reading.{read_text};
 ghost use Rattle.toml_subset.specs.Strings.{Quoting, IsString};
 ghost use Rattle.toml_subset.specs.Text.{IsText};
 ghost use Rattle.toml_subset.specs.Written.{Written};
+
+/// Reading a text answers a value exactly where the definition has it, so that a text with a fault has none.
+pub fn reading_answers_where_a_value_stands()
+    ensures answers { (text : List ℕ) (value : Toml) → IsText text value → read_text text ≡ Ok value }
+    ensures stands { (text : List ℕ) (value : Toml) → read_text text ≡ Ok value → IsText text value }
+{}
 
 /// A text stands for at most one value.
 pub fn at_most_one_value()

@@ -11,9 +11,10 @@ mod string;
 mod tests;
 
 pub use error::{SyntaxError, SyntaxReason, TomlError};
-pub use fault::{control_character, unexpected};
-pub use number::{Number, are_digits, classify, count, is_whole, read_number};
+pub use fault::{control_character, fault_at, stuck};
+pub use number::{Number, are_digits, begins_number, classify, count, is_whole, read_number};
 pub use scan::{
-    after_blanks, after_comment, after_space, after_white, char_end, line_end, next_line, run_end,
+    Run, Space, after_blanks, after_comment, after_white, char_end, line_end, next_line, run_end,
+    space_from, stands,
 };
 pub use string::{Key, Str, escaped_string, plain_string};

@@ -1,16 +1,19 @@
 //! Number runs and their classes.
-ghost use Rattle.std.specs.Prelude.{ℕ, IfOk, IfErr, ◌≡◌, ◌+◌, ◌-◌, ◌*◌, ◌^◌, ◌<◌, ◌≤◌, Bool, true, false, IsTrue, length, take, drop, option_map};
+ghost use Rattle.std.specs.Prelude.{ℕ, ◌≡◌, ◌+◌, ◌-◌, ◌*◌, ◌^◌, ◌<◌, ◌≤◌, Bool, true, false, IsTrue, length, take, drop, option_map};
 ghost use Rattle.std.specs.List.{list_all, position_or_len, before_first, after_first};
 ghost use Rattle.std.specs.Option.{SomeIff, ok_or};
 ghost use Rattle.toml_subset.specs.Bytes.{is_digit as digit};
-ghost use Rattle.toml_subset.specs.Classes.{class_answer};
-ghost use Rattle.toml_subset.specs.Faults.{IsFault, begins_number};
-ghost use Rattle.toml_subset.specs.Reading.{NumberStands};
-ghost use Rattle.toml_subset.specs.Numbers.{digit_value as value_of_digit, is_digit_in as digit_in, groups_after, are_grouped as grouped, are_digits as digits, count_behind, count as counts, unsigned as without_sign, is_negative as negative_run, is_whole as whole, whole_part as whole_of, fraction as fraction_of, before_e, after_e, is_mantissa as mantissa, has_exponent as exponent, has_long_fraction as long_fraction, digits_before, begins_date as date, is_special as special, is_unsupported as unsupported_run, base_of as base_named, hundredths as hundredths_of, is_decimal as decimal_form, in_range, with_sign, decimal_count, based_form, form_of as form, class_of};
+ghost use Rattle.toml_subset.specs.Answer.{Gives};
+ghost use Rattle.toml_subset.specs.Bytes.{is_run as run, begins_run};
+ghost use Rattle.toml_subset.specs.Classes.{class_answer, number_found};
+ghost use Rattle.toml_subset.specs.Faults.{begins_number as number_begins};
+ghost use Rattle.toml_subset.specs.Places.{passes_at, run_at};
+ghost use Rattle.toml_subset.specs.Reading.{number_read};
+ghost use Rattle.toml_subset.specs.Numbers.{digit_value as value_of_digit, is_digit_in as digit_in, are_grouped as grouped, are_digits as digits, count_behind, count as counts, unsigned as without_sign, is_negative as negative_run, is_whole as whole, whole_part as whole_of, fraction as fraction_of, before_e, after_e, is_mantissa as mantissa, has_exponent as exponent, has_long_fraction as long_fraction, digits_before, begins_date as date, is_special as special, is_unsupported as unsupported_run, base_of as base_named, hundredths as hundredths_of, is_decimal as decimal_form, in_range, with_sign, decimal_count, based_form, form_of as form, class_of};
 
 use crate::error::{SyntaxError, SyntaxReason};
+use crate::fault::fault_at;
 use crate::scan::{Run, is_digit, is_letter, is_sign, run_end};
-use deny_text::Span;
 
 /// A number as it is read.
 #[derive(Clone, Copy, Debug, PartialEq, Eq)]
@@ -341,18 +344,33 @@ pub fn classify(run: &[u8]) -> Result<Number, SyntaxReason>
 
 /// The number whose run begins at a place, and the place behind it.
 pub fn read_number(text: &str, place: usize) -> Result<(Number, usize), SyntaxError>
-    requires { IsTrue (begins_number text.now place) }
-    ensures ok { IfOk result (λ found. NumberStands text.now place found.0 found.1) }
-    ensures fault { IfErr result (λ fault. IsFault text.now place fault) }
-    ensures none { IfErr result (λ fault. (number : Number) (next : ℕ) → NumberStands text.now place number next → ⊥) }
+    requires { place ≤ length text.now }
+    ensures { Gives (number_found place) (number_read text.now place (class_of (run_at run text.now place))) result }
 {
     let bytes = text.as_bytes();
     let end = run_end(bytes, place, Run::Number);
     match classify(&bytes[place..end]) {
         Ok(number) => Ok((number, end)),
-        Err(reason) => Err(SyntaxError {
-            reason,
-            span: Span { start: place, end },
-        }),
+        Err(reason) => Err(fault_at(reason, place, end)),
+    }
+}
+
+/// Whether a number run begins at a place.
+pub fn begins_number(text: &str, place: usize) -> bool
+    requires { place ≤ length text.now }
+    ensures { result ≡ number_begins text.now place }
+{
+    let bytes = text.as_bytes();
+    let end = run_end(bytes, place, Run::Number);
+    starts_number(bytes, place) || is_special(&bytes[place..end])
+}
+
+/// Whether a digit or a sign stands at a place.
+fn starts_number(text: &[u8], place: usize) -> bool
+    ensures { result ≡ passes_at begins_run text.now place }
+{
+    match text.get(place) {
+        Some(byte) => is_digit(*byte) || is_sign(*byte),
+        None => false,
     }
 }

@@ -1,18 +1,17 @@
 //! How far a run goes from a place.
-ghost use Rattle.std.specs.Prelude.{◌≡◌, ◌+◌, ◌<◌, ◌≤◌, length, drop, slice_index};
+ghost use Rattle.std.specs.Prelude.{◌≡◌, ◌+◌, ◌<◌, ◌≤◌, length};
 ghost use Rattle.std.specs.Str.{IsCharBoundary};
 ghost use Rattle.toml_subset.specs.Bytes.{is_blank as blank, may_stand as may, is_digit as digit, is_letter as letter, is_sign as sign, is_bare as bare, is_run as run, goes_on as on};
-ghost use Rattle.toml_subset.specs.Places.{stands as stands_at, belongs, run_end as run_ends, after_blanks as blanks_end, line_end as line_ends, after_comment as comment_end, next_line as line_after, gap_len, gap_after as gap_behind, spans_byte, breaks, after_space as space_end, after_white as white_end, char_end as character_end};
+ghost use Rattle.toml_subset.specs.Gaps.{goes_over};
+ghost use Rattle.toml_subset.specs.Places.{stands as stands_at, belongs, run_end as run_ends, after_blanks as blanks_end, line_end as line_ends, after_comment as comment_end, next_line as line_after, after_lines_of, after_space, in_comment as ends_in_comment, after_white as white_end, char_end as character_end};
 
-/// What stands between tokens.
+/// What may stand before a line's end in a gap.
 #[derive(Clone, Copy)]
 pub enum Gap {
-    /// White space and line ends.
+    /// Blanks.
     White,
-    /// White space, line ends and comments.
+    /// Blanks and a comment.
     Space,
-    /// The rest of a comment, and then space.
-    Comment,
 }
 
 /// What a run is made of.
@@ -180,72 +179,55 @@ pub fn next_line(text: &[u8], place: usize) -> Option<usize>
     }
 }
 
-/// Whether a line end begins at a place: LF, or CR before LF.
-fn breaks_at(text: &[u8], place: usize) -> bool
-    requires { place < length text.now }
-    ensures { result ≡ breaks (slice_index text.now place) (drop (place + 1) text.now) }
-{
-    text[place] == b'\n' || (text[place] == b'\r' && stands(text, place + 1, b'\n'))
-}
-
 impl Gap {
-    /// Whether it goes on over a byte that begins no line end.
-    fn spans(self, byte: u8) -> bool
-        ensures { result ≡ spans_byte self byte }
+    /// The place behind what stands at a place before the line's end.
+    fn over(self, text: &[u8], place: usize) -> usize
+        requires { place ≤ length text.now }
+        ensures end { result ≡ goes_over self text.now place }
+        ensures within { result ≤ length text.now }
     {
+        let blanks = after_blanks(text, place);
         match self {
-            Gap::White => is_blank(byte),
-            Gap::Space => is_blank(byte) || byte == b'#',
-            Gap::Comment => may_stand(byte),
+            Gap::White => blanks,
+            Gap::Space => after_comment(text, blanks),
         }
     }
 
-    /// What it is behind a byte that it went over.
-    fn after(self, byte: u8) -> Gap
-        ensures { result ≡ gap_behind self byte }
+    /// The place behind all lines that it goes over from a place on.
+    fn after_lines(self, text: &[u8], place: usize) -> usize
+        requires { place ≤ length text.now }
+        ensures end { result ≡ after_lines_of (goes_over self) text.now place }
+        ensures within { result ≤ length text.now }
     {
-        match self {
-            Gap::White => Gap::White,
-            Gap::Space => {
-                if byte == b'#' {
-                    Gap::Comment
-                } else {
-                    Gap::Space
-                }
-            }
-            Gap::Comment => {
-                if byte == b'\n' {
-                    Gap::Space
-                } else {
-                    Gap::Comment
-                }
-            }
+        let mut line = place;
+        'lines: while let Some(next) = line_end(text, self.over(text, line)) {
+            line = next;
         }
+        line
     }
 }
 
-/// The place behind the gap from a place on.
-pub fn gap_end(text: &[u8], place: usize, gap: Gap) -> usize
-    requires { place ≤ length text.now }
-    ensures end { result ≡ place + gap_len gap (drop place text.now) }
-    ensures within { result ≤ length text.now }
-{
-    let mut end = place;
-    let mut inside = gap;
-    'bytes: while end < text.len() && (breaks_at(text, end) || inside.spans(text[end])) {
-        inside = inside.after(text[end]);
-        end += 1;
-    }
-    end
+/// The space between the tokens of an array, from a place on.
+#[derive(Clone, Copy)]
+pub struct Space {
+    /// The place behind it.
+    pub end: usize,
+    /// Whether it ends within a comment.
+    pub in_comment: bool,
 }
 
-/// The place behind the space between the tokens of an array.
-pub fn after_space(text: &[u8], place: usize) -> usize
+/// The space between the tokens of an array.
+pub fn space_from(text: &[u8], place: usize) -> Space
     requires { place ≤ length text.now }
-    ensures end { result ≡ space_end text.now place }
-    ensures within { result ≤ length text.now }
+    ensures end { result.end ≡ after_space text.now place }
+    ensures in_comment { result.in_comment ≡ ends_in_comment text.now place }
+    ensures within { result.end ≤ length text.now }
 {
-    gap_end(text, place, Gap::Space)
+    let blanks = after_blanks(text, Gap::Space.after_lines(text, place));
+    Space {
+        end: after_comment(text, blanks),
+        in_comment: stands(text, blanks, b'#'),
+    }
 }
 
 /// The place behind white space and line ends.
@@ -254,7 +236,7 @@ pub fn after_white(text: &[u8], place: usize) -> usize
     ensures end { result ≡ white_end text.now place }
     ensures within { result ≤ length text.now }
 {
-    gap_end(text, place, Gap::White)
+    after_blanks(text, Gap::White.after_lines(text, place))
 }
 
 /// The place behind the character that begins at a place.

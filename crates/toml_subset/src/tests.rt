@@ -1,7 +1,7 @@
 use crate::error::SyntaxReason;
 use crate::number::{Number, classify, read_number};
 use crate::scan::{
-    after_blanks, after_comment, after_space, after_white, char_end, line_end, next_line,
+    after_blanks, after_comment, after_white, char_end, line_end, next_line, space_from,
 };
 use deny_text::Span;
 use std::test::Fail;
@@ -59,7 +59,7 @@ fn places(rt: HostRuntime) -> Result<(), Fail> {
     assert_eq!(rt; line_end(bytes, 7), Some(8));
     assert_eq!(rt; next_line(bytes, 0), Some(8));
     assert_eq!(rt; next_line(bytes, 9), None);
-    assert_eq!(rt; after_space(bytes, 0), 11);
+    assert_eq!(rt; space_from(bytes, 0).end, 11);
     assert_eq!(rt; after_white(bytes, 0), 2);
     assert_eq!(rt; after_white(bytes, 6), 11);
     assert_eq!(rt; char_end(text, 4), 6);

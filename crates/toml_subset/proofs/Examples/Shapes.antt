@@ -1,12 +1,13 @@
 -- Values without their places, to compare with what other readers of TOML answer.
-use Rattle.std.proofs.Common.{◌≡◌, ℕ, Bool, true, false, List, ℤ, Option, Some, None, is_none, option_map, true≢false, refl, sym}
+use Rattle.std.proofs.Common.{◌≡◌, ℕ, Bool, true, false, List, ℤ, Option, Some, None, Ok, Err, true≢false, refl, sym}
 use Rattle.toml_subset.specs.Data as «data»
 use Rattle.toml_subset.specs.Data.{Content, Items, Entries, Toml}
 use Rattle.toml_subset.specs.Text.{IsText}
-use Rattle.toml_subset.proofs.Plain.Complete.{outside}
-use Rattle.toml_subset.proofs.Plain.Options.{map_some}
-use Rattle.toml_subset.proofs.Plain.Reader.{read_text}
-use Rattle.toml_subset.proofs.Plain.Sound.{text_sound}
+use Rattle.toml_subset.specs.Answer.{Read, fault_at}
+use Rattle.toml_subset.specs.Reading.{read_text}
+use Rattle.toml_subset.specs.declared.error.SyntaxError.{SyntaxError}
+use Rattle.toml_subset.specs.declared.error.SyntaxReason.{SyntaxReason}
+use Rattle.toml_subset.proofs.Law.Whole.{text_sound, text_complete}
 
 mutual
   pub data Shape : Type 0 where
@@ -42,33 +43,41 @@ abbrev mutual
   fields_of data.no_entry = empty
   fields_of (data.entry key span content more) = field key.name.text (shape_of content) (fields_of more)
 
-none_from : (o : Option Toml) → is_none o ≡ true → o ≡ None
-none_from None e = refl
-none_from (Some x) e = absurd (true≢false (sym e))
-
-some_from : (o : Option Toml) → is_none o ≡ false → (x : Toml) × (o ≡ Some x)
-some_from None e = absurd (true≢false e)
-some_from (Some x) e = (x, refl)
-
 abbrev pub shape_read : List ℕ → Option Shape
-shape_read s = option_map (λ (value : Toml). shape_of value.content) (read_text s)
+shape_read s = elim (read_text s) [ Ok value ↦ Some (shape_of value.content) | Err fault ↦ None ]
 
 -- a text lies in the subset and stands for a value of a shape
 abbrev pub LiesInside : List ℕ → Shape → Type 0
 LiesInside s shape = (value : Toml) × IsText s value × (shape_of value.content ≡ shape)
 
+shape_from : (s : List ℕ) (r : Read Toml) → read_text s ≡ r → (shape : Shape)
+    → ◌≡◌ {A = Option Shape} (elim r [ Ok value ↦ Some (shape_of value.content) | Err fault ↦ None ]) (Some shape) → LiesInside s shape
+shape_from s (Ok value) is shape e = (value, text_sound s value is, cc)
+shape_from s (Err fault) is shape e = absurd (cc)
+
 pub inside : (s : List ℕ) (shape : Shape) → shape_read s ≡ Some shape → LiesInside s shape
-inside s shape e =
-    let found = map_some (λ (value : Toml). shape_of value.content) (read_text s) shape e in
-    (found.0, text_sound s found.0 found.1, found.2)
+inside s shape e = shape_from s (read_text s) refl shape e
 
 -- a text stands for no value
 abbrev pub LiesOutside : List ℕ → Type 0
 LiesOutside s = (value : Toml) → IsText s value → ⊥
 
-pub lies_outside : (s : List ℕ) → is_none (read_text s) ≡ true → LiesOutside s
-lies_outside s e = outside s (none_from (read_text s) e)
+-- a text has a first fault
+abbrev pub HasFault : List ℕ → SyntaxReason → ℕ → ℕ → Type 0
+HasFault s reason i j = read_text s ≡ Err (fault_at reason i j)
+
+-- a fault shows that it stands for no value
+pub lies_outside : (s : List ℕ) (fault : SyntaxError) → read_text s ≡ Err fault → LiesOutside s
+lies_outside s fault e value is = let read = text_complete s value is in cc
+
+abbrev is_read : Read Toml → Bool
+is_read (Ok value) = true
+is_read (Err fault) = false
+
+read_from : (s : List ℕ) (r : Read Toml) → read_text s ≡ r → is_read r ≡ true → (value : Toml) × IsText s value
+read_from s (Ok value) is e = (value, text_sound s value is)
+read_from s (Err fault) is e = absurd (true≢false (sym e))
 
 -- a text stands for some value
-pub read_inside : (s : List ℕ) → is_none (read_text s) ≡ false → (value : Toml) × IsText s value
-read_inside s e = let found = some_from (read_text s) e in (found.0, text_sound s found.0 found.1)
+pub read_inside : (s : List ℕ) → is_read (read_text s) ≡ true → (value : Toml) × IsText s value
+read_inside s e = read_from s (read_text s) refl e

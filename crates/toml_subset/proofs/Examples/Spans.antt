@@ -6,7 +6,7 @@ use Rattle.toml_subset.specs.Places.{from_to}
 use Rattle.toml_subset.specs.Text.{IsText}
 use Rattle.toml_subset.specs.Written.{Written}
 use Rattle.toml_subset.specs.declared.string.Key.{Key}
-use Rattle.toml_subset.proofs.Plain.Sound.{text_sound}
+use Rattle.toml_subset.proofs.Law.Whole.{text_sound}
 
 abbrev plain : List ℕ → Written
 plain s = record { text = s; escaped = false }

@@ -1,5 +1,6 @@
 use Rattle.std.proofs.Common.{◌≡◌, ◌≤◌, ◌-◌, length, drop}
-use Rattle.toml_subset.specs.Numbers.{groups_after, are_grouped}
+use Rattle.toml_subset.specs.Numbers.{are_grouped}
+use Rattle.toml_subset.proofs.Groups.{groups_after}
 use Rattle.toml_subset.proofs.number.are_grouped.Given as goal
 
 -- the rest decides from here

@@ -1,16 +1,61 @@
 -- What stands at a place ends behind it.
-use Rattle.std.proofs.Common.{◌≡◌, ℕ, ◌+◌, ◌<◌, ◌≤◌, ◌⊎◌, inl, inr, ⊎_elim, Bool, true, false, cond, eqb, ◌&&◌, ◌||◌, nat_le, List, [], ◌∷◌, length, take, drop, Option, Some, None, is_some as option_is_some, unwrap_or, slice_get, refl, subst, eqb-true, arith}
+use Rattle.std.proofs.Common.{◌≡◌, ℕ, zero, suc, ◌+◌, ◌<◌, ◌≤◌, ◌⊎◌, inl, inr, ⊎_elim, Bool, true, false, cond, eqb, ◌&&◌, ◌||◌, nat_le, List, [], ◌∷◌, length, take, drop, Option, Some, None, is_some as option_is_some, unwrap_or, slice_get, refl, subst, eqb-true, arith}
 use Rattle.deny_text.specs.declared.span.Span.{Span}
 use Rattle.toml_subset.specs.Bytes.{quote, apostrophe, backslash, may_stand, is_run, begins_run, line_feed, carriage_return, hash}
 use Rattle.toml_subset.specs.Keys.{IsKey, AreKeys}
 use Rattle.toml_subset.specs.Lines.{Statement, AreLines}
 use Rattle.toml_subset.specs.Numbers.{Class, is_special}
-use Rattle.toml_subset.specs.Places.{passes_at, stands, run_end, run_at, after_blanks, after_comment, after_white, line_end, next_line}
+use Rattle.toml_subset.specs.Places.{passes_at, stands, run_end, run_at, after_blanks, after_comment, after_blanks_and_comment, lines_over, after_lines_of, after_white, after_space, line_end, next_line}
 use Rattle.toml_subset.specs.Raw.{Raw, RawItems, RawEntries, raw_text, raw_integer, raw_decimal, raw_boolean, raw_array, raw_table, raw_none, raw_item, raw_empty, raw_entry, IsNumber, IsValue, AreItems, AreItemsBehind, AreEntries, AreEntriesBehind, IsWord}
 use Rattle.toml_subset.specs.Strings.{Quoting, basic, literal, long_basic, long_literal, Piece, Part, piece, closing, broken, mark_of, is_long, has_escapes, marks_at, opening, opening_of, scalar_of, letter_escape, escaped_piece, plain_piece, scalar_escape, trimming_escape, escape_by, escape_at, mark_at, plain_at, part_at, ArePieces, IsString}
 use Rattle.toml_subset.specs.Written.{Written}
 use Rattle.toml_subset.specs.declared.string.Key.{Key}
 use Rattle.toml_subset.proofs.NumberRuns.{begins_some, or_left}
+
+-- line ends
+
+abbrev pub Past : ℕ → Option ℕ → Type 0
+Past i (Some k) = i < k
+Past i None = Unit {0}
+
+past_if : (b : Bool) (i : ℕ) (x y : Option ℕ) → Past i x → Past i y → Past i (cond b x y)
+past_if true i x y p q = p
+past_if false i x y p q = q
+
+pub line_end_past : (text : List ℕ) (i : ℕ) → Past i (line_end text i)
+line_end_past text i =
+    past_if (stands text i line_feed) i (Some (i + 1)) _ (omega arith)
+    (past_if (stands text i carriage_return && stands text (i + 1) line_feed) i (Some (i + 2)) None (omega arith) tt)
+
+past_or : (i : ℕ) (o : Option ℕ) → Past i o → i ≤ unwrap_or o i
+past_or i (Some k) p = omega arith
+past_or i None p = omega arith
+
+comment_goes_if : (b : Bool) (text : List ℕ) (i : ℕ) → i ≤ cond b (run_end may_stand text (i + 1)) i
+comment_goes_if true text i = omega arith
+comment_goes_if false text i = omega arith
+
+pub comment_goes : (text : List ℕ) (i : ℕ) → i ≤ after_blanks_and_comment text i
+comment_goes text i = let comment = comment_goes_if (stands text (after_blanks text i) hash) text (after_blanks text i) in omega arith
+
+lines_go_by : (over : List ℕ → ℕ → ℕ) (text : List ℕ) (i j : ℕ) (rest : ℕ → ℕ) → i ≤ j → ((k : ℕ) → k ≤ rest k) → (o : Option ℕ) → Past j o
+    → i ≤ elim o [ Some next ↦ rest next | None ↦ i ]
+lines_go_by over text i j rest le goes (Some next) past = let further = goes next in omega arith
+lines_go_by over text i j rest le goes None past = omega arith
+
+lines_go : (over : List ℕ → ℕ → ℕ) (text : List ℕ) → ((k : ℕ) → k ≤ over text k) → (n i : ℕ) → i ≤ lines_over over n text i
+lines_go over text goes zero i = omega arith
+lines_go over text goes (suc n) i =
+    lines_go_by over text i (over text i) (lines_over over n text) (goes i) (lines_go over text goes n) (line_end text (over text i)) (line_end_past text (over text i))
+
+pub white_goes : (text : List ℕ) (i : ℕ) → i ≤ after_white text i
+white_goes text i = let lines = lines_go after_blanks text (λ k. omega arith) (length text) i in omega arith
+
+pub space_goes : (text : List ℕ) (i : ℕ) → i ≤ after_space text i
+space_goes text i =
+    let lines = lines_go after_blanks_and_comment text (comment_goes text) (length text) i in
+    let behind = comment_goes text (after_lines_of after_blanks_and_comment text i) in
+    omega arith
 
 -- parts of strings
 
@@ -32,7 +77,8 @@ scalar_goes digits text i =
 
 trimming_goes : (kind : Quoting) (text : List ℕ) (i : ℕ) → Goes i (trimming_escape kind text i)
 trimming_goes kind text i =
-    goes_if (is_long kind && option_is_some (line_end text (after_blanks text (i + 1)))) i (escaped_piece [] (after_white text (i + 1))) broken (omega arith) tt
+    goes_if (is_long kind && option_is_some (line_end text (after_blanks text (i + 1)))) i (escaped_piece [] (after_white text (i + 1))) broken
+    (let white = white_goes text (i + 1) in omega arith) tt
 
 escape_goes : (kind : Quoting) (text : List ℕ) (i c : ℕ) → Goes i (escape_by kind text i c)
 escape_goes kind text i c =
@@ -84,25 +130,6 @@ pieces_go kind text i (p ∷ ps) close next is =
     let first = piece_goes kind text i p is.0 is.1 in
     let rest = pieces_go kind text is.0 ps close next is.2 in
     omega arith
-
--- line ends
-
-abbrev Past : ℕ → Option ℕ → Type 0
-Past i (Some k) = i < k
-Past i None = Unit {0}
-
-past_if : (b : Bool) (i : ℕ) (x y : Option ℕ) → Past i x → Past i y → Past i (cond b x y)
-past_if true i x y p q = p
-past_if false i x y p q = q
-
-pub line_end_past : (text : List ℕ) (i : ℕ) → Past i (line_end text i)
-line_end_past text i =
-    past_if (stands text i line_feed) i (Some (i + 1)) _ (omega arith)
-    (past_if (stands text i carriage_return && stands text (i + 1) line_feed) i (Some (i + 2)) None (omega arith) tt)
-
-past_or : (i : ℕ) (o : Option ℕ) → Past i o → i ≤ unwrap_or o i
-past_or i (Some k) p = omega arith
-past_or i None p = omega arith
 
 -- strings and keys
 
@@ -161,7 +188,10 @@ mutual
   value_goes text i span (raw_integer z) next is = number_goes text i _ span next is
   value_goes text i span (raw_decimal z) next is = number_goes text i _ span next is
   value_goes text i span (raw_boolean b) next is = word_goes text i b span next is
-  value_goes text i span (raw_array items) next is = let rest = items_go text _ items next is.1 in omega arith
+  value_goes text i span (raw_array items) next is =
+      let rest = items_go text _ items next is.1 in
+      let space = space_goes text (i + 1) in
+      omega arith
   value_goes text i span (raw_table entries) next is = let rest = entries_go text _ entries next is.1 in omega arith
 
   pub items_go : (text : List ℕ) (i : ℕ) (items : RawItems) (next : ℕ) → AreItems text i items next → i < next
@@ -169,13 +199,17 @@ mutual
   items_go text i (raw_item span value more) next is =
       let first = value_goes text i span value is.0 is.1 in
       let rest = behind_goes text _ more next is.2 in
+      let space = space_goes text is.0 in
       omega arith
 
   pub behind_goes : (text : List ℕ) (i : ℕ) (items : RawItems) (next : ℕ) → AreItemsBehind text i items next → i < next
-  behind_goes text i raw_none next is = ⊎_elim (λ last. let ends = last.1 in omega arith) (λ last. let ends = last.2 in omega arith) is
+  behind_goes text i raw_none next is =
+      ⊎_elim (λ last. let ends = last.1 in omega arith) (λ last. let ends = last.2 in let space = space_goes text (i + 1) in omega arith) is
   behind_goes text i (raw_item span value more) next is =
       let first = value_goes text _ span value is.1.0 is.1.1 in
       let rest = behind_goes text _ more next is.1.2 in
+      let space = space_goes text (i + 1) in
+      let further = space_goes text is.1.0 in
       omega arith
 
   pub entries_go : (text : List ℕ) (i : ℕ) (entries : RawEntries) (next : ℕ) → AreEntries text i entries next → i < next
@@ -207,10 +241,6 @@ ends_from text i j None le p = tt
 ends_if : (b : Bool) (text : List ℕ) (i j : ℕ) → i ≤ j → eqb j (length text) ≡ b → Ends text i (cond b (Some j) (line_end text j))
 ends_if true text i j le e = let at = eqb-true j (length text) e in inr (at, le)
 ends_if false text i j le e = ends_from text i j (line_end text j) le (line_end_past text j)
-
-comment_goes_if : (b : Bool) (text : List ℕ) (i : ℕ) → i ≤ cond b (run_end may_stand text (i + 1)) i
-comment_goes_if true text i = omega arith
-comment_goes_if false text i = omega arith
 
 pub next_line_goes : (text : List ℕ) (i : ℕ) (next : ℕ) → next_line text i ≡ Some next → (i < next) ⊎ ((next ≡ length text) × (i ≤ next))
 next_line_goes text i next e =

@@ -1,12 +1,11 @@
 -- What a byte at a place rules out there.
-use Rattle.std.proofs.Common.{◌≡◌, ℕ, ◌+◌, ◌<◌, ◌⊎◌, inl, inr, Bool, true, false, cond, eqb, ◌||◌, ◌&&◌, List, [], ◌∷◌, length, take, drop, Option, Some, None, true≢false, refl, ap, sym, ◌∙◌, eqb-true, eq-eqb, arith, length-drop}
-use Rattle.std.proofs.lemmas.Slice.Eq.{bytes_eq-Decides}
+use Rattle.std.proofs.Common.{◌≡◌, ℕ, ◌+◌, ◌<◌, ◌≤◌, ◌⊎◌, ⊎_elim, inl, inr, Bool, true, false, cond, eqb, ◌||◌, ◌&&◌, List, [], ◌∷◌, length, take, drop, Option, Some, None, true≢false, refl, ap, sym, ◌∙◌, eqb-true, eq-eqb, arith, length-drop}
 use Rattle.std.specs.List.{prefix_len}
+use Rattle.toml_subset.proofs.Law.Basics.{is_some, if_is}
 use Rattle.toml_subset.specs.Bytes.{may_stand as may, quote, apostrophe, is_blank, is_bare, hash, line_feed, carriage_return}
 use Rattle.toml_subset.specs.Places.{front_is, passes_at, stands, run_end, after_blanks, after_comment, line_end, next_line}
 use Rattle.toml_subset.specs.Raw.{word_of}
 use Rattle.toml_subset.specs.Strings.{Quoting, basic, long_basic, literal, long_literal, opening, opening_of}
-use Rattle.toml_subset.proofs.Plain.Reader.{word_at}
 
 pub false_from : (b : Bool) → (b ≡ true → ⊥) → b ≡ false
 false_from true fails = absurd (fails refl)
@@ -74,13 +73,6 @@ word_front_by false (c ∷ cs) e = let same : c ≡ 102 = cc in eq-eqb c 102 sam
 pub word_front : (b : Bool) (text : List ℕ) (i : ℕ) → take (length (word_of b)) (drop i text) ≡ word_of b → stands text i (letter_of b) ≡ true
 word_front b text i e = word_front_by b (drop i text) e
 
-pub word_is : (b : Bool) (text : List ℕ) (i : ℕ) → take (length (word_of b)) (drop i text) ≡ word_of b → word_at b text i ≡ true
-word_is b text i e = (bytes_eq-Decides (take (length (word_of b)) (drop i text)) (word_of b)).1 e
-
-pub word_not : (b : Bool) (text : List ℕ) (i : ℕ) → stands text i (letter_of b) ≡ false → word_at b text i ≡ false
-word_not b text i other =
-    false_from (word_at b text i) (λ yes. true≢false (sym (word_front b text i ((bytes_eq-Decides (take (length (word_of b)) (drop i text)) (word_of b)).0 yes)) ∙ other))
-
 -- a byte that begins a key or a header stands at a place, and so no line ends there
 pub record BeginsLine (text : List ℕ) (i : ℕ) : Type 0 where
   pub blank : passes_at is_blank text i ≡ false
@@ -133,3 +125,27 @@ no_line_end text i begins =
     let differs : eqb i (length text) ≡ false = false_from (eqb i (length text)) (λ same. let e = eqb-true i (length text) same in absurd (omega (arith, begins.inside))) in
     ap (λ j. line_from text (after_comment text j)) blanks ∙ ap (line_from text) comment
     ∙ ap (λ (b : Bool). cond b (Some i) (line_end text i)) differs ∙ line_end_none text i begins.lf begins.cr
+
+and_last : (a b : Bool) → (a && b) ≡ true → b ≡ true
+and_last true b h = h
+and_last false b h = absurd (true≢false (sym h))
+
+-- a line end and the next line lie in the text
+pub line_end_inside : (text : List ℕ) (i next : ℕ) → line_end text i ≡ Some next → next ≤ length text
+line_end_inside text i next e =
+    ⊎_elim (λ h. let same = is_some (i + 1) next h.1 in let inside = passes_inside (λ b. eqb b line_feed) text i h.0 in omega arith)
+    (λ h.
+    ⊎_elim
+    (λ k.
+    let same = is_some (i + 2) next k.1 in
+    let inside = passes_inside (λ b. eqb b line_feed) text (i + 1) (and_last _ _ k.0) in
+    omega arith)
+    (λ k. let none = k.1 in absurd (cc))
+    (if_is (stands text i carriage_return && stands text (i + 1) line_feed) (Some (i + 2)) None (Some next) h.1))
+    (if_is (stands text i line_feed) (Some (i + 1)) (cond (stands text i carriage_return && stands text (i + 1) line_feed) (Some (i + 2)) None) (Some next) e)
+
+pub next_line_inside : (text : List ℕ) (i next : ℕ) → next_line text i ≡ Some next → next ≤ length text
+next_line_inside text i next e =
+    let j = after_comment text (after_blanks text i) in
+    ⊎_elim (λ h. let at = eqb-true j (length text) h.0 in let same = is_some j next h.1 in omega arith) (λ h. line_end_inside text j next h.1)
+    (if_is (eqb j (length text)) (Some j) (line_end text j) (Some next) e)

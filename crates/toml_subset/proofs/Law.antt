@@ -1,0 +1,10 @@
+pub mod Basics
+pub mod Depths
+pub mod Forward
+pub mod Fronts
+pub mod Headers
+pub mod Scalars
+pub mod Texts
+pub mod Values
+pub mod Ways
+pub mod Whole
