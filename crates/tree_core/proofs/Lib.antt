@@ -1,9 +1,9 @@
 pub mod AddLemmas
 pub mod GainedLemmas
 pub mod HearingLemmas
+pub mod JoinLemmas
 pub mod ListingLemmas
 pub mod NameOrderLemmas
 pub mod PlaceLemmas
 pub mod PutLemmas
-pub mod ReaderLemmas
 pub mod StoredLemmas

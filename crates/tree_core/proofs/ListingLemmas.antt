@@ -1,9 +1,10 @@
 -- What stands right in a folder, and that its names rise.
 use Rattle.std.proofs.Common.{◌≡◌, ◌≢◌, ℕ, Bool, true, false, cond, T, List, [], ◌∷◌, ◌++◌, map, Option, Some, None, refl, sym, ap, ◌∙◌, subst, append_assoc, append-nil, ◌&&◌}
-use Rattle.std.specs.Ordering.{nat_cmp, is_lt, ordering_then}
+use Rattle.std.specs.Ordering.{nat_cmp, is_lt, is_le, is_gt, ordering_reverse}
 use Rattle.std.specs.declared.cmp.Ordering.{Ordering}
 use Rattle.std.specs.declared.cmp.Ordering.TheVariants.{Less, Equal, Greater}
-use Rattle.std.specs.Cmp.{tied_itself}
+use Rattle.std.specs.BTreeMap.Range.{range_contains, entries_between}
+use Rattle.std.specs.declared.ops.Bound.TheVariants.{Included, Excluded}
 use Rattle.std.specs.Cmp.Lexicographic.{slice_cmp, nat_list_cmp_total}
 use Rattle.std.specs.List.{filter_map, cons_option, AllByRecursion}
 use Rattle.std.specs.List.Sorted.{IsStrictlySortedBy, IsSorted}
@@ -14,11 +15,13 @@ use Rattle.std.specs.FinMap.{entries-from_sorted}
 use Rattle.std.specs.FinMap.Entries.{below_all}
 use Rattle.std.proofs.lemmas.Slice.Eq.{bytes_eq-Decides}
 use Rattle.tree_core.specs.Answer.{listed, IsInNameOrder}
-use Rattle.tree_core.specs.Content.{Place, Node, Listed, folder, is_file, place_cmp, entry_in, entries_in}
-use Rattle.tree_core.specs.Stored.{entry_of, with_root, content_of}
+use Rattle.tree_core.specs.Content.{Place, Node, Listed, folder, is_file, place_cmp, place_cmp_total, entry_in, entries_in}
+use Rattle.tree_core.specs.SystemNames.{names_of}
+use Rattle.tree_core.specs.Stored.{node_of, entry_of, with_root, content_of}
 use Rattle.tree_core.specs.declared.nodes.Stored.{Stored}
 use Rattle.tree_core.specs.declared.tree.Entry.{Entry}
-use Rattle.tree_core.proofs.NameOrderLemmas.{names_of, IsInNameOrder-names_of, IsSorted-strictly}
+use Rattle.tree_core.proofs.PlaceLemmas.{place_cmp-siblings, place_cmp-within}
+use Rattle.tree_core.proofs.NameOrderLemmas.{IsInNameOrder-names_of, IsSorted-strictly}
 
 bytes_eq-itself : (xs : List ℕ) → bytes_eq xs xs ≡ true
 bytes_eq-itself xs = (bytes_eq-Decides xs xs).1 refl
@@ -60,6 +63,35 @@ filter_map-step f done x rest =
 abbrev pub listing_of : Place → List (Place × Stored) → List Listed
 listing_of above entries = filter_map (λ e. entry_in above e.0 e.1) (map entry_of entries)
 
+-- what stands right in the folder comes from its least possible entry on, and before the least possible entry of the folder
+-- with the least name in it
+abbrev pub least_in : Place → Place
+least_in place = place ++ [] ∷ []
+
+from_empty : (name : List ℕ) → is_le (slice_cmp nat_cmp [] name) ≡ true
+from_empty [] = refl
+from_empty (byte ∷ name) = refl
+
+pub least_in-is_forward : (above : Place) → is_gt (place_cmp (least_in above) (least_in (least_in above))) ≡ false
+least_in-is_forward above = ap is_gt (place_cmp_total.antisymm (least_in above) (least_in (least_in above)) ∙ ap ordering_reverse (place_cmp-within above [] [] []))
+
+pub contains-child : (above : Place) (name : List ℕ) → range_contains place_cmp (Included (least_in above)) (Excluded (least_in (least_in above))) (above ++ name ∷ []) ≡ true
+contains-child above name = rw (place_cmp-siblings above [] name, from_empty name, place_cmp-within above [] [] name) refl
+
+-- so a folder's entries are a run of the tree's
+pub listing_of-between : (above : Place) (entries : List (Place × Stored)) → listing_of above (entries_between place_cmp (Included (least_in above)) (Excluded (least_in (least_in above))) entries) ≡ listing_of above entries
+listing_of-between above [] = refl
+listing_of-between above (e ∷ es) =
+    elim (range_contains place_cmp (Included (least_in above)) (Excluded (least_in (least_in above))) e.0) as (λ b. range_contains place_cmp (Included (least_in above)) (Excluded (least_in (least_in above))) e.0 ≡ b
+    → listing_of above (cond b (e ∷ entries_between place_cmp (Included (least_in above)) (Excluded (least_in (least_in above))) es) (entries_between place_cmp (Included (least_in above)) (Excluded (least_in (least_in above))) es)) ≡ listing_of above (e ∷ es)) [
+      | true ↦ λ _. ap (cons_option (entry_in above e.0 (node_of e.1))) (listing_of-between above es)
+      | false ↦ λ apart.
+          let none : entry_in above e.0 (node_of e.1) ≡ None = entry_in-elsewhere above e.0 (node_of e.1) (λ name is.
+          let inside = contains-child above name in
+          let outside : range_contains place_cmp (Included (least_in above)) (Excluded (least_in (least_in above))) (above ++ name ∷ []) ≡ false = subst (λ (p : Place). range_contains place_cmp (Included (least_in above)) (Excluded (least_in (least_in above))) p ≡ false) is apart in cc) in
+          listing_of-between above es ∙ ap (λ o. cons_option o (listing_of above es)) (sym none)
+    ] refl
+
 root_nowhere : (above : Place) (node : Node) (rest : List Listed) → cons_option (entry_in above [] node) rest ≡ rest
 root_nowhere [] node rest = refl
 root_nowhere (at ∷ above) node rest = refl
@@ -67,17 +99,6 @@ root_nowhere (at ∷ above) node rest = refl
 pub entries_in-content_of : (above : Place) (entries : List (Place × Stored)) → T (finite.is_sorted place_cmp (with_root entries)) → entries_in (content_of entries) above ≡ listing_of above entries
 entries_in-content_of above entries ordered =
     ap (filter_map (λ e. entry_in above e.0 e.1)) (entries-from_sorted place_cmp (with_root entries) ordered) ∙ root_nowhere above folder (listing_of above entries)
-
-then_equal : (o : Ordering) → ordering_then o Equal ≡ o
-then_equal Less = refl
-then_equal Equal = refl
-then_equal Greater = refl
-
--- what stands in one folder is ordered by its names
-place_cmp-siblings : (above : Place) (a b : List ℕ) → place_cmp (above ++ a ∷ []) (above ++ b ∷ []) ≡ slice_cmp nat_cmp a b
-place_cmp-siblings [] a b = then_equal (slice_cmp nat_cmp a b)
-place_cmp-siblings (at ∷ above) a b =
-    ap (λ o. ordering_then o (place_cmp (above ++ a ∷ []) (above ++ b ∷ []))) (tied_itself nat_list_cmp_total at) ∙ place_cmp-siblings above a b
 
 is_lt_less : (o : Ordering) → T (is_lt o) → o ≡ Less
 is_lt_less Less t = refl

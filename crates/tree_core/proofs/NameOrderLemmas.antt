@@ -1,16 +1,16 @@
 -- Entries in order of their names.
-use Rattle.std.proofs.Common.{◌≡◌, ℕ, ◌+◌, ◌<◌, false, List, length, get_or, map, ap, ◌∙◌, arith}
+use Rattle.std.proofs.Common.{◌≡◌, ℕ, ◌+◌, ◌<◌, false, List, length, get_or, map, ap, ◌∙◌, arith, Result, Ok, Err}
 use Rattle.std.specs.Ordering.{nat_cmp, is_lt, ordering_reverse}
 use Rattle.std.specs.declared.cmp.Ordering.TheVariants.{Less}
 use Rattle.std.specs.Cmp.Lexicographic.{slice_cmp, nat_list_cmp_total}
+use Rattle.std.specs.Result.{IfOk}
 use Rattle.std.specs.List.Sorted.{IsStrictlySortedBy, IsSorted}
 use Rattle.std.proofs.lemmas.List.{get_or-map, length-map}
 use Rattle.std.proofs.lemmas.Map.Keys.{Less-from_sorted}
 use Rattle.tree_core.specs.Answer.{IsInNameOrder}
+use Rattle.tree_core.specs.SystemNames.{names_of}
 use Rattle.tree_core.specs.declared.tree.Entry.{Entry}
-
-abbrev pub names_of : List Entry → List (List ℕ)
-names_of = map (λ (e : Entry). e.name)
+use Rattle.tree_core.specs.declared.tree.TreeError.{TreeError}
 
 pub IsInNameOrder-names_of : (entries : List Entry) → IsSorted (slice_cmp nat_cmp) (names_of entries) → IsInNameOrder entries
 IsInNameOrder-names_of entries sorted =
@@ -20,6 +20,11 @@ IsInNameOrder-names_of entries sorted =
     let second : get_or (names_of entries) (k + 1) d.name ≡ (get_or entries (k + 1) d).name = get_or-map (λ (e : Entry). e.name) entries (k + 1) d d.name inside in
     let here : is_lt (slice_cmp nat_cmp (get_or (names_of entries) (k + 1) d.name) (get_or (names_of entries) k d.name)) ≡ false = sorted k d.name low more in
     rw (first, second) at here
+
+-- the same of an answer
+pub IsInNameOrder-named : (answer : Result (List Entry) TreeError) (names : List (List ℕ)) → IfOk answer (λ entries. names_of entries ≡ names) → IsSorted (slice_cmp nat_cmp) names → IfOk answer IsInNameOrder
+IsInNameOrder-named (Err error) names is sorted = tt
+IsInNameOrder-named (Ok entries) names is sorted = IsInNameOrder-names_of entries (rw is sorted)
 
 not_lt_back : (a b : List ℕ) → slice_cmp nat_cmp a b ≡ Less → is_lt (slice_cmp nat_cmp b a) ≡ false
 not_lt_back a b less = ap is_lt (nat_list_cmp_total.antisymm b a ∙ ap ordering_reverse less)

@@ -1,17 +1,64 @@
 -- Places: equal where they tie, and their fronts.
 use Rattle.std.proofs.Common.{◌≡◌, ◌≢◌, ℕ, ◌+◌, ◌-◌, ◌<◌, ◌≤◌, ◌⊎◌, true, false, List, [], ◌∷◌, ◌++◌, length, take, get_or, refl, sym, ap, ◌∙◌, subst, inl, inr, arith}
-use Rattle.std.specs.Ordering.{is_eq, eq_by_cmp}
+use Rattle.std.specs.Ordering.{nat_cmp, is_eq, eq_by_cmp, ordering_then}
 use Rattle.std.specs.declared.cmp.Ordering.{Ordering}
 use Rattle.std.specs.declared.cmp.Ordering.TheVariants.{Less, Equal, Greater}
 use Rattle.std.specs.Cmp.{tied_itself}
+use Rattle.std.specs.Cmp.Lexicographic.{slice_cmp, lists_total, nat_list_cmp_total}
 use Rattle.std.specs.FinMap.{nat_cmp-IsAntisymmetric, slice_cmp-IsAntisymmetric, IsAntisymmetric}
 use Rattle.std.proofs.lemmas.Bool.{cases_lt}
 use Rattle.std.proofs.lemmas.List.{take-take, length-take-le, length-take, length-append, take_all, take_at, take_more}
-use Rattle.tree_core.specs.Content.{Place, place_cmp, place_cmp_total}
+use Rattle.tree_core.specs.Content.{Place, above, names_cmp, place_cmp, place_cmp_total}
 use Rattle.tree_core.specs.TreeState.{IsFront}
 
+then_equal : (o p : Ordering) → ordering_then o p ≡ Equal → p ≡ Equal
+then_equal Less p e = cc
+then_equal Equal p e = e
+then_equal Greater p e = cc
+
+names_cmp-IsAntisymmetric : IsAntisymmetric names_cmp
+names_cmp-IsAntisymmetric = slice_cmp-IsAntisymmetric (slice_cmp-IsAntisymmetric nat_cmp-IsAntisymmetric)
+
 pub place_cmp-IsAntisymmetric : IsAntisymmetric place_cmp
-place_cmp-IsAntisymmetric = slice_cmp-IsAntisymmetric (slice_cmp-IsAntisymmetric nat_cmp-IsAntisymmetric)
+place_cmp-IsAntisymmetric = λ x y e. names_cmp-IsAntisymmetric x y (then_equal _ _ e)
+
+-- the root comes first
+after_root : (front : Place) → ordering_then (names_cmp front []) Greater ≡ Greater
+after_root [] = refl
+after_root (name ∷ names) = refl
+
+pub place_cmp-root : (name : List ℕ) (names : Place) → place_cmp (name ∷ names) [] ≡ Greater
+place_cmp-root name names = after_root (above (name ∷ names))
+
+-- the folder above what stands right in a folder
+pub above-child : (folder : Place) (name : List ℕ) → above (folder ++ name ∷ []) ≡ folder
+above-child folder name = take_at folder (name ∷ []) (length (folder ++ name ∷ []) - 1) (omega (arith, length-append folder (name ∷ [])))
+
+names_tie : (place : Place) → names_cmp place place ≡ Equal
+names_tie place = tied_itself (lists_total nat_list_cmp_total) place
+
+pub then_nothing : (o : Ordering) → ordering_then o Equal ≡ o
+then_nothing Less = refl
+then_nothing Equal = refl
+then_nothing Greater = refl
+
+names_cmp-siblings : (folder : Place) (a b : List ℕ) → names_cmp (folder ++ a ∷ []) (folder ++ b ∷ []) ≡ slice_cmp nat_cmp a b
+names_cmp-siblings [] a b = then_nothing (slice_cmp nat_cmp a b)
+names_cmp-siblings (at ∷ folder) a b =
+    ap (λ o. ordering_then o (names_cmp (folder ++ a ∷ []) (folder ++ b ∷ []))) (tied_itself nat_list_cmp_total at) ∙ names_cmp-siblings folder a b
+
+names_cmp-longer : (folder : Place) (name : List ℕ) → names_cmp (folder ++ name ∷ []) folder ≡ Greater
+names_cmp-longer [] name = refl
+names_cmp-longer (at ∷ folder) name =
+    ap (λ o. ordering_then o (names_cmp (folder ++ name ∷ []) folder)) (tied_itself nat_list_cmp_total at) ∙ names_cmp-longer folder name
+
+-- what stands in one folder is ordered by its names
+pub place_cmp-siblings : (folder : Place) (a b : List ℕ) → place_cmp (folder ++ a ∷ []) (folder ++ b ∷ []) ≡ slice_cmp nat_cmp a b
+place_cmp-siblings folder a b = rw (above-child folder a, above-child folder b, names_tie folder) (names_cmp-siblings folder a b)
+
+-- what stands in a folder within the folder comes after what stands in the folder
+pub place_cmp-within : (folder : Place) (a b c : List ℕ) → place_cmp ((folder ++ a ∷ []) ++ b ∷ []) (folder ++ c ∷ []) ≡ Greater
+place_cmp-within folder a b c = rw (above-child (folder ++ a ∷ []) b, above-child folder c, names_cmp-longer folder a) refl
 
 pub place_ties_itself : (place : Place) → place_cmp place place ≡ Equal
 place_ties_itself place = tied_itself place_cmp_total place
@@ -70,13 +117,13 @@ last_name place other some =
     sym all ∙ more
 
 -- right in a folder, by the names before the last
-pub right_in : (place folder : Place) (other : List ℕ) → 0 < length place → is_eq (place_cmp (take (length place - 1) place) folder) ≡ true → place ≡ folder ++ get_or place (length place - 1) other ∷ []
-right_in place folder other some ties = last_name place other some ∙ ap (λ (front : Place). front ++ get_or place (length place - 1) other ∷ []) (same_place _ _ ties)
+pub right_in : (place folder : Place) (other : List ℕ) → 0 < length place → is_eq (names_cmp (take (length place - 1) place) folder) ≡ true → place ≡ folder ++ get_or place (length place - 1) other ∷ []
+right_in place folder other some ties = last_name place other some ∙ ap (λ (front : Place). front ++ get_or place (length place - 1) other ∷ []) (names_cmp-IsAntisymmetric _ _ (is_eq_true _ ties))
 
-pub not_right_in : (place folder : Place) → is_eq (place_cmp (take (length place - 1) place) folder) ≡ false → (name : List ℕ) → place ≢ folder ++ name ∷ []
+pub not_right_in : (place folder : Place) → is_eq (names_cmp (take (length place - 1) place) folder) ≡ false → (name : List ℕ) → place ≢ folder ++ name ∷ []
 not_right_in place folder differs name e =
     let len : length folder ≡ length place - 1 = omega (arith, ap length e, length-append folder (name ∷ [])) in
     let front : take (length place - 1) place ≡ folder = ap (take (length place - 1)) e ∙ take_at folder (name ∷ []) (length place - 1) len in
-    let ties : is_eq (place_cmp folder folder) ≡ true = place_is_itself folder in
-    let wrong : is_eq (place_cmp folder folder) ≡ false = subst (λ (x : Place). is_eq (place_cmp x folder) ≡ false) front differs in
+    let ties : is_eq (names_cmp folder folder) ≡ true = ap is_eq (names_tie folder) in
+    let wrong : is_eq (names_cmp folder folder) ≡ false = subst (λ (x : Place). is_eq (names_cmp x folder) ≡ false) front differs in
     cc

@@ -11,7 +11,7 @@ use Rattle.std.specs.FinMap.Entries.{by_order}
 use Rattle.tree_core.specs.Content.{Place, Node, folder, place_cmp, place_cmp_total}
 use Rattle.tree_core.specs.Stored.{node_of, entry_of, with_root, content_of, stored_at}
 use Rattle.tree_core.specs.declared.nodes.Stored.{Stored}
-use Rattle.tree_core.proofs.PlaceLemmas.{place_ties_itself}
+use Rattle.tree_core.proofs.PlaceLemmas.{place_ties_itself, place_cmp-root}
 
 -- a look-up among the entries
 find-entry_of : (place : Place) (entries : List (Place × Stored)) → map.find place_cmp place (map entry_of entries) ≡ option_map node_of (lookup (is_at (place_cmp place)) entries)
@@ -21,7 +21,7 @@ find-entry_of place (e ∷ es) =
 
 pub stored_at-lookup : (entries : List (Place × Stored)) (place : Place) → place ≢ [] → stored_at entries place ≡ option_map node_of (lookup (is_at (place_cmp place)) entries)
 stored_at-lookup entries [] ne = absurd (ne refl)
-stored_at-lookup entries (name ∷ names) ne = find-entry_of (name ∷ names) entries
+stored_at-lookup entries (name ∷ names) ne = rw (place_cmp-root name names) (find-entry_of (name ∷ names) entries)
 
 pub stored_at-root : (entries : List (Place × Stored)) (place : Place) → place ≡ [] → stored_at entries place ≡ Some folder
 stored_at-root entries place e = rw e refl
@@ -41,7 +41,7 @@ put-insert_entry place stored (e ∷ es) =
 -- an entry goes below the root
 with_root-insert_entry : (place : Place) (stored : Stored) (entries : List (Place × Stored)) → place ≢ [] → with_root (insert_entry place_cmp entries place stored) ≡ put place_cmp place (node_of stored) (with_root entries)
 with_root-insert_entry [] stored entries ne = absurd (ne refl)
-with_root-insert_entry (name ∷ names) stored entries ne = ap (λ rest. ([], folder) ∷ rest) (put-insert_entry (name ∷ names) stored entries)
+with_root-insert_entry (name ∷ names) stored entries ne = rw (place_cmp-root name names) (ap (λ rest. ([], folder) ∷ rest) (put-insert_entry (name ∷ names) stored entries))
 
 -- the entries after an insert are those of the content after it
 inserted : (place : Place) (stored : Stored) (entries : List (Place × Stored)) → place ≢ [] → T (map.is_sorted place_cmp (with_root entries)) → with_root (insert_entry place_cmp entries place stored) ≡ map.entries (map.insert (content_of entries) place (node_of stored))

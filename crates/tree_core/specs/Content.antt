@@ -1,13 +1,13 @@
 -- What a tree holds: files and folders, by the names that lead to them.
 use Rattle.std.specs.Prelude.{◌≡◌, ℕ, Bool, true, false, List, [], ◌∷◌, ◌++◌, Option, Some, None, length, take, ◌-◌, codes, if◌then◌else◌}
-use Rattle.std.specs.Ordering.{nat_cmp}
+use Rattle.std.specs.Ordering.{nat_cmp, on, then_cmp}
 use Rattle.std.specs.declared.cmp.Ordering.{Ordering}
-use Rattle.std.specs.Cmp.{IsTotalOrder}
+use Rattle.std.specs.Cmp.{IsTotalOrder, on_total, then_total}
 use Rattle.std.specs.Cmp.Lexicographic.{slice_cmp, lists_total, nat_list_cmp_total}
 use Rattle.std.specs.Str.{bytes_eq}
 use Rattle.std.specs.List.{fold, filter_map}
 use Rattle.std.specs.FinMap as map
-use Rattle.deny_text.specs.Path.{components_of}
+use Rattle.deny_text.specs.Path.{components_of, join_of}
 
 -- a file with its bytes, or a folder
 pub data Node : Type 0 where
@@ -18,12 +18,20 @@ pub data Node : Type 0 where
 abbrev pub Place : Type 0
 Place = List (List ℕ)
 
--- by the first names that differ, in byte order; a folder comes before what it holds
+-- the folder that it stands in; the root for the root
+abbrev pub above : Place → Place
+above place = take (length place - 1) place
+
+-- by the first names that differ, in byte order
+abbrev pub names_cmp : Place → Place → Ordering
+names_cmp = slice_cmp (slice_cmp nat_cmp)
+
+-- by the folders that they stand in, and then by their names: what stands right in a folder stands together, after the root
 abbrev pub place_cmp : Place → Place → Ordering
-place_cmp = slice_cmp (slice_cmp nat_cmp)
+place_cmp = then_cmp (on above names_cmp) names_cmp
 
 pub place_cmp_total : IsTotalOrder place_cmp
-place_cmp_total = lists_total nat_list_cmp_total
+place_cmp_total = then_total (on_total above (lists_total nat_list_cmp_total)) (lists_total nat_list_cmp_total)
 
 abbrev pub Content : Type 0
 Content = map.FinMap place_cmp Node
@@ -34,11 +42,15 @@ abbrev pub step : Place → List ℕ → Place
 step place part =
     if bytes_eq part (codes "/") then []
     else (if bytes_eq part (codes ".") then place
-    else (if bytes_eq part (codes "..") then take (length place - 1) place else place ++ part ∷ []))
+    else (if bytes_eq part (codes "..") then above place else place ++ part ∷ []))
 
 -- the place that a path leads to, from the root on
 abbrev pub resolve : List ℕ → Place
 resolve path = fold step [] (components_of path)
+
+-- a joined path leads on from where the folder leads; at a part that is the root it begins anew
+abbrev pub JoinGoesOn : Type 0
+JoinGoesOn = (folder path : List ℕ) → resolve (join_of folder path) ≡ fold step (resolve folder) (components_of path)
 
 -- what stands at a path
 abbrev pub node_at : Content → List ℕ → Option Node

@@ -5,4 +5,5 @@ pub mod Found
 pub mod Hearing
 pub mod SinkState
 pub mod Stored
+pub mod SystemNames
 pub mod TreeState

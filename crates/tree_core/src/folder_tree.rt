@@ -1,12 +1,15 @@
 //! The real files.
-ghost use Rattle.std.specs.Prelude.{◌≡◌, ◌≢◌, ℕ, ◌↔◌, ◌≤◌, Err, None, IfOk, IfErr, OnOk, IsSorted, vec_len};
+ghost use Rattle.std.specs.Prelude.{◌≡◌, ◌≢◌, ℕ, ◌↔◌, ◌≤◌, ◌++◌, [], ◌∷◌, Err, None, IfOk, IfErr, OnOk, IsSorted, vec_len};
+ghost use Rattle.std.specs.List.{filter};
 ghost use Rattle.std.specs.declared.io.ErrorKind.{ErrorKind};
-ghost use Rattle.std.specs.Io.KnownBytes.{Consumes, IsAtEnd};
+ghost use Rattle.std.specs.Io.{ReadsAtMost};
+ghost use Rattle.std.specs.Io.KnownBytes.{Consumes, IsAtEnd, ReadConsumes};
 ghost use Rattle.std.specs.IoError.{error_kind};
 ghost use Rattle.std.specs.Ordering.{nat_cmp};
 ghost use Rattle.std.specs.Cmp.Lexicographic.{slice_cmp};
 ghost use Rattle.tree_core.specs.Answer.{FailsOrLacksMemory, IsInNameOrder};
 ghost use Rattle.tree_core.specs.Faults.{HasCause, count_after};
+ghost use Rattle.tree_core.specs.SystemNames.{TellsNames, names_entry, names_of, names_told};
 
 use crate::tree::{Entries, Entry, Tree, TreeError};
 use deny_text::path::join;
@@ -20,6 +23,9 @@ use std::rt::Files;
 
 /// The most bytes that a file may have.
 const LIMIT: usize = 67_108_864;
+
+/// How many bytes one read asks for.
+const PIECE: usize = 65_536;
 
 /// The real files, reached through the runtime that it keeps and seen as the count of faults. Links are followed.
 #[derive(Drop)]
@@ -172,6 +178,9 @@ fn read_file<R: Files>(rt: &R, alloc: Global, path: &str) -> Result<Bytes, TreeE
     if found.is_dir() {
         return Err(TreeError::WrongKind);
     }
+    if found.is_file() && found.len() > LIMIT as u64 {
+        return Err(TreeError::Failed);
+    }
     let mut file = match File::open(rt, path) {
         Ok(file) => file,
         Err(error) => return Err(refusal(&error)),
@@ -187,9 +196,9 @@ fn read_to_limit<F: Read>(file: &mut F, alloc: Global, limit: usize) -> Result<V
     ensures end { OnOk result (IsAtEnd (F.remaining file.new)) }
 {
     let mut bytes = Vec::new(alloc);
-    let mut piece = [0u8; 8192];
+    let mut piece = [0u8; PIECE];
     'pieces: for _ in 0..u64::MAX {
-        let count = match file.read(&mut piece) {
+        let count = match read_piece(file, &mut piece) {
             Ok(count) => count,
             Err(error) => return Err(failure(&error)),
         };
@@ -204,6 +213,25 @@ fn read_to_limit<F: Read>(file: &mut F, alloc: Global, limit: usize) -> Result<V
     Err(TreeError::Failed)
 }
 
+/// One read, and again where it was interrupted.
+fn read_piece<F: Read>(file: &mut F, piece: &mut [u8]) -> io::Result<usize>
+    ensures bound { ReadsAtMost result piece.new }
+    ensures bytes { ReadConsumes (F.remaining file.old) (F.remaining file.new) result piece.new }
+    ensures retried { IfErr result (λ e. error_kind e ≢ ErrorKind.Interrupted) }
+{
+    'tries: for _ in 0..u64::MAX {
+        match file.read(piece) {
+            Ok(count) => return Ok(count),
+            Err(error) => {
+                if error.kind() != ErrorKind::Interrupted {
+                    return Err(error);
+                }
+            }
+        }
+    }
+    Err(io::Error::from(ErrorKind::TimedOut))
+}
+
 fn list_folder<R: Files>(rt: &R, alloc: Global, path: &str) -> Result<Entries, TreeError>
     ensures { IfOk result IsInNameOrder }
 {
@@ -213,15 +241,42 @@ fn list_folder<R: Files>(rt: &R, alloc: Global, path: &str) -> Result<Entries, T
     if !found.is_dir() {
         return Err(TreeError::WrongKind);
     }
-    let names = names_in(rt, alloc, path)?;
+    // With a slash behind it a path leads through a link at its end.
+    let through = join(alloc, path, "")?;
+    let mut folder = match rt.open_dir(through.as_path()) {
+        Ok(folder) => folder,
+        Err(error) => return Err(refusal(&error)),
+    };
+    list_opened(rt, alloc, path, &mut folder)
+}
+
+/// The entries of a folder that was opened: one for each name that the system tells.
+fn list_opened<R: Files, D: Read>(
+    rt: &R,
+    alloc: Global,
+    path: &str,
+    folder: &mut D,
+) -> Result<Entries, TreeError>
+    ensures told { IfOk result (λ entries. TellsNames (D.remaining folder.old) (D.remaining folder.new) (names_of entries)) }
+    ensures ordered { IfOk result IsInNameOrder }
+{
+    let names = names_in(alloc, folder)?;
+    entries_named(rt, alloc, path, names)
+}
+
+/// The entries with these names.
+fn entries_named<R: Files>(
+    rt: &R,
+    alloc: Global,
+    path: &str,
+    names: Vec<Text>,
+) -> Result<Entries, TreeError>
+    ensures { IfOk result (λ entries. names_of entries ≡ names.items) }
+{
     let mut entries = Entries::new(alloc);
-    'names: for name in &names {
+    'names: for name in names {
         let is_file = is_file_entry(rt, alloc, path, name.as_str())?;
-        let copy = Text::copy(alloc, name.as_str())?;
-        entries.push(Entry {
-            name: copy,
-            is_file,
-        })?;
+        entries.push(Entry { name, is_file })?;
     }
     Ok(entries)
 }
@@ -244,34 +299,43 @@ fn is_file_entry<R: Files>(
     }
 }
 
-/// The names in a folder, in byte order.
-fn names_in<R: Files>(rt: &R, alloc: Global, path: &str) -> Result<Vec<Text>, TreeError>
-    ensures { IfOk result (λ names. IsSorted (slice_cmp nat_cmp) names.items) }
+/// The names that the system tells of a folder, in byte order.
+fn names_in<D: Read>(alloc: Global, folder: &mut D) -> Result<Vec<Text>, TreeError>
+    ensures told { IfOk result (λ names. TellsNames (D.remaining folder.old) (D.remaining folder.new) names.items) }
+    ensures ordered { IfOk result (λ names. IsSorted (slice_cmp nat_cmp) names.items) }
 {
-    let mut folder = match rt.open_dir(path) {
-        Ok(folder) => folder,
-        Err(error) => return Err(refusal(&error)),
-    };
-    let bytes = read_to_limit(&mut folder, alloc, usize::MAX)?;
-    let mut names = Vec::new(alloc);
-    'names: for name in bytes.split(|byte| *byte == 0) {
-        push_name(&mut names, alloc, name)?;
-    }
+    let bytes = read_to_limit(folder, alloc, usize::MAX)?;
+    let mut names = split_names(alloc, &bytes)?;
     names.sort()?;
     Ok(names)
 }
 
-/// Appends the name of an entry, which is text.
-fn push_name(names: &mut Vec<Text>, alloc: Global, name: &[u8]) -> Result<(), TreeError> {
-    if name.is_empty() || name == b".".as_slice() || name == b"..".as_slice() {
-        return Ok(());
+/// The names of entries among those that are told, each of which ends with the byte 0.
+fn split_names(alloc: Global, bytes: &[u8]) -> Result<Vec<Text>, TreeError>
+    ensures { IfOk result (λ names. names.items ≡ names_told bytes.now) }
+{
+    let mut names = Vec::new(alloc);
+    'names: for name in bytes.split(|byte| *byte == 0) {
+        push_name(&mut names, alloc, name)?;
     }
+    Ok(names)
+}
+
+/// Appends the name of an entry, which is text.
+fn push_name(names: &mut Vec<Text>, alloc: Global, name: &[u8]) -> Result<(), TreeError>
+    ensures { OnOk result (names.new.items ≡ names.old.items ++ filter names_entry (name.now ∷ [])) }
+{
     let Ok(name) = str::from_utf8(name) else {
         return Err(TreeError::Failed);
     };
-    let copy = Text::copy(alloc, name)?;
-    match names.push(copy) {
-        Ok(()) => Ok(()),
-        Err(_) => Err(TreeError::Memory),
+    match name {
+        "" | "." | ".." => Ok(()),
+        _ => {
+            let copy = Text::copy(alloc, name)?;
+            match names.push(copy) {
+                Ok(()) => Ok(()),
+                Err(_) => Err(TreeError::Memory),
+            }
+        }
     }
 }

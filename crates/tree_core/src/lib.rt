@@ -2,6 +2,7 @@
 #![tactic(auto)]
 
 pub mod folder_tree;
+pub mod laws;
 pub mod mem_sink;
 pub mod mem_tree;
 mod nodes;

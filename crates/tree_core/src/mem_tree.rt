@@ -1,5 +1,6 @@
 //! A tree in memory.
 ghost use Rattle.std.specs.Prelude.{◌≡◌, ℕ, ◌↔◌, ◌≤◌, ◌<◌, ◌++◌, [], ◌∷◌, Some, None, Ok, IsTrue, IfOk, OnOk, OnErr, map, if◌then◌else◌};
+ghost use Rattle.std.specs.FinMap.{get};
 ghost use Rattle.tree_core.specs.Content.{Content, IsRooted, entries_in, file, node_at, resolve};
 ghost use Rattle.tree_core.specs.Answer.{ReadAnswers, ListAnswers, FileAnswers, ExistsAnswers, FailsOrLacksMemory, IsInNameOrder, listed};
 ghost use Rattle.tree_core.specs.Faults.{HasCause};
@@ -103,17 +104,22 @@ impl MemTree {
         ensures { IfOk result (λ found. found_node found ≡ node_at self.now.content path.now) }
     {
         let place = Place::resolve(alloc, path)?;
-        Ok(find(&self.nodes, &place))
+        Ok(self.at(&place))
     }
 
-    /// What stands right in the folder at a path.
-    fn entries(&self, alloc: Global, path: &str) -> Result<Entries, AllocError>
-        ensures answer { IfOk result (λ entries. map listed entries ≡ entries_in self.now.content (resolve path.now)) }
+    /// What stands at a place.
+    fn at(&self, place: &Place) -> Found<'_>
+        ensures { found_node result ≡ get self.now.content place.now }
+    {
+        find(&self.nodes, place)
+    }
+
+    /// What stands right in a folder.
+    fn entries(&self, alloc: Global, folder: &Place) -> Result<Entries, AllocError>
+        ensures answer { IfOk result (λ entries. map listed entries ≡ entries_in self.now.content folder.now) }
         ensures ordered { IfOk result IsInNameOrder }
     {
-        let place = Place::resolve(alloc, path)?;
-        let entries = entries_at(&self.nodes, alloc, &place)?;
-        Ok(entries)
+        entries_at(&self.nodes, alloc, folder)
     }
 }
 
@@ -147,11 +153,12 @@ impl Tree for MemTree {
         ensures after { self.new ≡ after_call self.old }
     {
         self.start_call()?;
-        match self.look(alloc, path)? {
+        let place = Place::resolve(alloc, path)?;
+        match self.at(&place) {
             Found::Nothing => Err(TreeError::Absent),
             Found::File(_) => Err(TreeError::WrongKind),
             Found::Folder => {
-                let entries = self.entries(alloc, path)?;
+                let entries = self.entries(alloc, &place)?;
                 Ok(entries)
             }
         }

@@ -133,14 +133,17 @@ fn add(nodes: &mut Nodes, alloc: Global, place: &Place, node: Stored) -> Result<
     }
 }
 
-/// What stands right in a folder, in order.
+/// What stands right in a folder, in order: from the folder's least possible entry on, which has the empty name, up to
+/// the first of another folder.
 pub fn entries_at(nodes: &Nodes, alloc: Global, folder: &Place) -> Result<Entries, AllocError>
     requires { T (finite.is_sorted place_cmp (with_root nodes.now.entries)) }
     ensures answer { IfOk result (λ entries. map listed entries ≡ entries_in (content_of nodes.now.entries) folder.now) }
     ensures ordered { IfOk result IsInNameOrder }
 {
+    let least = folder.child(alloc, "")?;
+    let past = least.child(alloc, "")?;
     let mut entries = Entries::new(alloc);
-    'nodes: for (place, node) in nodes {
+    'nodes: for (place, node) in nodes.range(least..past) {
         push_entry(&mut entries, alloc, folder, place, node)?;
     }
     Ok(entries)

@@ -1,11 +1,10 @@
 //! Places in a tree: the names that lead there from the root.
-ghost use Rattle.std.specs.Prelude.{◌≡◌, ℕ, ◌-◌, List, [], ◌∷◌, IfOk, OnOk, IfSome, IfNone, ◌≢◌, ◌++◌, IsTrue, ◌↔◌, length, take, Some};
+ghost use Rattle.std.specs.Prelude.{◌≡◌, ℕ, List, [], ◌∷◌, IfOk, OnOk, IfSome, IfNone, ◌≢◌, ◌++◌, IsTrue, ◌↔◌, Some};
 ghost use Rattle.std.proofs.Common.{rules};
-ghost use Rattle.std.specs.Ordering.{nat_cmp, eq_by_cmp};
+ghost use Rattle.std.specs.Ordering.{eq_by_cmp};
 ghost use Rattle.std.specs.Cmp.{eq_by_cmp_equiv, partial_equiv_from_equiv, partial_order_from_total};
-ghost use Rattle.std.specs.Cmp.Lexicographic.{slice_cmp, lists_total, nat_list_cmp_total};
 ghost use Rattle.std.specs.Cmp.Rules.{comparing};
-ghost use Rattle.tree_core.specs.Content.{Place, place_cmp, place_cmp_total, step, resolve};
+ghost use Rattle.tree_core.specs.Content.{Place, above, place_cmp, place_cmp_total, step, resolve};
 
 use deny_text::Text;
 use deny_text::path::components;
@@ -13,7 +12,8 @@ use std::alloc::{AllocError, Global};
 use std::cmp::Ordering;
 use std::marker::Model;
 
-/// The names that lead to a place from the root. Places are ordered by the first names that differ.
+/// The names that lead to a place from the root. Places are ordered by the folder that they stand in, and then by their
+/// name.
 #[derive(Drop)]
 pub struct Place {
     names: Vec<Text>,
@@ -72,12 +72,28 @@ impl Place {
         Ok(Place { names })
     }
 
-    /// The folder above; the root for the root.
+    /// The folder that this stands in; the root for the root.
     pub fn above(&self, alloc: Global) -> Result<Place, AllocError>
-        ensures { IfOk result (λ p. p ≡ take (length self.now - 1) self.now) }
+        ensures { IfOk result (λ p. p ≡ above self.now) }
+    {
+        let names = copy_names(alloc, self.names_above())?;
+        Ok(Place { names })
+    }
+
+    fn names_above(&self) -> &[Text]
+        ensures { result.now ≡ above self.now }
     {
         let count = self.names.len().saturating_sub(1);
-        let names = copy_names(alloc, &self.names[..count])?;
+        &self.names[..count]
+    }
+
+    /// The place right in this folder with the name, which may be empty.
+    pub fn child(&self, alloc: Global, name: &str) -> Result<Place, AllocError>
+        ensures { IfOk result (λ p. p ≡ self.now ++ name.now ∷ []) }
+    {
+        let mut names = copy_names(alloc, &self.names)?;
+        let name = Text::copy(alloc, name)?;
+        names.push(name)?;
         Ok(Place { names })
     }
 
@@ -128,13 +144,22 @@ fn copy_names(alloc: Global, names: &[Text]) -> Result<Vec<Text>, AllocError>
     Ok(copies)
 }
 
+fn compare(left: &Place, right: &Place) -> Ordering
+    ensures { result ≡ place_cmp left.now right.now }
+{
+    match left.names_above().cmp(right.names_above()) {
+        Ordering::Equal => left.names().cmp(right.names()),
+        order => order,
+    }
+}
+
 impl PartialEq for Place {
     ghost eq = { eq_by_cmp place_cmp };
 
     ghost laws = { partial_equiv_from_equiv (eq_by_cmp_equiv place_cmp_total) };
 
     fn eq(&self, other: &Place) -> bool {
-        self.names().cmp(other.names()).is_eq()
+        compare(self, other).is_eq()
     }
 }
 
@@ -148,7 +173,7 @@ impl PartialOrd for Place {
     ghost laws = { partial_order_from_total place_cmp_total };
 
     fn partial_cmp(&self, other: &Place) -> Option<Ordering> {
-        Some(self.names().cmp(other.names()))
+        Some(compare(self, other))
     }
 }
 
@@ -162,6 +187,6 @@ impl Ord for Place {
     ghost matches_eq = { Prim.search (comparing, rules) };
 
     fn cmp(&self, other: &Place) -> Ordering {
-        self.names().cmp(other.names())
+        compare(self, other)
     }
 }
