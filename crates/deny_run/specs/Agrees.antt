@@ -3,7 +3,7 @@ use Rattle.std.specs.Prelude.{◌≡◌, ℕ, List, Result, Ok, Err, Some, IsOkA
 use Rattle.catalog_core.specs.declared.catalog.LicenseEntry.{LicenseEntry}
 use Rattle.spdx_core.specs.Expression.{ExpressionView}
 use Rattle.catalog_core.specs.Satisfaction.{Satisfies}
-use Rattle.graph_core.specs.declared.krate.Krate.{Krate}
+use Rattle.graph_core.specs.declared.lone.Krate.{Krate}
 use Rattle.deny_run.specs.declared.error.Error.{Error}
 use Rattle.deny_run.specs.declared.error.Error.TheVariants.{Memory, ConfigRead, MetadataRead, WriteFault, NotYet}
 use Rattle.deny_run.specs.declared.report.Verdict.{Verdict}

@@ -11,8 +11,8 @@ use Rattle.std.specs.Prelude.{◌≡◌, ℕ, ◌↔◌, List, [], ◌∷◌, So
 use Rattle.catalog_core.specs.declared.catalog.LicenseEntry.{LicenseEntry}
 use Rattle.catalog_core.specs.Catalog.{CatalogLists}
 use Rattle.spdx_core.specs.Expression.{ExpressionView, expression_of}
-use Rattle.graph_core.specs.declared.krate.Krate.{Krate}
-use Rattle.graph_core.specs.Records.{record_of}
+use Rattle.graph_core.specs.declared.lone.Krate.{Krate}
+use Rattle.graph_core.specs.Lone.{record_of}
 use Rattle.tree_core.specs.Content.{Content}
 use Rattle.tree_core.specs.Faults.{Rose}
 use Rattle.deny_run.specs.declared.error.Error.TheVariants.{Memory, ConfigRead, MetadataRead, WriteFault, NotYet}

@@ -6,8 +6,8 @@ use Rattle.tree_core.specs.Content.{Content, Node, file, folder, node_at}
 use Rattle.catalog_core.specs.declared.catalog.LicenseEntry.{LicenseEntry}
 use Rattle.catalog_core.specs.Catalog.{CatalogLists}
 use Rattle.spdx_core.specs.Expression.{ExpressionView, expression_of}
-use Rattle.graph_core.specs.declared.krate.Krate.{Krate}
-use Rattle.graph_core.specs.Records.{record_of}
+use Rattle.graph_core.specs.declared.lone.Krate.{Krate}
+use Rattle.graph_core.specs.Lone.{record_of}
 use Rattle.deny_run.specs.declared.error.ReadFault.{ReadFault}
 use Rattle.deny_run.specs.declared.error.ReadFault.TheVariants.{Failed, Absent, Folder, NotUtf8}
 use Rattle.deny_run.specs.declared.error.Part.TheVariants.{Words, Policy, Metadata, Crate}

@@ -11,7 +11,7 @@ use crate::load::{LoadError, load};
 use crate::policy::allowed;
 use crate::report::{CrateReport, Verdict};
 use deny_text::ListOf;
-use graph_core::{Krate, MetaError, records};
+use graph_core::lone::{Krate, MetaError, records};
 use spdx_core::{Catalog, Expression, LicenseEntry};
 use std::alloc::Global;
 use tree_core::Tree;

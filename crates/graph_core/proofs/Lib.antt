@@ -1,1 +1,2 @@
+mod GraphLemmas
 mod Lists

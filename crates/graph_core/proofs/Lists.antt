@@ -2,7 +2,7 @@
 use Rattle.std.proofs.Common.{◌≡◌, ℕ, ◌≤◌, List, [], ◌∷◌, length, None, false, refl, arith}
 use Rattle.serde_json.specs.declared.value.Value.{Value}
 use Rattle.serde_json.specs.View.{items_view}
-use Rattle.graph_core.specs.Records.{only_item, is_empty, are_lone_nodes}
+use Rattle.graph_core.specs.Lone.{only_item, is_empty, are_lone_nodes}
 
 pub is_empty-some : (list : List Value) → 1 ≤ length list → is_empty (items_view list) ≡ false
 is_empty-some [] some = absurd (omega arith)

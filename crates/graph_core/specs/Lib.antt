@@ -1,2 +1,4 @@
+pub mod Graph
 pub mod Krate
-pub mod Records
+pub mod Lone
+pub mod Metadata

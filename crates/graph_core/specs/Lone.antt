@@ -6,7 +6,7 @@ use Rattle.std.specs.Str.{bytes_eq}
 use Rattle.serde_json.specs.Data.{Data, null, string, Items, no_items, item}
 use Rattle.serde_json.specs.Find.{get, as_str, as_array}
 use Rattle.serde_json.specs.Read.{read}
-use Rattle.graph_core.specs.declared.krate.Krate.{Krate}
+use Rattle.graph_core.specs.declared.lone.Krate.{Krate}
 
 -- the string at a key; none where no string stands there
 abbrev pub text_at : List ℕ → Data → Option (List ℕ)

@@ -1,10 +1,14 @@
-//! The crates that the metadata tells of.
+//! The crates that metadata tells of.
 #![tactic(auto)]
 
+pub mod edge;
 pub mod krate;
-pub mod metadata;
+pub mod lone;
 #[cfg(test)]
-mod tests;
+mod lone_tests;
+pub mod metadata;
 
-pub use krate::Krate;
-pub use metadata::{MetaError, records};
+pub use edge::{DepKind, Kinds};
+pub use krate::{FeatureMap, Krate};
+pub use metadata::Metadata;
+pub use source_core::{GitSpec, Source, SourceError, matches_address, normalize_git_url};

@@ -1,15 +1,38 @@
-//! The metadata of one crate without dependencies.
-ghost use Rattle.std.specs.Prelude.{◌≡◌, ◌↔◌, codes, Some, None, IfOk, IsErr, IsErrOf, option_map};
+//! The metadata of one crate without dependencies, which the run reads until it reads whole metadata.
+ghost use Rattle.std.specs.Prelude.{◌≡◌, ◌↔◌, codes, Some, None, IfOk, IsErr, IsErrOf, option_map, option_copied};
 ghost use Rattle.serde_json.specs.Errors.{IsMemory};
 ghost use Rattle.serde_json.specs.Find.{get};
 ghost use Rattle.serde_json.specs.View.{view, items_view};
-ghost use Rattle.graph_core.specs.Records as Records;
-ghost use Rattle.graph_core.specs.Records.{text_at, items_at, record_of};
-ghost use Rattle.graph_core.specs.declared.metadata.MetaError.TheVariants.{Memory};
+ghost use Rattle.graph_core.specs.Lone as spec;
+ghost use Rattle.graph_core.specs.Lone.{text_at, items_at, record_of};
+ghost use Rattle.graph_core.specs.declared.lone.MetaError.TheVariants.{Memory};
 
-use crate::krate::Krate;
+use deny_text::Text;
 use serde_json::Value;
 use std::alloc::{AllocError, Global};
+
+/// A crate without its dependencies.
+#[derive(Drop, Debug)]
+pub struct Krate {
+    /// The package id, as cargo writes it.
+    pub id: Text,
+    /// The `license` field of the manifest, as it stands there.
+    pub license: Option<Text>,
+}
+
+impl Krate {
+    pub fn copy(alloc: Global, id: &str, license: Option<&str>) -> Result<Krate, AllocError>
+        ensures id { IfOk result (λ krate. krate.id ≡ id.now) }
+        ensures license { IfOk result (λ krate. krate.license ≡ option_copied license.entry) }
+    {
+        let license = match license {
+            Some(text) => Some(Text::copy(alloc, text)?),
+            None => None,
+        };
+        let id = Text::copy(alloc, id)?;
+        Ok(Krate { id, license })
+    }
+}
 
 /// Why metadata is not read as a crate.
 #[derive(Clone, Copy, Debug, Drop, PartialEq, Eq)]
@@ -58,7 +81,7 @@ fn items_of<'v>(value: &'v Value, key: &str) -> Option<&'v Vec<Value>>
 #[tactic(auto, using(crate::proofs::Lists::long_lists))]
 fn only_item(list: &[Value]) -> Option<&Value>
     ensures { option_map (λ only. view only.now) result
-        ≡ Records.only_item (items_view list.now) }
+        ≡ spec.only_item (items_view list.now) }
 {
     match list {
         [only] => Some(only),
@@ -68,7 +91,7 @@ fn only_item(list: &[Value]) -> Option<&Value>
 
 fn package_of(metadata: &Value) -> Option<&Value>
     ensures { option_map (λ listed. view listed.now) result
-        ≡ Records.package_of (view metadata.now) }
+        ≡ spec.package_of (view metadata.now) }
 {
     only_item(items_of(metadata, "packages")?)
 }
@@ -76,7 +99,7 @@ fn package_of(metadata: &Value) -> Option<&Value>
 /// The licence of a package: `Some(None)` where it is null or missing, `None` where it is outside of the form.
 fn license_of(listed: &Value) -> Option<Option<&str>>
     ensures { option_map (λ license. option_map (λ text. text.now) license) result
-        ≡ Records.license_of (get (codes "license") (view listed.now)) }
+        ≡ spec.license_of (get (codes "license") (view listed.now)) }
 {
     match listed.get("license") {
         None | Some(Value::Null) => Some(None),
@@ -85,8 +108,8 @@ fn license_of(listed: &Value) -> Option<Option<&str>>
 }
 
 fn krate_of(alloc: Global, listed: &Value) -> Result<Krate, MetaError>
-    ensures ok { IfOk result (λ krate. Records.krate_of (view listed.now) ≡ Some krate) }
-    ensures form { IsErrOf result MetaError.Form → Records.krate_of (view listed.now) ≡ None }
+    ensures ok { IfOk result (λ krate. spec.krate_of (view listed.now) ≡ Some krate) }
+    ensures form { IsErrOf result MetaError.Form → spec.krate_of (view listed.now) ≡ None }
 {
     let id = text_of(listed, "id").ok_or(MetaError::Form)?;
     let license = license_of(listed).ok_or(MetaError::Form)?;
@@ -94,28 +117,28 @@ fn krate_of(alloc: Global, listed: &Value) -> Result<Krate, MetaError>
 }
 
 fn has_text(value: &Value, key: &str, text: &str) -> bool
-    ensures { result ≡ Records.has_text key.now text.now (view value.now) }
+    ensures { result ≡ spec.has_text key.now text.now (view value.now) }
 {
     text_of(value, key).is_some_and(|found| found == text)
 }
 
 #[tactic(auto, using(crate::proofs::Lists::long_lists))]
 fn is_empty(list: &[Value]) -> bool
-    ensures { result ≡ Records.is_empty (items_view list.now) }
+    ensures { result ≡ spec.is_empty (items_view list.now) }
 {
     matches!(list, [])
 }
 
 /// A node of the crate with this id, without dependencies.
 fn is_lone_node(node: &Value, id: &str) -> bool
-    ensures { result ≡ Records.is_lone_node id.now (view node.now) }
+    ensures { result ≡ spec.is_lone_node id.now (view node.now) }
 {
     has_text(node, "id", id) && items_of(node, "deps").is_some_and(|deps| is_empty(deps))
 }
 
 #[tactic(auto, using(crate::proofs::Lists::long_lists))]
 fn are_lone_nodes(nodes: &[Value], id: &str) -> bool
-    ensures { result ≡ Records.are_lone_nodes id.now (items_view nodes.now) }
+    ensures { result ≡ spec.are_lone_nodes id.now (items_view nodes.now) }
 {
     match nodes {
         [] => true,
@@ -125,7 +148,7 @@ fn are_lone_nodes(nodes: &[Value], id: &str) -> bool
 }
 
 fn resolves_alone(resolve: &Value, id: &str) -> bool
-    ensures { result ≡ Records.resolves_alone id.now (view resolve.now) }
+    ensures { result ≡ spec.resolves_alone id.now (view resolve.now) }
 {
     has_text(resolve, "root", id)
         && items_of(resolve, "nodes").is_some_and(|nodes| are_lone_nodes(nodes, id))

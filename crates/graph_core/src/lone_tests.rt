@@ -1,7 +1,6 @@
-use crate::{Krate, MetaError, records};
+use crate::lone::{Krate, MetaError, records};
 use deny_text::Text;
 use std::alloc::{AllocError, Global};
-use std::cmp::Ordering;
 use std::test::Fail;
 
 /// What a text is to give.
@@ -200,27 +199,5 @@ fn reads_what_cargo_writes(rt: HostRuntime) -> Result<(), Fail> {
     let krate = records(rt.alloc(), WRITTEN_BY_CARGO)?;
     assert!(rt; krate.id.as_str() == "path+file:///project/tiny#0.1.0");
     assert!(rt; is_licence(&krate.license, &Some("MIT OR Apache-2.0")));
-    Ok(())
-}
-
-#[test]
-fn orders_by_the_id_alone(rt: HostRuntime) -> Result<(), Fail> {
-    let rows = [
-        ("a 1.0.0", "a 1.0.0", Ordering::Equal),
-        ("a 1.0.0", "a 1.0.1", Ordering::Less),
-        ("a", "a 1.0.0", Ordering::Less),
-        ("b", "B", Ordering::Greater),
-        ("é", "z", Ordering::Greater),
-    ];
-    for (x, y, wanted) in rows {
-        let first = Krate::copy(rt.alloc(), x, Some("MIT"))?;
-        let second = Krate::copy(rt.alloc(), y, None)?;
-        assert!(rt; first.cmp(&second) == wanted, "at {x} and {y}");
-        assert!(rt;
-            first.partial_cmp(&second) == Some(wanted),
-            "at {x} and {y}"
-        );
-        assert!(rt; (first == second) == wanted.is_eq(), "at {x} and {y}");
-    }
     Ok(())
 }

@@ -1,150 +1,106 @@
-//! The metadata of one crate without dependencies.
-ghost use Rattle.std.specs.Prelude.{◌≡◌, ◌↔◌, codes, Some, None, IfOk, IsErr, IsErrOf, option_map};
-ghost use Rattle.serde_json.specs.Errors.{IsMemory};
-ghost use Rattle.serde_json.specs.Find.{get};
-ghost use Rattle.serde_json.specs.View.{view, items_view};
-ghost use Rattle.graph_core.specs.Records as Records;
-ghost use Rattle.graph_core.specs.Records.{text_at, items_at, record_of};
-ghost use Rattle.graph_core.specs.declared.metadata.MetaError.TheVariants.{Memory};
+//! What metadata tells of a workspace: its crates, and the edges between them.
+ghost use Rattle.std.specs.Prelude.{◌≡◌, ◌<◌, map, length, option_map};
+ghost use Rattle.graph_core.specs.Krate.{record_of};
+ghost use Rattle.graph_core.specs.Metadata.{AreRising, LeadWithin, ArePlaces, IsPlace, FitTogether, ids_of, id_of_node, edges_at, link_in};
+ghost use Rattle.graph_core.specs.Graph.{graph_with};
 
+use crate::edge::{Edge, Edges};
 use crate::krate::Krate;
-use serde_json::Value;
-use std::alloc::{AllocError, Global};
+use deny_text::{PathBuf, Texts};
+use std::marker::Model;
 
-/// Why metadata is not read as a crate.
-#[derive(Clone, Copy, Debug, Drop, PartialEq, Eq)]
-pub enum MetaError {
-    /// The text is not the metadata of one crate without dependencies.
-    Form,
-    /// Memory was refused.
-    Memory,
+/// The crates of a workspace and of all that it depends on, in the order of their ids, with the edges between them.
+#[derive(Drop)]
+pub struct Metadata {
+    crates: Vec<Krate>,
+    /// The edges out of each crate.
+    edges: Vec<Edges>,
+    members: Texts,
+    member_places: Vec<usize>,
+    workspace_root: PathBuf,
+    root: Option<usize>,
 }
 
-impl From<AllocError> for MetaError {
-    ghost from_gives = { λ _ error. error ≡ Memory };
+impl Model for Metadata {
+    ghost use Rattle.graph_core.specs.Metadata.{Graph, FitTogether};
+    ghost use Rattle.graph_core.specs.Graph.{graph_with};
 
-    fn from(_refused: AllocError) -> MetaError {
-        MetaError::Memory
-    }
+    ghost Value = { Graph };
+
+    ghost view = { λ m. graph_with m.crates.items m.edges.items m.members m.workspace_root m.root };
+
+    ghost invariant = { λ m. FitTogether m.crates.items m.edges.items m.members m.member_places.items m.root };
 }
 
-impl From<serde_json::Error> for MetaError {
-    ghost from_gives = { λ unread error. (error ≡ Memory) ↔ IsMemory unread };
-
-    fn from(unread: serde_json::Error) -> MetaError {
-        if unread.is_memory() {
-            MetaError::Memory
-        } else {
-            MetaError::Form
+impl Metadata {
+    /// Puts the parts together. The crates stand in the order of their ids, with the edges out of each; the members and the
+    /// root are places among them.
+    pub(crate) fn of_parts(
+        crates: Vec<Krate>,
+        edges: Vec<Edges>,
+        members: Texts,
+        member_places: Vec<usize>,
+        workspace_root: PathBuf,
+        root: Option<usize>,
+    ) -> Metadata
+        requires { FitTogether crates.items edges.items members member_places.items root }
+        ensures { result ≡ graph_with crates.items edges.items members workspace_root root }
+    {
+        Metadata {
+            crates,
+            edges,
+            members,
+            member_places,
+            workspace_root,
+            root,
         }
     }
-}
 
-/// The string at a key.
-fn text_of<'v>(value: &'v Value, key: &str) -> Option<&'v str>
-    ensures { option_map (λ text. text.now) result ≡ text_at key.now (view value.now) }
-{
-    value.get(key).and_then(Value::as_str)
-}
-
-/// The list at a key.
-fn items_of<'v>(value: &'v Value, key: &str) -> Option<&'v Vec<Value>>
-    ensures { option_map (λ list. items_view list.now.items) result
-        ≡ items_at key.now (view value.now) }
-{
-    value.get(key).and_then(Value::as_array)
-}
-
-#[tactic(auto, using(crate::proofs::Lists::long_lists))]
-fn only_item(list: &[Value]) -> Option<&Value>
-    ensures { option_map (λ only. view only.now) result
-        ≡ Records.only_item (items_view list.now) }
-{
-    match list {
-        [only] => Some(only),
-        _ => None,
+    /// The crates in the order of their ids.
+    pub(crate) fn crates(&self) -> &[Krate]
+        ensures value { map record_of result.now ≡ map (λ node. node.krate) self.now.nodes }
+        ensures rising { AreRising (ids_of self.now) }
+    {
+        &self.crates
     }
-}
 
-fn package_of(metadata: &Value) -> Option<&Value>
-    ensures { option_map (λ listed. view listed.now) result
-        ≡ Records.package_of (view metadata.now) }
-{
-    only_item(items_of(metadata, "packages")?)
-}
-
-/// The licence of a package: `Some(None)` where it is null or missing, `None` where it is outside of the form.
-fn license_of(listed: &Value) -> Option<Option<&str>>
-    ensures { option_map (λ license. option_map (λ text. text.now) license) result
-        ≡ Records.license_of (get (codes "license") (view listed.now)) }
-{
-    match listed.get("license") {
-        None | Some(Value::Null) => Some(None),
-        Some(license) => Some(Some(license.as_str()?)),
+    /// The edges out of the crate at a place.
+    pub(crate) fn edges_at(&self, place: usize) -> &[Edge]
+        requires { place < length self.now.nodes }
+        ensures value { map (link_in self.now) result.now ≡ edges_at self.now place }
+        ensures within { LeadWithin (length self.now.nodes) result.now }
+    {
+        let lists: &[Edges] = &self.edges;
+        lists[place].items()
     }
-}
 
-fn krate_of(alloc: Global, listed: &Value) -> Result<Krate, MetaError>
-    ensures ok { IfOk result (λ krate. Records.krate_of (view listed.now) ≡ Some krate) }
-    ensures form { IsErrOf result MetaError.Form → Records.krate_of (view listed.now) ≡ None }
-{
-    let id = text_of(listed, "id").ok_or(MetaError::Form)?;
-    let license = license_of(listed).ok_or(MetaError::Form)?;
-    Ok(Krate::copy(alloc, id, license)?)
-}
-
-fn has_text(value: &Value, key: &str, text: &str) -> bool
-    ensures { result ≡ Records.has_text key.now text.now (view value.now) }
-{
-    text_of(value, key).is_some_and(|found| found == text)
-}
-
-#[tactic(auto, using(crate::proofs::Lists::long_lists))]
-fn is_empty(list: &[Value]) -> bool
-    ensures { result ≡ Records.is_empty (items_view list.now) }
-{
-    matches!(list, [])
-}
-
-/// A node of the crate with this id, without dependencies.
-fn is_lone_node(node: &Value, id: &str) -> bool
-    ensures { result ≡ Records.is_lone_node id.now (view node.now) }
-{
-    has_text(node, "id", id) && items_of(node, "deps").is_some_and(|deps| is_empty(deps))
-}
-
-#[tactic(auto, using(crate::proofs::Lists::long_lists))]
-fn are_lone_nodes(nodes: &[Value], id: &str) -> bool
-    ensures { result ≡ Records.are_lone_nodes id.now (items_view nodes.now) }
-{
-    match nodes {
-        [] => true,
-        [node] => is_lone_node(node, id),
-        _ => false,
+    /// The ids of the members of the workspace, as the metadata lists them.
+    pub(crate) fn members(&self) -> &Texts
+        ensures { result.now ≡ self.now.members }
+    {
+        &self.members
     }
-}
 
-fn resolves_alone(resolve: &Value, id: &str) -> bool
-    ensures { result ≡ Records.resolves_alone id.now (view resolve.now) }
-{
-    has_text(resolve, "root", id)
-        && items_of(resolve, "nodes").is_some_and(|nodes| are_lone_nodes(nodes, id))
-}
+    /// The places of the members.
+    pub(crate) fn member_places(&self) -> &[usize]
+        ensures value { map (id_of_node self.now) result.now ≡ self.now.members }
+        ensures within { ArePlaces (length self.now.nodes) result.now }
+    {
+        &self.member_places
+    }
 
-/// Reads the output of `cargo metadata --format-version 1` for a crate without dependencies. Keys that it has no use
-/// for are passed over, and of equal keys of an object the last holds.
-pub fn records(alloc: Global, text: &str) -> Result<Krate, MetaError>
-    ensures ok { IfOk result (λ krate. record_of text.now ≡ Some krate) }
-    ensures form { IsErrOf result MetaError.Form → record_of text.now ≡ None }
-    ensures outside { record_of text.now ≡ None → IsErr result }
-{
-    let metadata = Value::from_str(alloc, text)?;
-    let listed = package_of(&metadata).ok_or(MetaError::Form)?;
-    let krate = krate_of(alloc, listed)?;
-    let resolve = metadata.get("resolve").ok_or(MetaError::Form)?;
-    if resolves_alone(resolve, krate.id.as_str()) {
-        Ok(krate)
-    } else {
-        Err(MetaError::Form)
+    /// The root folder of the workspace.
+    pub(crate) fn workspace_root(&self) -> &str
+        ensures { result.now ≡ self.now.workspace_root }
+    {
+        self.workspace_root.as_path()
+    }
+
+    /// The place of the root crate, where there is one.
+    pub(crate) fn root(&self) -> Option<usize>
+        ensures value { option_map (id_of_node self.now) result ≡ self.now.root }
+        ensures within { IsPlace (length self.now.nodes) result }
+    {
+        self.root
     }
 }

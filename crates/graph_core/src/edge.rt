@@ -1,0 +1,28 @@
+//! Edges between crates.
+use deny_text::ListOf;
+
+/// What a dependency is for.
+#[derive(Clone, Copy, Debug, PartialEq, Eq)]
+pub enum DepKind {
+    Normal,
+    Dev,
+    Build,
+}
+
+/// A set of kinds of dependency.
+#[derive(Clone, Copy, Debug, PartialEq, Eq)]
+pub struct Kinds {
+    pub normal: bool,
+    pub dev: bool,
+    pub build: bool,
+}
+
+/// A dependency on the crate at a place among the crates of the metadata.
+#[derive(Clone, Copy, Debug, PartialEq, Eq)]
+pub(crate) struct Edge {
+    pub(crate) to: usize,
+    pub(crate) kinds: Kinds,
+}
+
+/// The dependencies of a crate, in the order of the metadata.
+pub(crate) type Edges = ListOf<Edge>;
