@@ -7,3 +7,7 @@ mod tests;
 
 pub use catalog_core::{Catalog, Identifier, Imprecise, LicenseEntry, LicenseStore, Match, Table};
 pub use expression::Expression;
+pub use term_core::{
+    ExprError, ExpressionReq, Family, LicenseItem, LicenseReq, Licensee, ParseError, ParseMode,
+    ParseReason,
+};

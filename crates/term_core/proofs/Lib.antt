@@ -1,0 +1,7 @@
+pub mod FaultLemmas
+pub mod ImpreciseLemmas
+pub mod ItemBorders
+pub mod ItemLemmas
+pub mod ItemSpans
+pub mod LicenseeLemmas
+pub mod WordLemmas

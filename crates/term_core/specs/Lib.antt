@@ -1,0 +1,10 @@
+pub mod Faults
+pub mod Items
+pub mod Laws
+pub mod Licensee
+pub mod Reasons
+pub mod References
+pub mod Satisfaction
+pub mod Spans
+pub mod Terms
+pub mod Tokens

@@ -1,0 +1,148 @@
+//! What is wrong with an item where it stands.
+ghost use Rattle.std.specs.Prelude.{◌≡◌, ◌+◌, ◌<◌, ◌^◌, Some};
+ghost use Rattle.std.specs.Option.{ForSome};
+ghost use Rattle.term_core.specs.Faults.{takes_term, takes_exception, takes_operator, takes_with, word_reason, fault as fault_between, unless as unless_fine, mark_fault as mark_fault_of, fault_at, end_fault as end_fault_at};
+
+use crate::error::{ParseError, ParseReason};
+use crate::item::{Item, Simple, Wanted, What};
+use crate::mode::ParseMode;
+use deny_text::Span;
+
+impl Wanted {
+    fn is_term(self) -> bool
+        ensures { result ≡ takes_term self }
+    {
+        match self {
+            Wanted::Term => true,
+            Wanted::Exception | Wanted::AfterTerm | Wanted::AfterPart => false,
+        }
+    }
+
+    fn is_exception(self) -> bool
+        ensures { result ≡ takes_exception self }
+    {
+        match self {
+            Wanted::Exception => true,
+            Wanted::Term | Wanted::AfterTerm | Wanted::AfterPart => false,
+        }
+    }
+
+    fn is_operator(self) -> bool
+        ensures { result ≡ takes_operator self }
+    {
+        match self {
+            Wanted::AfterTerm | Wanted::AfterPart => true,
+            Wanted::Term | Wanted::Exception => false,
+        }
+    }
+
+    fn is_with(self) -> bool
+        ensures { result ≡ takes_with self }
+    {
+        match self {
+            Wanted::AfterTerm => true,
+            Wanted::Term | Wanted::Exception | Wanted::AfterPart => false,
+        }
+    }
+
+    /// What a word is called that is neither operator nor what is wanted.
+    fn reason(self) -> ParseReason
+        ensures { result ≡ word_reason self }
+    {
+        match self {
+            Wanted::Term => ParseReason::UnknownTerm,
+            Wanted::Exception => ParseReason::UnknownException,
+            Wanted::AfterTerm | Wanted::AfterPart => ParseReason::Unexpected,
+        }
+    }
+}
+
+fn unless(fine: bool, reason: ParseReason, span: Span) -> Option<ParseError>
+    ensures { result ≡ unless_fine fine reason span }
+{
+    if fine {
+        None
+    } else {
+        Some(ParseError { reason, span })
+    }
+}
+
+/// A mark of a term that the mode refuses.
+fn mark_fault(simple: &Simple, mode: ParseMode, span: Span) -> Option<ParseError>
+    ensures { result ≡ mark_fault_of mode simple.now span }
+{
+    let marks = simple.marks;
+    if marks.deprecated && !mode.allow_deprecated {
+        let span = Span {
+            start: span.start,
+            end: simple.name_end,
+        };
+        Some(ParseError {
+            reason: ParseReason::DeprecatedId,
+            span,
+        })
+    } else {
+        let fine = !(marks.gnu && marks.plus) || mode.allow_postfix_plus_on_gpl;
+        unless(fine, ParseReason::GplNoPlus, span)
+    }
+}
+
+/// What is wrong with an item, by what is wanted and by whether a parenthesis is open.
+pub fn item_fault(item: &Item, mode: ParseMode, wanted: Wanted, is_open: bool) -> Option<ParseError>
+    ensures { result ≡ fault_at mode wanted is_open item.now.what item.now.span }
+{
+    let span = item.span;
+    match &item.what {
+        What::Term(simple) if wanted.is_term() => mark_fault(simple, mode, span),
+        What::Term(_) => unless(false, ParseReason::Unexpected, span),
+        What::Exception(_) => unless(wanted.is_exception(), ParseReason::Unexpected, span),
+        What::And | What::Or => unless(wanted.is_operator(), ParseReason::Unexpected, span),
+        What::With => unless(wanted.is_with(), ParseReason::Unexpected, span),
+        What::Open => unless(wanted.is_term(), ParseReason::Unexpected, span),
+        What::Close if is_open => unless(wanted.is_operator(), ParseReason::Unexpected, span),
+        What::Close => unless(false, ParseReason::UnopenedParens, span),
+        What::Plus => unless(false, ParseReason::SeparatedPlus, span),
+        What::Word => unless(false, wanted.reason(), span),
+        What::Other => unless(false, ParseReason::InvalidCharacters, span),
+    }
+}
+
+/// What is wrong at the end of a text of so many bytes, by the place of the last open parenthesis.
+pub fn end_fault(len: usize, wanted: Wanted, opened: Option<usize>) -> Option<ParseError>
+    requires { ForSome opened (λ place. place + 1 < 2 ^ 64) }
+    ensures { result ≡ end_fault_at len wanted opened }
+{
+    if !wanted.is_operator() {
+        let span = Span {
+            start: len,
+            end: len,
+        };
+        return Some(ParseError {
+            reason: ParseReason::Unexpected,
+            span,
+        });
+    }
+    match opened {
+        None => None,
+        Some(start) => {
+            let span = Span {
+                start,
+                end: start + 1,
+            };
+            Some(ParseError {
+                reason: ParseReason::UnclosedParens,
+                span,
+            })
+        }
+    }
+}
+
+/// The fault of a text without an item.
+pub fn empty_fault(len: usize) -> ParseError
+    ensures { Some result ≡ fault_between ParseReason.Empty 0 len }
+{
+    ParseError {
+        reason: ParseReason::Empty,
+        span: Span { start: 0, end: len },
+    }
+}

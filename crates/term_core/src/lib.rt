@@ -1,0 +1,20 @@
+//! What licence expressions are made of: their words and marks, terms, and licensees.
+#![tactic(auto)]
+
+pub mod error;
+pub mod fault;
+pub mod item;
+pub mod items;
+pub mod laws;
+pub mod licensee;
+pub mod mode;
+pub mod term;
+#[cfg(test)]
+mod tests;
+mod words;
+
+pub use error::{ExprError, ParseError, ParseReason};
+pub use item::{Item, Marks, Simple, Wanted, What};
+pub use licensee::Licensee;
+pub use mode::ParseMode;
+pub use term::{ExpressionReq, Family, LicenseItem, LicenseReq};
