@@ -1,5 +1,6 @@
-pub mod GroupLemmas
+pub mod KeyLemmas
 pub mod MapLemmas
 pub mod NormalLemmas
+pub mod ParentLemmas
 pub mod PathLemmas
 pub mod SearchLemmas

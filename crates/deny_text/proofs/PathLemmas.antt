@@ -1,9 +1,9 @@
 -- Ancestors step by step, the file name by the parts of its path, parents and joins by parts, and paths that share their first parts.
-use Rattle.std.proofs.Common.{◌≡◌, ◌≢◌, ◌⊎◌, ◌↔◌, Bor, refl, ap, ap₂, sym, subst, ◌∙◌, IsTrue, ℕ, zero, suc, ◌+◌, ◌-◌, ◌<◌, ◌==◌, Bool, true, false, cond, List, [], ◌∷◌, ◌++◌, length, take, drop, append_assoc, append-nil, take-append-drop, Option, Some, None, slice_get, slice_index, inl, inr, arith}
+use Rattle.std.proofs.Common.{◌≡◌, ◌≢◌, Bor, refl, ap, ap₂, sym, subst, ◌∙◌, IsTrue, ℕ, zero, suc, ◌+◌, ◌-◌, ◌<◌, ◌==◌, Bool, true, false, cond, List, [], ◌∷◌, ◌++◌, length, take, drop, append_assoc, take-append-drop, Option, Some, None, slice_get, slice_index, arith}
 use borrow.Author.Tests.{ne_eqb}
 use Rattle.std.specs.List.{filter}
 use Rattle.std.specs.Option.{option_and_then}
-use Rattle.std.specs.Ordering.{ordering_then, nat_cmp, on}
+use Rattle.std.specs.Ordering.{ordering_then}
 use Rattle.std.specs.Cmp.{IsTotalOrder, tied_itself, then_total, on_total, nat_cmp_total}
 use Rattle.std.specs.Cmp.Lexicographic.{slice_cmp, nat_list_cmp_total}
 use Rattle.std.proofs.lemmas.Bool.{cond-false, false_from_ne_true}
@@ -93,7 +93,7 @@ name_of-Normal name = refl
 pub parent_drops_last : ParentDropsLast
 parent_drops_last = path_components_parent
 
-components_are : (path : List ℕ) → components_of path ≡ leading_components path ++ path_names path
+pub components_are : (path : List ℕ) → components_of path ≡ leading_components path ++ path_names path
 unfolding path_components
 components_are path = refl
 
@@ -150,13 +150,13 @@ later_pieces-append (x ∷ xs) ys =
       | false ↦ later_pieces-append xs ys
     ]
 
-names_append : (xs ys : List ℕ) → path_names (xs ++ slash ∷ ys) ≡ path_names xs ++ path_names ys
+pub names_append : (xs ys : List ℕ) → path_names (xs ++ slash ∷ ys) ≡ path_names xs ++ path_names ys
 unfolding path_names
 names_append xs ys =
     ap (filter is_name) (ap₂ (λ a b. a ∷ b) (first_piece-append xs ys) (later_pieces-append xs ys))
     ∙ filter-append is_name (first_piece xs ∷ later_pieces xs) (first_piece ys ∷ later_pieces ys)
 
-leading_same : (xs ys : List ℕ) → leading_components (xs ++ slash ∷ ys) ≡ leading_components (xs ++ slash ∷ [])
+pub leading_same : (xs ys : List ℕ) → leading_components (xs ++ slash ∷ ys) ≡ leading_components (xs ++ slash ∷ [])
 leading_same [] ys = refl
 leading_same (a ∷ []) ys = refl
 leading_same (a ∷ b ∷ xs) ys = refl

@@ -1,7 +1,8 @@
 -- Paths as their texts, read by components.
 use Rattle.std.specs.Prelude.{◌≡◌, ◌≢◌, ◌↔◌, ◌⊎◌, ℕ, zero, suc, ◌-◌, ◌<◌, ◌||◌, List, [], ◌∷◌, ◌++◌, length, take, slice_index, slice_get, Option, None, Some, if◌then◌else◌, codes}
 use Rattle.std.specs.Option.{option_and_then}
-use Rattle.std.specs.Ordering.{on, then_cmp, nat_cmp}
+use Rattle.std.specs.List.{flat_map}
+use Rattle.std.specs.Ordering.{on, then_cmp, nat_cmp, eq_by_cmp}
 use Rattle.std.specs.declared.cmp.Ordering.{Ordering}
 use Rattle.std.specs.Str.{bytes_eq}
 use Rattle.std.specs.Cmp.{IsTotalOrder, on_total, then_total, nat_cmp_total}
@@ -25,6 +26,10 @@ parent_of = path_parent
 -- where there is a parent, the parts of the path are the parent's and one more
 abbrev pub ParentDropsLast : Type 0
 ParentDropsLast = (path parent : List ℕ) → parent_of path ≡ Some parent → (last : List ℕ) × (components_of path ≡ components_of parent ++ last ∷ [])
+
+-- there is no parent exactly where there is no part, and where the root is the one part
+abbrev pub RootHasNoParent : Type 0
+RootHasNoParent = (path : List ℕ) → (parent_of path ≡ None) ↔ ((components_of path ≡ []) ⊎ (components_of path ≡ codes "/" ∷ []))
 
 -- the parts without a `.` at their front
 abbrev pub without_dot : List (List ℕ) → List (List ℕ)
@@ -92,6 +97,14 @@ path_order = on components_of (slice_cmp part_cmp)
 
 pub path_order_total : IsTotalOrder path_order
 path_order_total = on_total components_of (lists_total (then_total (on_total part_rank nat_cmp_total) nat_list_cmp_total))
+
+-- the parts, each with a slash behind it
+abbrev pub key_of : List ℕ → List ℕ
+key_of path = flat_map (λ part. part ++ codes "/") (components_of path)
+
+-- the keys of paths are equal exactly where the paths are
+abbrev pub KeysTellPaths : Type 0
+KeysTellPaths = (x y : List ℕ) → eq_by_cmp path_order x y ≡ eq_by_cmp (slice_cmp nat_cmp) (key_of x) (key_of y)
 
 -- the texts are the same up to the place, and a slash stands there in both
 pub record IsSharedSlash (x y : List ℕ) (place : ℕ) : Type 0 where

@@ -50,8 +50,7 @@ fn round(accumulator: u32, lane: u32) -> u32
 
 #[tactic(auto, unfolding(crate::specs::Hash::stripe))]
 #[inline]
-fn stripe(sums: Lanes, group: &[u8]) -> Lanes
-    requires { length group.now ≡ 16 }
+fn stripe(sums: Lanes, group: &[u8; 16]) -> Lanes
     ensures { result ≡ stripe sums group.now }
 {
     Lanes {
@@ -72,19 +71,11 @@ fn merged(sums: Lanes) -> u32
         .wrapping_add(sums.fourth.rotate_left(18))
 }
 
-/// The accumulators after the whole groups of 16 bytes, and the bytes after these.
-fn stripes(bytes: &[u8]) -> (Lanes, &[u8])
-    ensures sums { result.0 ≡ fold stripe start (whole_groups 16 bytes.now) }
-    ensures rest { result.1.now ≡ after_groups 16 bytes.now }
+/// The accumulators after the groups of 16 bytes.
+fn stripes(groups: &[[u8; 16]]) -> Lanes
+    ensures { result ≡ fold stripe start groups.now }
 {
-    let mut sums = START;
-    let mut rest = bytes;
-    'groups: while rest.len() >= 16 {
-        let (group, after) = rest.split_at(16);
-        sums = stripe(sums, group);
-        rest = after;
-    }
-    (sums, rest)
+    groups.iter().fold(START, |sums, group| stripe(sums, group))
 }
 
 /// What the groups of 16 bytes come to, and the bytes after them.
@@ -93,17 +84,16 @@ fn of_groups(bytes: &[u8]) -> (u32, &[u8])
     ensures hash { result.0 ≡ of_groups bytes.now }
     ensures rest { result.1.now ≡ after_groups 16 bytes.now }
 {
-    let (sums, rest) = stripes(bytes);
+    let (groups, rest) = bytes.as_chunks::<16>();
     if bytes.len() < 16 {
         (PRIME_5, rest)
     } else {
-        (merged(sums), rest)
+        (merged(stripes(groups)), rest)
     }
 }
 
 #[tactic(auto, unfolding(crate::specs::Hash::with_word))]
-fn with_word(hash: u32, group: &[u8]) -> u32
-    requires { length group.now ≡ 4 }
+fn with_word(hash: u32, group: &[u8; 4]) -> u32
     ensures { result ≡ with_word hash group.now }
 {
     hash.wrapping_add(word_at(group, 0).wrapping_mul(PRIME_3))
@@ -116,13 +106,8 @@ fn with_words(start: u32, bytes: &[u8]) -> (u32, &[u8])
     ensures hash { result.0 ≡ fold with_word start (whole_groups 4 bytes.now) }
     ensures rest { result.1.now ≡ after_groups 4 bytes.now }
 {
-    let mut hash = start;
-    let mut rest = bytes;
-    'words: while rest.len() >= 4 {
-        let (group, after) = rest.split_at(4);
-        hash = with_word(hash, group);
-        rest = after;
-    }
+    let (words, rest) = bytes.as_chunks::<4>();
+    let hash = words.iter().fold(start, |hash, word| with_word(hash, word));
     (hash, rest)
 }
 

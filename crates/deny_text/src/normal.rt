@@ -37,7 +37,7 @@ fn first_line(text: &str) -> (&str, &str)
 pub fn normalize(alloc: Global, text: &str) -> Result<Text, AllocError>
     ensures { IfOk result (λ normal. normal ≡ normal_of text.now) }
 {
-    let mut normal = String::new(alloc);
+    let mut normal = String::with_capacity(alloc, text.len() + 1)?;
     let mut rest = text;
     'lines: while !rest.is_empty() {
         let (line, after) = first_line(rest);

@@ -7,14 +7,13 @@ ghost use Rattle.std.specs.Ordering.{eq_by_cmp};
 ghost use Rattle.std.specs.Cmp.{eq_by_cmp_equiv, partial_equiv_from_equiv, partial_order_from_total};
 ghost use Rattle.std.specs.Cmp.Rules.{comparing};
 ghost use Rattle.std.proofs.Common.{rules};
-ghost use Rattle.deny_text.specs.Path.{components_of, join_of, parent_of, ParentDropsLast, JoinsByParts, IsSharedSlash, part_rank, part_cmp, path_order, path_order_total, file_name_of, EndsWithParts, BeginsAtRoot};
+ghost use Rattle.deny_text.specs.Path.{components_of, join_of, parent_of, ParentDropsLast, RootHasNoParent, JoinsByParts, IsSharedSlash, KeysTellPaths, key_of, part_rank, part_cmp, path_order, path_order_total, file_name_of, EndsWithParts, BeginsAtRoot};
 
 use crate::text::Text;
 use std::alloc::{AllocError, Global};
 use std::cmp::Ordering;
-use std::fmt;
 use std::marker::Model;
-use std::path;
+use std::{fmt, path};
 
 /// A part of a path.
 #[derive(Clone, Copy, Debug, PartialEq, Eq)]
@@ -257,9 +256,32 @@ pub fn parent_drops_last()
     ensures { ParentDropsLast }
 {}
 
+/// The root alone and a path with no part have no parent, and all others have one.
+pub fn root_has_no_parent()
+    ensures { RootHasNoParent }
+{}
+
 /// The parts of a join are the parts of the paths.
 pub fn joins_by_parts()
     ensures { JoinsByParts }
+{}
+
+/// A text for look-ups of paths: paths have one key exactly where they are equal.
+pub fn key(alloc: Global, path: &str) -> Result<Text, AllocError>
+    ensures { IfOk result (λ key. key ≡ key_of path.now) }
+{
+    let mut key = String::with_capacity(alloc, path.len() + 2)?;
+    let mut parts = components(path);
+    'parts: while let Some(part) = parts.next() {
+        key.push_str(part.as_str())?;
+        key.push_str("/")?;
+    }
+    Ok(Text::from(key))
+}
+
+/// Paths have one key exactly where they are equal.
+pub fn keys_tell_paths()
+    ensures { KeysTellPaths }
 {}
 
 /// The last part where it is a name.

@@ -1,4 +1,4 @@
-use Rattle.std.proofs.Common.{◌≡◌, ◌≤◌, ◌-◌, length, take, min, IfSome}
+use Rattle.std.proofs.Common.{◌≡◌, ◌≤◌, ◌-◌, take, IfSome}
 use Rattle.deny_text.specs.Path.{IsSharedSlash}
 use Rattle.deny_text.proofs.path.last_shared_slash.Given as goal
 
