@@ -1,0 +1,4 @@
+pub mod HasTree
+pub mod NoFault
+pub mod ReadingLemmas
+pub mod SpellingLemmas

@@ -1,1 +1,4 @@
 pub mod Expression
+pub mod Grammar
+pub mod Laws
+pub mod Reading

@@ -2,6 +2,8 @@
 #![tactic(auto)]
 
 pub mod expression;
+pub mod laws;
+pub mod node;
 #[cfg(test)]
 mod tests;
 

@@ -1,0 +1,40 @@
+-- What holds of all licence expressions.
+use Rattle.std.specs.Prelude.{◌≡◌, ◌↔◌, ℕ, true, false, IsTrue, List, Some, None, length, map}
+use Rattle.std.specs.Str.{IsUtf8}
+use Rattle.catalog_core.specs.Catalog.{CatalogLists, IsCatalog}
+use Rattle.term_core.specs.declared.mode.ParseMode.{ParseMode}
+use Rattle.term_core.specs.declared.term.ExpressionReq.{ExpressionReq}
+use Rattle.term_core.specs.Faults.{first_fault}
+use Rattle.term_core.specs.Laws.{with_slash, has_no_slash}
+use Rattle.term_core.specs.Spans.{Rise}
+use Rattle.spdx_core.specs.Grammar.{Tree, Spells}
+use Rattle.spdx_core.specs.Reading.{ExpressionView, expression_of, numbered_from}
+
+-- a text has a tree exactly where it has no fault
+abbrev pub TreeOrFault : Type 0
+TreeOrFault = (mode : ParseMode) (lists : CatalogLists) (text : List ℕ) → (first_fault mode lists text ≡ None) ↔ ((tree : Tree) × (terms : List ExpressionReq) × Spells mode lists text tree terms)
+
+-- what spells a text is the expression that the plain reader finds, so there is at most one
+abbrev pub OneTree : Type 0
+OneTree = (mode : ParseMode) (lists : CatalogLists) (text : List ℕ) (tree : Tree) (terms : List ExpressionReq)
+    → Spells mode lists text tree terms → expression_of mode lists text ≡ Some (record { text = text; terms = terms; tree = tree })
+
+-- and the expression that it finds is spelled by the text
+abbrev pub ReadIsSpelled : Type 0
+ReadIsSpelled = (mode : ParseMode) (lists : CatalogLists) (text : List ℕ) (expression : ExpressionView)
+    → expression_of mode lists text ≡ Some expression → (expression.text ≡ text) × Spells mode lists text expression.tree expression.terms
+
+-- where no slash stands in a text, the slash changes neither tree nor terms
+abbrev pub SlashIsStrict : Type 0
+SlashIsStrict = (mode : ParseMode) (lists : CatalogLists) (text : List ℕ) (tree : Tree) (terms : List ExpressionReq)
+    → IsTrue (has_no_slash text) → Spells (with_slash true mode) lists text tree terms → Spells (with_slash false mode) lists text tree terms
+
+-- the places of a tree are those of its terms in text order
+abbrev pub PlacesInOrder : Type 0
+PlacesInOrder = (mode : ParseMode) (lists : CatalogLists) (text : List ℕ) (tree : Tree) (terms : List ExpressionReq)
+    → Spells mode lists text tree terms → numbered_from 0 tree ≡ Some (length terms)
+
+-- the spans of terms follow one another in the text, are not empty, and stand on character borders
+abbrev pub TermsRise : Type 0
+TermsRise = (mode : ParseMode) (lists : CatalogLists) (text : List ℕ) (tree : Tree) (terms : List ExpressionReq)
+    → IsCatalog lists → IsUtf8 text → Spells mode lists text tree terms → Rise text 0 (map (λ term. term.span) terms) (length text)

@@ -1,0 +1,135 @@
+-- A plain reader of items: the expression that a text is.
+use Rattle.std.specs.Prelude.{ℕ, ◌+◌, ◌==◌, Bool, true, false, List, [], ◌∷◌, ◌++◌, Option, Some, None, is_none, length, if◌then◌else◌}
+use Rattle.std.specs.Option.{option_map, option_and_then}
+use Rattle.deny_text.specs.declared.span.Span.{Span}
+use Rattle.term_core.specs.declared.mode.ParseMode.{ParseMode}
+use Rattle.spdx_core.specs.declared.node.ExprNode.{ExprNode}
+use Rattle.spdx_core.specs.declared.node.ExprNode.TheVariants.{Term as term_node, And as and_node, Or as or_node}
+use Rattle.term_core.specs.declared.term.ExpressionReq.{ExpressionReq}
+use Rattle.term_core.specs.declared.item.What.{What}
+use Rattle.term_core.specs.declared.item.What.TheVariants.{Term, Exception, And, Or, With, Open, Close, Plus, Word, Other}
+use Rattle.term_core.specs.declared.item.Item.{Item}
+use Rattle.catalog_core.specs.Catalog.{CatalogLists}
+use Rattle.term_core.specs.Items.{items_of}
+use Rattle.term_core.specs.Faults.{first_fault}
+use Rattle.spdx_core.specs.Grammar.{Tree, leaf, both, either, term}
+
+-- a tree in postfix form
+abbrev pub postfix : Tree → List ExprNode
+postfix (leaf place) = term_node place ∷ []
+postfix (both left right) = postfix left ++ postfix right ++ and_node ∷ []
+postfix (either left right) = postfix left ++ postfix right ++ or_node ∷ []
+
+-- an operator joins the last two trees
+abbrev pub join_last : (Tree → Tree → Tree) → List Tree → List Tree
+join_last join [] = []
+join_last join (right ∷ []) = right ∷ []
+join_last join (right ∷ left ∷ rest) = join left right ∷ rest
+
+-- the trees that nodes leave, the last one first
+abbrev pub trees_after : List Tree → List ExprNode → List Tree
+trees_after trees [] = trees
+trees_after trees (term_node place ∷ nodes) = trees_after (leaf place ∷ trees) nodes
+trees_after trees (and_node ∷ nodes) = trees_after (join_last both trees) nodes
+trees_after trees (or_node ∷ nodes) = trees_after (join_last either trees) nodes
+
+abbrev pub last_tree : List Tree → Tree
+last_tree [] = leaf 0
+last_tree (tree ∷ rest) = tree
+
+-- the tree that nodes in postfix form are
+abbrev pub tree_of : List ExprNode → Tree
+tree_of nodes = last_tree (trees_after [] nodes)
+
+-- the places of a tree follow one another from a number on; behind the last one comes this number
+abbrev pub numbered_from : ℕ → Tree → Option ℕ
+numbered_from n (leaf place) = if place == n then Some (n + 1) else None
+numbered_from n (both left right) = option_and_then (λ m. numbered_from m right) (numbered_from n left)
+numbered_from n (either left right) = option_and_then (λ m. numbered_from m right) (numbered_from n left)
+
+-- an expression: its text, its terms in text order, and how they are joined
+pub record ExpressionView : Type 0 where
+  pub text : List ℕ
+  pub terms : List ExpressionReq
+  pub tree : Tree
+
+-- what stands between two parentheses so far: what an `OR` stands behind, and the conjunction behind it
+pub record Level : Type 0 where
+  pub sum : Option Tree
+  pub product : Option Tree
+
+abbrev pub nothing : Level
+nothing = record { sum = None; product = None }
+
+abbrev pub joined : Option Tree → Tree → Tree
+joined None tree = tree
+joined (Some left) tree = both left tree
+
+abbrev pub summed : Option Tree → Tree → Tree
+summed None tree = tree
+summed (Some left) tree = either left tree
+
+-- what a level is as a whole
+abbrev pub level_tree : Level → Option Tree
+level_tree level = option_map (summed level.sum) level.product
+
+-- a part goes to the conjunction
+abbrev pub with_part : Level → Option Tree → Level
+with_part level None = level
+with_part level (Some tree) = record { sum = level.sum; product = Some (joined level.product tree) }
+
+-- an `OR` ends the conjunction
+abbrev pub or_behind : Level → Option Tree → Level
+or_behind level None = level
+or_behind level (Some tree) = record { sum = Some tree; product = None }
+
+-- the last term gets an exception, and ends where that ends
+abbrev pub excepted : ExpressionReq → List ℕ → ℕ → ExpressionReq
+excepted last name end = term last.req.item (Some name) last.span.start end
+
+abbrev pub with_exception : List ExpressionReq → List ℕ → ℕ → List ExpressionReq
+with_exception [] name end = []
+with_exception (last ∷ []) name end = excepted last name end ∷ []
+with_exception (first ∷ next ∷ rest) name end = first ∷ with_exception (next ∷ rest) name end
+
+-- what was read so far: the levels of the open parentheses, the last one first, the one at hand, and the terms
+pub record Read : Type 0 where
+  pub outer : List Level
+  pub level : Level
+  pub terms : List ExpressionReq
+
+abbrev pub nothing_read : Read
+nothing_read = record { outer = []; level = nothing; terms = [] }
+
+-- a `)` makes a part of its level
+abbrev pub closed : List Level → Level → List ExpressionReq → Read
+closed [] level terms = record { outer = []; level = level; terms = terms }
+closed (last ∷ outer) level terms = record { outer = outer; level = with_part last (level_tree level); terms = terms }
+
+abbrev pub after_item : Read → What → Span → Read
+after_item read (Term simple) span = record {
+  outer = read.outer;
+  level = with_part read.level (Some (leaf (length read.terms)));
+  terms = read.terms ++ term simple.item None span.start span.end ∷ [];
+}
+after_item read (Exception name) span = record { outer = read.outer; level = read.level; terms = with_exception read.terms name span.end }
+after_item read And span = read
+after_item read Or span = record { outer = read.outer; level = or_behind read.level (level_tree read.level); terms = read.terms }
+after_item read With span = read
+after_item read Open span = record { outer = read.level ∷ read.outer; level = nothing; terms = read.terms }
+after_item read Close span = closed read.outer read.level read.terms
+after_item read Plus span = read
+after_item read Word span = read
+after_item read Other span = read
+
+abbrev pub after_items : Read → List Item → Read
+after_items read [] = read
+after_items read (item ∷ items) = after_items (after_item read item.what item.span) items
+
+abbrev pub expression_if : Bool → List ℕ → Read → Option ExpressionView
+expression_if false text read = None
+expression_if true text read = option_map (λ tree. record { text = text; terms = read.terms; tree = tree }) (level_tree read.level)
+
+-- the expression that a text is; none where it has a fault
+abbrev pub expression_of : ParseMode → CatalogLists → List ℕ → Option ExpressionView
+expression_of mode lists text = expression_if (is_none (first_fault mode lists text)) text (after_items nothing_read (items_of mode lists text))
