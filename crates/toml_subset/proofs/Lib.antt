@@ -1,8 +1,11 @@
 pub mod Counts
+pub mod Escapes
 pub mod Examples
 pub mod Gaps
 pub mod Groups
+pub mod KeyRuns
 pub mod Law
 pub mod NumberRuns
+pub mod PlainRuns
 pub mod PlainStrings
 pub mod Runs

@@ -10,7 +10,7 @@ use Rattle.toml_subset.specs.Strings.{Quoting, Piece, Part, piece, closing, brok
 use Rattle.toml_subset.specs.Written.{Written}
 
 -- a piece that is no escape is the byte at its place
-abbrev Stays : List ℕ → ℕ → Part → Type 0
+abbrev pub Stays : List ℕ → ℕ → Part → Type 0
 Stays text i (piece p k) = p.escape ≡ false → (k ≡ i + 1) × (p.means ≡ take 1 (drop i text))
 Stays text i (closing k) = Unit {0}
 Stays text i broken = Unit {0}
@@ -77,7 +77,7 @@ plain_stays kind text i =
       | None ↦ λ at. tt
     ] refl
 
-part_stays : (kind : Quoting) (text : List ℕ) (i : ℕ) → Stays text i (part_at kind text i)
+pub part_stays : (kind : Quoting) (text : List ℕ) (i : ℕ) → Stays text i (part_at kind text i)
 part_stays kind text i =
     stays_if (stands text i (mark_of kind)) text i _ _ (mark_stays kind text i)
     (stays_if (has_escapes kind && stands text i backslash) text i _ _ (λ h. escape_at_stays kind text i) (plain_stays kind text i))

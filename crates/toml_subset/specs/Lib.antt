@@ -12,6 +12,7 @@ pub mod Raw
 pub mod Reading
 pub mod StrView
 pub mod StringReading
+pub mod StringViews
 pub mod Strings
 pub mod TableFaults
 pub mod Tables

@@ -72,12 +72,15 @@ abbrev pub bare_key : List ℕ → ℕ → KeyFound
 bare_key text i =
     (record { name = record { text = run_at is_bare text i; escaped = false }; span = from_to i (run_end is_bare text i) }, run_end is_bare text i)
 
--- A part of a key. Three marks begin no key.
+-- three marks begin no key
+abbrev pub quoted_key : List ℕ → ℕ → Read KeyFound
+quoted_key text i =
+    if begins_long text i then Err (stuck text (i + 2))
+    else then_read (λ (r : StringFound). Ok (record { name = r.0; span = r.1 }, r.2)) (read_string text i)
+
+-- a part of a key
 abbrev pub read_key : List ℕ → ℕ → Read KeyFound
-read_key text i =
-    if passes_at is_bare text i then Ok (bare_key text i)
-    else (if begins_long text i then Err (stuck text (i + 2))
-    else then_read (λ (r : StringFound). Ok (record { name = r.0; span = r.1 }, r.2)) (read_string text i))
+read_key text i = if passes_at is_bare text i then Ok (bare_key text i) else quoted_key text i
 
 abbrev pub KeysFound : Type 0
 KeysFound = List Key × ℕ

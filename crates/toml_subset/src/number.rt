@@ -36,7 +36,8 @@ fn digit_value(byte: u8) -> u8
     }
 }
 
-fn is_digit_in(base: u8, byte: u8) -> bool
+/// A digit in a base up to 36.
+pub fn is_digit_in(base: u8, byte: u8) -> bool
     ensures { result ≡ digit_in base byte }
 {
     (is_digit(byte) || is_letter(byte)) && digit_value(byte) < base

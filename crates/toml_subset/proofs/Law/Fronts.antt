@@ -126,7 +126,7 @@ no_line_end text i begins =
     ap (λ j. line_from text (after_comment text j)) blanks ∙ ap (line_from text) comment
     ∙ ap (λ (b : Bool). cond b (Some i) (line_end text i)) differs ∙ line_end_none text i begins.lf begins.cr
 
-and_last : (a b : Bool) → (a && b) ≡ true → b ≡ true
+pub and_last : (a b : Bool) → (a && b) ≡ true → b ≡ true
 and_last true b h = h
 and_last false b h = absurd (true≢false (sym h))
 

@@ -142,7 +142,7 @@ short_begins text i o opens not_basic not_literal =
 
 -- keys
 
-front_run : (p : ℕ → Bool) (s : List ℕ) → front_is p s ≡ true → 0 < prefix_len p s
+pub front_run : (p : ℕ → Bool) (s : List ℕ) → front_is p s ≡ true → 0 < prefix_len p s
 front_run p [] h = absurd (true≢false (sym h))
 front_run p (c ∷ cs) h = let one = ap (λ b. cond b (1 + prefix_len p cs) 0) h in omega arith
 
