@@ -1,1 +1,7 @@
-mod TableLemmas
+mod CopyrightLemmas
+mod ImpreciseLemmas
+mod LineLemmas
+mod PlaceLemmas
+mod RunLemmas
+mod SpelledLemmas
+mod StoreLemmas

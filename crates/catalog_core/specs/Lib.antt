@@ -1,5 +1,8 @@
+pub mod BuiltIn
 pub mod Catalog
 pub mod Identifier
 pub mod Satisfaction
+pub mod Store
 pub mod Table
+pub mod TextWords
 pub mod Words

@@ -1,14 +1,16 @@
 //! What is known of licences: the catalogue of their names, and the identifier of their texts.
 #![tactic(auto)]
 
+mod built_in;
 pub mod catalog;
 pub mod identifier;
 pub mod store;
 pub mod table;
 #[cfg(test)]
 mod tests;
+mod text_words;
 
 pub use catalog::{Catalog, Imprecise, LicenseEntry};
 pub use identifier::{Identifier, Match};
-pub use store::LicenseStore;
+pub use store::{LicenseStore, StoreText, StoreTexts};
 pub use table::Table;
