@@ -7,7 +7,9 @@ use Rattle.std.specs.declared.cmp.Ordering.TheVariants.{Less, Equal, Greater}
 use Rattle.std.specs.Ordering.{is_eq, eq_by_cmp}
 use Rattle.std.specs.Cmp.{alike_right, tied_back, eq_by_cmp_equiv}
 use Rattle.std.specs.FinMap.{get, insert, get-insert}
-use Rattle.deny_text.specs.Path.{path_order, path_order_total}
+use Rattle.std.specs.Cmp.Lexicographic.{nat_list_cmp_total}
+use Rattle.deny_text.specs.Path.{path_order, path_order_total, key_of}
+use Rattle.deny_text.proofs.KeyLemmas.{keys_tell_paths}
 use Rattle.diag_core.specs.File.{File, with_source, with_source_at, is_at, id_at}
 use Rattle.diag_core.specs.PathIds.{PathIds, Finds}
 
@@ -65,16 +67,19 @@ none_from_test (Some id) unknown = absurd (subst T unknown tt)
 
 module _ (ids : PathIds) (files : List File) (finds : Finds ids files) where
   -- a file with a new path is added, and its path to the map
-  pub finds_pushed : (path source : List ℕ) → is_some (get ids path) ≡ false → Finds (insert ids path (length files)) (files ++ record { name = path; source = source; has_path = true } ∷ [])
-  finds_pushed path source unknown q = get-insert path_order_total ids path (length files) q ∙ by (path_order q path) refl
+  pub finds_pushed : (path source : List ℕ) → is_some (id_at files path) ≡ false → Finds (insert ids (key_of path) (length files)) (files ++ record { name = path; source = source; has_path = true } ∷ [])
+  finds_pushed path source unknown q =
+      get-insert nat_list_cmp_total ids (key_of path) (length files) (key_of q)
+      ∙ ap (λ b. cond b (Some (length files)) (get ids (key_of q))) (sym (keys_tell_paths q path))
+      ∙ by (path_order q path) refl
     where
       file : File
       file = record { name = path; source = source; has_path = true }
 
-      other : eq_by_cmp path_order q path ≡ false → get ids q ≡ id_at (files ++ file ∷ []) q
+      other : eq_by_cmp path_order q path ≡ false → get ids (key_of q) ≡ id_at (files ++ file ∷ []) q
       other apart = finds q ∙ sym (id_at-push_other files file q ((eq_by_cmp_equiv path_order_total).symm path q ∙ apart))
 
-      by : (r : Ordering) → path_order q path ≡ r → cond (is_eq r) (Some (length files)) (get ids q) ≡ id_at (files ++ file ∷ []) q
+      by : (r : Ordering) → path_order q path ≡ r → cond (is_eq r) (Some (length files)) (get ids (key_of q)) ≡ id_at (files ++ file ∷ []) q
       by Less is = other (ap is_eq is)
-      by Equal is = sym (id_at-push_first files file q (ap is_eq (tied_back path_order_total q path is)) (id_at-tied files q path is ∙ sym (finds path) ∙ none_from_test _ unknown))
+      by Equal is = sym (id_at-push_first files file q (ap is_eq (tied_back path_order_total q path is)) (id_at-tied files q path is ∙ none_from_test _ unknown))
       by Greater is = other (ap is_eq is)

@@ -1,5 +1,6 @@
+pub mod BlockLemmas
 pub mod CodeLemmas
 pub mod FileLemmas
-pub mod IndexLemmas
 pub mod ListLemmas
+pub mod OrderLemmas
 pub mod PositionLemmas

@@ -1,5 +1,5 @@
+pub mod Blocks
 pub mod Code
-pub mod CodeLevels
 pub mod CodeTable
 pub mod Deprecated
 pub mod Diagnostic
@@ -9,6 +9,7 @@ pub mod GeneralCode
 pub mod Label
 pub mod LicenseCode
 pub mod Lines
+pub mod Orders
 pub mod Overrides
 pub mod Pack
 pub mod PathIds

@@ -1,13 +1,14 @@
--- The numbers of files by their paths.
+-- The numbers of files by the keys of their paths.
 use Rattle.std.specs.Prelude.{◌≡◌, ℕ, List}
-use Rattle.std.specs.FinMap.{FinMap, get}
-use Rattle.deny_text.specs.Path.{path_order}
+use Rattle.std.specs.FinMap.{get}
+use Rattle.deny_text.specs.Path.{key_of}
+use Rattle.deny_text.specs.TextMap.{TextMapTo}
 use Rattle.diag_core.specs.File.{File, id_at}
 
--- a map from paths, by their parts, to numbers
+-- a map from keys to numbers
 abbrev pub PathIds : Type 0
-PathIds = FinMap path_order ℕ
+PathIds = TextMapTo ℕ
 
--- the map gives each path the number of the file that is found by it
+-- the map gives the key of each path the number of the file that is found by the path
 abbrev pub Finds : PathIds → List File → Type 0
-Finds ids files = (path : List ℕ) → get ids path ≡ id_at files path
+Finds ids files = (path : List ℕ) → get ids (key_of path) ≡ id_at files path

@@ -3,6 +3,7 @@ ghost use Rattle.std.specs.Prelude.{◌≡◌, ◌++◌, List, map, IfOk, Some, 
 ghost use Rattle.std.specs.Result.{result_ok};
 ghost use Rattle.std.specs.Iterator.{YieldsFirst, item_count};
 ghost use Rattle.diag_core.specs.Code.{all_codes, code_name, code_description, code_named, qualified_name};
+ghost use Rattle.diag_core.specs.Orders.{CodesRise};
 
 use crate::code_table::Unknown;
 use crate::{general, licenses};
@@ -123,6 +124,11 @@ impl Iterator for DiagnosticCodeIter {
         }
     }
 }
+
+/// The codes are ordered as they are listed.
+pub fn codes_rise()
+    ensures { CodesRise }
+{}
 
 #[cfg(test)]
 mod tests {

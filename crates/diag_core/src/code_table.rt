@@ -3,8 +3,6 @@ ghost use Rattle.std.specs.Prelude.{◌≡◌, find, bytes_eq};
 ghost use Rattle.std.specs.Option.{option_map};
 ghost use Rattle.std.specs.Result.{result_ok};
 
-use thiserror::Error;
-
 /// A code with its name and with what it says.
 #[derive(Clone, Copy)]
 pub(crate) struct CodeRow<C> {
@@ -14,8 +12,7 @@ pub(crate) struct CodeRow<C> {
 }
 
 /// No code has that name.
-#[derive(Clone, Copy, Debug, PartialEq, Eq, Error)]
-#[error("no code has this name")]
+#[derive(Clone, Copy, Debug, PartialEq, Eq)]
 pub struct Unknown;
 
 /// The code of that name in a table.

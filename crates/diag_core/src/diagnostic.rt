@@ -20,7 +20,7 @@ pub struct Diagnostic {
     pub labels: Labels,
     pub notes: Notes,
     /// What the builders take memory from.
-    pub alloc: Global,
+    pub(crate) alloc: Global,
 }
 
 impl Diagnostic {

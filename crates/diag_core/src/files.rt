@@ -5,32 +5,19 @@ ghost use Rattle.diag_core.specs.File.{File, with_source_at, source_of, name_of,
 ghost use Rattle.diag_core.specs.FileName.{name_text, is_path};
 ghost use Rattle.diag_core.specs.Position.{line_of, line_range_of, location_of};
 
-use crate::path_index::PathIndex;
 use crate::position::{FileId, FilesErr, Location};
 use crate::source_file::{FileName, SourceFile};
-use deny_text::{PathBuf, Span, Text};
+use deny_text::path::key;
+use deny_text::{PathBuf, Span, Text, TextMap};
 use std::alloc::{AllocError, Global};
-use std::fmt;
 use std::marker::Model;
-use thiserror::Error;
 
 /// Why a file was not added.
-#[derive(Drop, Error)]
+#[derive(Debug, Drop)]
 pub enum AddError {
     /// A file with an equal path is there; the path and the text come back.
-    #[error("a file with this path is there")]
     PathTaken(PathBuf, Text),
-    #[error("out of memory")]
     Memory,
-}
-
-impl fmt::Debug for AddError {
-    fn fmt<W: fmt::Write>(&self, f: &mut fmt::Formatter<W>) -> fmt::Result {
-        match self {
-            AddError::PathTaken(path, _) => write!(f, "PathTaken({:?})", path.as_path()),
-            AddError::Memory => write!(f, "Memory"),
-        }
-    }
 }
 
 impl From<AllocError> for AddError {
@@ -48,7 +35,8 @@ impl From<AllocError> for AddError {
 #[derive(Drop)]
 pub struct Files {
     files: Vec<SourceFile>,
-    index: PathIndex,
+    /// The numbers of the files by the keys of their paths.
+    ids: TextMap<FileId>,
     alloc: Global,
 }
 
@@ -61,7 +49,7 @@ impl Model for Files {
 
     ghost view = { λ files. files.files.items };
 
-    ghost invariant = { λ files. Finds files.index files.files.items };
+    ghost invariant = { λ files. Finds files.ids files.files.items };
 }
 
 /// Puts a file at the end.
@@ -81,13 +69,20 @@ fn append(
     Ok(id)
 }
 
+/// The number of the file that is found by the path. It asks one file after another, and takes no memory.
+fn first_at(files: &[SourceFile], path: &str) -> Option<FileId>
+    ensures { result ≡ id_at files.now path.now }
+{
+    files.iter().position(|file| file.is_at(path))
+}
+
 impl Files {
     pub fn new(alloc: Global) -> Files
         ensures { result ≡ [] }
     {
         Files {
             files: Vec::new(alloc),
-            index: PathIndex::new(alloc),
+            ids: TextMap::new(alloc),
             alloc,
         }
     }
@@ -100,13 +95,13 @@ impl Files {
         ensures otherwise { IfErr result (λ error. (error ≡ AddError.PathTaken path source) ⊎ (error ≡ AddError.Memory)) }
         ensures err { OnErr result (self.new ≡ self.old) }
     {
-        if self.index.get(path.as_path()).is_some() {
+        if self.id_for_path(path.as_path()).is_some() {
             return Err(AddError::PathTaken(path, source));
         }
-        let key = PathBuf::copy(self.alloc, path.as_path())?;
+        let key = key(self.alloc, path.as_path())?;
         let id = append(self.alloc, &mut self.files, FileName::Path(path), source)?;
-        match self.index.insert(key, id) {
-            Ok(()) => Ok(id),
+        match self.ids.insert(key, id) {
+            Ok(_) => Ok(id),
             Err(_) => {
                 self.files.truncate(id);
                 Err(AddError::Memory)
@@ -133,15 +128,23 @@ impl Files {
         self.files[id].update(alloc, source)
     }
 
+    /// The file of that number.
+    fn file(&self, id: FileId) -> Result<&SourceFile, FilesErr>
+        ensures file { IfOk result (λ file. slice_get self.now id ≡ Some file.now) }
+        ensures missing { IfErr result (λ error. (error ≡ FilesErr.FileMissing) × (slice_get self.now id ≡ None)) }
+    {
+        match self.files.get(id) {
+            Some(file) => Ok(file),
+            None => Err(FilesErr::FileMissing),
+        }
+    }
+
     /// The text of a file.
     pub fn source(&self, id: FileId) -> Result<&str, FilesErr>
         ensures source { IfOk result (λ text. source_of self.now id ≡ Some text.now) }
         ensures missing { IfErr result (λ error. (error ≡ FilesErr.FileMissing) × (source_of self.now id ≡ None)) }
     {
-        match self.files.get(id) {
-            Some(file) => Ok(file.source()),
-            None => Err(FilesErr::FileMissing),
-        }
+        Ok(self.file(id)?.source())
     }
 
     /// The name of a file: its path, where it has one.
@@ -149,17 +152,18 @@ impl Files {
         ensures name { IfOk result (λ text. name_of self.now id ≡ Some text.now) }
         ensures missing { IfErr result (λ error. (error ≡ FilesErr.FileMissing) × (name_of self.now id ≡ None)) }
     {
-        match self.files.get(id) {
-            Some(file) => Ok(file.name()),
-            None => Err(FilesErr::FileMissing),
-        }
+        Ok(self.file(id)?.name())
     }
 
     /// The number of the file that is found by the path.
     pub fn id_for_path(&self, path: &str) -> Option<FileId>
         ensures { result ≡ id_at self.now path.now }
     {
-        self.index.get(path)
+        match key(self.alloc, path) {
+            Ok(key) => self.ids.get(key.as_str()).copied(),
+            // Where there is no memory for the key, each file is asked.
+            Err(_) => first_at(&self.files, path),
+        }
     }
 
     /// The text of the file that is found by the path.
@@ -176,30 +180,21 @@ impl Files {
     pub fn line_index(&self, id: FileId, byte_index: usize) -> Result<usize, FilesErr>
         ensures { result ≡ asked_of_text (source_of self.now id) (λ text. Ok (line_of text byte_index)) }
     {
-        match self.files.get(id) {
-            Some(file) => Ok(file.line_index(byte_index)),
-            None => Err(FilesErr::FileMissing),
-        }
+        Ok(self.file(id)?.line_index(byte_index))
     }
 
     /// The bytes of a line, with its line feed.
     pub fn line_range(&self, id: FileId, line_index: usize) -> Result<Span, FilesErr>
         ensures { result ≡ asked_of_text (source_of self.now id) (line_range_of line_index) }
     {
-        match self.files.get(id) {
-            Some(file) => file.line_range(line_index),
-            None => Err(FilesErr::FileMissing),
-        }
+        self.file(id)?.line_range(line_index)
     }
 
     /// The line and the column of a place.
     pub fn location(&self, id: FileId, byte_index: usize) -> Result<Location, FilesErr>
         ensures { result ≡ asked_of_text (source_of self.now id) (location_of byte_index) }
     {
-        match self.files.get(id) {
-            Some(file) => file.location(byte_index),
-            None => Err(FilesErr::FileMissing),
-        }
+        self.file(id)?.location(byte_index)
     }
 }
 

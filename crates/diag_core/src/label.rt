@@ -22,7 +22,7 @@ pub struct Label {
     pub range: Span,
     pub message: Text,
     /// What `with_message` takes memory from.
-    pub alloc: Global,
+    alloc: Global,
 }
 
 /// A list of labels.

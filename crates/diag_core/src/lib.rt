@@ -1,6 +1,7 @@
 //! Files, findings, their codes and their overrides.
 #![tactic(auto)]
 
+mod characters;
 pub mod code;
 mod code_table;
 pub mod deprecated;
@@ -11,7 +12,6 @@ pub mod label;
 pub mod licenses;
 pub mod overrides;
 pub mod pack;
-mod path_index;
 pub mod position;
 pub mod severity;
 mod source_file;

@@ -1,64 +1,14 @@
 //! Other levels for findings, by their codes and by their levels.
 ghost use Rattle.std.specs.Prelude.{◌≡◌, map, [], ◌∷◌, ◌++◌, IfOk, OnOk, OnErr};
-ghost use Rattle.std.specs.Option.{option_copied};
-ghost use Rattle.std.specs.FinMap as finmap;
 ghost use Rattle.diag_core.specs.Overrides.{level_of, overridden, pack_overridden, first_output_of};
 
 use crate::pack::{Diag, Pack};
 use crate::severity::Severity;
-use deny_text::{ListOf, Text};
+use deny_text::{ListOf, TextMap};
 use std::alloc::{AllocError, Global};
-use std::marker::Model;
 
-/// Levels by the names of codes, seen as a map.
-#[derive(Drop)]
-pub struct CodeMap {
-    entries: Vec<(Text, Severity)>,
-}
-
-impl Model for CodeMap {
-    ghost use Rattle.std.specs.FinMap as finmap;
-    ghost use Rattle.std.specs.Coded.{coded_list, coded_ℕ};
-    ghost use Rattle.diag_core.specs.contracts.severity.Severity as severity;
-    ghost use Rattle.diag_core.specs.CodeLevels.{CodeLevels};
-
-    ghost Value = { CodeLevels };
-
-    ghost coded = { finmap.code (coded_list coded_ℕ) severity.the_row.coded };
-
-    ghost view = { λ levels. finmap.from_entries levels.entries.items };
-}
-
-impl CodeMap {
-    pub fn new(alloc: Global) -> CodeMap
-        ensures { result ≡ finmap.empty }
-    {
-        CodeMap {
-            entries: Vec::new(alloc),
-        }
-    }
-
-    /// Sets the level of a code, in place of the one that it had.
-    pub fn insert(&mut self, key: Text, value: Severity) -> Result<(), AllocError>
-        ensures ok { OnOk result (self.new ≡ finmap.insert self.old key value) }
-        ensures err { OnErr result (self.new ≡ self.old) }
-    {
-        self.entries.insert(0, (key, value))?;
-        Ok(())
-    }
-
-    /// The level of a code.
-    pub fn get(&self, key: &str) -> Option<&Severity>
-        ensures { option_copied result ≡ finmap.get self.now key.now }
-    {
-        'entries: for entry in &self.entries {
-            if key.cmp(entry.0.as_str()).is_eq() {
-                return Some(&entry.1);
-            }
-        }
-        None
-    }
-}
+/// Levels by the names of codes.
+pub type CodeMap = TextMap<Severity>;
 
 /// Findings at one level come out at another.
 #[derive(Clone, Copy, Debug, PartialEq, Eq)]
@@ -161,6 +111,7 @@ mod tests {
     use super::*;
     use crate::diagnostic::Diagnostic;
     use crate::pack::Check;
+    use deny_text::Text;
     use std::test::Fail;
 
     fn stricter(alloc: Global) -> Result<DiagnosticOverrides, AllocError> {

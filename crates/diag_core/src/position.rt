@@ -1,7 +1,5 @@
 //! Places in a file, and why one is refused.
 
-use thiserror::Error;
-
 /// The number of a file.
 pub type FileId = usize;
 
@@ -13,18 +11,14 @@ pub struct Location {
 }
 
 /// Why a question about a file has no answer.
-#[derive(Clone, Copy, Debug, PartialEq, Eq, Error)]
+#[derive(Clone, Copy, Debug, PartialEq, Eq)]
 pub enum FilesErr {
     /// No file has the number.
-    #[error("no file has this number")]
     FileMissing,
     /// The place is past the end; `max` is the length less one, or 0 for an empty text.
-    #[error("byte {given} is past the last byte {max}")]
     IndexTooLarge { given: usize, max: usize },
     /// The place is inside a character.
-    #[error("byte {given} is inside a character")]
     InvalidCharBoundary { given: usize },
     /// No line has the number; `max` is the number of lines.
-    #[error("line {given} is not among {max} lines")]
     LineTooLarge { given: usize, max: usize },
 }

@@ -1,6 +1,7 @@
 //! Levels: of findings, of lints and of what is printed.
 ghost use Rattle.std.specs.Prelude.{◌≡◌};
 ghost use Rattle.diag_core.specs.Severity.{severity_of_lint, severity_of_filter};
+ghost use Rattle.diag_core.specs.Orders.{SeveritiesRise};
 
 /// How grave a finding is, the mildest first.
 #[derive(Clone, Copy, Debug, PartialEq, Eq, PartialOrd, Ord)]
@@ -65,6 +66,11 @@ pub fn log_level_to_severity(level: LevelFilter) -> Option<Severity>
         LevelFilter::Debug | LevelFilter::Trace => Some(Severity::Help),
     }
 }
+
+/// The levels are ordered from the mildest to the gravest.
+pub fn severities_rise()
+    ensures { SeveritiesRise }
+{}
 
 #[cfg(test)]
 mod tests {

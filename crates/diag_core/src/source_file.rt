@@ -1,11 +1,13 @@
 //! A file with the places of its lines.
-ghost use Rattle.std.specs.Prelude.{◌≡◌, ◌<◌, ◌≤◌, count_by, length, IfOk, OnOk, OnErr, true, false};
-ghost use Rattle.diag_core.specs.File.{with_source};
+ghost use Rattle.std.specs.Prelude.{◌≡◌, ◌<◌, ◌≤◌, count_by, length, take, IfOk, OnOk, OnErr, true, false};
+ghost use Rattle.diag_core.specs.File.{with_source, is_at};
 ghost use Rattle.diag_core.specs.FileName.{name_text, is_path};
 ghost use Rattle.diag_core.specs.Position.{line_of, line_start, line_end, line_range_of, location_of, line_count, line_starts as starts_of, begins_character as begins, is_inside_character as is_inside};
 ghost use Rattle.diag_core.specs.Lines.{FoundLine};
 
+use crate::characters::{begins_character, characters_before, count_blocks};
 use crate::position::{FilesErr, Location};
+use deny_text::path::compare;
 use deny_text::{PathBuf, Span, Text};
 use std::alloc::{AllocError, Global};
 use std::marker::Model;
@@ -25,19 +27,20 @@ pub(crate) struct SourceFile {
     name: FileName,
     source: Text,
     line_starts: Vec<usize>,
+    /// How many characters stand before each block of the text.
+    character_counts: Vec<usize>,
 }
 
 impl Model for SourceFile {
-    ghost use Rattle.std.specs.Prelude.{◌≡◌};
     ghost use Rattle.diag_core.specs.File.{File};
     ghost use Rattle.diag_core.specs.FileName.{name_text, is_path};
-    ghost use Rattle.diag_core.specs.Position.{line_starts as starts_of};
+    ghost use Rattle.diag_core.specs.Blocks.{IsIndexOf};
 
     ghost Value = { File };
 
     ghost view = { λ file. record { name = name_text file.name; source = file.source; has_path = is_path file.name } };
 
-    ghost invariant = { λ file. file.line_starts.items ≡ starts_of file.source };
+    ghost invariant = { λ file. IsIndexOf file.source file.line_starts.items file.character_counts.items };
 }
 
 /// The places at which the lines of a text start.
@@ -54,13 +57,6 @@ fn line_starts(alloc: Global, text: &str) -> Result<Vec<usize>, AllocError>
     Ok(starts)
 }
 
-/// Whether the byte is the first of a character.
-fn begins_character(byte: u8) -> bool
-    ensures { result ≡ begins byte }
-{
-    byte < 0x80 || byte >= 0xc0
-}
-
 /// Whether the place is neither at the first byte of a character nor at the end of the text.
 fn is_inside_character(text: &str, place: usize) -> bool
     ensures { result ≡ is_inside text.now place }
@@ -68,22 +64,17 @@ fn is_inside_character(text: &str, place: usize) -> bool
     place < text.len() && !begins_character(text.as_bytes()[place])
 }
 
-/// How many characters begin among the bytes.
-fn character_count(bytes: &[u8]) -> usize
-    ensures { result ≡ count_by begins bytes.now }
-{
-    bytes.iter().filter(|byte| begins_character(**byte)).count()
-}
-
 impl SourceFile {
     pub(crate) fn new(alloc: Global, name: FileName, source: Text) -> Result<SourceFile, AllocError>
         ensures { IfOk result (λ file. file ≡ record { name = name_text name; source = source; has_path = is_path name }) }
     {
         let line_starts = line_starts(alloc, source.as_str())?;
+        let character_counts = count_blocks(alloc, source.as_str().as_bytes())?;
         Ok(SourceFile {
             name,
             source,
             line_starts,
+            character_counts,
         })
     }
 
@@ -93,8 +84,10 @@ impl SourceFile {
         ensures err { OnErr result (self.new ≡ self.old) }
     {
         let line_starts = line_starts(alloc, source.as_str())?;
+        let character_counts = count_blocks(alloc, source.as_str().as_bytes())?;
         self.source = source;
         self.line_starts = line_starts;
+        self.character_counts = character_counts;
         Ok(())
     }
 
@@ -104,6 +97,16 @@ impl SourceFile {
         match &self.name {
             FileName::Path(path) => path.as_path(),
             FileName::Label(text) => text.as_str(),
+        }
+    }
+
+    /// Whether the path finds the file.
+    pub(crate) fn is_at(&self, path: &str) -> bool
+        ensures { result ≡ is_at path.now self.now }
+    {
+        match &self.name {
+            FileName::Path(own) => compare(own.as_path(), path).is_eq(),
+            FileName::Label(_) => false,
         }
     }
 
@@ -153,6 +156,18 @@ impl SourceFile {
         }
     }
 
+    /// How many characters stand before a place.
+    fn characters_before(&self, place: usize) -> usize
+        requires { place ≤ length self.now.source }
+        ensures { result ≡ count_by begins (take place self.now.source) }
+    {
+        characters_before(
+            &self.character_counts,
+            self.source.as_str().as_bytes(),
+            place,
+        )
+    }
+
     /// The bytes of a line.
     pub(crate) fn line_range(&self, line: usize) -> Result<Span, FilesErr>
         ensures { result ≡ line_range_of line self.now.source }
@@ -186,7 +201,7 @@ impl SourceFile {
         let start = self.line_start(line);
         Ok(Location {
             line,
-            column: character_count(&text.as_bytes()[start..place]),
+            column: self.characters_before(place) - self.characters_before(start),
         })
     }
 }

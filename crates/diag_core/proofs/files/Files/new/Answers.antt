@@ -1,8 +1,11 @@
 use Rattle.std.proofs.Common.{sym, ap, ◌∙◌}
+use Rattle.std.specs.Ordering.{nat_cmp}
+use Rattle.std.specs.Cmp.Lexicographic.{slice_cmp}
 use Rattle.std.specs.FinMap.{get, get-empty}
-use Rattle.deny_text.specs.Path.{path_order}
+use Rattle.deny_text.specs.Path.{key_of}
 use Rattle.diag_core.specs.File.{id_at}
 use Rattle.diag_core.proofs.files.Files.new.Goals as goal
 
 pub invariant_of-result : goal.invariant_of-result
-invariant_of-result c path = ap (λ ids. get ids path) c.new-2.ensures ∙ get-empty path_order path ∙ sym (ap (λ files. id_at files path) c.new.ensures.items)
+invariant_of-result c path =
+    ap (λ ids. get ids (key_of path)) c.new-2.ensures ∙ get-empty (slice_cmp nat_cmp) (key_of path) ∙ sym (ap (λ files. id_at files path) c.new.ensures.items)

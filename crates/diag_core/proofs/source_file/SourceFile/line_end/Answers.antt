@@ -6,5 +6,5 @@ use Rattle.diag_core.proofs.source_file.SourceFile.line_end.Goals as goal
 pub overflow_add-line : goal.overflow_add-line
 overflow_add-line c =
     let starts = c.self.inside.line_starts in
-    let count = length-kept_starts starts.items c.args.self.now c.self.inside.source c.self.invariant (ap (λ (file : File). file.source) c.self.view_is) in
+    let count = length-kept_starts starts.items c.args.self.now c.self.inside.source c.self.invariant.lines (ap (λ (file : File). file.source) c.self.view_is) in
     omega (arith, count, starts.ok.0, starts.small)

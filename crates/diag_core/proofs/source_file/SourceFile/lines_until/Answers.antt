@@ -9,7 +9,7 @@ pub returns : goal.returns
 returns c =
     let text = c.self.inside.source in
     let starts = c.deref.result.now in
-    let listed : starts ≡ line_starts text = c.deref.ensures.value ∙ c.self.invariant in
+    let listed : starts ≡ line_starts text = c.deref.ensures.value ∙ c.self.invariant.lines in
     let rises : IsNonDecreasingBy (λ start. start) starts = rw listed (line_starts_rise text) in
     let parts = IsPartitionPoint-from_clause (λ start. leb start c.args.place) starts c.partition_point.result c.partition_point.ensures.partitioned (IsPartitionedBy-leb (λ start. start) starts c.args.place rises) (λ a r f k. search (rules, tests)) in
     rw (← c.self.view_is) (FoundLine-from_split text starts c.args.place c.partition_point.result listed c.partition_point.ensures.bound parts)
