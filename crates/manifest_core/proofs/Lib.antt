@@ -1,0 +1,3 @@
+pub mod PlaceLemmas
+pub mod SlashLemmas
+pub mod SpanLemmas

@@ -1,0 +1,4 @@
+pub mod Slashes
+pub mod Pieces
+pub mod SpanSearch
+pub mod Synthetic

@@ -1,0 +1,14 @@
+//! Texts that a finding points into: where a manifest writes its licence, where a fault stands in an
+//! expression with slashes, and a text that is written in place of a manifest.
+#![tactic(auto)]
+
+pub mod slashes;
+pub mod span_search;
+pub mod synthetic;
+
+pub use slashes::correct_span;
+pub use span_search::license_span;
+pub use synthetic::{Piece, Synthetic};
+
+#[cfg(test)]
+mod tests;
