@@ -8,5 +8,3 @@ pub mod policy;
 pub mod report;
 pub mod run;
 pub mod words;
-
-pub use print_core::{Color, DiagPrinter, Format, LogContext, OutputLock, PrintError};

@@ -1,0 +1,9 @@
+//! The gate over real files, with a crate that is accepted.
+#![tactic(auto)]
+
+use deny_gate::{exit_code, gate};
+use std::process::ExitCode;
+
+fn main(rt: HostRuntime) -> ExitCode {
+    exit_code(&gate(rt))
+}

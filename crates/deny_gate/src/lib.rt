@@ -1,0 +1,154 @@
+//! The gate over the words, the files and the streams that a process is given.
+#![tactic(auto)]
+ghost use Rattle.std.specs.Prelude.{◌≡◌, ◌≤◌, IfOk, IfErr, OnErr};
+ghost use Rattle.std.specs.Process.{exit_status};
+ghost use Rattle.deny_run.specs.Run.{FaultWritten, LineWritten, SummaryWritten, answer_of};
+ghost use Rattle.deny_run.specs.Run as run;
+ghost use Rattle.deny_gate.specs.Start.{start_line, ending_of};
+
+use deny_run::report::Outcome;
+use deny_run::run::run;
+use spdx_core::{LicenseStore, Table};
+use std::alloc::{AllocError, Global};
+use std::env::Env;
+use std::io::ErrorKind;
+use std::path::PathBuf;
+use std::process::ExitCode;
+use std::{env, io};
+use tree_core::{FolderTree, Sink, StdSink, Tree, write_all};
+
+/// Why the gate could not begin.
+#[derive(Clone, Copy, Debug, PartialEq, Eq)]
+pub enum StartError {
+    Memory,
+    /// A word that the process was given is no UTF-8, or the words were not told.
+    Words,
+    /// The folder that the process was started in was not told.
+    Folder,
+}
+
+impl StartError {
+    /// The line that is written, with its line end.
+    pub fn line(&self) -> &'static str
+        ensures { result.now ≡ start_line self.now }
+    {
+        match self {
+            StartError::Memory => "error: out of memory\n",
+            StartError::Words => "error: the words could not be read\n",
+            StartError::Folder => "error: the working folder could not be read\n",
+        }
+    }
+}
+
+impl From<AllocError> for StartError {
+    fn from(_: AllocError) -> StartError {
+        StartError::Memory
+    }
+}
+
+/// What a process is started with.
+#[derive(Drop)]
+struct Start {
+    words: Vec<String>,
+    folder: PathBuf,
+}
+
+/// What a refusal of the environment is, where it is not want of memory.
+fn start_error(error: &io::Error, other: StartError) -> StartError
+{
+    if error.kind() == ErrorKind::OutOfMemory {
+        StartError::Memory
+    } else {
+        other
+    }
+}
+
+fn words_of<V: Env + AllocGlobal>(env: &V) -> Result<Vec<String>, StartError> {
+    let told = match env::args(env) {
+        Ok(told) => told,
+        Err(error) => return Err(start_error(&error, StartError::Words)),
+    };
+    let words = told.collect(env.alloc())?;
+    Ok(words)
+}
+
+fn folder_of<V: Env + AllocGlobal>(env: &V) -> Result<PathBuf, StartError> {
+    match env::current_dir(env) {
+        Ok(folder) => Ok(folder),
+        Err(error) => Err(start_error(&error, StartError::Folder)),
+    }
+}
+
+fn start_of<V: Env + AllocGlobal>(env: &V) -> Result<Start, StartError> {
+    let words = words_of(env)?;
+    let folder = folder_of(env)?;
+    Ok(Start { words, folder })
+}
+
+/// Writes the line of a gate that could not begin. A sink that refuses it changes nothing in the answer.
+fn write_line<E: Sink>(err: &mut E, error: &StartError)
+    ensures later { E.fault_count err.old ≤ E.fault_count err.new }
+    ensures written { LineWritten (E.written err.old) (E.written err.new) (E.fault_count err.old) (E.fault_count err.new) (start_line error.now) }
+{
+    let _ = write_all(err, error.line().as_bytes());
+}
+
+/// Runs the gate over the words of an environment, in its working folder, with the built-in catalogue. Where the
+/// environment does not tell them, one line on `err` says so.
+pub fn gate_over<V: Env + AllocGlobal, T: Tree, O: Sink, E: Sink>(
+    env: &V,
+    tree: &mut T,
+    out: &mut O,
+    err: &mut E,
+) -> Result<Outcome, StartError>
+    ensures tree { T.content tree.new ≡ T.content tree.old }
+
+    // Where the gate could not begin, its line stands on `err` and `out` is as it was.
+    ensures line { IfErr result (λ error. LineWritten (E.written err.old) (E.written err.new) (E.fault_count err.old) (E.fault_count err.new) (start_line error)) }
+    ensures silent { OnErr result (O.written out.new ≡ O.written out.old) }
+
+    // Where it ran, `out` and `err` have what the run writes.
+    ensures status { IfOk result (λ outcome. outcome.status ≡ run.exit_status (answer_of outcome.ended)) }
+    ensures summary { IfOk result (λ outcome. SummaryWritten (O.written out.old) (O.written out.new) (O.fault_count out.old) (O.fault_count out.new) (answer_of outcome.ended)) }
+    ensures fault { IfOk result (λ outcome. FaultWritten (E.written err.old) (E.written err.new) (E.fault_count err.old) (E.fault_count err.new) (answer_of outcome.ended)) }
+{
+    match start_of(env) {
+        Ok(Start { words, folder }) => {
+            let store = LicenseStore::default(env.alloc());
+            Ok(run(
+                env.alloc(),
+                &words,
+                folder.as_str(),
+                tree,
+                out,
+                err,
+                &Table,
+                &store,
+            ))
+        }
+        Err(error) => {
+            write_line(err, &error);
+            Err(error)
+        }
+    }
+}
+
+/// Runs the gate over the words, the files and the streams of the process.
+pub fn gate(rt: HostRuntime) -> Result<Outcome, StartError>
+    ensures status { IfOk result (λ outcome. outcome.status ≡ run.exit_status (answer_of outcome.ended)) }
+{
+    let mut out = StdSink::new(rt.stdout());
+    let mut err = StdSink::new(rt.stderr());
+    let mut tree = FolderTree::new(&rt);
+    gate_over(&rt, &mut tree, &mut out, &mut err)
+}
+
+/// What the process ends with: the status of the run, or 1 where the gate could not begin.
+pub fn exit_code(ended: &Result<Outcome, StartError>) -> ExitCode
+    ensures { exit_status result ≡ ending_of ended.now }
+{
+    match ended {
+        Ok(outcome) => ExitCode::from(outcome.status),
+        Err(_) => ExitCode::from(1),
+    }
+}
