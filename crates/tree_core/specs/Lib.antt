@@ -3,6 +3,7 @@ pub mod Content
 pub mod Faults
 pub mod Found
 pub mod Hearing
+pub mod Script
 pub mod SinkState
 pub mod Stored
 pub mod SystemNames
