@@ -1,4 +1,4 @@
-//! The gate over real files, with a crate that is accepted.
+//! The gate over real files, with a crate that is accepted, a policy of forty names and metadata of 20 KB.
 #![tactic(auto)]
 
 use deny_gate::{exit_code, gate};

@@ -1,6 +1,14 @@
 -- How a gate begins and ends.
-use Rattle.std.specs.Prelude.{ℕ, List, Result, Ok, Err, codes}
+use Rattle.std.specs.Prelude.{◌≡◌, ℕ, List, Option, Result, Ok, Err, codes}
+use Rattle.std.specs.Option.{ForSome}
+use Rattle.tree_core.specs.Content.{Content}
+use Rattle.tree_core.specs.Script.{FaultCounts, Written}
+use Rattle.catalog_core.specs.Table.{table_lists}
 use Rattle.deny_run.specs.declared.report.Outcome.{Outcome}
+use Rattle.deny_run.specs.Given.{Given}
+use Rattle.deny_run.specs.Headline.{Headline}
+use Rattle.deny_run.specs.Run.{answer_of, exit_status}
+use Rattle.deny_run.specs.Script.{Writes}
 use Rattle.deny_gate.specs.declared.StartError.{StartError}
 use Rattle.deny_gate.specs.declared.StartError.TheVariants.{Memory, Words, Folder}
 
@@ -9,6 +17,14 @@ abbrev pub start_line : StartError → List ℕ
 start_line Memory = codes "error: out of memory\n"
 start_line Words = codes "error: the words could not be read\n"
 start_line Folder = codes "error: the working folder could not be read\n"
+
+-- the outcome is that of a run over some words and some folder, with the catalogue that is built in
+pub record IsRun (told : Option Content) (counts : FaultCounts) (old new : Written) (outcome : Outcome) : Type 0 where
+  pub given : Given
+  pub lists : given.lists ≡ table_lists
+  pub headline : ForSome told (λ content. Headline given content counts outcome)
+  pub written : Writes given told counts old new (answer_of outcome.ended)
+  pub status : outcome.status ≡ exit_status (answer_of outcome.ended)
 
 -- the number that the process ends with
 abbrev pub ending_of : Result Outcome StartError → ℕ

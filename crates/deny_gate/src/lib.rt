@@ -1,10 +1,13 @@
 //! The gate over the words, the files and the streams that a process is given.
 #![tactic(auto)]
+
 ghost use Rattle.std.specs.Prelude.{◌≡◌, ◌≤◌, IfOk, IfErr, OnErr};
 ghost use Rattle.std.specs.Process.{exit_status};
-ghost use Rattle.deny_run.specs.Run.{FaultWritten, LineWritten, SummaryWritten, answer_of};
+ghost use Rattle.tree_core.specs.Hearing.{KeepsTree};
+ghost use Rattle.tree_core.specs.Script.{LineWritten};
+ghost use Rattle.deny_run.specs.Run.{answer_of};
 ghost use Rattle.deny_run.specs.Run as run;
-ghost use Rattle.deny_gate.specs.Start.{start_line, ending_of};
+ghost use Rattle.deny_gate.specs.Start.{IsRun, ending_of, start_line};
 
 use deny_run::report::Outcome;
 use deny_run::run::run;
@@ -54,8 +57,7 @@ struct Start {
 }
 
 /// What a refusal of the environment is, where it is not want of memory.
-fn start_error(error: &io::Error, other: StartError) -> StartError
-{
+fn start_error(error: &io::Error, other: StartError) -> StartError {
     if error.kind() == ErrorKind::OutOfMemory {
         StartError::Memory
     } else {
@@ -88,29 +90,40 @@ fn start_of<V: Env + AllocGlobal>(env: &V) -> Result<Start, StartError> {
 /// Writes the line of a gate that could not begin. A sink that refuses it changes nothing in the answer.
 fn write_line<E: Sink>(err: &mut E, error: &StartError)
     ensures later { E.fault_count err.old ≤ E.fault_count err.new }
-    ensures written { LineWritten (E.written err.old) (E.written err.new) (E.fault_count err.old) (E.fault_count err.new) (start_line error.now) }
+    ensures written { LineWritten (E.written err.old) (E.written err.new)
+        (E.fault_count err.old) (E.fault_count err.new) (start_line error.now) }
 {
     let _ = write_all(err, error.line().as_bytes());
 }
 
-/// Runs the gate over the words of an environment, in its working folder, with the built-in catalogue. Where the
-/// environment does not tell them, one line on `err` says so.
+/// Runs the gate over the words of an environment, in its working folder, with the built-in catalogue. Where
+/// the environment does not tell them, one line on `err` says so.
 pub fn gate_over<V: Env + AllocGlobal, T: Tree, O: Sink, E: Sink>(
     env: &V,
     tree: &mut T,
     out: &mut O,
     err: &mut E,
 ) -> Result<Outcome, StartError>
-    ensures tree { T.content tree.new ≡ T.content tree.old }
+    ensures kept { KeepsTree (T.content tree.old) (T.content tree.new)
+        (T.fault_count tree.old) (T.fault_count tree.new) }
 
     // Where the gate could not begin, its line stands on `err` and `out` is as it was.
-    ensures line { IfErr result (λ error. LineWritten (E.written err.old) (E.written err.new) (E.fault_count err.old) (E.fault_count err.new) (start_line error)) }
+    ensures line { IfErr result (λ error. LineWritten (E.written err.old) (E.written err.new)
+        (E.fault_count err.old) (E.fault_count err.new) (start_line error)) }
     ensures silent { OnErr result (O.written out.new ≡ O.written out.old) }
 
-    // Where it ran, `out` and `err` have what the run writes.
-    ensures status { IfOk result (λ outcome. outcome.status ≡ run.exit_status (answer_of outcome.ended)) }
-    ensures summary { IfOk result (λ outcome. SummaryWritten (O.written out.old) (O.written out.new) (O.fault_count out.old) (O.fault_count out.new) (answer_of outcome.ended)) }
-    ensures fault { IfOk result (λ outcome. FaultWritten (E.written err.old) (E.written err.new) (E.fault_count err.old) (E.fault_count err.new) (answer_of outcome.ended)) }
+    // Where it ran, it did what a run over some words and some folder does.
+    ensures ran { IfOk result (IsRun (T.content tree.old)
+        (record {
+          tree_before = T.fault_count tree.old;
+          tree_after = T.fault_count tree.new;
+          out_before = O.fault_count out.old;
+          out_after = O.fault_count out.new;
+          err_before = E.fault_count err.old;
+          err_after = E.fault_count err.new;
+        })
+        (record { out = O.written out.old; err = E.written err.old })
+        (record { out = O.written out.new; err = E.written err.new })) }
 {
     match start_of(env) {
         Ok(Start { words, folder }) => {

@@ -7,16 +7,16 @@ use Rattle.deny_run.specs.declared.report.CrateReport.{CrateReport}
 use Rattle.deny_run.specs.declared.report.Stats.{Stats}
 use Rattle.deny_run.specs.declared.report.AllStats.{AllStats}
 
-abbrev pub is_rejection : Verdict → Bool
-is_rejection Accepted = false
-is_rejection Rejected = true
+-- whether the verdict is against the crate
+abbrev pub is_against : Verdict → Bool
+is_against Accepted = false
+is_against Rejected = true
 
-abbrev pub is_rejected : CrateReport → Bool
-is_rejected crate = is_rejection crate.verdict
-
--- a rejected crate is an error, and an accepted one a note
+-- a verdict against a crate is an error, and any other a note
 abbrev pub stats_of : List CrateReport → Stats
-stats_of crates = record { errors = count_by is_rejected crates; warnings = 0; notes = count_by (λ crate. not (is_rejected crate)) crates; helps = 0 }
+stats_of crates =
+    let against : CrateReport → Bool = λ crate. is_against crate.verdict in
+    record { errors = count_by against crates; warnings = 0; notes = count_by (λ crate. not (against crate)) crates; helps = 0 }
 
 -- the check of licences alone is counted
 abbrev pub counts_of : List CrateReport → AllStats
@@ -27,9 +27,9 @@ abbrev pub has_errors : AllStats → Bool
 has_errors stats = option_map_or (λ licences. nat_lt 0 licences.errors) stats.licenses false
 
 -- the line that tells how the check went
-abbrev pub summary_of : Bool → List ℕ
-summary_of failed = if failed then codes "licenses FAILED\n" else codes "licenses ok\n"
+abbrev pub summary_of : AllStats → List ℕ
+summary_of stats = if has_errors stats then codes "licenses FAILED\n" else codes "licenses ok\n"
 
--- 4 where the check of licences failed
-abbrev pub status_of : Bool → ℕ
-status_of failed = if failed then 4 else 0
+-- 4 where the check of licences failed, else 0
+abbrev pub status_of : AllStats → ℕ
+status_of stats = if has_errors stats then 4 else 0

@@ -1,8 +1,10 @@
--- What is heard of a file, and what the policy, the metadata and the crate's field are found to be.
-use Rattle.std.specs.Prelude.{ℕ, List, Option, Some, None, Result, Ok, Err, option_and_then, if◌then◌else◌}
+-- What is heard of the files, and what the words and the files ask to check.
+use Rattle.std.specs.Prelude.{ℕ, List, [], ◌∷◌, find, is_none, Option, Some, None, Result, Ok, Err, option_and_then, if◌then◌else◌}
+use Rattle.std.specs.Option.{option_map_or}
 use Rattle.std.specs.Str.{is_utf8}
 use Rattle.std.specs.Str.Lossy.{utf8_valid_len}
-use Rattle.tree_core.specs.Content.{Content, Node, file, folder, node_at}
+use Rattle.tree_core.specs.Content.{Node, file, folder}
+use Rattle.tree_core.specs.Hearing.{Kind, policy, metadata, Hearing, Heard, read_failed, stands, heard}
 use Rattle.catalog_core.specs.declared.catalog.LicenseEntry.{LicenseEntry}
 use Rattle.catalog_core.specs.Catalog.{CatalogLists}
 use Rattle.spdx_core.specs.Expression.{ExpressionView, expression_of}
@@ -13,6 +15,8 @@ use Rattle.deny_run.specs.declared.error.ReadFault.TheVariants.{Failed, Absent, 
 use Rattle.deny_run.specs.declared.error.Part.TheVariants.{Words, Policy, Metadata, Crate}
 use Rattle.deny_run.specs.declared.error.Error.{Error}
 use Rattle.deny_run.specs.declared.error.Error.TheVariants.{ConfigRead, MetadataRead, NotYet}
+use Rattle.deny_run.specs.declared.words.Request.{Request}
+use Rattle.deny_run.specs.Given.{Given}
 use Rattle.deny_run.specs.Policy.{policy_of}
 use Rattle.deny_run.specs.Words.{request_of}
 
@@ -22,48 +26,62 @@ heard_of None = Err Absent
 heard_of (Some folder) = Err Folder
 heard_of (Some (file bytes)) = if is_utf8 bytes then Ok bytes else Err (NotUtf8 (utf8_valid_len bytes))
 
+-- what is heard as a text; a failed read is told with the count at the start of the run
+abbrev pub text_in : ℕ → Heard → Result (List ℕ) ReadFault
+text_in begun (read_failed before after) = Err (Failed begun after)
+text_in begun (stands there) = heard_of there
+
 -- what is heard of the file at a path
-abbrev pub heard_at : Content → List ℕ → Result (List ℕ) ReadFault
-heard_at content path = heard_of (node_at content path)
+abbrev pub text_heard : Hearing → Kind → List ℕ → Result (List ℕ) ReadFault
+text_heard hearing kind path = text_in hearing.begun (heard hearing kind path)
+
+-- the next step, where the one before was not refused
+infixl 10 ◌>>=◌
+abbrev pub ◌>>=◌ : {X Y : Type 0} → Result X Error → (X → Result Y Error) → Result Y Error
+Ok value >>= next = next value
+Err error >>= next = Err error
 
 -- a value, or this refusal where there is none
 abbrev pub or_refused : {X : Type 0} → Error → Option X → Result X Error
 or_refused error None = Err error
 or_refused error (Some value) = Ok value
 
--- the next step, where the one before was not refused
-abbrev pub then_do : {X Y : Type 0} → Result X Error → (X → Result Y Error) → Result Y Error
-then_do (Ok value) next = next value
-then_do (Err error) next = Err error
+-- the policy, from what was heard of its file: the licences that it allows
+abbrev pub config_in : CatalogLists → Result (List ℕ) ReadFault → Result (List LicenseEntry) Error
+config_in lists (Ok text) = or_refused (NotYet Policy) (policy_of lists text)
+config_in lists (Err Absent) = Err (NotYet Policy)
+config_in lists (Err fault) = Err (ConfigRead fault)
 
--- what a policy allows, from what was heard of its file
-abbrev pub policy_heard : CatalogLists → Result (List ℕ) ReadFault → Result (List LicenseEntry) Error
-policy_heard lists (Ok text) = or_refused (NotYet Policy) (policy_of lists text)
-policy_heard lists (Err (Failed before after)) = Err (ConfigRead (Failed before after))
-policy_heard lists (Err Absent) = Err (NotYet Policy)
-policy_heard lists (Err Folder) = Err (ConfigRead Folder)
-policy_heard lists (Err (NotUtf8 at)) = Err (ConfigRead (NotUtf8 at))
+-- the crates, from what was heard of the metadata's file: the one that it tells of
+abbrev pub krates_in : Result (List ℕ) ReadFault → Result Krate Error
+krates_in (Ok text) = or_refused (NotYet Metadata) (record_of text)
+krates_in (Err fault) = Err (MetadataRead fault)
 
--- the crate that metadata tells of, from what was heard of its file
-abbrev pub metadata_heard : Result (List ℕ) ReadFault → Result Krate Error
-metadata_heard (Ok text) = or_refused (NotYet Metadata) (record_of text)
-metadata_heard (Err fault) = Err (MetadataRead fault)
+-- the licence expression of a crate: that of its field
+abbrev pub expression_heard : Given → List LicenseEntry → Hearing → Krate → Option ExpressionView
+expression_heard given config hearing krate = option_and_then (expression_of given.lists) krate.license
 
--- the licence expression of a crate's field
-abbrev pub field_of : CatalogLists → Krate → Result ExpressionView Error
-field_of lists krate = or_refused (NotYet (Crate krate.id)) (option_and_then (expression_of lists) krate.license)
+-- the crates that are checked: the one that there is
+abbrev pub selected_of : Krate → List Krate
+selected_of krate = krate ∷ []
 
--- what is judged: a crate and its licence expression, by the licences that a policy allows
-pub record Judged : Type 0 where
-  pub allowed : List LicenseEntry
-  pub krate : Krate
-  pub expression : ExpressionView
+-- the selection: all crates that are checked, or the refusal of the first that has no licence expression
+abbrev pub selection_heard : Given → List LicenseEntry → Hearing → Krate → Result (List Krate) Error
+selection_heard given config hearing krate =
+    option_map_or (λ one. Err (NotYet (Crate one.id))) (find (λ one. is_none (expression_heard given config hearing one)) (selected_of krate))
+    (Ok (selected_of krate))
 
--- What the words and the files ask to judge, or the first refusal: of the words, the policy, the metadata, the field.
-abbrev pub judged_of : CatalogLists → List (List ℕ) → List ℕ → Content → Result Judged Error
-judged_of lists words cwd content =
-    then_do (or_refused (NotYet Words) (request_of words cwd)) (λ paths.
-    then_do (policy_heard lists (heard_at content paths.policy)) (λ allowed.
-    then_do (metadata_heard (heard_at content paths.metadata)) (λ krate.
-    then_do (field_of lists krate) (λ expression.
-    Ok (record { allowed = allowed; krate = krate; expression = expression })))))
+-- what is to be checked: the request, the licences that its policy allows, and the crates in the order of their ids
+pub record Asked : Type 0 where
+  pub request : Request
+  pub config : List LicenseEntry
+  pub crates : List Krate
+
+-- What the words and the files ask to check, or the first refusal: of the words, the policy, the metadata, a crate.
+abbrev pub asked_of : Given → Hearing → Result Asked Error
+asked_of given hearing = do
+  request ← or_refused (NotYet Words) (request_of given.words given.cwd)
+  config ← config_in given.lists (text_heard hearing policy request.config_path)
+  krate ← krates_in (text_heard hearing metadata request.metadata_path)
+  crates ← selection_heard given config hearing krate
+  Ok (record { request = request; config = config; crates = crates })

@@ -1,12 +1,11 @@
-pub mod Agrees
 pub mod Counts
 pub mod Error
+pub mod Given
 pub mod Headline
 pub mod Heard
-pub mod Load
 pub mod Policy
-pub mod Refusals
-pub mod Request
+pub mod Report
 pub mod Run
-pub mod Stages
+pub mod Script
+pub mod Steps
 pub mod Words

@@ -3,11 +3,7 @@ use Rattle.std.specs.Prelude.{ℕ, Bool, List, [], length, slice_index_or, Optio
 use Rattle.std.specs.declared.string.String.{String}
 use Rattle.std.specs.Str.{bytes_eq}
 use Rattle.deny_text.specs.Path.{join_of}
-
--- where the metadata and the policy are
-pub record Paths : Type 0 where
-  pub metadata : List ℕ
-  pub policy : List ℕ
+use Rattle.deny_run.specs.declared.words.Request.{Request}
 
 -- the words as texts
 abbrev pub texts : {A : Type 0} → List (String A) → List (List ℕ)
@@ -27,8 +23,8 @@ asks_for_check words =
     && bytes_eq (word_at words 6) (codes "licenses")
 
 -- What the words ask for, the two paths joined to the working folder. Other words ask for nothing that is built.
-abbrev pub request_of : List (List ℕ) → List ℕ → Option Paths
+abbrev pub request_of : List (List ℕ) → List ℕ → Option Request
 request_of words cwd =
     if asks_for_check words
-    then Some (record { metadata = join_of cwd (word_at words 2); policy = join_of cwd (word_at words 4) })
+    then Some (record { metadata_path = join_of cwd (word_at words 2); config_path = join_of cwd (word_at words 4) })
     else None

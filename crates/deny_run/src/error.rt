@@ -1,6 +1,6 @@
 //! Why a run was refused.
 ghost use Rattle.std.specs.Prelude.{◌≡◌};
-ghost use Rattle.deny_run.specs.Error.{number_of, fault_line};
+ghost use Rattle.deny_run.specs.Error.{fault_line};
 
 use deny_text::Text;
 use std::alloc::AllocError;
@@ -8,7 +8,8 @@ use std::alloc::AllocError;
 /// Why a file that is needed was not read.
 #[derive(Clone, Copy, Debug, PartialEq, Eq)]
 pub enum ReadFault {
-    /// The tree failed. The numbers are its counts of faults, at the start of the call and after it had failed.
+    /// The tree failed. The numbers are its counts of faults, at the start of the run and after it had
+    /// failed.
     Failed { before: u64, after: u64 },
     Absent,
     Folder,
@@ -29,7 +30,7 @@ pub enum Part {
 #[derive(Debug, Drop)]
 pub enum Error {
     Memory,
-    /// The policy was not read.
+    /// The policy was not read. An absent one is of a form that is not built yet.
     ConfigRead(ReadFault),
     /// The metadata was not read.
     MetadataRead(ReadFault),
@@ -40,19 +41,6 @@ pub enum Error {
 }
 
 impl Error {
-    /// The number by which an error is known: it stays as variants are added.
-    pub fn number(&self) -> u8
-        ensures { result ≡ number_of self.now }
-    {
-        match self {
-            Error::Memory => 1,
-            Error::ConfigRead(_) => 5,
-            Error::MetadataRead(_) => 10,
-            Error::WriteFault { .. } => 14,
-            Error::NotYet(_) => 15,
-        }
-    }
-
     /// The line that is written after a refusal, with its line end.
     pub fn line(&self) -> &'static str
         ensures { result.now ≡ fault_line self.now }
@@ -74,5 +62,48 @@ impl From<AllocError> for Error {
 
     fn from(_: AllocError) -> Error {
         Error::Memory
+    }
+}
+
+/// Why nothing is checked, and so nothing written.
+#[derive(Debug, Drop)]
+pub(crate) enum Refusal {
+    Memory,
+    Words,
+    PolicyRead(ReadFault),
+    PolicyForm,
+    MetadataRead(ReadFault),
+    MetadataForm,
+    /// The crate with this id.
+    CrateForm(Text),
+}
+
+impl From<AllocError> for Refusal {
+    ghost use Rattle.deny_run.specs.declared.error.Refusal.TheVariants.{Memory};
+
+    ghost from_gives = { λ _ refusal. refusal ≡ Memory };
+
+    fn from(_: AllocError) -> Refusal {
+        Refusal::Memory
+    }
+}
+
+impl From<Refusal> for Error {
+    ghost use Rattle.deny_run.specs.Error.{error_of};
+
+    ghost from_gives = { λ refusal error. error ≡ error_of refusal };
+
+    fn from(refusal: Refusal) -> Error {
+        match refusal {
+            Refusal::Memory => Error::Memory,
+            Refusal::Words => Error::NotYet(Part::Words),
+            Refusal::PolicyRead(ReadFault::Absent) | Refusal::PolicyForm => Error::NotYet(
+                Part::Policy,
+            ),
+            Refusal::PolicyRead(fault) => Error::ConfigRead(fault),
+            Refusal::MetadataRead(fault) => Error::MetadataRead(fault),
+            Refusal::MetadataForm => Error::NotYet(Part::Metadata),
+            Refusal::CrateForm(id) => Error::NotYet(Part::Crate(id)),
+        }
     }
 }

@@ -1,115 +1,83 @@
 //! The parts of a check: what the policy allows, the crate, and the verdict on it.
-ghost use Rattle.std.specs.Prelude.{◌≡◌, ◌≤◌, ◌↔◌, IfErr, IsTrue, Any};
-ghost use Rattle.std.specs.Option.{ForSome};
-ghost use Rattle.catalog_core.specs.Satisfaction.{Satisfies};
-ghost use Rattle.deny_run.specs.Heard.{heard_at, policy_heard, metadata_heard, field_of};
-ghost use Rattle.deny_run.specs.Agrees.{Agrees, ReadCounts, IsVerdictOf, ReportAnswers};
-ghost use Rattle.deny_run.specs.Stages.{PolicyTells, MetadataTells, IsPolicyRefusal, IsMetadataRefusal, IsFieldRefusal};
+ghost use Rattle.std.specs.Prelude.{◌≡◌, ◌↔◌, ◌⊎◌, Some, None, IfOk, IfErr, IsTrue, option_and_then};
+ghost use Rattle.spdx_core.specs.Expression.{expression_of};
+ghost use Rattle.deny_run.specs.Heard.{config_in, krates_in};
+ghost use Rattle.deny_run.specs.Report.{Allows, IsVerdictOf};
+ghost use Rattle.deny_run.specs.Steps.{Tells};
 
-use crate::error::{Error, Part, ReadFault};
-use crate::load::{LoadError, load};
+use crate::error::Refusal;
+use crate::load::Heard;
 use crate::policy::allowed;
 use crate::report::{CrateReport, Verdict};
 use deny_text::ListOf;
 use graph_core::lone::{Krate, MetaError, records};
 use spdx_core::{Catalog, Expression, LicenseEntry};
 use std::alloc::Global;
-use tree_core::Tree;
 
-/// A fault of the policy's read. An absent policy is of a form that is not built yet.
-fn policy_error(error: LoadError) -> Error
-    ensures { PolicyTells error result }
-{
-    match error {
-        LoadError::Memory => Error::Memory,
-        LoadError::Fault(ReadFault::Absent) => Error::NotYet(Part::Policy),
-        LoadError::Fault(fault) => Error::ConfigRead(fault),
-    }
-}
-
-fn metadata_error(error: LoadError) -> Error
-    ensures { MetadataTells error result }
-{
-    match error {
-        LoadError::Memory => Error::Memory,
-        LoadError::Fault(fault) => Error::MetadataRead(fault),
-    }
-}
-
-/// The licences that the policy at a path allows.
-pub(crate) fn read_policy<T: Tree, C: Catalog>(
+/// The licences that the policy allows, from what was heard of its file.
+#[tactic(auto, using(crate::proofs::StepLemmas::policy_fault))]
+pub(crate) fn config_of<C: Catalog>(
     alloc: Global,
-    tree: &mut T,
-    path: &str,
-    before: u64,
+    heard: Heard,
     catalog: &C,
-) -> Result<ListOf<LicenseEntry>, Error>
-    requires { before ≤ T.fault_count tree.old }
-    ensures answer { ForSome (T.content tree.old) (λ c. Agrees (policy_heard (C.lists catalog.now) (heard_at c path.now)) result) }
-    ensures refusal { IfErr result IsPolicyRefusal }
-    ensures same { T.content tree.new ≡ T.content tree.old }
-    ensures later { T.fault_count tree.old ≤ T.fault_count tree.new }
-    ensures counts { IfErr result (ReadCounts before (T.fault_count tree.new)) }
+) -> Result<ListOf<LicenseEntry>, Refusal>
+    ensures { Tells (config_in (C.lists catalog.now) heard) result }
 {
-    match load(alloc, tree, path, before) {
+    match heard {
         Ok(text) => match allowed(alloc, text.as_str(), catalog)? {
-            Some(allowed) => Ok(allowed),
-            None => Err(Error::NotYet(Part::Policy)),
+            Some(config) => Ok(config),
+            None => Err(Refusal::PolicyForm),
         },
-        Err(error) => Err(policy_error(error)),
+        Err(fault) => Err(Refusal::PolicyRead(fault)),
     }
 }
 
-/// The crate that the metadata at a path tells of.
-pub(crate) fn read_metadata<T: Tree>(
-    alloc: Global,
-    tree: &mut T,
-    path: &str,
-    before: u64,
-) -> Result<Krate, Error>
-    requires { before ≤ T.fault_count tree.old }
-    ensures answer { ForSome (T.content tree.old) (λ c. Agrees (metadata_heard (heard_at c path.now)) result) }
-    ensures refusal { IfErr result IsMetadataRefusal }
-    ensures same { T.content tree.new ≡ T.content tree.old }
-    ensures later { T.fault_count tree.old ≤ T.fault_count tree.new }
-    ensures counts { IfErr result (ReadCounts before (T.fault_count tree.new)) }
+/// The crate that the metadata tells of, from what was heard of its file.
+pub(crate) fn krate_of(alloc: Global, heard: Heard) -> Result<Krate, Refusal>
+    ensures { Tells (krates_in heard) result }
 {
-    match load(alloc, tree, path, before) {
+    match heard {
         Ok(text) => match records(alloc, text.as_str()) {
             Ok(krate) => Ok(krate),
-            Err(MetaError::Form) => Err(Error::NotYet(Part::Metadata)),
-            Err(MetaError::Memory) => Err(Error::Memory),
+            Err(MetaError::Form) => Err(Refusal::MetadataForm),
+            Err(MetaError::Memory) => Err(Refusal::Memory),
         },
-        Err(error) => Err(metadata_error(error)),
+        Err(fault) => Err(Refusal::MetadataRead(fault)),
     }
 }
 
-/// Whether some licence of the policy satisfies the term.
-fn is_allowed(allowed: &[LicenseEntry], term: &LicenseEntry) -> bool
-    ensures { IsTrue result ↔ Any (λ licensee. Satisfies licensee term.now) allowed.now }
+/// Whether some licence of the policy satisfies the expression's term.
+fn allows(config: &[LicenseEntry], expression: &Expression) -> bool
+    ensures { IsTrue result ↔ Allows config.now expression.now }
 {
-    allowed.iter().any(|licensee| licensee.satisfies(term))
+    let term = expression.term();
+    config.iter().any(|licensee| licensee.satisfies(&term))
 }
 
-fn verdict(allowed: &[LicenseEntry], term: &LicenseEntry) -> Verdict
-    ensures { IsVerdictOf allowed.now term.now result }
+fn verdict(config: &[LicenseEntry], expression: &Expression) -> Verdict
+    ensures { IsVerdictOf config.now (Some expression.now) result }
 {
-    if is_allowed(allowed, term) {
+    if allows(config, expression) {
         Verdict::Accepted
     } else {
         Verdict::Rejected
     }
 }
 
-/// The verdict on a crate, by the licences that the policy allows.
+/// The report on a crate, by the licences that the policy allows.
 pub(crate) fn judge<C: Catalog>(
     alloc: Global,
-    allowed: &[LicenseEntry],
+    config: &[LicenseEntry],
     krate: Krate,
     catalog: &C,
-) -> Result<CrateReport, Error>
-    ensures answer { ReportAnswers allowed.now krate (field_of (C.lists catalog.now) krate) result }
-    ensures refusal { IfErr result IsFieldRefusal }
+) -> Result<CrateReport, Refusal>
+    ensures id { IfOk result (λ report. report.id ≡ krate.id) }
+    ensures expression { IfOk result (λ report.
+        report.expression ≡ option_and_then (expression_of (C.lists catalog.now)) krate.license) }
+    ensures verdict { IfOk result (λ report. IsVerdictOf config.now report.expression report.verdict) }
+    ensures refused { IfErr result (λ refusal. (refusal ≡ Refusal.Memory)
+        ⊎ ((refusal ≡ Refusal.CrateForm krate.id)
+        × (option_and_then (expression_of (C.lists catalog.now)) krate.license ≡ None))) }
 {
     let Krate { id, license } = krate;
     let expression = match &license {
@@ -118,13 +86,13 @@ pub(crate) fn judge<C: Catalog>(
     };
     match expression {
         Some(expression) => {
-            let verdict = verdict(allowed, &expression.term());
+            let verdict = verdict(config, &expression);
             Ok(CrateReport {
                 id,
                 expression: Some(expression),
                 verdict,
             })
         }
-        None => Err(Error::NotYet(Part::Crate(id))),
+        None => Err(Refusal::CrateForm(id)),
     }
 }

@@ -1,14 +1,16 @@
 //! The policy, in the one form that is built.
 ghost use Rattle.std.specs.Prelude.{◌≡◌, [], ◌∷◌, ◌++◌, IfOk, OnOk, string_bytes, if◌then◌else◌};
 ghost use Rattle.std.specs.Str.{bytes_eq};
-ghost use Rattle.deny_run.specs.Policy.{PolicyReadsBack, policy_of, policy_text, quoted, quoted_names, names_in, entries_of};
+ghost use Rattle.deny_run.specs.Policy.{PolicyReadsBack, policy_of, policy_text, quoted, quoted_names};
+ghost use Rattle.deny_run.specs.Policy.{entries_of, names_in};
 
 use deny_text::{ListOf, Text, Texts};
 use spdx_core::{Catalog, LicenseEntry};
 use std::alloc::{AllocError, Global};
 
 /// The licences that a policy's text allows, in its order; none where the text is of another form than
-/// `[licenses]`, a line end, `allow = [`, names in double quotes with a comma and a space between, `]` and a line end,
+/// `[licenses]`, a line end, `allow = [`, names in double quotes with a comma and a space between, `]` and a
+/// line end,
 /// or names a licence that the catalogue does not know.
 pub fn allowed<C: Catalog>(
     alloc: Global,

@@ -13,10 +13,10 @@ pub enum Verdict {
 }
 
 impl Verdict {
-    ghost use Rattle.deny_run.specs.Counts.{is_rejection};
+    ghost use Rattle.deny_run.specs.Counts.{is_against};
 
-    fn is_rejection(self) -> bool
-        ensures { result ≡ is_rejection self }
+    fn is_against(self) -> bool
+        ensures { result ≡ is_against self }
     {
         match self {
             Verdict::Accepted => false,
@@ -60,8 +60,8 @@ impl AllStats {
     pub fn of_verdicts(crates: &[CrateReport]) -> AllStats
         ensures { result ≡ counts_of crates.now }
     {
-        let errors = crates.iter().filter(|c| c.verdict.is_rejection()).count();
-        let notes = crates.iter().filter(|c| !c.verdict.is_rejection()).count();
+        let errors = crates.iter().filter(|c| c.verdict.is_against()).count();
+        let notes = crates.iter().filter(|c| !c.verdict.is_against()).count();
         AllStats {
             advisories: None,
             bans: None,

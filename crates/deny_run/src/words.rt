@@ -14,15 +14,14 @@ pub struct Request {
 }
 
 impl Request {
-    ghost use Rattle.deny_run.specs.Request.{RequestIs};
-
-    /// The request of the seven words `PROGRAM --metadata-path M --config P check licenses`; none for other words.
+    /// The request of the seven words `PROGRAM --metadata-path M --config P check licenses`; none for
+    /// other words.
     pub fn from_words(
         alloc: Global,
         words: &[String],
         cwd: &str,
     ) -> Result<Option<Request>, AllocError>
-        ensures ok { IfOk result (RequestIs (request_of (texts words.now) cwd.now)) }
+        ensures ok { IfOk result (λ request. request ≡ request_of (texts words.now) cwd.now) }
         ensures refused { OnErr result (IsSome (request_of (texts words.now) cwd.now)) }
     {
         if !asks_for_check(words) {

@@ -1,5 +1,22 @@
-use Rattle.deny_run.proofs.HeardLemmas.{heard_refused}
+use Rattle.std.proofs.Common.{◌∙◌, sym, ap, Some}
+use Rattle.tree_core.specs.Content.{file}
+use Rattle.deny_run.proofs.HeardLemmas.{answer_heard, answer_counts, absent_heard, folder_heard, failure_heard}
 use Rattle.deny_run.proofs.load.load.Goals as goal
 
-pub returns-in-Err-clause-answer : goal.returns-in-Err-clause-answer
-returns-in-Err-clause-answer g c = λ content told. heard_refused _ c.in-Err.error _ _ c.of_read.result (c.in-Err.ensures.answer content told) c.of_read.ensures
+pub returns-in-Ok-clause-answer : goal.returns-in-Ok-clause-answer
+returns-in-Ok-clause-answer g c = λ content told.
+    answer_heard content _ _ _ _ _ c.text_of.result (c.in-Ok.ensures.answer content told ∙ ap (λ bytes. Some (file bytes)) (sym c.items.ensures)) c.text_of.ensures
+
+pub returns-in-Ok-clause-counts : goal.returns-in-Ok-clause-counts
+returns-in-Ok-clause-counts g c = answer_counts _ _ _ _ c.text_of.result c.text_of.ensures
+
+pub returns-in-Err-Absent-clause-answer : goal.returns-in-Err-Absent-clause-answer
+returns-in-Err-Absent-clause-answer g c = λ content told kind.
+    absent_heard content c.args.path.now c.in-Err-Absent.field-0 c.in-Err-Absent.field-0-is (c.in-Err-Absent.ensures.answer content told)
+
+pub returns-in-Err-WrongKind-clause-answer : goal.returns-in-Err-WrongKind-clause-answer
+returns-in-Err-WrongKind-clause-answer g c = λ content told kind.
+    folder_heard content c.args.path.now c.in-Err-WrongKind.field-0 c.in-Err-WrongKind.field-0-is (c.in-Err-WrongKind.ensures.answer content told)
+
+pub returns-in-Err-Failed-clause-answer : goal.returns-in-Err-Failed-clause-answer
+returns-in-Err-Failed-clause-answer g c = λ content told. failure_heard content _ _ _ _ _ c.faults.ensures

@@ -1,0 +1,93 @@
+-- When a report is the one that the words and the files ask for.
+use Rattle.std.specs.Prelude.{◌≡◌, ℕ, List, [], Option, Some, Result, Ok, Err, All, Any, IsSome, IsSomeAnd}
+use Rattle.std.specs.List.{AllZip}
+use Rattle.tree_core.specs.Content.{Content}
+use Rattle.tree_core.specs.Hearing.{policy, metadata, FailedRead, Hearing, IsHearing}
+use Rattle.catalog_core.specs.declared.catalog.LicenseEntry.{LicenseEntry}
+use Rattle.spdx_core.specs.Expression.{ExpressionView}
+use Rattle.catalog_core.specs.Satisfaction.{Satisfies}
+use Rattle.graph_core.specs.declared.lone.Krate.{Krate}
+use Rattle.graph_core.specs.Lone.{record_of}
+use Rattle.deny_run.specs.declared.error.Error.{Error}
+use Rattle.deny_run.specs.declared.report.Verdict.{Verdict}
+use Rattle.deny_run.specs.declared.report.Verdict.TheVariants.{Accepted, Rejected}
+use Rattle.deny_run.specs.declared.report.CrateReport.{CrateReport}
+use Rattle.deny_run.specs.declared.report.Report.{Report}
+use Rattle.deny_run.specs.Counts.{counts_of}
+use Rattle.deny_run.specs.Error.{cause_of, FreeOr}
+use Rattle.deny_run.specs.Given.{Given}
+use Rattle.deny_run.specs.Heard.{Asked, asked_of, expression_heard, selected_of, text_heard}
+use Rattle.deny_run.specs.Policy.{policy_of}
+use Rattle.deny_run.specs.Words.{request_of}
+
+-- ---- what is asked for
+
+-- the policy's bytes: the file at the path is a text, and as a policy it allows these licences
+pub record PolicyAt (given : Given) (hearing : Hearing) (path : List ℕ) (config : List LicenseEntry) : Type 0 where
+  pub text : List ℕ
+  pub heard : text_heard hearing policy path ≡ Ok text
+  pub allows : policy_of given.lists text ≡ Some config
+
+-- the crate's record: the file at the path is a text, and as metadata it tells of this crate
+pub record CrateAt (hearing : Hearing) (path : List ℕ) (krate : Krate) : Type 0 where
+  pub text : List ℕ
+  pub heard : text_heard hearing metadata path ≡ Ok text
+  pub tells : record_of text ≡ Some krate
+
+-- lawful input: the words, the policy, the metadata and the crates are of the forms that are built, and ask to check this
+pub record Asks (given : Given) (hearing : Hearing) (asked : Asked) : Type 0 where
+  pub request : request_of given.words given.cwd ≡ Some asked.request
+  pub config : PolicyAt given hearing asked.request.config_path asked.config
+  pub krate : Krate
+  pub metadata : CrateAt hearing asked.request.metadata_path krate
+  pub selected : asked.crates ≡ selected_of krate
+  pub expressions : All (λ one. IsSome (expression_heard given asked.config hearing one)) asked.crates
+
+-- ---- what is reported
+
+-- some licence of the policy satisfies the expression's term
+abbrev pub Allows : List LicenseEntry → ExpressionView → Type 0
+Allows config expression = Any (λ licensee. Satisfies licensee expression.term) config
+
+-- Accepted: the policy allows the expression. Rejected: there is one, and the policy does not allow it.
+abbrev pub IsVerdictOf : List LicenseEntry → Option ExpressionView → Verdict → Type 0
+IsVerdictOf config expression Accepted = IsSomeAnd expression (Allows config)
+IsVerdictOf config expression Rejected = IsSomeAnd expression (λ read. ¬ (Allows config read))
+
+-- the report on a crate
+pub record IsReportOf (given : Given) (config : List LicenseEntry) (hearing : Hearing) (krate : Krate) (report : CrateReport) : Type 0 where
+  pub id : report.id ≡ krate.id
+  pub expression : report.expression ≡ expression_heard given config hearing krate
+  pub verdict : IsVerdictOf config report.expression report.verdict
+
+-- each crate that is checked has its one report, in the same order, and the verdicts are counted
+pub record GivesVerdicts (given : Given) (hearing : Hearing) (asked : Asked) (report : Report) : Type 0 where
+  pub verdicts : AllZip (IsReportOf given asked.config hearing) asked.crates report.crates
+  pub stats : report.stats ≡ counts_of report.crates
+
+-- the failed reads that a report lists: none, since no file of a crate is read
+abbrev pub failed_of : Report → List FailedRead
+failed_of report = []
+
+-- ---- what is answered
+
+-- the report is what is asked for, by the content less the report's failed reads
+pub record IsReport (given : Given) (content : Content) (before after : ℕ) (report : Report) : Type 0 where
+  pub hearing : Hearing
+  pub heard : IsHearing content before after hearing
+  pub failed : hearing.failed ≡ failed_of report
+  pub asked : Asked
+  pub asks : Asks given hearing asked
+  pub gives : GivesVerdicts given hearing asked report
+
+-- the refusal is what is asked for, by the content less some reads that failed
+pub record IsRefusal (given : Given) (content : Content) (before after : ℕ) (error : Error) : Type 0 where
+  pub hearing : Hearing
+  pub heard : IsHearing content before after hearing
+  pub asked : asked_of given hearing ≡ Err error
+
+-- What a run answers over this content, between these counts of faults. Want of memory and a refused write may come in
+-- the place of any answer.
+abbrev pub IsAnswer : Given → Content → ℕ → ℕ → Result Report Error → Type 0
+IsAnswer given content before after (Ok report) = IsReport given content before after report
+IsAnswer given content before after (Err error) = FreeOr (cause_of error) (IsRefusal given content before after error)
