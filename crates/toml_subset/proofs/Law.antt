@@ -4,6 +4,7 @@ pub mod Forward
 pub mod Fronts
 pub mod Headers
 pub mod Scalars
+pub mod Steady
 pub mod Texts
 pub mod Values
 pub mod Ways

@@ -1,8 +1,8 @@
 //! Laws of the definition, as contracts of functions that do nothing.
-ghost use Rattle.std.specs.Prelude.{◌≡◌, ℕ, List, Ok, false, slice_range};
+ghost use Rattle.std.specs.Prelude.{◌≡◌, ◌≤◌, ℕ, List, Ok, false, slice_range};
 ghost use Rattle.deny_text.specs.declared.span.Span.{Span};
-ghost use Rattle.toml_subset.specs.Data.{Toml};
-ghost use Rattle.toml_subset.specs.Reading.{read_text};
+ghost use Rattle.toml_subset.specs.Data.{Toml, depth_limit};
+ghost use Rattle.toml_subset.specs.Reading.{enough, read_value, value_at, read_text};
 ghost use Rattle.toml_subset.specs.Strings.{Quoting, IsString};
 ghost use Rattle.toml_subset.specs.Text.{IsText};
 ghost use Rattle.toml_subset.specs.Written.{Written};
@@ -11,6 +11,11 @@ ghost use Rattle.toml_subset.specs.Written.{Written};
 pub fn reading_answers_where_a_value_stands()
     ensures answers { (text : List ℕ) (value : Toml) → IsText text value → read_text text ≡ Ok value }
     ensures stands { (text : List ℕ) (value : Toml) → read_text text ≡ Ok value → IsText text value }
+{}
+
+/// A larger bound on how often reading a value calls itself changes no answer.
+pub fn more_calls_change_no_answer()
+    ensures { (text : List ℕ) (above i n : ℕ) → above ≤ depth_limit → enough text ≤ n → read_value n text above i ≡ value_at text above i }
 {}
 
 /// A text stands for at most one value.
