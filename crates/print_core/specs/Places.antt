@@ -16,19 +16,19 @@ abbrev pub file_under : List File → Label → List ℕ
 file_under files label = unwrap_or (name_of files label.file_id) []
 
 -- the label's file is there, and the label's range lies in its text, between characters
-pub record LabelLies (files : List File) (label : Label) : Type 0 where
+pub record LabelIsInside (files : List File) (label : Label) : Type 0 where
   pub live : label.file_id < length files
   pub ordered : label.range.start ≤ label.range.end
   pub starts : IsCharBoundary (source_under files label) label.range.start
   pub ends : IsCharBoundary (source_under files label) label.range.end
 
--- each label of the finding lies in its file
-abbrev pub LabelsLie : List File → Diagnostic → Type 0
-LabelsLie files diag = All (LabelLies files) diag.labels
+-- each label of the finding is inside its file
+abbrev pub LabelsAreInside : List File → Diagnostic → Type 0
+LabelsAreInside files diag = All (LabelIsInside files) diag.labels
 
--- each label of each finding lies in its file
-abbrev pub AllLabelsLie : List File → List Diag → Type 0
-AllLabelsLie files findings = All (λ finding. LabelsLie files finding.diag) findings
+-- each label of each finding is inside its file
+abbrev pub AllLabelsAreInside : List File → List Diag → Type 0
+AllLabelsAreInside files findings = All (λ finding. LabelsAreInside files finding.diag) findings
 
 -- the line at which the label starts, from 1
 abbrev pub line_number : List File → Label → ℕ

@@ -1,5 +1,5 @@
 -- What is written of findings.
-use Rattle.std.specs.Prelude.{ℕ, List, [], Bool, false, nat_le, unwrap_or, if◌then◌else◌}
+use Rattle.std.specs.Prelude.{◌≡◌, ℕ, List, All, [], Bool, false, nat_le, unwrap_or, if◌then◌else◌}
 use Rattle.std.specs.List.{flat_map}
 use Rattle.std.specs.Option.{option_map}
 use Rattle.diag_core.specs.declared.severity.Severity.{Severity}
@@ -27,6 +27,10 @@ printed_of Sarif files diag = []
 -- the lines of a finding, where it is at or above the level
 abbrev pub printed_at : LogContext → List File → Diagnostic → List ℕ
 printed_at context files diag = if is_heard context.log_level diag.severity then printed_of context.format files diag else []
+
+-- each finding is below the level
+abbrev pub AllBelow : LevelFilter → List Diag → Type 0
+AllBelow level findings = All (λ finding. is_heard level finding.diag.severity ≡ false) findings
 
 -- the lines of the findings that are at or above the level, in order
 abbrev pub all_printed_at : LogContext → List File → List Diag → List ℕ

@@ -2,7 +2,7 @@
 ghost use Rattle.std.specs.Prelude.{◌≡◌, ◌++◌, OnOk, All, codes, string_bytes};
 ghost use Rattle.std.specs.List.{flat_map};
 ghost use Rattle.print_core.specs.Human.{severity_word, pointer_of, in_brackets, behind_colon, headline_of, place_text, label_line, note_line, human_lines};
-ghost use Rattle.print_core.specs.Places.{LabelLies, LabelsLie};
+ghost use Rattle.print_core.specs.Places.{LabelIsInside, LabelsAreInside};
 
 use crate::flat::push_flat;
 use crate::place::{file_name, start};
@@ -68,7 +68,7 @@ fn push_headline(out: &mut String, diag: &Diagnostic) -> Result<(), AllocError>
 
 /// Appends the file, the line and the column of a label.
 fn push_place(out: &mut String, files: &Files, label: &Label) -> Result<(), AllocError>
-    requires { LabelLies files.now label.now }
+    requires { LabelIsInside files.now label.now }
     ensures { OnOk result (string_bytes out.new ≡ string_bytes out.old ++ place_text files.now label.now) }
 {
     let place = start(files, label);
@@ -80,7 +80,7 @@ fn push_place(out: &mut String, files: &Files, label: &Label) -> Result<(), Allo
 
 /// Appends the line of a label.
 fn push_label(out: &mut String, files: &Files, label: &Label) -> Result<(), AllocError>
-    requires { LabelLies files.now label.now }
+    requires { LabelIsInside files.now label.now }
     ensures { OnOk result (string_bytes out.new ≡ string_bytes out.old ++ label_line files.now label.now) }
 {
     out.push_str("  ")?;
@@ -101,7 +101,7 @@ fn push_note(out: &mut String, note: &str) -> Result<(), AllocError>
 }
 
 fn push_labels(out: &mut String, files: &Files, labels: &[Label]) -> Result<(), AllocError>
-    requires { All (LabelLies files.now) labels.now }
+    requires { All (LabelIsInside files.now) labels.now }
     ensures { OnOk result (string_bytes out.new ≡ string_bytes out.old ++ flat_map (label_line files.now) labels.now) }
 {
     'labels: for label in labels {
@@ -125,7 +125,7 @@ pub(crate) fn push_lines(
     files: &Files,
     diag: &Diagnostic,
 ) -> Result<(), AllocError>
-    requires { LabelsLie files.now diag.now }
+    requires { LabelsAreInside files.now diag.now }
     ensures { OnOk result (string_bytes out.new ≡ string_bytes out.old ++ human_lines files.now diag.now) }
 {
     push_headline(out, diag)?;

@@ -1,9 +1,9 @@
 //! The line of a finding for a program.
-ghost use Rattle.std.specs.Prelude.{◌≡◌, IfOk, All, map, string_bytes};
+ghost use Rattle.std.specs.Prelude.{◌≡◌, ◌++◌, IfOk, OnOk, All, map, string_bytes};
 ghost use Rattle.serde_json.specs.Data.{string};
 ghost use Rattle.serde_json.specs.View.{view};
 ghost use Rattle.print_core.specs.Json.{code_data, label_data, fields_data, finding_data, json_line};
-ghost use Rattle.print_core.specs.Places.{LabelLies, LabelsLie};
+ghost use Rattle.print_core.specs.Places.{LabelIsInside, LabelsAreInside};
 
 use crate::human::severity_word;
 use crate::place::{cut, start};
@@ -24,7 +24,7 @@ fn code_value(alloc: Global, code: &Option<Text>) -> Result<Value, AllocError>
 
 /// A label: its place, its message, and the text that it cuts out.
 fn label_value(alloc: Global, files: &Files, label: &Label) -> Result<Value, AllocError>
-    requires { LabelLies files.now label.now }
+    requires { LabelIsInside files.now label.now }
     ensures { IfOk result (λ value. view value ≡ label_data files.now label.now) }
 {
     let place = start(files, label);
@@ -37,7 +37,7 @@ fn label_value(alloc: Global, files: &Files, label: &Label) -> Result<Value, All
 }
 
 fn label_values(alloc: Global, files: &Files, labels: &[Label]) -> Result<Vec<Value>, AllocError>
-    requires { All (LabelLies files.now) labels.now }
+    requires { All (LabelIsInside files.now) labels.now }
     ensures { IfOk result (λ values. map view values.items ≡ map (label_data files.now) labels.now) }
 {
     let mut values = Vec::new(alloc);
@@ -61,7 +61,7 @@ fn note_values(alloc: Global, notes: &[Text]) -> Result<Vec<Value>, AllocError>
 
 /// What is found.
 fn fields(alloc: Global, files: &Files, diag: &Diagnostic) -> Result<Value, AllocError>
-    requires { LabelsLie files.now diag.now }
+    requires { LabelsAreInside files.now diag.now }
     ensures { IfOk result (λ value. view value ≡ fields_data files.now diag.now) }
 {
     let code = code_value(alloc, &diag.code)?;
@@ -78,23 +78,24 @@ fn fields(alloc: Global, files: &Files, diag: &Diagnostic) -> Result<Value, Allo
 
 /// The whole object.
 fn finding(alloc: Global, files: &Files, diag: &Diagnostic) -> Result<Value, AllocError>
-    requires { LabelsLie files.now diag.now }
+    requires { LabelsAreInside files.now diag.now }
     ensures { IfOk result (λ value. view value ≡ finding_data files.now diag.now) }
 {
     let fields = fields(alloc, files, diag)?;
     json!(in alloc; {"fields": fields, "type": "diagnostic"})
 }
 
-/// The text of the object, and a line feed.
-pub(crate) fn json_line(
+/// Appends the text of the object, and a line feed.
+pub(crate) fn push_json_line(
+    out: &mut String,
     alloc: Global,
     files: &Files,
     diag: &Diagnostic,
-) -> Result<String, AllocError>
-    requires { LabelsLie files.now diag.now }
-    ensures { IfOk result (λ line. string_bytes line ≡ json_line files.now diag.now) }
+) -> Result<(), AllocError>
+    requires { LabelsAreInside files.now diag.now }
+    ensures { OnOk result (string_bytes out.new ≡ string_bytes out.old ++ json_line files.now diag.now) }
 {
-    let mut line = finding(alloc, files, diag)?.to_string(alloc)?;
-    line.push_str("\n")?;
-    Ok(line)
+    let line = finding(alloc, files, diag)?.to_string(alloc)?;
+    out.push_str(line.as_str())?;
+    out.push_str("\n")
 }

@@ -10,8 +10,8 @@ pub mod place;
 pub mod printer;
 
 pub use context::{Color, Format, LogContext};
-pub use lines::printed;
-pub use place::{labels_lie, pack_labels_lie};
+pub use lines::push_printed;
+pub use place::{labels_are_inside, pack_labels_are_inside};
 pub use printer::{DiagPrinter, OutputLock, PrintError};
 
 #[cfg(test)]

@@ -1,6 +1,6 @@
 //! Where a label points.
 ghost use Rattle.std.specs.Prelude.{◌≡◌, ◌↔◌, IsTrue};
-ghost use Rattle.print_core.specs.Places.{LabelLies, LabelsLie, AllLabelsLie, source_under, file_under, text_under, line_number, column_number};
+ghost use Rattle.print_core.specs.Places.{LabelIsInside, LabelsAreInside, AllLabelsAreInside, source_under, file_under, text_under, line_number, column_number};
 
 use diag_core::{Diagnostic, Files, Label, Pack};
 
@@ -12,8 +12,8 @@ pub(crate) struct Place {
 }
 
 /// Whether the label's file is there, and the label's range lies in its text, between characters.
-fn label_lies(files: &Files, label: &Label) -> bool
-    ensures { IsTrue result ↔ LabelLies files.now label.now }
+fn label_is_inside(files: &Files, label: &Label) -> bool
+    ensures { IsTrue result ↔ LabelIsInside files.now label.now }
 {
     match files.source(label.file_id) {
         Ok(text) => {
@@ -25,48 +25,41 @@ fn label_lies(files: &Files, label: &Label) -> bool
     }
 }
 
-/// Whether each label of a finding lies in its file, as the calls that print require.
-pub fn labels_lie(diag: &Diagnostic, files: &Files) -> bool
-    ensures { IsTrue result ↔ LabelsLie files.now diag.now }
+/// Whether each label of a finding is inside its file, as the calls that print require.
+pub fn labels_are_inside(diag: &Diagnostic, files: &Files) -> bool
+    ensures { IsTrue result ↔ LabelsAreInside files.now diag.now }
 {
     diag.labels
         .items()
         .iter()
-        .all(|label| label_lies(files, label))
+        .all(|label| label_is_inside(files, label))
 }
 
-/// Whether each label of each finding of a pack lies in its file.
-pub fn pack_labels_lie(pack: &Pack, files: &Files) -> bool
-    ensures { IsTrue result ↔ AllLabelsLie files.now pack.now.findings }
+/// Whether each label of each finding of a pack is inside its file.
+pub fn pack_labels_are_inside(pack: &Pack, files: &Files) -> bool
+    ensures { IsTrue result ↔ AllLabelsAreInside files.now pack.now.findings }
 {
-    pack.iter().all(|finding| labels_lie(&finding.diag, files))
+    pack.iter()
+        .all(|finding| labels_are_inside(&finding.diag, files))
 }
 
-/// The text of the label's file.
+/// The text of the label's file; empty where there is no such file.
 fn source<'f>(files: &'f Files, label: &Label) -> &'f str
-    requires { LabelLies files.now label.now }
     ensures { result.now ≡ source_under files.now label.now }
 {
-    match files.source(label.file_id) {
-        Ok(text) => text,
-        Err(_) => unreachable!(),
-    }
+    files.source(label.file_id).unwrap_or("")
 }
 
-/// The name of the label's file.
+/// The name of the label's file; empty where there is no such file.
 pub(crate) fn file_name<'f>(files: &'f Files, label: &Label) -> &'f str
-    requires { LabelLies files.now label.now }
     ensures { result.now ≡ file_under files.now label.now }
 {
-    match files.name(label.file_id) {
-        Ok(name) => name,
-        Err(_) => unreachable!(),
-    }
+    files.name(label.file_id).unwrap_or("")
 }
 
 /// The text that the label cuts out.
 pub(crate) fn cut<'f>(files: &'f Files, label: &Label) -> &'f str
-    requires { LabelLies files.now label.now }
+    requires { LabelIsInside files.now label.now }
     ensures { result.now ≡ text_under files.now label.now }
 {
     let text = source(files, label);
@@ -75,10 +68,11 @@ pub(crate) fn cut<'f>(files: &'f Files, label: &Label) -> &'f str
 
 /// Where the label starts.
 pub(crate) fn start(files: &Files, label: &Label) -> Place
-    requires { LabelLies files.now label.now }
+    requires { LabelIsInside files.now label.now }
     ensures line { result.line ≡ line_number files.now label.now }
     ensures column { result.column ≡ column_number files.now label.now }
 {
+    // The text in hand bounds its numbers of lines and of characters.
     let _text = source(files, label);
     match files.location(label.file_id, label.range.start) {
         Ok(place) => Place {

@@ -1,26 +1,23 @@
 //! The printer of findings.
-ghost use Rattle.std.specs.Prelude.{◌≡◌, ◌≢◌, ◌↔◌, ◌≤◌, false, [], string_bytes, IsNone, IfSome, IsOk, IfOk, IfErr, OnOk, OnErr, Err};
+ghost use Rattle.std.specs.Prelude.{◌≡◌, ◌≢◌, ◌↔◌, ◌≤◌, ◌++◌, false, [], string_bytes, IsNone, IfSome, IsOk, IfOk, IfErr, OnOk, OnErr, Err};
 ghost use Rattle.tree_core.specs.Faults.{Gained, GainedPrefix};
-ghost use Rattle.print_core.specs.Places.{LabelsLie, AllLabelsLie};
-ghost use Rattle.print_core.specs.Printed.{is_heard, printed_at, all_printed_at};
+ghost use Rattle.print_core.specs.Places.{LabelsAreInside, AllLabelsAreInside};
+ghost use Rattle.print_core.specs.Printed.{is_heard, printed_at, AllBelow, all_printed_at};
 ghost use Rattle.print_core.specs.Refusal.{HasReason};
 
 use crate::context::{Format, LogContext};
-use crate::lines::printed;
+use crate::lines::push_printed;
 use diag_core::{Diagnostic, Files, LevelFilter, Pack, Severity, log_level_to_severity};
 use std::alloc::{AllocError, Global};
 use std::marker::Model;
-use thiserror::Error;
 use tree_core::sink::write_all;
 use tree_core::{Sink, SinkFailed};
 
 /// Why findings were not printed.
-#[derive(Clone, Copy, Debug, PartialEq, Eq, Error)]
+#[derive(Clone, Copy, Debug, PartialEq, Eq)]
 pub enum PrintError {
     /// The sink refused a write. The numbers are its counts of faults, at the start of the call and once the write had failed.
-    #[error("the sink refused a write")]
     WriteFault { before: u64, after: u64 },
-    #[error("out of memory")]
     Memory,
 }
 
@@ -90,31 +87,43 @@ impl DiagPrinter {
         severity >= self.least
     }
 
-    /// The lines of a finding, where it is at or above the level.
-    fn text(&self, alloc: Global, diag: &Diagnostic, files: &Files) -> Result<String, AllocError>
-        requires { LabelsLie files.now diag.now }
-        ensures lines { IfOk result (λ text. string_bytes text ≡ printed_at self.now files.now diag.now) }
+    /// Appends the lines of a finding, where it is at or above the level.
+    fn push_text(
+        &self,
+        out: &mut String,
+        alloc: Global,
+        diag: &Diagnostic,
+        files: &Files,
+    ) -> Result<(), AllocError>
+        requires { LabelsAreInside files.now diag.now }
+        ensures ok { OnOk result (string_bytes out.new ≡ string_bytes out.old ++ printed_at self.now files.now diag.now) }
         ensures below { is_heard self.now.log_level diag.now.severity ≡ false → IsOk result }
         ensures sarif { self.now.format ≡ Format.Sarif → IsOk result }
     {
         if self.hears(diag.severity) {
-            printed(alloc, self.context.format, diag, files)
+            push_printed(out, alloc, self.context.format, diag, files)
         } else {
-            Ok(String::new(alloc))
+            Ok(())
         }
     }
 
-    /// The lines of the findings of a pack that are at or above the level, in order.
-    fn pack_text(&self, alloc: Global, pack: &Pack, files: &Files) -> Result<String, AllocError>
-        requires { AllLabelsLie files.now pack.now.findings }
-        ensures { IfOk result (λ text. string_bytes text ≡ all_printed_at self.now files.now pack.now.findings) }
+    /// Appends the lines of the findings of a pack that are at or above the level, in order.
+    fn push_pack_text(
+        &self,
+        out: &mut String,
+        alloc: Global,
+        pack: &Pack,
+        files: &Files,
+    ) -> Result<(), AllocError>
+        requires { AllLabelsAreInside files.now pack.now.findings }
+        ensures ok { OnOk result (string_bytes out.new ≡ string_bytes out.old ++ all_printed_at self.now files.now pack.now.findings) }
+        ensures below { AllBelow self.now.log_level pack.now.findings → IsOk result }
+        ensures sarif { self.now.format ≡ Format.Sarif → IsOk result }
     {
-        let mut text = String::new(alloc);
         'findings: for finding in pack.iter() {
-            let lines = self.text(alloc, &finding.diag, files)?;
-            text.push_str(lines.as_str())?;
+            self.push_text(out, alloc, &finding.diag, files)?;
         }
-        Ok(text)
+        Ok(())
     }
 }
 
@@ -126,7 +135,7 @@ impl<'p, S: Sink> OutputLock<'p, S> {
         diag: &Diagnostic,
         files: &Files,
     ) -> Result<(), PrintError>
-        requires { LabelsLie files.now diag.now }
+        requires { LabelsAreInside files.now diag.now }
         ensures ok { OnOk result (Gained (S.written self.old.sink.now) (S.written self.new.sink.now) (printed_at self.old.printer.now files.now diag.now)) }
         ensures err { OnErr result (GainedPrefix (S.written self.old.sink.now) (S.written self.new.sink.now) (printed_at self.old.printer.now files.now diag.now)) }
         ensures memory { result ≡ Err PrintError.Memory → S.written self.new.sink.now ≡ S.written self.old.sink.now }
@@ -140,7 +149,8 @@ impl<'p, S: Sink> OutputLock<'p, S> {
         ensures same_printer { self.new.printer.now ≡ self.old.printer.now }
         ensures same_sink { self.new.sink.ghost_name ≡ self.old.sink.ghost_name }
     {
-        let text = self.printer.text(alloc, diag, files)?;
+        let mut text = String::new(alloc);
+        self.printer.push_text(&mut text, alloc, diag, files)?;
         self.write(text.as_str())
     }
 
@@ -151,17 +161,22 @@ impl<'p, S: Sink> OutputLock<'p, S> {
         pack: &Pack,
         files: &Files,
     ) -> Result<(), PrintError>
-        requires { AllLabelsLie files.now pack.now.findings }
+        requires { AllLabelsAreInside files.now pack.now.findings }
         ensures ok { OnOk result (Gained (S.written self.old.sink.now) (S.written self.new.sink.now) (all_printed_at self.old.printer.now files.now pack.now.findings)) }
         ensures err { OnErr result (GainedPrefix (S.written self.old.sink.now) (S.written self.new.sink.now) (all_printed_at self.old.printer.now files.now pack.now.findings)) }
         ensures memory { result ≡ Err PrintError.Memory → S.written self.new.sink.now ≡ S.written self.old.sink.now }
         ensures reason { IfErr result (HasReason (S.fault_count self.old.sink.now) (S.fault_count self.new.sink.now)) }
         ensures later { S.fault_count self.old.sink.now ≤ S.fault_count self.new.sink.now }
 
+        // Findings that are not written need no memory.
+        ensures below { AllBelow self.old.printer.now.log_level pack.now.findings → IsOk result }
+        ensures sarif { self.old.printer.now.format ≡ Format.Sarif → IsOk result }
+
         ensures same_printer { self.new.printer.now ≡ self.old.printer.now }
         ensures same_sink { self.new.sink.ghost_name ≡ self.old.sink.ghost_name }
     {
-        let text = self.printer.pack_text(alloc, pack, files)?;
+        let mut text = String::new(alloc);
+        self.printer.push_pack_text(&mut text, alloc, pack, files)?;
         self.write(text.as_str())
     }
 

@@ -1,9 +1,11 @@
 ghost use Rattle.std.specs.Prelude.{◌≡◌, OnOk};
 ghost use Rattle.tree_core.specs.Faults.{Gained};
-ghost use Rattle.print_core.specs.Places.{LabelsLie};
+ghost use Rattle.print_core.specs.Places.{LabelsAreInside};
 ghost use Rattle.print_core.specs.Printed.{printed_at};
 
-use crate::{Color, DiagPrinter, Format, LogContext, PrintError, labels_lie, pack_labels_lie};
+use crate::{
+    Color, DiagPrinter, Format, LogContext, PrintError, labels_are_inside, pack_labels_are_inside,
+};
 use deny_text::{PathBuf, Span, Text};
 use diag_core::{
     AddError, Check, Diag, Diagnostic, FileId, Files, Label, LevelFilter, Pack, Severity,
@@ -29,7 +31,7 @@ fn print_to<S: Sink>(
     files: &Files,
     sink: &mut S,
 ) -> Result<(), PrintError>
-    requires { LabelsLie files.now diag.now }
+    requires { LabelsAreInside files.now diag.now }
     ensures { OnOk result (Gained (S.written sink.old) (S.written sink.new) (printed_at context files.now diag.now)) }
 {
     match DiagPrinter::new(context) {
@@ -56,7 +58,7 @@ fn written(
     diag: &Diagnostic,
     files: &Files,
 ) -> Result<MemSink, PrintError>
-    requires { LabelsLie files.now diag.now }
+    requires { LabelsAreInside files.now diag.now }
 {
     let mut sink = MemSink::new(alloc, 1024, 7)?;
     print_to(alloc, context, diag, files, &mut sink)?;
@@ -113,7 +115,7 @@ fn prints_lines(rt: HostRuntime) -> Result<(), Fail> {
     let alloc = rt.alloc();
     let files = two_files(alloc)?;
     let labelled = two_labels(alloc)?;
-    assert!(rt; labels_lie(&labelled, &files));
+    assert!(rt; labels_are_inside(&labelled, &files));
     for (format, want) in [
         (Format::Human, HUMAN),
         (Format::Json, JSON),
@@ -128,7 +130,7 @@ fn prints_lines(rt: HostRuntime) -> Result<(), Fail> {
         assert_eq!(rt; sink.written(), want.as_bytes());
     }
     let note = accepted(alloc)?;
-    assert!(rt; labels_lie(&note, &files));
+    assert!(rt; labels_are_inside(&note, &files));
     let sink = written(
         alloc,
         context(Format::Json, LevelFilter::Info),
@@ -144,7 +146,7 @@ fn keeps_the_level(rt: HostRuntime) -> Result<(), Fail> {
     let alloc = rt.alloc();
     let files = Files::new(alloc);
     let warning = plain(alloc)?;
-    assert!(rt; labels_lie(&warning, &files));
+    assert!(rt; labels_are_inside(&warning, &files));
     for (level, want) in [
         (LevelFilter::Off, ""),
         (LevelFilter::Error, ""),
@@ -165,7 +167,7 @@ fn prints_packs(rt: HostRuntime) -> Result<(), Fail> {
     pack.push(Diag::new(plain(alloc)?, None)?)?;
     pack.push(Diag::new(Diagnostic::new(alloc, Severity::Note), None)?)?;
     pack.push(Diag::new(Diagnostic::new(alloc, Severity::Bug), None)?)?;
-    assert!(rt; pack_labels_lie(&pack, &files));
+    assert!(rt; pack_labels_are_inside(&pack, &files));
     let mut sink = MemSink::new(alloc, 1024, 7)?;
     if let Some(printer) = DiagPrinter::new(context(Format::Human, LevelFilter::Warn)) {
         printer
@@ -181,7 +183,7 @@ fn tells_a_refused_write(rt: HostRuntime) -> Result<(), Fail> {
     let alloc = rt.alloc();
     let files = Files::new(alloc);
     let warning = plain(alloc)?;
-    assert!(rt; labels_lie(&warning, &files));
+    assert!(rt; labels_are_inside(&warning, &files));
     let mut sink = MemSink::new(alloc, 5, 7)?;
     let answer = print_to(
         alloc,
@@ -210,7 +212,7 @@ fn at(alloc: Global, file: FileId, start: usize, end: usize) -> Result<Diagnosti
 }
 
 #[test]
-fn tells_where_labels_lie(rt: HostRuntime) -> Result<(), Fail> {
+fn tells_whether_labels_are_inside(rt: HostRuntime) -> Result<(), Fail> {
     let alloc = rt.alloc();
     let files = two_files(alloc)?;
     for (file, start, end, want) in [
@@ -224,7 +226,7 @@ fn tells_where_labels_lie(rt: HostRuntime) -> Result<(), Fail> {
         (2, 0, 0, false),
     ] {
         let diag = at(alloc, file, start, end)?;
-        assert_eq!(rt; labels_lie(&diag, &files), want);
+        assert_eq!(rt; labels_are_inside(&diag, &files), want);
     }
     Ok(())
 }
