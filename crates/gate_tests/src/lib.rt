@@ -2,4 +2,12 @@
 #![tactic(auto)]
 
 #[cfg(test)]
+mod failures;
+#[cfg(test)]
 mod first_path;
+#[cfg(test)]
+mod process;
+#[cfg(test)]
+mod rows;
+#[cfg(test)]
+mod sizes;

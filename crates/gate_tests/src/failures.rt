@@ -1,0 +1,60 @@
+//! Each call of the tree fails in turn.
+use crate::rows::{OPEN, POLICY, WORDS, Want, accepted, expect, refused, tree};
+use std::test::Fail;
+
+const NO_POLICY: &str = "error: the policy could not be read\n";
+
+const NO_METADATA: &str = "error: the metadata could not be read\n";
+
+/// A policy and metadata, and what the run comes to where the first call, the second or a third one fails.
+#[derive(Clone, Copy)]
+struct Sweep {
+    policy: &'static [u8],
+    metadata: Option<&'static [u8]>,
+    want: [Want; 3],
+}
+
+#[test]
+fn each_failed_call_is_told_as_its_own(rt: HostRuntime) -> Result<(), Fail> {
+    let alloc = rt.alloc();
+    let policy_failed = refused("policy: Failed { before: 0, after: 1 }", NO_POLICY);
+    let metadata_failed = refused("metadata: Failed { before: 0, after: 1 }", NO_METADATA);
+    let other_policy = refused("policy", OPEN);
+    let other_metadata = refused("metadata", OPEN);
+    for Sweep {
+        policy,
+        metadata,
+        want,
+    } in [
+        Sweep {
+            policy: POLICY.as_bytes(),
+            metadata: None,
+            want: [
+                policy_failed,
+                metadata_failed,
+                accepted("a 1.0.0: MIT Accepted"),
+            ],
+        },
+        // The policy comes first, so the metadata is not read.
+        Sweep {
+            policy: b"x",
+            metadata: None,
+            want: [policy_failed, other_policy, other_policy],
+        },
+        Sweep {
+            policy: POLICY.as_bytes(),
+            metadata: Some(b"{}"),
+            want: [policy_failed, metadata_failed, other_metadata],
+        },
+    ] {
+        for (call, want) in (1..4).zip(want.iter()) {
+            let mut tree = tree(alloc, "MIT", policy)?;
+            if let Some(metadata) = metadata {
+                tree.put("/w/m.json", metadata)?;
+            }
+            tree.fail_call(call)?;
+            expect(&rt, alloc, &WORDS, &mut tree, 1000, want)?;
+        }
+    }
+    Ok(())
+}

@@ -1,0 +1,185 @@
+//! The row of a test: a tree and words, and what a run over them comes to.
+use deny_run::error::{Error, Part};
+use deny_run::report::{CrateReport, Ended, Report};
+use deny_run::run::run;
+use spdx_core::{LicenseStore, Table};
+use std::alloc::{AllocError, Global};
+use std::process::Abort;
+use std::test::Fail;
+use tree_core::{MemSink, MemTree};
+
+pub(crate) const POLICY: &str = "[licenses]\nallow = [\"MIT\"]\n";
+
+/// The seven words, read in the folder `/w`.
+pub(crate) const WORDS: [&str; 7] = [
+    "cargo-deny",
+    "--metadata-path",
+    "m.json",
+    "--config",
+    "p.toml",
+    "check",
+    "licenses",
+];
+
+pub(crate) const OPEN: &str = "error: the input is of a form that is not built yet\n";
+
+const BEFORE_LICENSE: &str =
+    "{\"packages\":[{\"name\":\"a\",\"version\":\"1.0.0\",\"id\":\"a 1.0.0\",\"license\":\"";
+
+const AFTER_LICENSE: &str = "\",\"manifest_path\":\"/w/Cargo.toml\"}],\
+\"workspace_members\":[\"a 1.0.0\"],\"workspace_root\":\"/w\",\
+\"resolve\":{\"nodes\":[{\"id\":\"a 1.0.0\",\"deps\":[]}],\"root\":\"a 1.0.0\"}}";
+
+/// The metadata of the crate `a 1.0.0` with this licence field.
+pub(crate) fn metadata(alloc: Global, license: &str) -> Result<String, AllocError> {
+    let mut text = String::from_str(alloc, BEFORE_LICENSE)?;
+    text.push_str(license)?;
+    text.push_str(AFTER_LICENSE)?;
+    Ok(text)
+}
+
+/// The folder `/w` with the crate's manifest, the policy and the metadata.
+pub(crate) fn tree(alloc: Global, license: &str, policy: &[u8]) -> Result<MemTree, Fail> {
+    let manifest = format!(in alloc;
+        "[package]\nname = \"a\"\nversion = \"1.0.0\"\nlicense = \"{license}\"\n"
+    )?;
+    let mut tree = MemTree::new(alloc);
+    tree.put("/w/Cargo.toml", manifest.as_bytes())?;
+    tree.put("/w/p.toml", policy)?;
+    tree.put("/w/m.json", metadata(alloc, license)?.as_bytes())?;
+    Ok(tree)
+}
+
+/// What a run came to, in words, and what it wrote.
+#[derive(Drop)]
+pub(crate) struct Seen {
+    pub(crate) status: u8,
+    pub(crate) ended: String,
+    pub(crate) out: String,
+    pub(crate) err: String,
+}
+
+/// How a run ended, in words.
+pub(crate) fn told(alloc: Global, ended: &Ended) -> Result<String, AllocError> {
+    match ended {
+        Ended::Checked(report) => told_report(alloc, report),
+        Ended::Refused(Error::Memory) => String::from_str(alloc, "memory"),
+        Ended::Refused(Error::ConfigRead(fault)) => format!(in alloc; "policy: {fault:?}"),
+        Ended::Refused(Error::MetadataRead(fault)) => format!(in alloc; "metadata: {fault:?}"),
+        Ended::Refused(Error::WriteFault { before, after }) => format!(in alloc;
+            "write: {before} {after}"
+        ),
+        Ended::Refused(Error::NotYet(Part::Words)) => String::from_str(alloc, "words"),
+        Ended::Refused(Error::NotYet(Part::Policy)) => String::from_str(alloc, "policy"),
+        Ended::Refused(Error::NotYet(Part::Metadata)) => String::from_str(alloc, "metadata"),
+        Ended::Refused(Error::NotYet(Part::Crate(id))) => format!(in alloc; "crate {id}"),
+    }
+}
+
+pub(crate) fn told_report(alloc: Global, report: &Report) -> Result<String, AllocError> {
+    let mut told = String::new(alloc);
+    for checked in report.crates.items() {
+        let line = told_crate(alloc, checked)?;
+        told.push_str(line.as_str())?;
+    }
+    Ok(told)
+}
+
+pub(crate) fn told_crate(alloc: Global, checked: &CrateReport) -> Result<String, AllocError> {
+    let id = checked.id.as_str();
+    let expression = match &checked.expression {
+        Some(expression) => expression.as_ref(),
+        None => "none",
+    };
+    let verdict = checked.verdict;
+    format!(in alloc; "{id}: {expression} {verdict:?}")
+}
+
+pub(crate) fn text(alloc: Global, bytes: &[u8]) -> Result<String, Fail> {
+    let text = str::from_utf8(bytes)?;
+    Ok(String::from_str(alloc, text)?)
+}
+
+/// Runs the gate over the tree in a folder, with this much room for the summary.
+pub(crate) fn observe(
+    alloc: Global,
+    words: &[&str],
+    cwd: &str,
+    tree: &mut MemTree,
+    room: usize,
+) -> Result<Seen, Fail> {
+    let mut owned = Vec::new(alloc);
+    for word in words {
+        owned.push(String::from_str(alloc, word)?)?;
+    }
+    let mut out = MemSink::new(alloc, room, 4)?;
+    let mut err = MemSink::new(alloc, 1000, 1000)?;
+    let store = LicenseStore::default(alloc);
+    let outcome = run(alloc, &owned, cwd, tree, &mut out, &mut err, &Table, &store);
+    Ok(Seen {
+        status: outcome.status,
+        ended: told(alloc, &outcome.ended)?,
+        out: text(alloc, out.written())?,
+        err: text(alloc, err.written())?,
+    })
+}
+
+/// What a run is to come to.
+#[derive(Clone, Copy)]
+pub(crate) struct Want {
+    pub(crate) status: u8,
+    pub(crate) ended: &'static str,
+    pub(crate) out: &'static str,
+    pub(crate) err: &'static str,
+}
+
+/// Compares what a run came to.
+pub(crate) fn compare(rt: &impl Abort, seen: &Seen, want: &Want) {
+    let ended = want.ended;
+    assert_eq!(rt; seen.ended.as_str(), ended);
+    assert_eq!(rt; seen.status, want.status, "status of {ended}");
+    assert_eq!(rt; seen.out.as_str(), want.out, "summary of {ended}");
+    assert_eq!(rt; seen.err.as_str(), want.err, "fault line of {ended}");
+}
+
+/// Runs the gate over the tree in `/w` and compares what it came to.
+pub(crate) fn expect(
+    rt: &impl Abort,
+    alloc: Global,
+    words: &[&str],
+    tree: &mut MemTree,
+    room: usize,
+    want: &Want,
+) -> Result<(), Fail> {
+    let seen = observe(alloc, words, "/w", tree, room)?;
+    compare(rt, &seen, want);
+    Ok(())
+}
+
+/// A refusal before anything is written to the summary's sink.
+pub(crate) fn refused(ended: &'static str, err: &'static str) -> Want {
+    Want {
+        status: 1,
+        ended,
+        out: "",
+        err,
+    }
+}
+
+pub(crate) fn accepted(ended: &'static str) -> Want {
+    Want {
+        status: 0,
+        ended,
+        out: "licenses ok\n",
+        err: "",
+    }
+}
+
+pub(crate) fn rejected(ended: &'static str) -> Want {
+    Want {
+        status: 4,
+        ended,
+        out: "licenses FAILED\n",
+        err: "",
+    }
+}
