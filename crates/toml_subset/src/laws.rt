@@ -1,16 +1,24 @@
 //! Laws of the definition, as contracts of functions that do nothing.
 ghost use Rattle.std.specs.Prelude.{◌≡◌, ◌≤◌, ℕ, List, Ok, false, slice_range};
 ghost use Rattle.deny_text.specs.declared.span.Span.{Span};
-ghost use Rattle.toml_subset.specs.Data.{Toml, depth_limit};
+ghost use Rattle.toml_subset.specs.Data.{Content, Toml, depth_limit};
 ghost use Rattle.toml_subset.specs.Reading.{enough, read_value, value_at, read_text};
 ghost use Rattle.toml_subset.specs.Strings.{Quoting, IsString};
-ghost use Rattle.toml_subset.specs.Text.{IsText};
+ghost use Rattle.toml_subset.specs.Text.{IsText, StandsAs};
 ghost use Rattle.toml_subset.specs.Written.{Written};
 
 /// Reading a text answers a value exactly where the definition has it, so that a text with a fault has none.
 pub fn reading_answers_where_a_value_stands()
     ensures answers { (text : List ℕ) (value : Toml) → IsText text value → read_text text ≡ Ok value }
     ensures stands { (text : List ℕ) (value : Toml) → read_text text ≡ Ok value → IsText text value }
+{}
+
+/// Reading a value answers exactly where one stands that keeps the table rules and is not too deep.
+pub fn reading_a_value_answers_where_one_stands()
+    ensures answers { (above : ℕ) (text : List ℕ) (i : ℕ) (span : Span) (content : Content) (next : ℕ)
+        → StandsAs above text i span content next → value_at text above i ≡ Ok (span, content, next) }
+    ensures stands { (above : ℕ) (text : List ℕ) (i : ℕ) (span : Span) (content : Content) (next : ℕ)
+        → above ≤ depth_limit → value_at text above i ≡ Ok (span, content, next) → StandsAs above text i span content next }
 {}
 
 /// A larger bound on how often reading a value calls itself changes no answer.
