@@ -1,3 +1,4 @@
+pub mod Manifest
 pub mod Slashes
 pub mod Pieces
 pub mod SpanSearch

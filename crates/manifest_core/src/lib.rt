@@ -2,10 +2,12 @@
 //! expression with slashes, and a text that is written in place of a manifest.
 #![tactic(auto)]
 
+pub mod manifest;
 pub mod slashes;
 pub mod span_search;
 pub mod synthetic;
 
+pub use manifest::Told;
 pub use slashes::correct_span;
 pub use span_search::license_span;
 pub use synthetic::{Piece, Synthetic};

@@ -1,4 +1,4 @@
-use crate::{Piece, Synthetic, correct_span, license_span};
+use crate::{Piece, Synthetic, Told, correct_span, license_span};
 use deny_text::Span;
 use std::test::Fail;
 
@@ -66,5 +66,71 @@ fn places_are_kept_while_a_text_grows(rt: HostRuntime) -> Result<(), Fail> {
     assert!(rt; text.text() == "[package]\nname = \"a\"b\n\"\nlicense = \"é\"\"\n");
     assert!(rt; text.spans() == [span(18, 22), span(35, 38), span(40, 40)].as_slice());
     assert!(rt; text.into_text().as_str().starts_with("[package]"));
+    Ok(())
+}
+
+/// The text of a manifest with each kind of line, written by hand.
+const WHOLE: &str = "[package]\n\
+    name = \"a\"\n\
+    version = \"1.0.0\"\n\
+    license = \"\"\n\
+    files-expr = \"MIT\"\n\
+    license-files = [\n    \
+        { path = \"/w/A\", hash = 0x02cc5d05,  },\n    \
+        { path = \"/w/B\", hash = 0xabcdef01, score = 0.90, license = \"Odd\" },\n    \
+        { path = \"/w/C\", err = \"not UTF-8\" },\n    \
+        { path = \"/w/D\", hash = 0x0000000a, score = 0.79, license = \"MIT\" },\n    \
+        { path = \"/w/E\", hash = 0x550d7456, score = 0.05 },\n\
+    ]\n";
+
+#[test]
+fn a_whole_manifest_is_written(rt: HostRuntime) -> Result<(), Fail> {
+    let alloc = rt.alloc();
+    let mut text = Synthetic::new(alloc);
+    text.write_manifest("a", "1.0.0", "")?;
+    text.write_expression("MIT")?;
+    text.open_list()?;
+    for (path, told) in [
+        ("/w/A", Told::Joined { hash: 0x02cc_5d05 }),
+        (
+            "/w/B",
+            Told::Unknown {
+                hash: 0xabcd_ef01,
+                score: 90,
+                name: "Odd",
+            },
+        ),
+        ("/w/C", Told::Bad { words: "not UTF-8" }),
+        (
+            "/w/D",
+            Told::Low {
+                hash: 10,
+                score: 79,
+                name: "MIT",
+            },
+        ),
+        (
+            "/w/E",
+            Told::Unnamed {
+                hash: 0x550d_7456,
+                score: 5,
+            },
+        ),
+    ] {
+        text.write_line(alloc, path, told)?;
+    }
+    text.close_list()?;
+    assert!(rt; text.text() == WHOLE);
+    for (place, wanted) in text
+        .spans()
+        .iter()
+        .zip(["a", "", "MIT", "Odd", "not UTF-8", "0.79", "0.05"])
+    {
+        assert!(rt;
+            text.text().as_bytes().get(place.start..place.end) == Some(wanted.as_bytes()),
+            "{wanted}"
+        );
+    }
+    assert_eq!(rt; text.spans().len(), 7);
     Ok(())
 }

@@ -1,0 +1,163 @@
+//! The manifest that is written in place of a crate's own, and the list of its licence files.
+ghost use Rattle.std.specs.Prelude.{◌≡◌, OnOk, IfOk, string_bytes};
+ghost use Rattle.manifest_core.specs.Manifest.{closing_pieces, expression_pieces, hash_pieces, line_pieces};
+ghost use Rattle.manifest_core.specs.Manifest.{listing_pieces, manifest_pieces, opening_pieces, score_text};
+ghost use Rattle.manifest_core.specs.Manifest.{told_pieces};
+ghost use Rattle.manifest_core.specs.Synthetic.{written_all};
+
+use crate::synthetic::{Piece, Synthetic};
+use std::alloc::{AllocError, Global};
+
+/// What a line of the list tells of a file: its hash, and its score in hundredths with the name that was found.
+/// Marked is why it gives no name.
+#[derive(Clone, Copy)]
+pub enum Told<'a> {
+    /// Its name was joined.
+    Joined {
+        hash: u32,
+    },
+    /// Its name is unknown to the catalogue.
+    Unknown {
+        hash: u32,
+        score: u32,
+        name: &'a str,
+    },
+    /// Its score is below the threshold.
+    Low {
+        hash: u32,
+        score: u32,
+        name: &'a str,
+    },
+    /// It has no name.
+    Unnamed {
+        hash: u32,
+        score: u32,
+    },
+    /// It was not read.
+    Bad {
+        words: &'a str,
+    },
+}
+
+impl Synthetic {
+    /// The head of a manifest, with the name and the licence field marked. Nothing is escaped.
+    pub fn write_manifest(
+        &mut self,
+        name: &str,
+        version: &str,
+        field: &str,
+    ) -> Result<(), AllocError>
+        ensures { OnOk result (self.new ≡ written_all self.old (manifest_pieces name.now version.now field.now)) }
+    {
+        self.write(Piece::Plain("[package]\nname = \""))?;
+        self.write(Piece::Marked(name))?;
+        self.write(Piece::Plain("\"\nversion = \""))?;
+        self.write(Piece::Plain(version))?;
+        self.write(Piece::Plain("\"\nlicense = \""))?;
+        self.write(Piece::Marked(field))?;
+        self.write(Piece::Plain("\"\n"))
+    }
+
+    /// The expression of the joined names, marked.
+    pub fn write_expression(&mut self, expression: &str) -> Result<(), AllocError>
+        ensures { OnOk result (self.new ≡ written_all self.old (expression_pieces expression.now)) }
+    {
+        self.write(Piece::Plain("files-expr = \""))?;
+        self.write(Piece::Marked(expression))?;
+        self.write(Piece::Plain("\"\n"))
+    }
+
+    /// The words of a listing that did not come, marked.
+    pub fn write_listing(&mut self, words: &str) -> Result<(), AllocError>
+        ensures { OnOk result (self.new ≡ written_all self.old (listing_pieces words.now)) }
+    {
+        self.write(Piece::Plain("license-files = \""))?;
+        self.write(Piece::Marked(words))?;
+        self.write(Piece::Plain("\"\n"))
+    }
+
+    /// What stands before the lines of the list.
+    pub fn open_list(&mut self) -> Result<(), AllocError>
+        ensures { OnOk result (self.new ≡ written_all self.old opening_pieces) }
+    {
+        self.write(Piece::Plain("license-files = [\n"))
+    }
+
+    /// What stands behind the lines of the list.
+    pub fn close_list(&mut self) -> Result<(), AllocError>
+        ensures { OnOk result (self.new ≡ written_all self.old closing_pieces) }
+    {
+        self.write(Piece::Plain("]\n"))
+    }
+
+    /// The line of a file.
+    pub fn write_line(
+        &mut self,
+        alloc: Global,
+        path: &str,
+        told: Told<'_>,
+    ) -> Result<(), AllocError>
+        ensures { OnOk result (self.new ≡ written_all self.old (line_pieces path.now told.entry)) }
+    {
+        self.write(Piece::Plain("    { path = \""))?;
+        self.write(Piece::Plain(path))?;
+        self.write(Piece::Plain("\", "))?;
+        self.write_told(alloc, told)?;
+        self.write(Piece::Plain(" },\n"))
+    }
+}
+
+impl Synthetic {
+    fn write_told(&mut self, alloc: Global, told: Told<'_>) -> Result<(), AllocError>
+        ensures { OnOk result (self.new ≡ written_all self.old (told_pieces told.entry)) }
+    {
+        match told {
+            Told::Joined { hash } => { self.write_hash(alloc, hash) }
+            Told::Unknown { hash, score, name } => {
+                self.write_hash(alloc, hash)?;
+                let score = score_of(alloc, score)?;
+                self.write(Piece::Plain("score = "))?;
+                self.write(Piece::Plain(score.as_str()))?;
+                self.write(Piece::Plain(", license = \""))?;
+                self.write(Piece::Marked(name))?;
+                self.write(Piece::Plain("\""))
+            }
+            Told::Low { hash, score, name } => {
+                self.write_hash(alloc, hash)?;
+                let score = score_of(alloc, score)?;
+                self.write(Piece::Plain("score = "))?;
+                self.write(Piece::Marked(score.as_str()))?;
+                self.write(Piece::Plain(", license = \""))?;
+                self.write(Piece::Plain(name))?;
+                self.write(Piece::Plain("\""))
+            }
+            Told::Unnamed { hash, score } => {
+                self.write_hash(alloc, hash)?;
+                let score = score_of(alloc, score)?;
+                self.write(Piece::Plain("score = "))?;
+                self.write(Piece::Marked(score.as_str()))
+            }
+            Told::Bad { words } => {
+                self.write(Piece::Plain("err = \""))?;
+                self.write(Piece::Marked(words))?;
+                self.write(Piece::Plain("\""))
+            }
+        }
+    }
+
+    fn write_hash(&mut self, alloc: Global, hash: u32) -> Result<(), AllocError>
+        ensures { OnOk result (self.new ≡ written_all self.old (hash_pieces hash)) }
+    {
+        let digits = format!(in alloc; "{hash:08x}")?;
+        self.write(Piece::Plain("hash = 0x"))?;
+        self.write(Piece::Plain(&digits))?;
+        self.write(Piece::Plain(", "))
+    }
+}
+
+/// A score in hundredths, as a digit or more, a point and two digits.
+fn score_of(alloc: Global, score: u32) -> Result<String, AllocError>
+    ensures { IfOk result (λ text. string_bytes text ≡ score_text score) }
+{
+    Ok(format!(in alloc; "{}.{:02}", score / 100, score % 100)?)
+}
