@@ -1,2 +1,10 @@
+pub mod DeserText
+pub mod HelperState
+pub mod Kinds
 pub mod Lookup
+pub mod Readings
+pub mod Removal
+pub mod ShapeViews
+pub mod Shaped
+pub mod Shapes
 pub mod Views

@@ -1,0 +1,30 @@
+-- Answers that are passed on.
+use Rattle.std.proofs.Common.{◌≡◌, List, [], ◌∷◌, ◌++◌, Some, None, Ok, Err, Option, refl, ap, sym, ◌∙◌}
+use Rattle.std.specs.Prelude.{IfOk}
+use Rattle.std.specs.Result.{result_ok}
+use Rattle.policy_toml.specs.Shaped.{Shaped, Tells, Gives, IsToldBy, HasFaults, shaped_map, shaped_then, faults_in}
+use Rattle.policy_toml.specs.Shapes.{Fault}
+use Rattle.policy_toml.specs.declared.shape.DeserError.{DeserError}
+use Rattle.policy_toml.specs.declared.shape.DeserError.TheVariants.{Faults, Memory}
+
+-- faults that an error tells are those of a refused reading
+pub tells : (A : Type 0) (faults : List Fault) (error : DeserError) → IsToldBy error faults → Tells {A = A} (Err faults) error
+tells A faults (Faults told) h = (ap Err (sym h.0), h.1)
+tells A faults Memory h = h
+
+-- what refuses a reading refuses what is made of it
+pub tells_map : {A B : Type 0} (f : A → B) (read : Shaped A) (error : DeserError) → Tells read error → Tells (shaped_map f read) error
+tells_map f read (Faults told) h = (ap (shaped_map f) h.0, h.1)
+tells_map f read Memory h = h
+
+pub tells_then : {A B : Type 0} (f : A → Shaped B) (read : Shaped A) (error : DeserError) → Tells read error → Tells (shaped_then f read) error
+tells_then f read (Faults told) h = (ap (shaped_then f) h.0, h.1)
+tells_then f read Memory h = h
+
+pub HasFaults-append : (before faults : List Fault) → HasFaults faults → HasFaults (before ++ faults)
+HasFaults-append [] faults h = h
+HasFaults-append (fault ∷ before) faults h = tt
+
+-- what is known of a reading that was refused
+pub faults_in-refused : {A : Type 0} (read : Shaped A) (faults : List Fault) → read ≡ Err faults → (result_ok read ≡ None) × (faults_in read ≡ faults)
+faults_in-refused read faults e = (ap result_ok e, ap faults_in e)
