@@ -11,7 +11,8 @@ use crate::policy::allowed;
 use crate::report::{CrateReport, Verdict};
 use deny_text::ListOf;
 use graph_core::lone::{Krate, MetaError, records};
-use spdx_core::{Catalog, Expression, LicenseEntry};
+use spdx_core::lone::Expression;
+use spdx_core::{Catalog, LicenseEntry};
 use std::alloc::Global;
 
 /// The licences that the policy allows, from what was heard of its file.

@@ -93,8 +93,8 @@ shown_stack : {allowed : Allowed} → List (Frame allowed) → List Item → Lis
 shown_stack [] rest = rest
 shown_stack (f ∷ fs) rest = shown_stack fs (shown f.pending (item Open f.from f.to ∷ rest))
 
-abbrev opened : {allowed : Allowed} → List (Frame allowed) → List ℕ
-opened fs = map (λ f. f.from) fs
+abbrev opened : {allowed : Allowed} → List (Frame allowed) → List Span
+opened fs = map (λ f. record { start = f.from; end = f.to }) fs
 
 abbrev Whole : (allowed : Allowed) → List (Frame allowed) → List Item → Type 0
 Whole allowed fs rest = CanRead allowed expression (shown_stack fs rest)
@@ -164,7 +164,7 @@ move {allowed = allowed} fs e whole = subst (λ all. Whole allowed fs all) e who
 nothing : {allowed : Allowed} → Pending allowed
 nothing = record { sum = None; product = None }
 
-no_close : {X : Type 0} (opened : List ℕ) (wanted : Wanted) (span : Span) (x : Option ParseError) → takes_operator wanted ≡ false
+no_close : {X : Type 0} (opened : List Span) (wanted : Wanted) (span : Span) (x : Option ParseError) → takes_operator wanted ≡ false
     → first_of (cond (has_open opened) (unless (takes_operator wanted) Unexpected span) (fault_over UnopenedParens span)) x ≡ None → X
 no_close [] wanted span x e h = no h
 no_close (o ∷ os) wants_term span x e h = no h

@@ -17,7 +17,7 @@ use Rattle.term_core.proofs.FaultLemmas.{marks_untold}
 use Rattle.spdx_core.specs.Grammar.{Tree, Rule, expression, Reads, Spells, allowed_in, simple, simple_with, grouped, one_part, and, one_conjunction, or, item}
 
 -- the faults of items behind what was read are those from a place that takes an operator
-pub record Clean (mode : ParseMode) (len : ℕ) (opened : List ℕ) (rest items : List Item) : Type 0 where
+pub record Clean (mode : ParseMode) (len : ℕ) (opened : List Span) (rest items : List Item) : Type 0 where
   pub wanted : Wanted
   pub operator : takes_operator wanted ≡ true
   pub same : fault_from mode len wants_term opened (items ++ rest) ≡ fault_from mode len wanted opened rest
@@ -25,7 +25,7 @@ pub record Clean (mode : ParseMode) (len : ℕ) (opened : List ℕ) (rest items 
 fine : (b : Bool) (span : Span) (later : Option ParseError) → b ≡ true → first_of (unless b Unexpected span) later ≡ later
 fine b span later is = ap (λ t. first_of (unless t Unexpected span) later) is
 
-pub clean : (mode : ParseMode) {rule : Rule} {n : ℕ} {items : List Item} {tree : Tree} {terms : List ExpressionReq} → Reads (allowed_in mode) rule n items tree terms → (len : ℕ) (opened : List ℕ) (rest : List Item) → Clean mode len opened rest items
+pub clean : (mode : ParseMode) {rule : Rule} {n : ℕ} {items : List Item} {tree : Tree} {terms : List ExpressionReq} → Reads (allowed_in mode) rule n items tree terms → (len : ℕ) (opened : List Span) (rest : List Item) → Clean mode len opened rest items
 clean mode (simple n named start end ok) len opened rest = record {
   wanted = AfterTerm;
   operator = refl;
@@ -37,11 +37,11 @@ clean mode (simple_with n named name start mid from to last end ok) len opened r
   same = ap (λ fault. first_of fault (fault_from mode len AfterPart opened rest)) (marks_untold mode named (record { start = start; end = mid }) ok);
 }
 clean mode (grouped n from to last end inner tree terms reads) len opened rest =
-    let c = clean mode reads len (from ∷ opened) (item Close last end ∷ rest) in
+    let c = clean mode reads len (record { start = from; end = to } ∷ opened) (item Close last end ∷ rest) in
     record {
       wanted = AfterPart;
       operator = refl;
-      same = ap (λ all. fault_from mode len wants_term (from ∷ opened) all) (append_assoc inner (item Close last end ∷ []) rest)
+      same = ap (λ all. fault_from mode len wants_term (record { start = from; end = to } ∷ opened) all) (append_assoc inner (item Close last end ∷ []) rest)
           ∙ c.same ∙ fine (takes_operator c.wanted) (record { start = last; end = end }) (fault_from mode len AfterPart opened rest) c.operator;
     }
 clean mode (one_part n items tree terms reads) len opened rest = clean mode reads len opened rest

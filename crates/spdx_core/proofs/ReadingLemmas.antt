@@ -104,3 +104,7 @@ numbered (one_conjunction n items tree terms reads) = numbered reads
 numbered (or n from to before behind left right some more l r) =
     numbered_joined n (n + length some) ((n + length some) + length more) left right (numbered l) (numbered r)
     ∙ ap Some (let e : (n + length some) + length more ≡ n + length (some ++ more) = omega (arith, length-append some more) in e)
+
+-- the last term of a list, by what `pop` says
+pub last_by : (terms front new : List ExpressionReq) (last : ExpressionReq) (name : List ℕ) (end : ℕ) → terms ≡ front ++ last ∷ [] → new ≡ front ++ term last.req.item (Some name) last.span.start end ∷ [] → new ≡ with_exception terms name end
+last_by terms front new last name end is made = made ∙ sym (last_excepted front last name end) ∙ ap (λ all. with_exception all name end) (sym is)

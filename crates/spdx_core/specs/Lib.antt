@@ -1,4 +1,9 @@
+pub mod Answers
 pub mod Expression
+pub mod ExpressionCode
+pub mod Expressions
 pub mod Grammar
 pub mod Laws
+pub mod Machine
 pub mod Reading
+pub mod Stack

@@ -1,45 +1,113 @@
-//! Licence expressions, so far of one licence name.
-ghost use Rattle.std.specs.Prelude.{◌≡◌, IfOk, Some};
-ghost use Rattle.spdx_core.specs.Expression.{expression_of};
+//! Licence expressions.
+ghost use Rattle.std.specs.Prelude.{◌≡◌, IfOk, Some, length};
+ghost use Rattle.spdx_core.specs.Expressions.{ExpressionAnswers, IsExpression};
+ghost use Rattle.spdx_core.specs.Reading.{postfix};
 
-use catalog_core::{Catalog, LicenseEntry};
+use crate::node::ExprNode;
+use crate::read::read_items;
+use catalog_core::Catalog;
 use deny_text::Text;
 use std::alloc::{AllocError, Global};
 use std::fmt;
 use std::marker::Model;
+use term_core::fault::empty_fault;
+use term_core::items::item_vec;
+use term_core::{ExprError, ExpressionReq, ParseMode};
 
-/// A licence expression as it was read: its text and its one term. It prints its text.
+/// A licence expression as it was read: its text, its terms in text order, and how they are joined. It prints its
+/// text.
 #[derive(Drop)]
 pub struct Expression {
     text: Text,
-    term: LicenseEntry,
+    terms: Vec<ExpressionReq>,
+    nodes: Vec<ExprNode>,
 }
 
 impl Model for Expression {
-    ghost use Rattle.spdx_core.specs.Expression.{ExpressionView};
+    ghost use Rattle.spdx_core.specs.Reading.{ExpressionView, tree_of};
+    ghost use Rattle.spdx_core.specs.ExpressionCode.{expression_code};
+    ghost use Rattle.spdx_core.specs.Expressions.{IsKept};
 
     ghost Value = { ExpressionView };
 
-    ghost view = { λ e. record { text = e.text; term = e.term } };
+    ghost coded = { expression_code };
+
+    ghost view = { λ e. record { text = e.text; terms = e.terms.items; tree = tree_of e.nodes.items } };
+
+    ghost invariant = { λ e. IsKept e.text e.terms.items e.nodes.items };
+}
+
+/// Copies of terms, in order.
+fn copies(alloc: Global, terms: &[ExpressionReq]) -> Result<Vec<ExpressionReq>, AllocError>
+    ensures { IfOk result (λ copy. copy.items ≡ terms.now) }
+{
+    let mut copies = Vec::new(alloc);
+    'terms: for term in terms {
+        let copy = term.copy(alloc)?;
+        copies.push(copy)?;
+    }
+    Ok(copies)
 }
 
 impl Expression {
-    /// Reads a text that is one licence name of the catalogue. There is none where the catalogue does not know the
-    /// name or calls it deprecated.
-    pub fn of_license<C: Catalog>(
+    /// Reads an expression in strict mode.
+    pub fn parse<C: Catalog>(
         alloc: Global,
-        name: &str,
+        text: &str,
         catalog: &C,
-    ) -> Result<Option<Expression>, AllocError>
-        ensures { IfOk result (λ read. read ≡ expression_of (C.lists catalog.now) name.now) }
+    ) -> Result<Expression, ExprError>
+        ensures { ExpressionAnswers ParseMode.STRICT (C.lists catalog.now) text.now result }
     {
-        match catalog.license(name) {
-            Some(term) if !term.deprecated => {
-                let text = Text::copy(alloc, name)?;
-                Ok(Some(Expression { text, term }))
-            }
-            _ => Ok(None),
+        Expression::parse_mode(alloc, text, ParseMode::STRICT, catalog)
+    }
+
+    /// Reads an expression, or tells its first fault.
+    pub fn parse_mode<C: Catalog>(
+        alloc: Global,
+        text: &str,
+        mode: ParseMode,
+        catalog: &C,
+    ) -> Result<Expression, ExprError>
+        ensures { ExpressionAnswers mode (C.lists catalog.now) text.now result }
+    {
+        let items = item_vec(alloc, text, mode, catalog)?;
+        if items.is_empty() {
+            return Err(ExprError::Parse(empty_fault(text.len())));
         }
+        let mut reader = read_items(alloc, items, mode, text.len())?;
+        reader.finish()?;
+        let text = Text::copy(alloc, text)?;
+        Ok(Expression {
+            text,
+            terms: reader.terms,
+            nodes: reader.nodes,
+        })
+    }
+
+    /// The terms in text order.
+    pub fn requirements(&self) -> &[ExpressionReq]
+        ensures terms { result.now ≡ self.now.terms }
+        ensures facts { IsExpression self.now.text self.now.terms self.now.tree }
+    {
+        self.terms.as_slice()
+    }
+
+    /// The tree in postfix form.
+    pub fn nodes(&self) -> &[ExprNode]
+        ensures nodes { result.now ≡ postfix self.now.tree }
+        ensures facts { IsExpression self.now.text self.now.terms self.now.tree }
+    {
+        self.nodes.as_slice()
+    }
+
+    /// An expression that is equal in all parts.
+    pub fn copy(&self, alloc: Global) -> Result<Expression, AllocError>
+        ensures { IfOk result (λ copy. copy ≡ self.now) }
+    {
+        let text = Text::copy(alloc, self.text.as_str())?;
+        let terms = copies(alloc, self.terms.as_slice())?;
+        let nodes = Vec::from_slice(alloc, self.nodes.as_slice())?;
+        Ok(Expression { text, terms, nodes })
     }
 
     /// The text as it was read.
@@ -47,13 +115,6 @@ impl Expression {
         ensures { result.now ≡ self.now.text }
     {
         self.text.as_str()
-    }
-
-    /// What the catalogue says of the one term.
-    pub fn term(&self) -> LicenseEntry
-        ensures { result ≡ self.now.term }
-    {
-        self.term
     }
 }
 

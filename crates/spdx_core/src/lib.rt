@@ -3,12 +3,17 @@
 
 pub mod expression;
 pub mod laws;
+pub mod lone;
 pub mod node;
+mod read;
+mod reader;
+mod stack;
 #[cfg(test)]
 mod tests;
 
 pub use catalog_core::{Catalog, Identifier, Imprecise, LicenseEntry, LicenseStore, Match, Table};
 pub use expression::Expression;
+pub use node::ExprNode;
 pub use term_core::{
     ExprError, ExpressionReq, Family, LicenseItem, LicenseReq, Licensee, ParseError, ParseMode,
     ParseReason,

@@ -71,7 +71,7 @@ first_of None later = later
 first_of (Some fault) later = Some fault
 
 -- some parenthesis is open
-abbrev pub has_open : List ℕ → Bool
+abbrev pub has_open : List Span → Bool
 has_open [] = false
 has_open (last ∷ rest) = true
 
@@ -89,32 +89,32 @@ fault_at mode wanted opened Word span = fault_over (word_reason wanted) span
 fault_at mode wanted opened Other span = fault_over InvalidCharacters span
 
 -- the open parentheses behind an item
-abbrev pub opened_after : List ℕ → What → Span → List ℕ
+abbrev pub opened_after : List Span → What → Span → List Span
 opened_after opened (Term simple) span = opened
 opened_after opened (Exception name) span = opened
 opened_after opened And span = opened
 opened_after opened Or span = opened
 opened_after opened With span = opened
-opened_after opened Open span = span.start ∷ opened
+opened_after opened Open span = span ∷ opened
 opened_after opened Close span = drop 1 opened
 opened_after opened Plus span = opened
 opened_after opened Word span = opened
 opened_after opened Other span = opened
 
--- the place of the last open parenthesis
-abbrev pub last_open : List ℕ → Option ℕ
+-- where the last open parenthesis stands
+abbrev pub last_open : List Span → Option Span
 last_open [] = None
 last_open (last ∷ rest) = Some last
 
-abbrev pub unclosed_fault : Option ℕ → Option ParseError
+abbrev pub unclosed_fault : Option Span → Option ParseError
 unclosed_fault None = None
-unclosed_fault (Some last) = fault UnclosedParens last (last + 1)
+unclosed_fault (Some last) = fault_over UnclosedParens last
 
 -- what is wrong at the end of a text of so many bytes, by the last open parenthesis
-abbrev pub end_fault : ℕ → Wanted → Option ℕ → Option ParseError
+abbrev pub end_fault : ℕ → Wanted → Option Span → Option ParseError
 end_fault len wanted opened = if takes_operator wanted then unclosed_fault opened else fault Unexpected len len
 
-abbrev pub fault_from : ParseMode → ℕ → Wanted → List ℕ → List Item → Option ParseError
+abbrev pub fault_from : ParseMode → ℕ → Wanted → List Span → List Item → Option ParseError
 fault_from mode len wanted opened [] = end_fault len wanted (last_open opened)
 fault_from mode len wanted opened (item ∷ items) =
     first_of (fault_at mode wanted (has_open opened) item.what item.span)

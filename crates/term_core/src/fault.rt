@@ -1,6 +1,5 @@
 //! What is wrong with an item where it stands.
-ghost use Rattle.std.specs.Prelude.{◌≡◌, ◌+◌, ◌<◌, ◌^◌, Some};
-ghost use Rattle.std.specs.Option.{ForSome};
+ghost use Rattle.std.specs.Prelude.{◌≡◌, Some};
 ghost use Rattle.term_core.specs.Faults.{takes_term, takes_exception, takes_operator, takes_with, word_reason, fault as fault_between, unless as unless_fine, mark_fault as mark_fault_of, fault_at, end_fault as end_fault_at};
 
 use crate::error::{ParseError, ParseReason};
@@ -107,9 +106,8 @@ pub fn item_fault(item: &Item, mode: ParseMode, wanted: Wanted, is_open: bool) -
     }
 }
 
-/// What is wrong at the end of a text of so many bytes, by the place of the last open parenthesis.
-pub fn end_fault(len: usize, wanted: Wanted, opened: Option<usize>) -> Option<ParseError>
-    requires { ForSome opened (λ place. place + 1 < 2 ^ 64) }
+/// What is wrong at the end of a text of so many bytes, by the last open parenthesis.
+pub fn end_fault(len: usize, wanted: Wanted, opened: Option<Span>) -> Option<ParseError>
     ensures { result ≡ end_fault_at len wanted opened }
 {
     if !wanted.is_operator() {
@@ -124,16 +122,10 @@ pub fn end_fault(len: usize, wanted: Wanted, opened: Option<usize>) -> Option<Pa
     }
     match opened {
         None => None,
-        Some(start) => {
-            let span = Span {
-                start,
-                end: start + 1,
-            };
-            Some(ParseError {
-                reason: ParseReason::UnclosedParens,
-                span,
-            })
-        }
+        Some(span) => Some(ParseError {
+            reason: ParseReason::UnclosedParens,
+            span,
+        }),
     }
 }
 

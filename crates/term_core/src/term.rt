@@ -1,9 +1,10 @@
 //! The terms of licence expressions.
-ghost use Rattle.std.specs.Prelude.{◌≡◌, ◌↔◌, ◌⊎◌, IsTrue, Some};
+ghost use Rattle.std.specs.Prelude.{◌≡◌, ◌↔◌, ◌⊎◌, IfOk, IsTrue, Some};
 ghost use Rattle.term_core.specs.Terms.{item_text, req_text, family_of};
 ghost use Rattle.term_core.specs.Satisfaction.{SatisfiesItem, Satisfies, IsSameVersion, IsLaterVersion};
 
 use deny_text::{Span, Text};
+use std::alloc::{AllocError, Global};
 use std::fmt;
 
 /// What a term names.
@@ -59,6 +60,62 @@ impl LicenseReq {
             LicenseItem::Spdx { family, .. } => Family::Spdx(*family),
             LicenseItem::Reference { .. } => Family::Reference,
         }
+    }
+}
+
+/// A copy of a text that may be there.
+fn copied(alloc: Global, text: &Option<Text>) -> Result<Option<Text>, AllocError>
+    ensures { IfOk result (λ copy. copy ≡ text.now) }
+{
+    match text {
+        None => Ok(None),
+        Some(text) => {
+            let copy = Text::copy(alloc, text.as_str())?;
+            Ok(Some(copy))
+        }
+    }
+}
+
+impl LicenseItem {
+    pub fn copy(&self, alloc: Global) -> Result<LicenseItem, AllocError>
+        ensures { IfOk result (λ copy. copy ≡ self.now) }
+    {
+        match self {
+            LicenseItem::Spdx {
+                name,
+                family,
+                rank,
+                later,
+                plus,
+            } => {
+                let name = Text::copy(alloc, name.as_str())?;
+                Ok(LicenseItem::Spdx {
+                    name,
+                    family: *family,
+                    rank: *rank,
+                    later: *later,
+                    plus: *plus,
+                })
+            }
+            LicenseItem::Reference { doc, id } => {
+                let doc = copied(alloc, doc)?;
+                let id = Text::copy(alloc, id.as_str())?;
+                Ok(LicenseItem::Reference { doc, id })
+            }
+        }
+    }
+}
+
+impl ExpressionReq {
+    pub fn copy(&self, alloc: Global) -> Result<ExpressionReq, AllocError>
+        ensures { IfOk result (λ copy. copy ≡ self.now) }
+    {
+        let item = self.req.item.copy(alloc)?;
+        let exception = copied(alloc, &self.req.exception)?;
+        Ok(ExpressionReq {
+            req: LicenseReq { item, exception },
+            span: self.span,
+        })
     }
 }
 

@@ -1,0 +1,166 @@
+//! The reader of licence expressions: one pass over the items, with a level for each open parenthesis.
+ghost use Rattle.std.specs.Prelude.{◌≡◌, OnOk, Some, None};
+ghost use Rattle.spdx_core.specs.Machine.{machine_of, advanced, after_part as part_after, after_or as or_after, after_close as close_after, after_open as open_after, no_machine, written};
+ghost use Rattle.spdx_core.specs.Reading.{with_exception, excepted as with_name};
+
+use crate::node::ExprNode;
+use crate::stack::Stack;
+use deny_text::{Span, Text};
+use std::alloc::{AllocError, Global};
+use term_core::item::{Simple, What};
+use term_core::{ExpressionReq, LicenseReq};
+
+/// What waits for its right side between two parentheses.
+#[derive(Clone, Copy)]
+pub struct Waits {
+    pub or: bool,
+    /// A part was read, so that the next one goes to it by an `AND`.
+    pub and: bool,
+}
+
+impl Waits {
+    const NOTHING: Waits = Waits {
+        or: false,
+        and: false,
+    };
+}
+
+/// What was read so far: the nodes and terms, and what waits, in each open parenthesis and in the one at hand.
+#[derive(Drop)]
+pub struct Reader {
+    pub outer: Stack<Waits>,
+    pub level: Waits,
+    pub nodes: Vec<ExprNode>,
+    pub terms: Vec<ExpressionReq>,
+}
+
+/// A term with an exception, which ends where that ends.
+fn excepted(term: ExpressionReq, name: Text, end: usize) -> ExpressionReq
+    ensures { result ≡ with_name term name end }
+{
+    let ExpressionReq { req, span } = term;
+    let LicenseReq { item, exception: _ } = req;
+    ExpressionReq {
+        req: LicenseReq {
+            item,
+            exception: Some(name),
+        },
+        span: Span {
+            start: span.start,
+            end,
+        },
+    }
+}
+
+/// The last term gets an exception, and ends where that ends.
+fn except_last(terms: &mut Vec<ExpressionReq>, name: Text, end: usize) -> Result<(), AllocError>
+    ensures { OnOk result (terms.new.items ≡ with_exception terms.old.items name end) }
+{
+    match terms.pop() {
+        None => Ok(()),
+        Some(last) => {
+            terms.push(excepted(last, name, end))?;
+            Ok(())
+        }
+    }
+}
+
+impl Reader {
+    pub fn new(alloc: Global) -> Reader
+        ensures { machine_of result ≡ no_machine }
+    {
+        Reader {
+            outer: Stack::new(alloc),
+            level: Waits::NOTHING,
+            nodes: Vec::new(alloc),
+            terms: Vec::new(alloc),
+        }
+    }
+
+    /// An `AND` that waits has its right side.
+    fn end_part(&mut self) -> Result<(), AllocError>
+        ensures { OnOk result (machine_of self.new ≡ part_after (machine_of self.old)) }
+    {
+        if self.level.and {
+            self.nodes.push(ExprNode::And)?;
+        }
+        self.level.and = true;
+        Ok(())
+    }
+
+    /// An `OR` that waits has its right side, and another one follows.
+    fn end_conjunction(&mut self) -> Result<(), AllocError>
+        ensures { OnOk result (machine_of self.new ≡ or_after (machine_of self.old)) }
+    {
+        if self.level.or {
+            self.nodes.push(ExprNode::Or)?;
+        }
+        self.level = Waits {
+            or: true,
+            and: false,
+        };
+        Ok(())
+    }
+
+    /// A `)` makes one part of its level.
+    fn close(&mut self) -> Result<(), AllocError>
+        ensures { OnOk result (machine_of self.new ≡ close_after (machine_of self.old).outer (machine_of self.old)) }
+    {
+        match self.outer.pop() {
+            None => Ok(()),
+            Some(last) => {
+                if self.level.or {
+                    self.nodes.push(ExprNode::Or)?;
+                }
+                self.level = last;
+                self.end_part()
+            }
+        }
+    }
+
+    fn term(&mut self, named: Simple, span: Span) -> Result<(), AllocError>
+        ensures { OnOk result (machine_of self.new ≡ advanced (machine_of self.old) (What.Term named) span) }
+    {
+        let place = self.terms.len();
+        self.nodes.push(ExprNode::Term(place))?;
+        let req = LicenseReq {
+            item: named.item,
+            exception: None,
+        };
+        self.terms.push(ExpressionReq { req, span })?;
+        self.end_part()
+    }
+
+    fn open(&mut self) -> Result<(), AllocError>
+        ensures { OnOk result (machine_of self.new ≡ open_after (machine_of self.old)) }
+    {
+        self.outer.push(self.level)?;
+        self.level = Waits::NOTHING;
+        Ok(())
+    }
+
+    /// Takes an item that has no fault.
+    pub fn take(&mut self, what: What, span: Span) -> Result<(), AllocError>
+        ensures { OnOk result (machine_of self.new ≡ advanced (machine_of self.old) what span) }
+    {
+        match what {
+            What::Term(named) => self.term(named, span),
+            What::Exception(name) => except_last(&mut self.terms, name, span.end),
+            What::Or => self.end_conjunction(),
+            What::Open => self.open(),
+            What::Close => self.close(),
+            What::And | What::With | What::Plus | What::Word | What::Other => Ok(()),
+        }
+    }
+
+    /// The nodes are whole: an `OR` that waits has its right side.
+    pub fn finish(&mut self) -> Result<(), AllocError>
+        ensures nodes { OnOk result (self.new.nodes.items ≡ written self.old.level.or ExprNode.Or self.old.nodes.items) }
+        ensures terms { OnOk result (self.new.terms ≡ self.old.terms) }
+    {
+        if self.level.or {
+            self.nodes.push(ExprNode::Or)?;
+        }
+        Ok(())
+    }
+}
