@@ -1,24 +1,23 @@
 -- Escapes, and where they end.
-use Rattle.std.proofs.Common.{◌≡◌, ℕ, zero, suc, ◌+◌, ◌-◌, ◌<◌, ◌≤◌, ◌⊎◌, inl, inr, ⊎_elim, Bool, true, false, cond, eqb, min, nat_lt, nat_le, unwrap_or, ◌&&◌, ◌||◌, List, [], ◌∷◌, length, get_or, slice_get, take, drop, Option, Some, None, option_map, true≢false, refl, ap, sym, subst, ◌∙◌, eqb-true, eq-eqb, arith, length-drop}
+use Rattle.std.proofs.Common.{◌≡◌, ℕ, zero, suc, ◌+◌, ◌-◌, ◌<◌, ◌≤◌, ◌⊎◌, inl, inr, ⊎_elim, Bool, true, false, cond, eqb, nat_lt, nat_le, unwrap_or, ◌&&◌, ◌||◌, List, [], ◌∷◌, length, get_or, slice_get, take, drop, Option, Some, None, option_map, true≢false, refl, ap, sym, subst, ◌∙◌, eqb-true, eq-eqb, arith, length-drop}
 use Rattle.std.proofs.lemmas.Bool.Decides.{nat_tests}
 use Rattle.std.proofs.lemmas.List.Sums.{prefix_len-le-length}
-use Rattle.std.proofs.lemmas.Str.{IsCharBoundary-before_ascii, IsCharBoundary-after_ascii}
+use Rattle.std.proofs.lemmas.Str.{IsCharBoundary-after_ascii}
 use Rattle.std.specs.List.{prefix_len, list_all}
 use Rattle.std.specs.Option.{SomeIff}
 use Rattle.std.specs.Prelude.{IsTrue, encode_utf8}
 use Rattle.std.specs.Str.{IsCharBoundary, IsUtf8}
 use Rattle.toml_subset.specs.Bytes.{quote, apostrophe, is_blank, line_feed, carriage_return, is_letter, is_digit}
 use Rattle.toml_subset.specs.Numbers.{is_digit_in, digit_value, count}
-use Rattle.toml_subset.specs.Places.{stands, run_end, after_blanks, lines_over, after_lines_of, after_white, line_end}
+use Rattle.toml_subset.specs.Places.{stands, after_blanks, lines_over, after_lines_of, after_white, line_end}
 use Rattle.toml_subset.specs.StringViews.{EndsOnBorder, GoesOn}
 use Rattle.toml_subset.specs.declared.strings.Special.{Special}
 use Rattle.toml_subset.specs.declared.strings.Special.TheVariants.{Closing, Escape, Broken}
 use Rattle.toml_subset.specs.Strings.{Quoting, basic, literal, long_basic, long_literal, is_scalar, scalar_of, letter_escape, marks_at, opening, opening_of}
-use Rattle.toml_subset.proofs.PlainRuns.{prefix_take, passes_is}
+use Rattle.toml_subset.proofs.PlainRuns.{prefix_take}
 use Rattle.toml_subset.proofs.Runs.{byte_passes, run_end_passes}
-use Rattle.toml_subset.proofs.Law.Basics.{is_some, if_is, if_true, if_false}
-use Rattle.toml_subset.proofs.Law.Forward.{Past, line_end_past}
-use Rattle.toml_subset.proofs.Law.Fronts.{line_end_inside, passes_inside, and_last}
+use Rattle.toml_subset.proofs.Law.Basics.{is_some, if_is}
+use Rattle.toml_subset.proofs.Law.Fronts.{and_last}
 
 -- digits
 

@@ -5,7 +5,7 @@ use Rattle.std.proofs.lemmas.List.Sums.{prefix_len-le-length}
 use Rattle.std.proofs.lemmas.Str.{IsCharBoundary-before_ascii, IsCharBoundary-after_ascii}
 use Rattle.std.specs.Str.{IsCharBoundary, IsUtf8}
 use Rattle.toml_subset.specs.Answer.{Read, then_read, Answers}
-use Rattle.toml_subset.specs.Bytes.{dot, is_bare, is_letter, is_digit}
+use Rattle.toml_subset.specs.Bytes.{dot, is_bare}
 use Rattle.toml_subset.specs.Places.{passes_at, stands, run_end, after_blanks}
 use Rattle.toml_subset.specs.StringReading.{KeyFound, KeysFound, read_key, keys_behind, read_keys, keys_at}
 use Rattle.toml_subset.specs.declared.error.SyntaxError.{SyntaxError}

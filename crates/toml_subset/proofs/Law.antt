@@ -3,6 +3,7 @@ pub mod Depths
 pub mod Forward
 pub mod Fronts
 pub mod Headers
+pub mod InText
 pub mod Inside
 pub mod Scalars
 pub mod Steady

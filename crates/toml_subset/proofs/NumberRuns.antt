@@ -1,8 +1,8 @@
 -- Number runs in a text.
-use Rattle.std.proofs.Common.{◌≡◌, ℕ, ◌+◌, ◌-◌, ◌<◌, ◌≤◌, ◌⊎◌, inl, inr, ⊎_elim, Bool, true, false, cond, ◌||◌, List, [], ◌∷◌, length, get_or, take, drop, Ok, Err, true≢false, refl, ap, sym, subst, ◌∙◌, arith}
+use Rattle.std.proofs.Common.{◌≡◌, ℕ, ◌+◌, ◌-◌, ◌<◌, ◌⊎◌, inl, inr, ⊎_elim, Bool, true, false, cond, ◌||◌, List, [], ◌∷◌, take, drop, Ok, Err, true≢false, refl, ap, sym, ◌∙◌, arith}
 use Rattle.std.proofs.lemmas.Bool.Decides.{nat_tests}
 use Rattle.std.specs.List.{prefix_len}
-use Rattle.toml_subset.specs.Bytes.{is_run, begins_run, is_letter, is_digit}
+use Rattle.toml_subset.specs.Bytes.{is_run, begins_run}
 use Rattle.toml_subset.specs.Answer.{fault_at}
 use Rattle.toml_subset.specs.Classes.{class_answer, number_found}
 use Rattle.toml_subset.specs.Faults.{begins_number}

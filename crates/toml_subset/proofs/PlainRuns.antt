@@ -1,5 +1,5 @@
 -- Runs counted byte by byte, and pieces of strings one after another.
-use Rattle.std.proofs.Common.{◌≡◌, ℕ, zero, suc, ◌+◌, ◌-◌, ◌<◌, ◌≤◌, ◌⊎◌, inl, inr, ⊎_elim, Bool, true, false, cond, eqb, nat_le, nat_lt, min, length-drop, not, ◌||◌, ◌&&◌, List, [], ◌∷◌, ◌++◌, length, get_or, take, drop, Option, Some, None, is_some as option_is_some, Ok, Err, slice_get, true≢false, refl, ap, sym, subst, ◌∙◌, append_assoc, append-nil, drop-cons, arith, eqb-true}
+use Rattle.std.proofs.Common.{◌≡◌, ℕ, zero, suc, ◌+◌, ◌-◌, ◌<◌, ◌≤◌, Bool, true, false, cond, eqb, nat_lt, min, length-drop, not, ◌||◌, ◌&&◌, List, [], ◌∷◌, ◌++◌, length, get_or, take, drop, Option, Some, None, is_some as option_is_some, Ok, Err, slice_get, true≢false, refl, ap, sym, subst, ◌∙◌, append_assoc, append-nil, drop-cons, arith, eqb-true}
 use Rattle.std.proofs.Math.Seq.{take-add}
 use Rattle.std.proofs.lemmas.Bool.Decides.{nat_tests}
 use Rattle.std.proofs.lemmas.List.{drop-drop}
@@ -11,8 +11,8 @@ use Rattle.toml_subset.specs.Answer.{Read, then_read}
 use Rattle.toml_subset.specs.Bytes.{backslash, may_stand}
 use Rattle.toml_subset.specs.Places.{front_is, from_to, passes_at, stands, line_end}
 use Rattle.toml_subset.specs.StringReading.{Pieces, after_part, part_fault, read_pieces, string_from}
-use Rattle.toml_subset.specs.StringViews.{is_plain, IsPlainRun, onto, IsRead, kept_at}
-use Rattle.toml_subset.specs.Strings.{Quoting, basic, literal, long_basic, long_literal, written_of, mark_of, is_long, has_escapes, marks_at, Piece, Part, piece, closing, broken, escaped_piece, plain_piece, escape_at, mark_at, plain_at, part_at, text_of}
+use Rattle.toml_subset.specs.StringViews.{is_plain, IsPlainRun, onto, IsRead}
+use Rattle.toml_subset.specs.Strings.{Quoting, basic, literal, long_basic, long_literal, written_of, mark_of, is_long, has_escapes, marks_at, Piece, Part, piece, closing, broken, plain_piece, escape_at, mark_at, plain_at, part_at, text_of}
 use Rattle.toml_subset.proofs.Runs.{byte_passes}
 use Rattle.toml_subset.proofs.Law.Basics.{if_false}
 use Rattle.toml_subset.proofs.Law.Forward.{piece_goes}

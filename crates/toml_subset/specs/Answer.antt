@@ -1,6 +1,5 @@
 -- What reading answers: what stands at a place, or the first fault.
-use Rattle.std.specs.Prelude.{◌≡◌, ℕ, ◌+◌, nat_lt, if◌then◌else◌, List, Option, Some, None, Result, Ok, Err, length, ⊤}
-use Rattle.deny_text.specs.declared.span.Span.{Span}
+use Rattle.std.specs.Prelude.{◌≡◌, ℕ, nat_lt, if◌then◌else◌, List, Option, Some, None, Result, Ok, Err, length, ⊤}
 use Rattle.toml_subset.specs.Places.{from_to, char_end}
 use Rattle.toml_subset.specs.declared.error.SyntaxError.{SyntaxError}
 use Rattle.toml_subset.specs.declared.error.SyntaxReason.{SyntaxReason}

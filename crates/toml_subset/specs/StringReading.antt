@@ -1,5 +1,5 @@
 -- Strings and keys, read from left to right.
-use Rattle.std.specs.Prelude.{ℕ, zero, suc, ◌+◌, Bool, ◌||◌, ◌&&◌, ◌==◌, nat_le, nat_lt, if◌then◌else◌, false, List, [], ◌∷◌, Option, Some, None, Ok, Err, length, take, drop}
+use Rattle.std.specs.Prelude.{ℕ, zero, suc, ◌+◌, Bool, ◌||◌, ◌&&◌, ◌==◌, nat_le, nat_lt, if◌then◌else◌, false, List, [], ◌∷◌, Some, None, Ok, Err, length, take, drop}
 use Rattle.std.specs.List.{prefix_len}
 use Rattle.deny_text.specs.declared.span.Span.{Span}
 use Rattle.toml_subset.specs.Answer.{Read, fault_at, stuck, then_read}

@@ -1,7 +1,9 @@
 //! Laws of the definition, as contracts of functions that do nothing.
-ghost use Rattle.std.specs.Prelude.{◌≡◌, ◌≤◌, ℕ, List, Ok, false, slice_range};
+ghost use Rattle.std.specs.Prelude.{◌≡◌, ◌≤◌, ℕ, List, Ok, Err, false, slice_range};
 ghost use Rattle.deny_text.specs.declared.span.Span.{Span};
 ghost use Rattle.toml_subset.specs.Data.{Content, Toml, depth_limit};
+ghost use Rattle.toml_subset.specs.declared.error.SyntaxError.{SyntaxError};
+ghost use Rattle.toml_subset.specs.Faults.{LiesIn};
 ghost use Rattle.toml_subset.specs.Reading.{enough, read_value, value_at, read_text};
 ghost use Rattle.toml_subset.specs.Strings.{Quoting, IsString};
 ghost use Rattle.toml_subset.specs.Text.{IsText, StandsAs};
@@ -24,6 +26,11 @@ pub fn reading_a_value_answers_where_one_stands()
 /// A larger bound on how often reading a value calls itself changes no answer.
 pub fn more_calls_change_no_answer()
     ensures { (text : List ℕ) (above i n : ℕ) → above ≤ depth_limit → enough text ≤ n → read_value n text above i ≡ value_at text above i }
+{}
+
+/// The first fault of a text lies in it.
+pub fn faults_lie_in_the_text()
+    ensures { (text : List ℕ) (fault : SyntaxError) → read_text text ≡ Err fault → LiesIn text fault.span }
 {}
 
 /// A text stands for at most one value.

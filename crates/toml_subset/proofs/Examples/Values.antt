@@ -1,10 +1,9 @@
 -- Values with their places, and faults of values, each as reading computes it (place 0 is the value's first byte).
-use Rattle.std.proofs.Common.{◌≡◌, ℕ, ◌+◌, Bool, true, false, List, [], ◌∷◌, ◌++◌, Ok, Err, pos, replicate, refl, codes}
+use Rattle.std.proofs.Common.{◌≡◌, ℕ, ◌+◌, Bool, true, false, List, [], ◌∷◌, Ok, Err, pos, replicate, refl, codes}
 use Rattle.toml_subset.specs.Answer.{fault_at}
 use Rattle.toml_subset.specs.Data as «data»
 use Rattle.toml_subset.specs.Places.{from_to}
 use Rattle.toml_subset.specs.Reading.{value_at}
-use Rattle.toml_subset.specs.Written.{Written}
 use Rattle.toml_subset.specs.declared.error.SyntaxReason.{SyntaxReason}
 use Rattle.toml_subset.specs.declared.error.SyntaxReason.TheVariants.{UnexpectedEnd, Unexpected, InvalidEscape, ControlCharacter, NumberForm, DuplicateKey, RedefinedTable, TooDeep}
 use Rattle.toml_subset.specs.declared.string.Key.{Key}

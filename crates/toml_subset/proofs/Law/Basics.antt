@@ -1,5 +1,5 @@
 -- What follows from an answer.
-use Rattle.std.proofs.Common.{◌≡◌, ℕ, ◌⊎◌, inl, inr, Bool, true, false, cond, List, Option, Some, None, Ok, Err, option_map, option_and_then, true≢false, refl, ap, sym, ◌∙◌}
+use Rattle.std.proofs.Common.{◌≡◌, ℕ, ◌⊎◌, inl, inr, Bool, true, false, cond, List, Option, Some, None, Ok, Err, option_map, option_and_then, true≢false, refl, ap, sym}
 use Rattle.toml_subset.specs.Answer.{Read, then_read, unless}
 use Rattle.toml_subset.specs.Reading.{made}
 use Rattle.toml_subset.specs.declared.error.SyntaxError.{SyntaxError}

@@ -1,9 +1,9 @@
 -- How deep the values of a tree stand, and what edits make of it.
-use Rattle.std.proofs.Common.{◌≡◌, ℕ, ◌+◌, ◌<◌, ◌≤◌, ◌⊎◌, ⊎_elim, Bool, true, false, cond, max, Option, Some, None, option_map, true≢false, refl, ap, sym, subst, ◌∙◌, arith}
+use Rattle.std.proofs.Common.{◌≡◌, ℕ, ◌+◌, ◌≤◌, ⊎_elim, true, false, max, Option, Some, None, option_map, true≢false, refl, ap, sym, subst, ◌∙◌, arith}
 use Rattle.deny_text.specs.declared.span.Span.{Span}
 use Rattle.toml_subset.specs.Data.{depth_of, items_depth, entries_depth}
 use Rattle.toml_subset.specs.TableFaults.{Inside, node_at, last_of, inside_any, inside_dotted}
-use Rattle.toml_subset.specs.Tables.{Mark, by_header, implicit, dotted, Node, Branches, Bodies, closed, growing, tables, unbranched, branch, last, body, content_of, entries_of, items_of, same_key, has_key, added, changed, in_last, through_any, through_dotted, with_table}
+use Rattle.toml_subset.specs.Tables.{by_header, implicit, dotted, Node, Branches, Bodies, closed, growing, tables, unbranched, branch, last, body, content_of, entries_of, items_of, same_key, has_key, added, changed, in_last, through_any, through_dotted, with_table}
 use Rattle.toml_subset.specs.declared.string.Key.{Key}
 use Rattle.toml_subset.proofs.Law.Basics.{map_some, is_some, if_is, if_true, if_false}
 

@@ -1,11 +1,11 @@
 -- Headers, and edits in the table that a header opened.
-use Rattle.std.proofs.Common.{◌≡◌, ℕ, ◌+◌, ◌<◌, ◌≤◌, ◌⊎◌, ⊎_elim, Bool, true, false, cond, eqb, nat_lt, max, List, [], ◌∷◌, Option, Some, None, refl, ap, sym, subst, ◌∙◌, eqb-true, arith}
+use Rattle.std.proofs.Common.{◌≡◌, ℕ, ◌+◌, ◌≤◌, ⊎_elim, cond, eqb, nat_lt, List, [], ◌∷◌, Option, Some, None, refl, ap, sym, subst, ◌∙◌, arith}
 use Rattle.std.proofs.lemmas.Bool.Decides.{nat_tests}
 use Rattle.deny_text.specs.declared.span.Span.{Span}
 use Rattle.toml_subset.specs.Data.{depth_limit}
 use Rattle.toml_subset.specs.Reading.{section_of}
 use Rattle.toml_subset.specs.TableFaults.{Inside, node_at, inside_any, refused, taken_over_fault, open_table_fault, header_fault, appended_fault, open_array_fault, array_header_fault}
-use Rattle.toml_subset.specs.Tables.{by_header, implicit, dotted, Node, Branches, closed, growing, tables, unbranched, last, has_key, added, changed, through_any, along, take_over, open_table, append_to, open_array, with_table, within}
+use Rattle.toml_subset.specs.Tables.{by_header, implicit, dotted, Node, Branches, closed, growing, tables, unbranched, last, has_key, added, changed, through_any, along, take_over, open_table, append_to, open_array, within}
 use Rattle.toml_subset.specs.declared.error.SyntaxError.{SyntaxError}
 use Rattle.toml_subset.specs.declared.error.SyntaxReason.TheVariants.{TooDeep}
 use Rattle.toml_subset.specs.declared.string.Key.{Key}

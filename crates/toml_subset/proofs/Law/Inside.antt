@@ -1,9 +1,9 @@
 -- A value that stands in a text ends in it.
-use Rattle.std.proofs.Common.{◌≡◌, ℕ, zero, suc, ◌+◌, ◌-◌, ◌<◌, ◌≤◌, ◌⊎◌, inl, inr, ⊎_elim, Bool, true, false, cond, eqb, nat_le, ◌&&◌, ◌||◌, List, [], ◌∷◌, length, take, drop, Option, Some, None, is_some as option_is_some, slice_get, refl, ap, sym, subst, ◌∙◌, arith, length-drop, eqb-true}
+use Rattle.std.proofs.Common.{◌≡◌, ℕ, zero, suc, ◌+◌, ◌≤◌, inl, inr, Bool, true, false, cond, eqb, nat_le, ◌&&◌, ◌||◌, List, [], ◌∷◌, length, take, drop, Some, None, is_some as option_is_some, slice_get, refl, ap, subst, arith, length-drop, eqb-true}
 use Rattle.std.proofs.lemmas.List.Sums.{prefix_len-le-length}
 use Rattle.deny_text.specs.declared.span.Span.{Span}
-use Rattle.toml_subset.specs.Bytes.{backslash, comma, close_bracket, close_brace, begins_run, is_run, may_stand}
-use Rattle.toml_subset.specs.Places.{stands, run_end, after_blanks, after_white, after_space, line_end}
+use Rattle.toml_subset.specs.Bytes.{backslash, close_bracket, close_brace, begins_run, is_run, may_stand}
+use Rattle.toml_subset.specs.Places.{stands, after_blanks, after_white, after_space, line_end}
 use Rattle.toml_subset.specs.Raw.{Raw, RawItems, RawEntries, raw_text, raw_integer, raw_decimal, raw_boolean, raw_array, raw_table, raw_none, raw_item, raw_empty, raw_entry, IsNumber, IsWord, IsValue, AreItems, AreItemsBehind, AreEntries, AreEntriesBehind, word_of}
 use Rattle.toml_subset.specs.Numbers.{Class}
 use Rattle.toml_subset.specs.Strings.{Quoting, Piece, Part, piece, closing, broken, mark_of, is_long, has_escapes, marks_at, scalar_of, letter_escape, escaped_piece, plain_piece, scalar_escape, trimming_escape, escape_by, escape_at, mark_at, plain_at, part_at, ArePieces}
@@ -76,7 +76,7 @@ part_in kind text i =
     in_if (stands text i (mark_of kind)) text _ _ (mark_in kind text i)
     (in_if (has_escapes kind && stands text i backslash) text _ _ (λ h. escape_at_in kind text i) (plain_in kind text i))
 
-pieces_in : (kind : Quoting) (text : List ℕ) (i : ℕ) (ps : List Piece) (close next : ℕ) → ArePieces kind text i ps close next → next ≤ length text
+pub pieces_in : (kind : Quoting) (text : List ℕ) (i : ℕ) (ps : List Piece) (close next : ℕ) → ArePieces kind text i ps close next → next ≤ length text
 pieces_in kind text i [] close next is = subst (ClosesIn text) is.0 (part_in kind text i)
 pieces_in kind text i (p ∷ ps) close next is = pieces_in kind text is.0 ps close next is.2
 
@@ -90,7 +90,7 @@ number_in text i class span next is =
     let rest = length-drop i text in
     omega arith
 
-take_within : (n : ℕ) (s : List ℕ) → length (take n s) ≤ length s
+pub take_within : (n : ℕ) (s : List ℕ) → length (take n s) ≤ length s
 take_within zero s = omega arith
 take_within (suc n) [] = omega arith
 take_within (suc n) (c ∷ cs) = let rest = take_within n cs in omega arith

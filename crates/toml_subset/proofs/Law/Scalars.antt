@@ -1,23 +1,22 @@
 -- Numbers, words and strings are read exactly where they stand as values.
-use Rattle.std.proofs.Common.{◌≡◌, ℕ, zero, suc, ◌+◌, ◌<◌, ◌≤◌, ◌⊎◌, inl, inr, ⊎_elim, Bool, true, false, cond, eqb, ◌||◌, List, [], ◌∷◌, length, take, drop, Option, Some, None, Ok, Err, true≢false, refl, ap, sym, subst, ◌∙◌, eqb-true, eq-eqb, arith}
-use Rattle.std.proofs.lemmas.Bool.Decides.{nat_tests}
+use Rattle.std.proofs.Common.{◌≡◌, ℕ, zero, suc, ◌+◌, ◌≤◌, ⊎_elim, Bool, true, false, cond, eqb, ◌||◌, List, [], ◌∷◌, length, take, drop, Some, Ok, Err, true≢false, refl, ap, sym, subst, ◌∙◌, eqb-true, eq-eqb, arith}
 use Rattle.std.specs.List.{prefix_len}
 use Rattle.deny_text.specs.declared.span.Span.{Span}
 use Rattle.toml_subset.specs.Answer.{Read, stuck, then_read}
-use Rattle.toml_subset.specs.Bytes.{quote, apostrophe, open_bracket, open_brace, close_bracket, is_run, begins_run, may_stand}
+use Rattle.toml_subset.specs.Bytes.{quote, apostrophe, is_run, begins_run}
 use Rattle.toml_subset.specs.Data as «data»
 use Rattle.toml_subset.specs.Data.{Content, depth_of}
 use Rattle.toml_subset.specs.Faults.{begins_number}
 use Rattle.toml_subset.specs.Numbers.{Class, unsupported, number_form, number_range, integer, decimal, class_of, is_special}
-use Rattle.toml_subset.specs.Places.{front_is, from_to, passes_at, stands, run_end, run_at}
-use Rattle.toml_subset.specs.Raw.{Raw, raw_text, raw_integer, raw_decimal, raw_boolean, raw_array, raw_table, IsNumber, IsWord, IsValue, word_of}
+use Rattle.toml_subset.specs.Places.{front_is, from_to, stands, run_end, run_at}
+use Rattle.toml_subset.specs.Raw.{Raw, raw_text, raw_integer, raw_decimal, raw_boolean, IsNumber, IsWord, IsValue, word_of}
 use Rattle.toml_subset.specs.Reading.{Found, number_read, shared_len, word_read, read_scalar}
 use Rattle.toml_subset.specs.StringReading.{StringFound, read_string}
-use Rattle.toml_subset.specs.Strings.{Quoting, opening, IsString}
+use Rattle.toml_subset.specs.Strings.{Quoting, IsString}
 use Rattle.toml_subset.specs.Tables.{meant}
 use Rattle.toml_subset.specs.Written.{Written}
 use Rattle.toml_subset.proofs.Law.Basics.{is_ok, not_ok, then_ok, if_is, if_true, if_false}
-use Rattle.toml_subset.proofs.Law.Fronts.{front_other, stands_other, passes_other, opening_front, word_front}
+use Rattle.toml_subset.proofs.Law.Fronts.{stands_other, opening_front, word_front}
 use Rattle.toml_subset.proofs.Law.Texts.{string_sound, string_read}
 use Rattle.toml_subset.proofs.NumberRuns.{begins_read, or_left}
 

@@ -1,19 +1,16 @@
 -- A larger bound on how often reading calls itself changes no answer.
-use Rattle.std.proofs.Common.{◌≡◌, ℕ, zero, suc, ◌+◌, ◌-◌, ◌*◌, ◌<◌, ◌≤◌, ◌⊎◌, ⊎_elim, Bool, true, false, cond, eqb, ◌||◌, List, [], ◌∷◌, length, Option, Some, None, Ok, Err, true≢false, refl, ap, sym, subst, ◌∙◌, arith}
+use Rattle.std.proofs.Common.{◌≡◌, ℕ, zero, suc, ◌+◌, ◌-◌, ◌*◌, ◌<◌, ◌≤◌, Bool, true, false, cond, eqb, ◌||◌, List, length, Option, Some, None, Ok, Err, refl, ap, ◌∙◌, arith}
 use Rattle.std.proofs.lemmas.Bool.Decides.{nat_tests}
-use Rattle.toml_subset.specs.Answer.{Read, fault_at, stuck, then_read, unless}
+use Rattle.toml_subset.specs.Answer.{Read, then_read, unless}
 use Rattle.toml_subset.specs.Bytes.{comma, open_bracket, close_bracket, open_brace, close_brace}
 use Rattle.toml_subset.specs.Data as «data»
 use Rattle.toml_subset.specs.Data.{depth_limit}
-use Rattle.toml_subset.specs.Keys.{AreKeys}
 use Rattle.toml_subset.specs.Places.{stands, after_blanks, after_space}
-use Rattle.toml_subset.specs.Reading.{Found, ItemsFound, EntriesFound, read_scalar, space_fault, cut_in_comment, items_behind, items_from, made, entries_behind, entry_put, entries_from, array_read, table_read, table_from, value_from, read_value, read_items, read_entries, enough, value_at}
-use Rattle.toml_subset.specs.StringReading.{KeysFound, read_left}
+use Rattle.toml_subset.specs.Reading.{ItemsFound, cut_in_comment, items_behind, made, entries_behind, entry_put, array_read, table_read, read_value, read_items, read_entries, enough, value_at}
+use Rattle.toml_subset.specs.StringReading.{read_left}
 use Rattle.toml_subset.specs.TableFaults.{put_fault}
 use Rattle.toml_subset.specs.Tables.{Branches, unbranched, closed, put}
 use Rattle.toml_subset.specs.declared.error.SyntaxError.{SyntaxError}
-use Rattle.toml_subset.specs.declared.error.SyntaxReason.TheVariants.{TooDeep}
-use Rattle.toml_subset.specs.declared.string.Key.{Key}
 use Rattle.toml_subset.proofs.Law.Basics.{made_ok}
 use Rattle.toml_subset.proofs.Law.Depths.{depth}
 use Rattle.toml_subset.proofs.Law.Forward.{space_goes, value_goes, keys_go}
@@ -34,7 +31,7 @@ unless_same : {A : Type 0} (fault : Option SyntaxError) (x y : Read A) → (faul
 unless_same (Some fault) x y same = refl
 unless_same None x y same = same refl
 
-opens_inside : (text : List ℕ) (i : ℕ) → (stands text i open_bracket || stands text i open_brace) ≡ true → i < length text
+pub opens_inside : (text : List ℕ) (i : ℕ) → (stands text i open_bracket || stands text i open_brace) ≡ true → i < length text
 opens_inside text i h =
     elim (stands text i open_bracket) as (λ b. stands text i open_bracket ≡ b → (b || stands text i open_brace) ≡ true → i < length text) [
       | true ↦ λ is all. passes_inside (λ c. eqb c open_bracket) text i is

@@ -6,11 +6,10 @@ use Rattle.deny_text.specs.declared.span.Span.{Span}
 use Rattle.toml_subset.specs.Answer.{Read, stuck, then_read}
 use Rattle.toml_subset.specs.Bytes.{quote, apostrophe, dot, equals, is_bare}
 use Rattle.toml_subset.specs.Keys.{IsKey, AreKeys}
-use Rattle.toml_subset.specs.Places.{front_is, from_to, passes_at, stands, run_end, run_at, after_blanks, line_end}
+use Rattle.toml_subset.specs.Places.{front_is, from_to, passes_at, stands, run_at, after_blanks, line_end}
 use Rattle.toml_subset.specs.StringReading.{Pieces, after_part, part_fault, read_pieces, StringFound, string_from, read_string, begins_long, KeyFound, bare_key, read_key, KeysFound, keys_behind, read_keys, keys_at, equals_behind, read_left}
 use Rattle.toml_subset.specs.Strings.{Quoting, basic, literal, long_basic, long_literal, Piece, Part, piece, closing, broken, marks_at, opening, opening_of, part_at, written_of, ArePieces, IsString}
 use Rattle.toml_subset.specs.Written.{Written}
-use Rattle.toml_subset.specs.declared.error.SyntaxError.{SyntaxError}
 use Rattle.toml_subset.specs.declared.string.Key.{Key}
 use Rattle.toml_subset.proofs.Law.Basics.{is_ok, not_ok, then_ok, if_is, if_true, if_false}
 use Rattle.toml_subset.proofs.Law.Forward.{piece_goes, pieces_go, key_goes, keys_go}

@@ -1,16 +1,15 @@
 -- Values are read exactly where they stand, keep the table rules, and are not too deep.
-use Rattle.std.proofs.Common.{◌≡◌, ℕ, zero, suc, ◌+◌, ◌-◌, ◌*◌, ◌<◌, ◌≤◌, ◌⊎◌, inl, inr, ⊎_elim, Bool, true, false, cond, eqb, nat_lt, ◌||◌, ◌&&◌, List, [], ◌∷◌, length, drop, Option, Some, None, Ok, Err, option_map, option_and_then, true≢false, refl, ap, sym, subst, ◌∙◌, eqb-true, arith}
+use Rattle.std.proofs.Common.{◌≡◌, ℕ, zero, suc, ◌+◌, ◌-◌, ◌*◌, ◌≤◌, inl, inr, ⊎_elim, Bool, true, false, cond, eqb, nat_lt, ◌||◌, ◌&&◌, List, [], ◌∷◌, length, drop, Some, Ok, Err, option_map, option_and_then, true≢false, refl, ap, sym, subst, ◌∙◌, eqb-true, arith}
 use Rattle.std.proofs.lemmas.Bool.Decides.{nat_tests}
 use Rattle.std.proofs.lemmas.List.{drop-drop}
 use Rattle.std.specs.List.{prefix_len}
 use Rattle.deny_text.specs.declared.span.Span.{Span}
 use Rattle.toml_subset.specs.Answer.{Read, fault_at, stuck, then_read, unless}
-use Rattle.toml_subset.specs.Bytes.{quote, apostrophe, hash, comma, equals, open_bracket, close_bracket, open_brace, close_brace, begins_run, may_stand}
+use Rattle.toml_subset.specs.Bytes.{quote, apostrophe, hash, comma, open_bracket, close_bracket, open_brace, close_brace, begins_run, may_stand}
 use Rattle.toml_subset.specs.Data as «data»
 use Rattle.toml_subset.specs.Data.{Content, Items, depth_of, items_depth, depth_limit}
-use Rattle.toml_subset.specs.Keys.{AreKeys}
 use Rattle.toml_subset.specs.Numbers.{integer, decimal}
-use Rattle.toml_subset.specs.Places.{front_is, from_to, passes_at, stands, run_end, after_blanks, after_comment, after_blanks_and_comment, after_lines_of, after_space, in_comment}
+use Rattle.toml_subset.specs.Places.{front_is, from_to, passes_at, stands, run_end, after_blanks, after_blanks_and_comment, after_lines_of, after_space}
 use Rattle.toml_subset.specs.Raw.{Raw, RawItems, RawEntries, raw_text, raw_integer, raw_decimal, raw_boolean, raw_array, raw_table, raw_none, raw_item, raw_empty, raw_entry, IsValue, AreItems, AreItemsBehind, AreEntries, AreEntriesBehind}
 use Rattle.toml_subset.specs.Reading.{Found, ItemsFound, EntriesFound, read_scalar, space_fault, cut_in_comment, items_behind, items_from, made, entries_behind, entry_put, entries_from, array_read, table_read, table_from, value_from, read_value, read_items, read_entries}
 use Rattle.toml_subset.specs.StringReading.{KeysFound, read_left}
@@ -21,9 +20,9 @@ use Rattle.toml_subset.specs.declared.string.Key.{Key}
 use Rattle.toml_subset.proofs.Law.Basics.{then_some, map_some, is_some, is_ok, not_ok, then_ok, unless_ok, made_ok, if_is, if_true, if_false}
 use Rattle.toml_subset.proofs.Law.Depths.{depth}
 use Rattle.toml_subset.proofs.Law.Forward.{space_goes, value_goes, items_go, behind_goes, entries_go, entries_behind_go, keys_go}
-use Rattle.toml_subset.proofs.Law.Fronts.{front_other, stands_other, passes_other, opening_front, word_front}
-use Rattle.toml_subset.proofs.Law.Scalars.{ScalarAt, scalar_sound, text_read, boolean_read, number_is_read}
-use Rattle.toml_subset.proofs.Law.Texts.{LeftAt, left_sound, left_read, keys_other}
+use Rattle.toml_subset.proofs.Law.Fronts.{stands_other, passes_other, opening_front, word_front}
+use Rattle.toml_subset.proofs.Law.Scalars.{scalar_sound, text_read, boolean_read, number_is_read}
+use Rattle.toml_subset.proofs.Law.Texts.{left_sound, left_read, keys_other}
 use Rattle.toml_subset.proofs.Law.Ways.{put_below, put_free, put_grows, put_room}
 
 -- what is read stands there

@@ -1,16 +1,14 @@
 -- Where no part of a way is refused, the edit at its end is made and no value stands too deep; and the other way round.
-use Rattle.std.proofs.Common.{◌≡◌, ℕ, ◌+◌, ◌-◌, ◌<◌, ◌≤◌, ◌⊎◌, ⊎_elim, Bool, true, false, cond, eqb, nat_lt, max, List, [], ◌∷◌, length, Option, Some, None, option_map, true≢false, refl, ap, sym, subst, ◌∙◌, eq-eqb, eqb-true, arith}
+use Rattle.std.proofs.Common.{◌≡◌, ℕ, ◌+◌, ◌-◌, ◌<◌, ◌≤◌, ⊎_elim, Bool, true, false, cond, eqb, max, List, [], ◌∷◌, length, Option, Some, None, option_map, refl, ap, sym, ◌∙◌, arith}
 use Rattle.std.proofs.lemmas.Bool.Decides.{nat_tests}
-use Rattle.deny_text.specs.declared.span.Span.{Span}
-use Rattle.toml_subset.specs.Data.{Content, depth_limit}
-use Rattle.toml_subset.specs.TableFaults.{Inside, node_at, inside_any, inside_dotted, refused, way_fault, new_key_fault, put_fault, taken_over_fault, open_table_fault, header_fault, appended_fault, open_array_fault, array_header_fault}
-use Rattle.toml_subset.specs.Tables.{Mark, by_header, implicit, dotted, Node, Branches, closed, growing, tables, unbranched, last, has_key, added, changed, through_any, through_dotted, along, put_new, put, take_over, open_table, append_to, open_array, with_table, within}
-use Rattle.toml_subset.specs.Reading.{section_of}
+use Rattle.toml_subset.specs.Data.{depth_limit}
+use Rattle.toml_subset.specs.TableFaults.{Inside, node_at, inside_dotted, refused, way_fault, new_key_fault, put_fault}
+use Rattle.toml_subset.specs.Tables.{Mark, dotted, Node, Branches, growing, unbranched, has_key, added, changed, through_dotted, along, put_new, put}
 use Rattle.toml_subset.specs.declared.error.SyntaxError.{SyntaxError}
 use Rattle.toml_subset.specs.declared.error.SyntaxReason.TheVariants.{RedefinedTable, TooDeep}
 use Rattle.toml_subset.specs.declared.string.Key.{Key}
-use Rattle.toml_subset.proofs.Law.Basics.{map_some, is_some, if_is, if_true, if_false}
-use Rattle.toml_subset.proofs.Law.Depths.{depth, node_depth, node_at_depth, has_none, none_has, added_depth, Changed, is_changed, Entered, any_entered, dotted_entered, dotted_one, dotted_inner, with_table_depth}
+use Rattle.toml_subset.proofs.Law.Basics.{map_some, is_some, if_is, if_false}
+use Rattle.toml_subset.proofs.Law.Depths.{depth, node_depth, node_at_depth, has_none, added_depth, is_changed, Entered, dotted_entered, dotted_one, dotted_inner}
 
 abbrev pub Through : Type 0
 Through = (Branches → Option Branches) → Node → Option Node

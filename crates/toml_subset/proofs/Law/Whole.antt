@@ -1,20 +1,19 @@
 -- Reading answers a value exactly where the definition has one.
-use Rattle.std.proofs.Common.{◌≡◌, ℕ, zero, suc, ◌+◌, ◌-◌, ◌*◌, ◌<◌, ◌≤◌, ◌⊎◌, inl, inr, ⊎_elim, Bool, true, false, cond, eqb, nat_lt, ◌||◌, ◌&&◌, List, [], ◌∷◌, length, Option, Some, None, Ok, Err, option_map, option_and_then, true≢false, refl, ap, sym, subst, ◌∙◌, eqb-true, arith}
+use Rattle.std.proofs.Common.{◌≡◌, ℕ, zero, suc, ◌+◌, ◌-◌, ◌<◌, ◌≤◌, ⊎_elim, Bool, true, false, cond, eqb, nat_lt, ◌||◌, ◌&&◌, List, [], ◌∷◌, length, Option, Some, None, Ok, Err, option_map, option_and_then, true≢false, refl, ap, sym, subst, ◌∙◌, arith}
 use Rattle.std.proofs.lemmas.Bool.Decides.{nat_tests}
 use Rattle.deny_text.specs.declared.span.Span.{Span}
 use Rattle.toml_subset.specs.Answer.{Read, fault_at, stuck, then_read, unless}
 use Rattle.toml_subset.specs.Bytes.{quote, apostrophe, hash, line_feed, carriage_return, open_bracket, close_bracket, may_stand, is_blank}
-use Rattle.toml_subset.specs.Data.{Toml, depth_limit, depth_of}
+use Rattle.toml_subset.specs.Data.{Toml, depth_limit}
 use Rattle.toml_subset.specs.Keys.{AreKeys}
-use Rattle.toml_subset.specs.Lines.{Statement, blank_line, pair, table_header, array_header, Document, no_lines, IsStatement, IsLine, AreLines, after_line, after_lines}
+use Rattle.toml_subset.specs.Lines.{Statement, blank_line, pair, table_header, array_header, Document, no_lines, IsStatement, AreLines, after_line, after_lines}
 use Rattle.toml_subset.specs.Places.{from_to, passes_at, stands, run_end, after_blanks, after_comment, line_end, next_line}
-use Rattle.toml_subset.specs.Raw.{Raw, IsValue}
-use Rattle.toml_subset.specs.Reading.{Found, made, enough, value_at, section_of, LineFound, line_rest, with_root, pair_put, pair_from, header_from, array_header_from, is_blank_line, line_from, read_lines, whole, read_text}
+use Rattle.toml_subset.specs.Raw.{IsValue}
+use Rattle.toml_subset.specs.Reading.{made, enough, value_at, section_of, LineFound, line_rest, with_root, pair_put, pair_from, header_from, array_header_from, is_blank_line, line_from, read_lines, whole, read_text}
 use Rattle.toml_subset.specs.StringReading.{KeysFound, keys_at, read_left}
 use Rattle.toml_subset.specs.TableFaults.{put_fault, header_fault, array_header_fault}
-use Rattle.toml_subset.specs.Tables.{Branches, unbranched, closed, implicit, put, along, through_any, open_table, open_array, within, meant, entries_of}
+use Rattle.toml_subset.specs.Tables.{Branches, closed, implicit, put, along, through_any, open_table, open_array, within, meant}
 use Rattle.toml_subset.specs.Text.{IsText}
-use Rattle.toml_subset.specs.declared.error.SyntaxError.{SyntaxError}
 use Rattle.toml_subset.specs.declared.error.SyntaxReason.TheVariants.{ControlCharacter}
 use Rattle.toml_subset.specs.declared.string.Key.{Key}
 use Rattle.toml_subset.proofs.Law.Basics.{then_some, map_some, is_some, is_ok, not_ok, then_ok, unless_ok, made_ok, if_is, if_true, if_false}

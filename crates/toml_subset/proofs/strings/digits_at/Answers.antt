@@ -1,4 +1,4 @@
-use Rattle.std.proofs.Common.{◌≡◌, ◌+◌, drop, false, sym, ap, ◌∙◌, arith}
+use Rattle.std.proofs.Common.{◌≡◌, ◌+◌, drop, false, sym, ◌∙◌, arith}
 use Rattle.toml_subset.specs.Numbers.{is_digit_in}
 use Rattle.toml_subset.specs.Places.{passes_at}
 use Rattle.toml_subset.proofs.PlainRuns.{run_over, passes_is, prefix_take}

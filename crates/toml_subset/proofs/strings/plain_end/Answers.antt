@@ -1,4 +1,4 @@
-use Rattle.std.proofs.Common.{◌≡◌, true, false, sym, ap, ◌∙◌, arith}
+use Rattle.std.proofs.Common.{◌≡◌, true, false, sym, ◌∙◌, arith}
 use Rattle.toml_subset.specs.StringViews.{kind_of, is_plain}
 use Rattle.toml_subset.specs.Strings.{part_at}
 use Rattle.toml_subset.proofs.PlainRuns.{plain_border, plain_inside, run_extended}

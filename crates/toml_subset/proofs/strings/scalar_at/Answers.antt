@@ -1,4 +1,4 @@
-use Rattle.std.proofs.Common.{◌≡◌, ◌+◌, ◌-◌, take, drop, sym, ap, ◌∙◌, subst, arith}
+use Rattle.std.proofs.Common.{◌≡◌, ◌+◌, ◌-◌, take, drop, sym, ◌∙◌, subst, arith}
 use Rattle.std.specs.Option.{SomeIff}
 use Rattle.std.specs.Prelude.{IsTrue}
 use Rattle.toml_subset.specs.Numbers.{count}

@@ -1,4 +1,4 @@
-use Rattle.std.proofs.Common.{◌≡◌, Some, sym, ap, ◌∙◌}
+use Rattle.std.proofs.Common.{sym, ap, ◌∙◌}
 use Rattle.std.specs.Prelude.{option_map, encode_utf8}
 use Rattle.toml_subset.proofs.Escapes.{scalar_border}
 use Rattle.toml_subset.proofs.strings.scalar_escape.Goals as goal

@@ -1,4 +1,3 @@
-use Rattle.std.proofs.Common.{sym}
 use Rattle.toml_subset.proofs.Escapes.{white_border}
 use Rattle.toml_subset.proofs.strings.trimming_escape.Goals as goal
 
