@@ -3,6 +3,7 @@
 
 ghost use Rattle.std.specs.Prelude.{◌≡◌, ◌≤◌, IfOk, IfErr, OnErr};
 ghost use Rattle.std.specs.Process.{exit_status};
+ghost use Rattle.catalog_core.specs.BuiltIn.{built_in};
 ghost use Rattle.tree_core.specs.Hearing.{KeepsTree};
 ghost use Rattle.tree_core.specs.Script.{LineWritten};
 ghost use Rattle.deny_run.specs.Run.{answer_of};
@@ -54,6 +55,7 @@ impl From<AllocError> for StartError {
 struct Start {
     words: Vec<String>,
     folder: PathBuf,
+    store: LicenseStore,
 }
 
 /// What a refusal of the environment is, where it is not want of memory.
@@ -81,10 +83,18 @@ fn folder_of<V: Env + AllocGlobal>(env: &V) -> Result<PathBuf, StartError> {
     }
 }
 
-fn start_of<V: Env + AllocGlobal>(env: &V) -> Result<Start, StartError> {
+/// The words, the folder, and the store of the built-in licence texts.
+fn start_of<V: Env + AllocGlobal>(env: &V) -> Result<Start, StartError>
+    ensures { IfOk result (λ start. start.store ≡ built_in) }
+{
     let words = words_of(env)?;
     let folder = folder_of(env)?;
-    Ok(Start { words, folder })
+    let store = LicenseStore::from_cache(env.alloc())?;
+    Ok(Start {
+        words,
+        folder,
+        store,
+    })
 }
 
 /// Writes the line of a gate that could not begin. A sink that refuses it changes nothing in the answer.
@@ -96,8 +106,8 @@ fn write_line<E: Sink>(err: &mut E, error: &StartError)
     let _ = write_all(err, error.line().as_bytes());
 }
 
-/// Runs the gate over the words of an environment, in its working folder, with the built-in catalogue. Where
-/// the environment does not tell them, one line on `err` says so.
+/// Runs the gate over the words of an environment, in its working folder, with the built-in catalogue and
+/// licence texts. Where the environment does not tell them, one line on `err` says so.
 pub fn gate_over<V: Env + AllocGlobal, T: Tree, O: Sink, E: Sink>(
     env: &V,
     tree: &mut T,
@@ -126,19 +136,22 @@ pub fn gate_over<V: Env + AllocGlobal, T: Tree, O: Sink, E: Sink>(
         (record { out = O.written out.new; err = E.written err.new })) }
 {
     match start_of(env) {
-        Ok(Start { words, folder }) => {
-            let store = LicenseStore::default(env.alloc());
-            Ok(run(
-                env.alloc(),
-                &words,
-                folder.as_str(),
-                tree,
-                out,
-                err,
-                &Table,
-                &store,
-            ))
-        }
+        Ok(
+            Start {
+                words,
+                folder,
+                store,
+            },
+        ) => Ok(run(
+            env.alloc(),
+            &words,
+            folder.as_str(),
+            tree,
+            out,
+            err,
+            &Table,
+            &store,
+        )),
         Err(error) => {
             write_line(err, &error);
             Err(error)
