@@ -1,0 +1,5 @@
+-- The ledger is the one that the call is given.
+use Rattle.term_core.proofs.tests.satisfies_with_a_step.Given as goal
+
+abbrev pub ghosts-steps_of : goal.ghosts-steps_of
+ghosts-steps_of a = record { name = a.ledger.name; parts = a.ledger.parts }
