@@ -47,13 +47,14 @@ fn each_failed_call_is_told_as_its_own(rt: HostRuntime) -> Result<(), Fail> {
             want: [policy_failed, metadata_failed, other_metadata],
         },
     ] {
-        for (call, want) in (1..4).zip(want.iter()) {
+        let [first, second, third] = want;
+        for (call, want) in [(1, first), (2, second), (3, third)] {
             let mut tree = tree(alloc, "MIT", policy)?;
             if let Some(metadata) = metadata {
                 tree.put("/w/m.json", metadata)?;
             }
             tree.fail_call(call)?;
-            expect(&rt, alloc, &WORDS, &mut tree, 1000, want)?;
+            expect(&rt, alloc, &WORDS, &mut tree, 1000, &want)?;
         }
     }
     Ok(())

@@ -1,12 +1,16 @@
 //! The gate over the words and the folder of a process that is made up.
-use crate::rows::{OPEN, POLICY, text, tree};
+ghost use Rattle.std.specs.Prelude.{◌≤◌, length, IfSome};
+
+use crate::rows::{
+    OPEN, POLICY, Seen, Want, accepted, compare, refused, rejected, text, told, tree,
+};
 use deny_gate::{exit_code, gate_over};
 use std::alloc::Global;
 use std::env::{Env, FillError};
 use std::io;
 use std::process::ExitCode;
 use std::test::Fail;
-use tree_core::MemSink;
+use tree_core::{MemSink, MemTree};
 
 /// Words as bytes, and a folder where it is told.
 #[derive(Clone, Copy)]
@@ -16,7 +20,9 @@ struct Process {
 }
 
 /// Copies bytes to the start of a buffer; none where they are longer.
-fn fill(bytes: &[u8], buf: &mut [u8]) -> Option<usize> {
+fn fill(bytes: &[u8], buf: &mut [u8]) -> Option<usize>
+    ensures { IfSome result (λ count. count ≤ length buf.new) }
+{
     if buf.len() < bytes.len() {
         return None;
     }
@@ -27,7 +33,10 @@ fn fill(bytes: &[u8], buf: &mut [u8]) -> Option<usize> {
 impl Env for Process {
     fn arg(&self, i: usize, buf: &mut [u8]) -> Result<usize, FillError> {
         match self.words.get(i) {
-            Some(word) => fill(word, buf).ok_or(FillError::TooLong),
+            Some(word) => match fill(word, buf) {
+                Some(count) => Ok(count),
+                None => Err(FillError::TooLong),
+            },
             None => Err(FillError::NotPresent),
         }
     }
@@ -41,8 +50,13 @@ impl Env for Process {
     }
 
     fn current_dir(&self, buf: &mut [u8]) -> io::Result<usize> {
-        let told = self.folder.and_then(|folder| fill(folder.as_bytes(), buf));
-        told.ok_or(io::Error::from(io::ErrorKind::NotFound))
+        let Some(folder) = self.folder else {
+            return Err(io::Error::from(io::ErrorKind::NotFound));
+        };
+        match fill(folder.as_bytes(), buf) {
+            Some(count) => Ok(count),
+            None => Err(io::Error::from(io::ErrorKind::NotFound)),
+        }
     }
 }
 
@@ -57,71 +71,70 @@ const WORDS: &[&[u8]] = &[
     b"licenses",
 ];
 
-/// A process and its policy, and the status and what is written.
+/// A process and its policy, and what it comes to.
 #[derive(Clone, Copy)]
 struct Row {
     process: Process,
     policy: &'static str,
-    status: u8,
-    out: &'static str,
-    err: &'static str,
+    want: Want,
 }
 
-fn ending(
-    words: &'static [&'static [u8]],
-    folder: Option<&'static str>,
-    status: u8,
-    out: &'static str,
-    err: &'static str,
-) -> Row {
+/// A process of these words in this folder, with the policy of the first row.
+fn started(words: &'static [&'static [u8]], folder: Option<&'static str>, want: Want) -> Row {
     Row {
         process: Process { words, folder },
         policy: POLICY,
-        status,
-        out,
-        err,
+        want,
     }
+}
+
+/// The gate over a process, and what it writes.
+fn watch(alloc: Global, process: Process, tree: &mut MemTree) -> Result<(ExitCode, Seen), Fail> {
+    let mut out = MemSink::new(alloc, 1000, 1000)?;
+    let mut err = MemSink::new(alloc, 1000, 1000)?;
+    let ended = gate_over(&(process, alloc), tree, &mut out, &mut err);
+    let code = exit_code(&ended);
+    let (status, ended) = match &ended {
+        Ok(outcome) => (outcome.status, told(alloc, &outcome.ended)?),
+        Err(error) => (1, format!(in alloc; "{error:?}")?),
+    };
+    let out = text(alloc, out.written())?;
+    let err = text(alloc, err.written())?;
+    Ok((
+        code,
+        Seen {
+            status,
+            ended,
+            out,
+            err,
+        },
+    ))
 }
 
 #[test]
 fn each_ending_has_its_status_and_its_line(rt: HostRuntime) -> Result<(), Fail> {
     let alloc = rt.alloc();
+    let no_words = refused("Words", "error: the words could not be read\n");
+    let no_folder = refused("Folder", "error: the working folder could not be read\n");
     let rejecting = Row {
         policy: "[licenses]\nallow = []\n",
-        ..ending(WORDS, Some("/w"), 4, "licenses FAILED\n", "")
+        ..started(WORDS, Some("/w"), rejected("a 1.0.0: MIT Rejected"))
     };
     for Row {
         process,
         policy,
-        status,
-        out,
-        err,
+        want,
     } in [
-        ending(WORDS, Some("/w"), 0, "licenses ok\n", ""),
+        started(WORDS, Some("/w"), accepted("a 1.0.0: MIT Accepted")),
         rejecting,
-        ending(&[b"cargo-deny"], Some("/w"), 1, "", OPEN),
-        ending(
-            &[b"cargo-deny", b"\xff"],
-            Some("/w"),
-            1,
-            "",
-            "error: the words could not be read\n",
-        ),
-        ending(
-            WORDS,
-            None,
-            1,
-            "",
-            "error: the working folder could not be read\n",
-        ),
+        started(&[b"cargo-deny"], Some("/w"), refused("words", OPEN)),
+        started(&[b"cargo-deny", b"\xff"], Some("/w"), no_words),
+        started(WORDS, None, no_folder),
     ] {
         let mut tree = tree(alloc, "MIT", policy.as_bytes())?;
-        let mut said = MemSink::new(alloc, 1000, 1000)?;
-        let mut complained = MemSink::new(alloc, 1000, 1000)?;
-        let ended = gate_over(&(process, alloc), &mut tree, &mut said, &mut complained);
-        assert_eq!(rt; text(alloc, complained.written())?.as_str(), err);
-        assert_eq!(rt; text(alloc, said.written())?.as_str(), out, "beside {err}");
-        assert!(rt; exit_code(&ended) == ExitCode::from(status), "{status}");
+        let (code, seen) = watch(alloc, process, &mut tree)?;
+        compare(&rt, &seen, &want);
+        assert!(rt; code == ExitCode::from(want.status));
     }
     Ok(())
 }
