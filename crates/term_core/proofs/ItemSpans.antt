@@ -20,29 +20,29 @@ use Rattle.term_core.specs.Laws.{with_slash, has_no_slash}
 use Rattle.term_core.proofs.ImpreciseLemmas.{both_true}
 use Rattle.term_core.proofs.ItemBorders.{FitsAt, first_fits, border_behind, white_ascii}
 
-abbrev spans : List Item → List Span
+abbrev pub spans : List Item → List Span
 spans items = map (λ item. item.span) items
 
 -- the text behind a byte
-behind_byte : (text : List ℕ) (place b : ℕ) (rest : List ℕ) → drop place text ≡ b ∷ rest → drop (place + 1) text ≡ rest
+pub behind_byte : (text : List ℕ) (place b : ℕ) (rest : List ℕ) → drop place text ≡ b ∷ rest → drop (place + 1) text ≡ rest
 behind_byte text place b rest is = sym (drop-drop 1 place text) ∙ ap (drop 1) is
 
-byte_at : (text : List ℕ) (place b : ℕ) (rest : List ℕ) → drop place text ≡ b ∷ rest → place < length text
+pub byte_at : (text : List ℕ) (place b : ℕ) (rest : List ℕ) → drop place text ≡ b ∷ rest → place < length text
 byte_at text place b rest is = let total : length (drop place text) ≡ length text - place = length-drop place text in let more : length (drop place text) ≡ length (b ∷ rest) = ap length is in omega arith
 
-record Stands (text : List ℕ) (place used : ℕ) : Type 0 where
-  free : used ≤ place → IsCharBoundary text place
-  held : place < used → IsCharBoundary text used
-  inside : used ≤ length text
+pub record Stands (text : List ℕ) (place used : ℕ) : Type 0 where
+  pub free : used ≤ place → IsCharBoundary text place
+  pub held : place < used → IsCharBoundary text used
+  pub inside : used ≤ length text
 
-next_stands : (text : List ℕ) (place used : ℕ) → place < used → Stands text place used → Stands text (place + 1) used
+pub next_stands : (text : List ℕ) (place used : ℕ) → place < used → Stands text place used → Stands text (place + 1) used
 next_stands text place used lt s = record {
   free = λ le. let same : used ≡ place + 1 = omega arith in subst (λ k. IsCharBoundary text k) same (s.held lt);
   held = λ more. s.held lt;
   inside = s.inside;
 }
 
-white_stands : (text : List ℕ) (place used b : ℕ) (rest : List ℕ) → IsUtf8 text → drop place text ≡ b ∷ rest → is_white b ≡ true → used ≤ place → Stands text place used → Stands text (place + 1) used
+pub white_stands : (text : List ℕ) (place used b : ℕ) (rest : List ℕ) → IsUtf8 text → drop place text ≡ b ∷ rest → is_white b ≡ true → used ≤ place → Stands text place used → Stands text (place + 1) used
 white_stands text place used b rest utf8 is white le s =
     let at : length (drop 0 (b ∷ rest)) ≡ length (b ∷ rest) = refl in
     let border : IsCharBoundary (drop place text) 1 = subst (λ all. IsCharBoundary all 1) (sym is) (IsCharBoundary-after_ascii (b ∷ rest) 0 (subst (λ all. IsUtf8 all) is (IsUtf8-drop text place utf8 (s.free le))) (omega arith) (white_ascii b white)) in
@@ -53,24 +53,37 @@ white_stands text place used b rest utf8 is white le s =
       inside = omega arith;
     }
 
+-- an item ends at a border of the text
+item_border : (text : List ℕ) (place b : ℕ) (rest : List ℕ) (it : Item) → drop place text ≡ b ∷ rest → FitsAt place (b ∷ rest) it → IsCharBoundary text it.span.end
+item_border text place b rest it is fits =
+    let lt : place < length text = byte_at text place b rest is in
+    let border : IsCharBoundary text (place + fits.len) = border_behind text place fits.len (omega arith) (subst (λ all. IsCharBoundary all fits.len) (sym is) fits.border) in
+    subst (λ k. IsCharBoundary text k) (sym fits.end) border
+
+-- behind an item
+pub item_stands : (text : List ℕ) (place b : ℕ) (rest : List ℕ) (it : Item) → drop place text ≡ b ∷ rest → FitsAt place (b ∷ rest) it → Stands text (place + 1) it.span.end
+item_stands text place b rest it is fits =
+    let end : it.span.end ≡ place + fits.len = fits.end in
+    let some : 0 < fits.len = fits.some in
+    let end_border : IsCharBoundary text it.span.end = item_border text place b rest it is fits in
+    record {
+      free = λ more. let same : it.span.end ≡ place + 1 = omega arith in subst (λ k. IsCharBoundary text k) same end_border;
+      held = λ more. end_border;
+      inside = end_border.0;
+    }
+
 rises_at : (mode : ParseMode) (lists : CatalogLists) → IsCatalog lists → (text : List ℕ) → IsUtf8 text → (wanted : Wanted) (place used b : ℕ) (rest : List ℕ) → drop place text ≡ b ∷ rest → used ≤ place → Stands text place used
     → FitsAt place (b ∷ rest) (first_item mode lists wanted place b rest)
     → ((wanted : Wanted) (used : ℕ) → Stands text (place + 1) used → Rise text used (spans (items_from mode lists wanted (place + 1) used rest)) (length text))
     → Rise text used (spans (first_item mode lists wanted place b rest ∷ items_from mode lists (wanted_after wanted (first_item mode lists wanted place b rest).what) (place + 1) (first_item mode lists wanted place b rest).span.end rest)) (length text)
 rises_at mode lists laws text utf8 wanted place used b rest is le s fits later =
     let it : Item = first_item mode lists wanted place b rest in
-    let lt : place < length text = byte_at text place b rest is in
     let end : it.span.end ≡ place + fits.len = fits.end in
     let start : it.span.start ≡ place = fits.start in
     let some : 0 < fits.len = fits.some in
-    let border : IsCharBoundary text (place + fits.len) = border_behind text place fits.len (omega arith) (subst (λ all. IsCharBoundary all fits.len) (sym is) fits.border) in
-    let end_border : IsCharBoundary text it.span.end = subst (λ k. IsCharBoundary text k) (sym end) border in
-    let start_border : IsCharBoundary text it.span.start = subst (λ k. IsCharBoundary text k) (sym start) (s.free le) in
-    let stands : Stands text (place + 1) it.span.end = record {
-      free = λ more. let same : it.span.end ≡ place + 1 = omega arith in subst (λ k. IsCharBoundary text k) same end_border;
-      held = λ more. end_border;
-      inside = end_border.0;
-    } in (
+    let stands : Stands text (place + 1) it.span.end = item_stands text place b rest it is fits in
+    let end_border : IsCharBoundary text it.span.end = item_border text place b rest it is fits in
+    let start_border : IsCharBoundary text it.span.start = subst (λ k. IsCharBoundary text k) (sym start) (s.free le) in (
       record { behind = omega arith; some = omega arith; start_border = start_border; end_border = end_border },
       later (wanted_after wanted it.what) it.span.end stands,
     )

@@ -7,7 +7,7 @@ use Rattle.term_core.specs.declared.term.LicenseReq.{LicenseReq}
 use Rattle.catalog_core.specs.Catalog.{CatalogLists, IsCatalog}
 use Rattle.term_core.specs.declared.mode.ParseMode.{ParseMode}
 use Rattle.term_core.specs.Items.{items_of}
-use Rattle.term_core.specs.Spans.{Rise}
+use Rattle.term_core.specs.Spans.{Rise, WhiteBetween}
 use Rattle.term_core.specs.Terms.{req_text, family_of}
 use Rattle.term_core.specs.Satisfaction.{Satisfies}
 use Rattle.term_core.specs.Licensee.{printed_order}
@@ -23,6 +23,10 @@ PrintedAlikeIsEqual = (licensee other : LicenseReq) → req_text licensee ≡ re
 -- the spans of a text's items follow one another in it, are not empty, and stand on character borders
 abbrev pub ItemsRise : Type 0
 ItemsRise = (mode : ParseMode) (lists : CatalogLists) (text : List ℕ) → IsCatalog lists → IsUtf8 text → Rise text 0 (map (λ item. item.span) (items_of mode lists text)) (length text)
+
+-- a text's items cover it: all else is white space
+abbrev pub ItemsCover : Type 0
+ItemsCover = (mode : ParseMode) (lists : CatalogLists) (text : List ℕ) → IsCatalog lists → IsUtf8 text → WhiteBetween text 0 (map (λ item. item.span) (items_of mode lists text))
 
 -- the mode with the slash, or without
 abbrev pub with_slash : Bool → ParseMode → ParseMode

@@ -1,5 +1,5 @@
 //! What holds of all terms and licensees. These functions do nothing: their contracts are the laws.
-ghost use Rattle.term_core.specs.Laws.{SatisfiesOwnFamily, PrintedAlikeIsEqual, ItemsRise, SlashChangesNothing};
+ghost use Rattle.term_core.specs.Laws.{SatisfiesOwnFamily, PrintedAlikeIsEqual, ItemsRise, ItemsCover, SlashChangesNothing};
 
 /// A licensee satisfies terms of its own family alone.
 pub fn satisfies_own_family()
@@ -14,6 +14,11 @@ pub fn printed_alike_is_equal()
 /// The items of a text follow one another in it, are not empty, and begin and end on character borders.
 pub fn items_rise()
     ensures { ItemsRise }
+{}
+
+/// The items of a text cover it: before them, between them and behind them stands white space alone.
+pub fn items_cover()
+    ensures { ItemsCover }
 {}
 
 /// Where no slash stands in a text, the slash as an operator changes no item.
