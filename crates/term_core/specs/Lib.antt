@@ -1,4 +1,5 @@
 pub mod Faults
+pub mod ItemRows
 pub mod Items
 pub mod Laws
 pub mod Licensee

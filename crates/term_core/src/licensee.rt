@@ -152,7 +152,7 @@ fn ignoring_plus(item: LicenseItem, marks: Marks) -> LicenseItem
 }
 
 /// The name of an exception.
-fn exception_name(item: Option<Item>) -> Option<Text>
+pub(crate) fn exception_name(item: Option<Item>) -> Option<Text>
     ensures { result ≡ option_and_then (λ found. exception_of found.what) item }
 {
     match item?.what {
