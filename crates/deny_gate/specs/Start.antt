@@ -3,6 +3,8 @@ use Rattle.std.specs.Prelude.{◌≡◌, ℕ, List, Option, Result, Ok, Err, cod
 use Rattle.std.specs.Option.{ForSome}
 use Rattle.tree_core.specs.Content.{Content}
 use Rattle.tree_core.specs.Script.{FaultCounts, Written}
+use Rattle.catalog_core.specs.BuiltIn.{built_in}
+use Rattle.catalog_core.specs.Store.{match_of}
 use Rattle.catalog_core.specs.Table.{table_lists}
 use Rattle.deny_run.specs.declared.report.Outcome.{Outcome}
 use Rattle.deny_run.specs.Given.{Given}
@@ -18,10 +20,11 @@ start_line Memory = codes "error: out of memory\n"
 start_line Words = codes "error: the words could not be read\n"
 start_line Folder = codes "error: the working folder could not be read\n"
 
--- the outcome is that of a run over some words and some folder, with the catalogue that is built in
+-- the outcome is that of a run over some words and some folder, with the catalogue and the licence texts that are built in
 pub record IsRun (told : Option Content) (counts : FaultCounts) (old new : Written) (outcome : Outcome) : Type 0 where
   pub given : Given
   pub lists : given.lists ≡ table_lists
+  pub match_of : given.match_of ≡ match_of built_in
   pub headline : ForSome told (λ content. Headline given content counts outcome)
   pub written : Writes given told counts old new (answer_of outcome.ended)
   pub status : outcome.status ≡ exit_status (answer_of outcome.ended)

@@ -45,6 +45,10 @@ impl StartError {
 }
 
 impl From<AllocError> for StartError {
+    ghost use Rattle.deny_gate.specs.declared.StartError.TheVariants.{Memory};
+
+    ghost from_gives = { λ _ error. error ≡ Memory };
+
     fn from(_: AllocError) -> StartError {
         StartError::Memory
     }
@@ -106,6 +110,42 @@ fn write_line<E: Sink>(err: &mut E, error: &StartError)
     let _ = write_all(err, error.line().as_bytes());
 }
 
+/// Runs the gate as a process was started.
+fn run_started<T: Tree, O: Sink, E: Sink>(
+    alloc: Global,
+    start: &Start,
+    tree: &mut T,
+    out: &mut O,
+    err: &mut E,
+) -> Outcome
+    requires { start.now.store ≡ built_in }
+    ensures kept { KeepsTree (T.content tree.old) (T.content tree.new)
+        (T.fault_count tree.old) (T.fault_count tree.new) }
+    ensures ran { IsRun (T.content tree.old)
+        (record {
+          tree_before = T.fault_count tree.old;
+          tree_after = T.fault_count tree.new;
+          out_before = O.fault_count out.old;
+          out_after = O.fault_count out.new;
+          err_before = E.fault_count err.old;
+          err_after = E.fault_count err.new;
+        })
+        (record { out = O.written out.old; err = E.written err.old })
+        (record { out = O.written out.new; err = E.written err.new })
+        result }
+{
+    run(
+        alloc,
+        &start.words,
+        start.folder.as_str(),
+        tree,
+        out,
+        err,
+        &Table,
+        &start.store,
+    )
+}
+
 /// Runs the gate over the words of an environment, in its working folder, with the built-in catalogue and
 /// licence texts. Where the environment does not tell them, one line on `err` says so.
 pub fn gate_over<V: Env + AllocGlobal, T: Tree, O: Sink, E: Sink>(
@@ -136,22 +176,7 @@ pub fn gate_over<V: Env + AllocGlobal, T: Tree, O: Sink, E: Sink>(
         (record { out = O.written out.new; err = E.written err.new })) }
 {
     match start_of(env) {
-        Ok(
-            Start {
-                words,
-                folder,
-                store,
-            },
-        ) => Ok(run(
-            env.alloc(),
-            &words,
-            folder.as_str(),
-            tree,
-            out,
-            err,
-            &Table,
-            &store,
-        )),
+        Ok(start) => Ok(run_started(env.alloc(), &start, tree, out, err)),
         Err(error) => {
             write_line(err, &error);
             Err(error)

@@ -6,9 +6,9 @@ use Rattle.std.specs.Option.{option_map_or}
 use Rattle.std.proofs.lemmas.List.Elements.{All-from_recursion, recursion_from_All}
 use Rattle.tree_core.specs.Content.{Content}
 use Rattle.tree_core.specs.Hearing.{policy, metadata, FailedRead, Hearing, IsHearing}
-use Rattle.catalog_core.specs.declared.catalog.LicenseEntry.{LicenseEntry}
 use Rattle.catalog_core.specs.Catalog.{CatalogLists}
-use Rattle.spdx_core.specs.Expression.{ExpressionView, expression_of}
+use Rattle.term_core.specs.declared.term.LicenseReq.{LicenseReq}
+use Rattle.spdx_core.specs.Reading.{ExpressionView}
 use Rattle.graph_core.specs.declared.lone.Krate.{Krate}
 use Rattle.graph_core.specs.Lone.{record_of}
 use Rattle.deny_run.specs.declared.error.ReadFault.{ReadFault}
@@ -26,11 +26,12 @@ use Rattle.deny_run.specs.declared.words.Request.{Request}
 use Rattle.deny_run.specs.Counts.{counts_of}
 use Rattle.deny_run.specs.Error.{Cause, no_memory, told, failed_read, refused_write, cause_of, error_of, FreeOr, ReadCounts}
 use Rattle.deny_run.specs.Given.{Given}
-use Rattle.deny_run.specs.Heard.{◌>>=◌, Asked, asked_of, or_refused, config_in, krates_in, expression_heard, selected_of, selection_heard, text_heard}
+use Rattle.deny_run.specs.Heard.{◌>>=◌, Asked, asked_of, or_refused, config_in, krates_in, field_of, expression_heard, selected_of, selection_heard, text_heard}
 use Rattle.deny_run.specs.Steps.{hearing_of, heard_cause, IsHeard}
 use Rattle.deny_run.specs.Policy.{policy_of}
-use Rattle.deny_run.specs.Report.{Asks, IsVerdictOf, IsReportOf, IsReport, IsRefusal}
+use Rattle.deny_run.specs.Report.{Asks, HasExpression, IsVerdictOf, IsReportOf, IsReport, IsRefusal}
 use Rattle.deny_run.specs.Words.{request_of}
+use Rattle.deny_run.proofs.FieldLemmas.{heard_by, has_expression, reads_reported}
 
 -- ---- the four steps
 
@@ -48,13 +49,13 @@ asked-config given hearing request error asked refused =
     bind-Ok (or_refused (NotYet Words) (request_of given.words given.cwd)) _ request (Err error) (ap (or_refused (NotYet Words)) asked)
     (bind-Err (config_in given.lists (text_heard hearing policy request.config_path)) _ error refused)
 
-asked-krates : (given : Given) (hearing : Hearing) (request : Request) (config : List LicenseEntry) (error : Error) → request_of given.words given.cwd ≡ Some request → config_in given.lists (text_heard hearing policy request.config_path) ≡ Ok config → krates_in (text_heard hearing metadata request.metadata_path) ≡ Err error → asked_of given hearing ≡ Err error
+asked-krates : (given : Given) (hearing : Hearing) (request : Request) (config : List LicenseReq) (error : Error) → request_of given.words given.cwd ≡ Some request → config_in given.lists (text_heard hearing policy request.config_path) ≡ Ok config → krates_in (text_heard hearing metadata request.metadata_path) ≡ Err error → asked_of given hearing ≡ Err error
 asked-krates given hearing request config error asked allows refused =
     bind-Ok (or_refused (NotYet Words) (request_of given.words given.cwd)) _ request (Err error) (ap (or_refused (NotYet Words)) asked)
     (bind-Ok (config_in given.lists (text_heard hearing policy request.config_path)) _ config (Err error) allows
     (bind-Err (krates_in (text_heard hearing metadata request.metadata_path)) _ error refused))
 
-asked-crates : (given : Given) (hearing : Hearing) (request : Request) (config : List LicenseEntry) (krate : Krate) (last : Result (List Krate) Error) → request_of given.words given.cwd ≡ Some request → config_in given.lists (text_heard hearing policy request.config_path) ≡ Ok config → krates_in (text_heard hearing metadata request.metadata_path) ≡ Ok krate → selection_heard given config hearing krate ≡ last → asked_of given hearing ≡ (last >>= λ crates. Ok (record { request = request; config = config; crates = crates }))
+asked-crates : (given : Given) (hearing : Hearing) (request : Request) (config : List LicenseReq) (krate : Krate) (last : Result (List Krate) Error) → request_of given.words given.cwd ≡ Some request → config_in given.lists (text_heard hearing policy request.config_path) ≡ Ok config → krates_in (text_heard hearing metadata request.metadata_path) ≡ Ok krate → selection_heard given config hearing krate ≡ last → asked_of given hearing ≡ (last >>= λ crates. Ok (record { request = request; config = config; crates = crates }))
 asked-crates given hearing request config krate last asked allows tells selects =
     bind-Ok (or_refused (NotYet Words) (request_of given.words given.cwd)) _ request _ (ap (or_refused (NotYet Words)) asked)
     (bind-Ok (config_in given.lists (text_heard hearing policy request.config_path)) _ config _ allows
@@ -70,8 +71,9 @@ pub asked_of-from_Asks : (given : Given) (hearing : Hearing) (asked : Asked) →
 asked_of-from_Asks given hearing asked asks =
     let config = ap (config_in given.lists) asks.config.heard ∙ ap (or_refused (NotYet Policy)) asks.config.allows in
     let tells = ap krates_in asks.metadata.heard ∙ ap (or_refused (NotYet Metadata)) asks.metadata.tells in
-    let expressions = subst (All (λ one. IsSome (expression_heard given asked.config hearing one))) asks.selected asks.expressions in
-    let there = (recursion_from_All (λ one. IsSome (expression_heard given asked.config hearing one)) (selected_of asks.krate) expressions).0 in
+    let expressions = subst (All (HasExpression given asked.config hearing)) asks.selected asks.expressions in
+    let has = (recursion_from_All (HasExpression given asked.config hearing) (selected_of asks.krate) expressions).0 in
+    let there = subst (λ (found : Option ExpressionView). IsSome found) (sym (heard_by given asked.config hearing asks.krate has.0 has.1)) refl in
     let selects = one_found (selected_of asks.krate) asks.krate (expression_heard given asked.config hearing asks.krate) there in
     asked-crates given hearing asked.request asked.config asks.krate (Ok (selected_of asks.krate)) asks.request config tells selects
     ∙ ap (λ crates. Ok (record { request = asked.request; config = asked.config; crates = crates })) (sym asks.selected)
@@ -125,7 +127,7 @@ config_refused given content begun before after request heard refused first late
     })
 
 -- a policy that was read and is of the form that is built did not fail, and nothing else was read before it
-pub config_stands : (given : Given) (content : Content) (begun before after : ℕ) (path : List ℕ) (heard : Result (List ℕ) ReadFault) (config : List LicenseEntry) → IsHeard content begun path before after heard → config_in given.lists heard ≡ Ok config → config_in given.lists (text_heard (record { content = content; begun = begun; failed = [] }) policy path) ≡ Ok config
+pub config_stands : (given : Given) (content : Content) (begun before after : ℕ) (path : List ℕ) (heard : Result (List ℕ) ReadFault) (config : List LicenseReq) → IsHeard content begun path before after heard → config_in given.lists heard ≡ Ok config → config_in given.lists (text_heard (record { content = content; begun = begun; failed = [] }) policy path) ≡ Ok config
 config_stands given content begun before after path (Ok text) config hears allows = ap (config_in given.lists) (hears policy) ∙ allows
 config_stands given content begun before after path (Err (Failed first last)) config hears allows = absurd (cc)
 config_stands given content begun before after path (Err Absent) config hears allows = absurd (cc)
@@ -145,7 +147,7 @@ heard_alike content begun path other before after (Err Folder) = refl
 heard_alike content begun path other before after (Err (NotUtf8 at)) = refl
 
 -- the metadata's refusal
-pub krates_refused : (given : Given) (content : Content) (begun before after : ℕ) (request : Request) (config : List LicenseEntry) (heard : Result (List ℕ) ReadFault) (refused : Refusal) → begun ≤ before → before ≤ after → request_of given.words given.cwd ≡ Some request → config_in given.lists (text_heard (record { content = content; begun = begun; failed = [] }) policy request.config_path) ≡ Ok config → IsHeard content begun request.metadata_path before after heard → ReadCounts begun before after (heard_cause heard) → (refused ≡ refusal.Memory) ⊎ (krates_in heard ≡ Err (error_of refused)) → FreeOr (cause_of (error_of refused)) (IsRefusal given content begun after (error_of refused))
+pub krates_refused : (given : Given) (content : Content) (begun before after : ℕ) (request : Request) (config : List LicenseReq) (heard : Result (List ℕ) ReadFault) (refused : Refusal) → begun ≤ before → before ≤ after → request_of given.words given.cwd ≡ Some request → config_in given.lists (text_heard (record { content = content; begun = begun; failed = [] }) policy request.config_path) ≡ Ok config → IsHeard content begun request.metadata_path before after heard → ReadCounts begun before after (heard_cause heard) → (refused ≡ refusal.Memory) ⊎ (krates_in heard ≡ Err (error_of refused)) → FreeOr (cause_of (error_of refused)) (IsRefusal given content begun after (error_of refused))
 krates_refused given content begun before after request config heard refused first later asked allows hears counts (inl memory) =
     no_memory_free (IsRefusal given content begun after) refused memory
 krates_refused given content begun before after request config heard refused first later asked allows hears counts (inr refuses) =
@@ -161,7 +163,7 @@ krates_refused given content begun before after request config heard refused fir
     })
 
 -- the refusal of the one crate
-pub crate_refused : (given : Given) (content : Content) (begun after : ℕ) (request : Request) (config : List LicenseEntry) (krate : Krate) (refused : Refusal) → begun ≤ after → request_of given.words given.cwd ≡ Some request → config_in given.lists (text_heard (record { content = content; begun = begun; failed = [] }) policy request.config_path) ≡ Ok config → krates_in (text_heard (record { content = content; begun = begun; failed = [] }) metadata request.metadata_path) ≡ Ok krate → (refused ≡ refusal.Memory) ⊎ ((refused ≡ refusal.CrateForm krate.id) × (option_and_then (expression_of given.lists) krate.license ≡ None)) → FreeOr (cause_of (error_of refused)) (IsRefusal given content begun after (error_of refused))
+pub crate_refused : (given : Given) (content : Content) (begun after : ℕ) (request : Request) (config : List LicenseReq) (krate : Krate) (refused : Refusal) → begun ≤ after → request_of given.words given.cwd ≡ Some request → config_in given.lists (text_heard (record { content = content; begun = begun; failed = [] }) policy request.config_path) ≡ Ok config → krates_in (text_heard (record { content = content; begun = begun; failed = [] }) metadata request.metadata_path) ≡ Ok krate → (refused ≡ refusal.Memory) ⊎ ((refused ≡ refusal.CrateForm krate.id) × (option_and_then (field_of given.lists) krate.license ≡ None)) → FreeOr (cause_of (error_of refused)) (IsRefusal given content begun after (error_of refused))
 crate_refused given content begun after request config krate refused later asked allows tells (inl memory) =
     no_memory_free (IsRefusal given content begun after) refused memory
 crate_refused given content begun after request config krate refused later asked allows tells (inr (form, none)) =
@@ -182,7 +184,7 @@ or_refused-Ok : {X : Type 0} (error : Error) (value : Option X) (x : X) → or_r
 or_refused-Ok error None x e = absurd (cc)
 or_refused-Ok error (Some value) x e = cc
 
-config_in-Ok : (lists : CatalogLists) (heard : Result (List ℕ) ReadFault) (config : List LicenseEntry) → config_in lists heard ≡ Ok config → (text : List ℕ) × (heard ≡ Ok text) × (policy_of lists text ≡ Some config)
+config_in-Ok : (lists : CatalogLists) (heard : Result (List ℕ) ReadFault) (config : List LicenseReq) → config_in lists heard ≡ Ok config → (text : List ℕ) × (heard ≡ Ok text) × (policy_of lists text ≡ Some config)
 config_in-Ok lists (Ok text) config e = (text, refl, or_refused-Ok _ (policy_of lists text) config e)
 config_in-Ok lists (Err (Failed before after)) config e = absurd (cc)
 config_in-Ok lists (Err Absent) config e = absurd (cc)
@@ -194,18 +196,18 @@ krates_in-Ok (Ok text) krate e = (text, refl, or_refused-Ok _ (record_of text) k
 krates_in-Ok (Err fault) krate e = absurd (cc)
 
 -- a verdict is given on an expression alone
-judged_some : (config : List LicenseEntry) (expression : Option ExpressionView) (verdict : Verdict) → IsVerdictOf config expression verdict → IsSome expression
+judged_some : (config : List LicenseReq) (expression : Option ExpressionView) (verdict : Verdict) → IsVerdictOf config expression verdict → IsSome expression
 judged_some config None Accepted is = absurd is
 judged_some config None Rejected is = absurd is
 judged_some config (Some expression) verdict is = refl
 
 -- the report of the one crate is the one that is asked for
-pub one_reported : (given : Given) (content : Content) (begun after : ℕ) (request : Request) (config : List LicenseEntry) (krate : Krate) (checked : CrateReport) (report : Report) → begun ≤ after → request_of given.words given.cwd ≡ Some request → config_in given.lists (text_heard (record { content = content; begun = begun; failed = [] }) policy request.config_path) ≡ Ok config → krates_in (text_heard (record { content = content; begun = begun; failed = [] }) metadata request.metadata_path) ≡ Ok krate → checked.id ≡ krate.id → checked.expression ≡ option_and_then (expression_of given.lists) krate.license → IsVerdictOf config checked.expression checked.verdict → report.crates ≡ checked ∷ [] → report.stats ≡ counts_of report.crates → IsReport given content begun after report
+pub one_reported : (given : Given) (content : Content) (begun after : ℕ) (request : Request) (config : List LicenseReq) (krate : Krate) (checked : CrateReport) (report : Report) → begun ≤ after → request_of given.words given.cwd ≡ Some request → config_in given.lists (text_heard (record { content = content; begun = begun; failed = [] }) policy request.config_path) ≡ Ok config → krates_in (text_heard (record { content = content; begun = begun; failed = [] }) metadata request.metadata_path) ≡ Ok krate → checked.id ≡ krate.id → checked.expression ≡ option_and_then (field_of given.lists) krate.license → IsVerdictOf config checked.expression checked.verdict → report.crates ≡ checked ∷ [] → report.stats ≡ counts_of report.crates → IsReport given content begun after report
 one_reported given content begun after request config krate checked report later asked allows tells id expression verdict crates stats =
     let hearing : Hearing = record { content = content; begun = begun; failed = [] } in
     let (policy_text, policy_heard, policy_allows) = config_in-Ok given.lists (text_heard hearing policy request.config_path) config allows in
     let (text, heard, is_told) = krates_in-Ok (text_heard hearing metadata request.metadata_path) krate tells in
-    let some = subst IsSome expression (judged_some config checked.expression checked.verdict verdict) in
+    let some = judged_some config checked.expression checked.verdict verdict in
     record {
       hearing = hearing;
       heard = record { content = refl; begun = refl; rises = later };
@@ -217,10 +219,10 @@ one_reported given content begun after request config krate checked report later
         krate = krate;
         metadata = record { text = text; heard = heard; tells = is_told };
         selected = refl;
-        expressions = All-from_recursion (λ one. IsSome (expression_heard given config hearing one)) (selected_of krate) (some, tt);
+        expressions = All-from_recursion (HasExpression given config hearing) (selected_of krate) (has_expression given config hearing krate checked.expression expression some, tt);
       };
       gives = record {
-        verdicts = subst (AllZip (IsReportOf given config hearing) (selected_of krate)) (sym crates) (record { id = id; expression = expression; verdict = verdict }, tt);
+        verdicts = subst (AllZip (IsReportOf given config hearing) (selected_of krate)) (sym crates) (record { id = id; expression = reads_reported given config hearing krate checked.expression expression some; verdict = verdict }, tt);
         stats = stats;
       };
     }

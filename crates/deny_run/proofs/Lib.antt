@@ -1,6 +1,8 @@
 pub mod AnswerLemmas
+pub mod FieldLemmas
 pub mod HeadlineLemmas
 pub mod HeardLemmas
+pub mod LicenseeLemmas
 pub mod Pieces
 pub mod ReadBack
 pub mod ScriptLemmas

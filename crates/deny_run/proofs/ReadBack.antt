@@ -6,7 +6,7 @@ use Rattle.std.specs.Str.{bytes_eq}
 use Rattle.std.proofs.lemmas.List.Elements.{All-from_recursion}
 use Rattle.std.proofs.lemmas.List.Splits.{slice_split_at}
 use Rattle.std.proofs.lemmas.Slice.Eq.{bytes_eq-Decides}
-use Rattle.deny_run.specs.Policy.{HasNoQuote, PolicyReadsBack, is_quote, next_quoted, policy_text, every_second, names_in, entries_of}
+use Rattle.deny_run.specs.Policy.{HasNoQuote, PolicyReadsBack, is_quote, next_quoted, policy_text, every_second, names_in, licensees_of}
 
 -- text without a quote, a name in quotes, and what follows
 pieces : (front name rest : List ℕ) → HasNoQuote front → HasNoQuote name → every_second (slice_split is_quote (front ++ 34 ∷ (name ++ 34 ∷ rest))) ≡ name ∷ every_second (slice_split is_quote rest)
@@ -51,5 +51,5 @@ names_in-policy_text (name ∷ names) plain =
 pub reads_back : PolicyReadsBack
 reads_back lists names plain =
     let same = names_in-policy_text names plain in
-    ap (λ found. cond (bytes_eq (policy_text found) (policy_text names)) (entries_of lists found) None) same
-    ∙ ap (λ test. cond test (entries_of lists names) None) ((bytes_eq-Decides (policy_text names) (policy_text names)).1 refl)
+    ap (λ found. cond (bytes_eq (policy_text found) (policy_text names)) (licensees_of lists found) None) same
+    ∙ ap (λ test. cond test (licensees_of lists names) None) ((bytes_eq-Decides (policy_text names) (policy_text names)).1 refl)

@@ -1,7 +1,7 @@
 -- The steps of a run, from what was heard of a file.
 use Rattle.std.proofs.Common.{◌≡◌, ℕ, ◌⊎◌, ◌↔◌, List, Option, Some, None, Result, Ok, Err, refl, sym, ap, subst, ◌∙◌, inl, inr}
-use Rattle.catalog_core.specs.declared.catalog.LicenseEntry.{LicenseEntry}
 use Rattle.catalog_core.specs.Catalog.{CatalogLists}
+use Rattle.term_core.specs.declared.term.LicenseReq.{LicenseReq}
 use Rattle.deny_run.specs.declared.error.ReadFault.{ReadFault}
 use Rattle.deny_run.specs.declared.error.ReadFault.TheVariants.{Failed, Absent, Folder, NotUtf8}
 use Rattle.deny_run.specs.declared.error.Part.TheVariants.{Words, Policy}
@@ -37,10 +37,10 @@ formed begun before after form error (Some value) counts e = absurd (cc)
 
 config_counts : (lists : CatalogLists) (begun before after : ℕ) (heard : Result (List ℕ) ReadFault) (error : Error) → ReadCounts begun before after (heard_cause heard) → config_in lists heard ≡ Err error → ReadCounts begun before after (cause_of error)
 config_counts lists begun before after (Ok text) error counts e = formed begun before after (NotYet Policy) error (policy_of lists text) tt e
-config_counts lists begun before after (Err (Failed first last)) error counts e = counted begun before after _ error (same_error {X = List LicenseEntry} (ConfigRead (Failed first last)) error e) counts
-config_counts lists begun before after (Err Absent) error counts e = counted begun before after _ error (same_error {X = List LicenseEntry} (NotYet Policy) error e) tt
-config_counts lists begun before after (Err Folder) error counts e = counted begun before after _ error (same_error {X = List LicenseEntry} (ConfigRead Folder) error e) tt
-config_counts lists begun before after (Err (NotUtf8 at)) error counts e = counted begun before after _ error (same_error {X = List LicenseEntry} (ConfigRead (NotUtf8 at)) error e) tt
+config_counts lists begun before after (Err (Failed first last)) error counts e = counted begun before after _ error (same_error {X = List LicenseReq} (ConfigRead (Failed first last)) error e) counts
+config_counts lists begun before after (Err Absent) error counts e = counted begun before after _ error (same_error {X = List LicenseReq} (NotYet Policy) error e) tt
+config_counts lists begun before after (Err Folder) error counts e = counted begun before after _ error (same_error {X = List LicenseReq} (ConfigRead Folder) error e) tt
+config_counts lists begun before after (Err (NotUtf8 at)) error counts e = counted begun before after _ error (same_error {X = List LicenseReq} (ConfigRead (NotUtf8 at)) error e) tt
 
 -- the counts of the policy's refusal
 pub config_refusal_counts : (lists : CatalogLists) (begun before after : ℕ) (heard : Result (List ℕ) ReadFault) (refused : Refusal) → ReadCounts begun before after (heard_cause heard) → (refused ≡ refusal.Memory) ⊎ (config_in lists heard ≡ Err (error_of refused)) → ReadCounts begun before after (cause_of (error_of refused))

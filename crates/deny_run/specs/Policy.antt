@@ -4,6 +4,8 @@ use Rattle.std.specs.Str.{bytes_eq}
 use Rattle.std.specs.List.{AllByRecursion, flat_map, slice_split}
 use Rattle.catalog_core.specs.declared.catalog.LicenseEntry.{LicenseEntry}
 use Rattle.catalog_core.specs.Catalog.{CatalogLists, entry_of}
+use Rattle.term_core.specs.declared.term.LicenseItem.TheVariants.{Spdx}
+use Rattle.term_core.specs.declared.term.LicenseReq.{LicenseReq}
 
 -- a name in double quotes
 abbrev pub quoted : List ℕ → List ℕ
@@ -36,21 +38,29 @@ every_second (outside ∷ inside ∷ rest) = inside ∷ every_second rest
 abbrev pub names_in : List ℕ → List (List ℕ)
 names_in text = every_second (slice_split is_quote text)
 
--- what the catalogue says of each name; none where it does not know one
-abbrev pub entries_of : CatalogLists → List (List ℕ) → Option (List LicenseEntry)
-entries_of lists [] = Some []
-entries_of lists (name ∷ names) =
-    option_and_then (λ entry. option_map (λ entries. entry ∷ entries) (entries_of lists names)) (entry_of lists.licences name)
+-- the licensee of a licence's name: only the name says whether later versions are meant
+abbrev pub licensee_of : List ℕ → LicenseEntry → LicenseReq
+licensee_of name entry = record { item = Spdx name entry.family entry.rank entry.later false; exception = None }
 
--- The licences that a policy allows. The text is that of the policy that allows the names in its quotes, and the
--- catalogue knows each name. There is none where the text is of another form.
-abbrev pub policy_of : CatalogLists → List ℕ → Option (List LicenseEntry)
-policy_of lists text = if bytes_eq (policy_text (names_in text)) text then entries_of lists (names_in text) else None
+-- the licensee that a name is; none where the catalogue does not know it
+abbrev pub licensee_named : CatalogLists → List ℕ → Option LicenseReq
+licensee_named lists name = option_map (licensee_of name) (entry_of lists.licences name)
+
+-- the licensees that names are; none where the catalogue does not know one
+abbrev pub licensees_of : CatalogLists → List (List ℕ) → Option (List LicenseReq)
+licensees_of lists [] = Some []
+licensees_of lists (name ∷ names) =
+    option_and_then (λ licensee. option_map (λ licensees. licensee ∷ licensees) (licensees_of lists names)) (licensee_named lists name)
+
+-- The licensees that a policy allows. The text is that of the policy that allows the names in its quotes, and the
+-- catalogue knows each name, be it deprecated or not. There are none where the text is of another form.
+abbrev pub policy_of : CatalogLists → List ℕ → Option (List LicenseReq)
+policy_of lists text = if bytes_eq (policy_text (names_in text)) text then licensees_of lists (names_in text) else None
 
 -- a name has no double quote
 abbrev pub HasNoQuote : List ℕ → Type 0
 HasNoQuote name = All (λ byte. is_quote byte ≡ false) name
 
--- A policy reads back: the text that allows these names allows what the catalogue says of them, in whatever catalogue.
+-- A policy reads back: the text that allows these names allows the licensees that they are, in whatever catalogue.
 abbrev pub PolicyReadsBack : Type 0
-PolicyReadsBack = (lists : CatalogLists) (names : List (List ℕ)) → AllByRecursion HasNoQuote names → policy_of lists (policy_text names) ≡ entries_of lists names
+PolicyReadsBack = (lists : CatalogLists) (names : List (List ℕ)) → AllByRecursion HasNoQuote names → policy_of lists (policy_text names) ≡ licensees_of lists names

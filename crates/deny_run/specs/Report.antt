@@ -1,11 +1,13 @@
 -- When a report is the one that the words and the files ask for.
-use Rattle.std.specs.Prelude.{◌≡◌, ℕ, List, [], Option, Some, Result, Ok, Err, All, Any, IsSome, IsSomeAnd}
+use Rattle.std.specs.Prelude.{◌≡◌, ℕ, List, [], ◌∷◌, length, Option, Some, Result, Ok, Err, All, Any, IsSomeAnd}
 use Rattle.std.specs.List.{AllZip}
 use Rattle.tree_core.specs.Content.{Content}
 use Rattle.tree_core.specs.Hearing.{policy, metadata, FailedRead, Hearing, IsHearing}
-use Rattle.catalog_core.specs.declared.catalog.LicenseEntry.{LicenseEntry}
-use Rattle.spdx_core.specs.Expression.{ExpressionView}
-use Rattle.catalog_core.specs.Satisfaction.{Satisfies}
+use Rattle.term_core.specs.declared.term.ExpressionReq.{ExpressionReq}
+use Rattle.term_core.specs.declared.term.LicenseReq.{LicenseReq}
+use Rattle.term_core.specs.Satisfaction.{Satisfies}
+use Rattle.spdx_core.specs.Grammar.{Spells}
+use Rattle.spdx_core.specs.Reading.{ExpressionView}
 use Rattle.graph_core.specs.declared.lone.Krate.{Krate}
 use Rattle.graph_core.specs.Lone.{record_of}
 use Rattle.deny_run.specs.declared.error.Error.{Error}
@@ -16,14 +18,14 @@ use Rattle.deny_run.specs.declared.report.Report.{Report}
 use Rattle.deny_run.specs.Counts.{counts_of}
 use Rattle.deny_run.specs.Error.{cause_of, FreeOr}
 use Rattle.deny_run.specs.Given.{Given}
-use Rattle.deny_run.specs.Heard.{Asked, asked_of, expression_heard, selected_of, text_heard}
+use Rattle.deny_run.specs.Heard.{Asked, asked_of, field_mode, selected_of, text_heard}
 use Rattle.deny_run.specs.Policy.{policy_of}
 use Rattle.deny_run.specs.Words.{request_of}
 
 -- ---- what is asked for
 
--- the policy's bytes: the file at the path is a text, and as a policy it allows these licences
-pub record PolicyAt (given : Given) (hearing : Hearing) (path : List ℕ) (config : List LicenseEntry) : Type 0 where
+-- the policy's bytes: the file at the path is a text, and as a policy it allows these licensees
+pub record PolicyAt (given : Given) (hearing : Hearing) (path : List ℕ) (config : List LicenseReq) : Type 0 where
   pub text : List ℕ
   pub heard : text_heard hearing policy path ≡ Ok text
   pub allows : policy_of given.lists text ≡ Some config
@@ -34,6 +36,16 @@ pub record CrateAt (hearing : Hearing) (path : List ℕ) (krate : Krate) : Type 
   pub heard : text_heard hearing metadata path ≡ Ok text
   pub tells : record_of text ≡ Some krate
 
+-- the expression of a crate: its field spells it, in strict mode with the slash as OR, and it has one term
+pub record ReadsField (given : Given) (config : List LicenseReq) (hearing : Hearing) (krate : Krate) (read : ExpressionView) : Type 0 where
+  pub field : krate.license ≡ Some read.text
+  pub spelled : Spells field_mode given.lists read.text read.tree read.terms
+  pub one : length read.terms ≡ 1
+
+-- a crate has an expression
+abbrev pub HasExpression : Given → List LicenseReq → Hearing → Krate → Type 0
+HasExpression given config hearing krate = (read : ExpressionView) × ReadsField given config hearing krate read
+
 -- lawful input: the words, the policy, the metadata and the crates are of the forms that are built, and ask to check this
 pub record Asks (given : Given) (hearing : Hearing) (asked : Asked) : Type 0 where
   pub request : request_of given.words given.cwd ≡ Some asked.request
@@ -41,23 +53,29 @@ pub record Asks (given : Given) (hearing : Hearing) (asked : Asked) : Type 0 whe
   pub krate : Krate
   pub metadata : CrateAt hearing asked.request.metadata_path krate
   pub selected : asked.crates ≡ selected_of krate
-  pub expressions : All (λ one. IsSome (expression_heard given asked.config hearing one)) asked.crates
+  pub expressions : All (HasExpression given asked.config hearing) asked.crates
 
 -- ---- what is reported
 
--- some licence of the policy satisfies the expression's term
-abbrev pub Allows : List LicenseEntry → ExpressionView → Type 0
-Allows config expression = Any (λ licensee. Satisfies licensee expression.term) config
+-- some licensee of the policy is content with a term
+abbrev pub Allows : List LicenseReq → LicenseReq → Type 0
+Allows config term = Any (λ licensee. Satisfies licensee term) config
 
--- Accepted: the policy allows the expression. Rejected: there is one, and the policy does not allow it.
-abbrev pub IsVerdictOf : List LicenseEntry → Option ExpressionView → Verdict → Type 0
-IsVerdictOf config expression Accepted = IsSomeAnd expression (Allows config)
-IsVerdictOf config expression Rejected = IsSomeAnd expression (λ read. ¬ (Allows config read))
+-- there is one term, of which this holds
+abbrev pub OfOneTerm : (LicenseReq → Type 0) → List ExpressionReq → Type 0
+OfOneTerm Holds [] = ⊥
+OfOneTerm Holds (term ∷ []) = Holds term.req
+OfOneTerm Holds (term ∷ next ∷ rest) = ⊥
+
+-- Accepted: the policy allows the expression's one term. Rejected: there is one, and the policy does not allow it.
+abbrev pub IsVerdictOf : List LicenseReq → Option ExpressionView → Verdict → Type 0
+IsVerdictOf config expression Accepted = IsSomeAnd expression (λ read. OfOneTerm (Allows config) read.terms)
+IsVerdictOf config expression Rejected = IsSomeAnd expression (λ read. OfOneTerm (λ term. ¬ (Allows config term)) read.terms)
 
 -- the report on a crate
-pub record IsReportOf (given : Given) (config : List LicenseEntry) (hearing : Hearing) (krate : Krate) (report : CrateReport) : Type 0 where
+pub record IsReportOf (given : Given) (config : List LicenseReq) (hearing : Hearing) (krate : Krate) (report : CrateReport) : Type 0 where
   pub id : report.id ≡ krate.id
-  pub expression : report.expression ≡ expression_heard given config hearing krate
+  pub expression : IsSomeAnd report.expression (ReadsField given config hearing krate)
   pub verdict : IsVerdictOf config report.expression report.verdict
 
 -- each crate that is checked has its one report, in the same order, and the verdicts are counted

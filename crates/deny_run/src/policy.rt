@@ -2,13 +2,21 @@
 ghost use Rattle.std.specs.Prelude.{◌≡◌, [], ◌∷◌, ◌++◌, IfOk, OnOk, string_bytes, if◌then◌else◌};
 ghost use Rattle.std.specs.Str.{bytes_eq};
 ghost use Rattle.deny_run.specs.Policy.{PolicyReadsBack, policy_of, policy_text, quoted, quoted_names};
-ghost use Rattle.deny_run.specs.Policy.{entries_of, names_in};
+ghost use Rattle.deny_run.specs.Policy.{licensee_named, licensees_of, names_in};
 
 use deny_text::{ListOf, Text, Texts};
-use spdx_core::{Catalog, LicenseEntry};
+use spdx_core::{Catalog, ExprError, Licensee, ParseMode};
 use std::alloc::{AllocError, Global};
 
-/// The licences that a policy's text allows, in its order; none where the text is of another form than
+/// The mode that a policy's names are read in: deprecated ones are names like the others.
+const NAMES: ParseMode = ParseMode {
+    allow_deprecated: true,
+    allow_imprecise_license_names: false,
+    allow_postfix_plus_on_gpl: true,
+    allow_slash_as_or_operator: false,
+};
+
+/// The licensees that a policy's text allows, in its order; none where the text is of another form than
 /// `[licenses]`, a line end, `allow = [`, names in double quotes with a comma and a space between, `]` and a
 /// line end,
 /// or names a licence that the catalogue does not know.
@@ -16,15 +24,15 @@ pub fn allowed<C: Catalog>(
     alloc: Global,
     text: &str,
     catalog: &C,
-) -> Result<Option<ListOf<LicenseEntry>>, AllocError>
+) -> Result<Option<ListOf<Licensee>>, AllocError>
     ensures { IfOk result (λ allowed. allowed ≡ policy_of (C.lists catalog.now) text.now) }
 {
     let names = names_in(alloc, text)?;
     if !is_written(alloc, names.items(), text)? {
         return Ok(None);
     }
-    let entries = entries(alloc, names.items(), catalog)?;
-    Ok(entries)
+    let licensees = licensees(alloc, names.items(), catalog)?;
+    Ok(licensees)
 }
 
 /// Whether the text is that of the policy that allows these names.
@@ -96,25 +104,43 @@ fn push_quoted(text: &mut String, name: &str) -> Result<(), AllocError>
     Ok(())
 }
 
-/// What the catalogue says of each name; none where it does not know one.
-fn entries<C: Catalog>(
+/// The licensee that a name is; none where the catalogue does not know it.
+fn licensee<C: Catalog>(
+    alloc: Global,
+    name: &str,
+    catalog: &C,
+) -> Result<Option<Licensee>, AllocError>
+    ensures { IfOk result (λ licensee. licensee ≡ licensee_named (C.lists catalog.now) name.now) }
+{
+    match catalog.license(name) {
+        None => Ok(None),
+        Some(_) => match Licensee::parse_mode(alloc, name, NAMES, catalog) {
+            Ok(licensee) => Ok(Some(licensee)),
+            Err(ExprError::Parse(_)) => unreachable!(),
+            Err(ExprError::Memory) => Err(AllocError),
+        },
+    }
+}
+
+/// The licensees that names are; none where the catalogue does not know one.
+fn licensees<C: Catalog>(
     alloc: Global,
     names: &[Text],
     catalog: &C,
-) -> Result<Option<ListOf<LicenseEntry>>, AllocError>
-    ensures { IfOk result (λ entries. entries ≡ entries_of (C.lists catalog.now) names.now) }
+) -> Result<Option<ListOf<Licensee>>, AllocError>
+    ensures { IfOk result (λ licensees. licensees ≡ licensees_of (C.lists catalog.now) names.now) }
 {
-    let mut entries = ListOf::new(alloc);
+    let mut licensees = ListOf::new(alloc);
     'names: for name in names {
-        match catalog.license(name.as_str()) {
-            Some(entry) => entries.push(entry)?,
+        match licensee(alloc, name.as_str(), catalog)? {
+            Some(licensee) => licensees.push(licensee)?,
             None => return Ok(None),
         }
     }
-    Ok(Some(entries))
+    Ok(Some(licensees))
 }
 
-/// The text of a policy that allows these names reads back as what the catalogue says of them.
+/// The text of a policy that allows these names reads back as the licensees that they are.
 pub fn policy_reads_back()
     ensures { PolicyReadsBack }
 {}

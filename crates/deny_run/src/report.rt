@@ -3,7 +3,7 @@ ghost use Rattle.std.specs.Prelude.{◌≡◌};
 
 use crate::error::Error;
 use deny_text::{ListOf, Text};
-use spdx_core::lone::Expression;
+use spdx_core::Expression;
 
 /// Whether a policy allows a crate's licence.
 #[derive(Clone, Copy, Debug, PartialEq, Eq)]

@@ -4,6 +4,8 @@
 #[cfg(test)]
 mod failures;
 #[cfg(test)]
+mod fields;
+#[cfg(test)]
 mod first_path;
 #[cfg(test)]
 mod process;

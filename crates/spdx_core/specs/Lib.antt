@@ -1,5 +1,4 @@
 pub mod Answers
-pub mod Expression
 pub mod ExpressionCode
 pub mod Expressions
 pub mod Grammar

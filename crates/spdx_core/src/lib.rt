@@ -3,7 +3,6 @@
 
 pub mod expression;
 pub mod laws;
-pub mod lone;
 pub mod node;
 mod read;
 mod reader;

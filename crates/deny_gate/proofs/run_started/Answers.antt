@@ -1,0 +1,13 @@
+use Rattle.std.proofs.Common.{refl, ap}
+use Rattle.catalog_core.specs.Store.{match_of}
+use Rattle.deny_gate.proofs.run_started.Goals as goal
+
+pub returns-clause-ran : goal.returns-clause-ran
+returns-clause-ran g c = record {
+  given = _;
+  lists = refl;
+  match_of = ap match_of c.requires;
+  headline = c.run.ensures.headline;
+  written = c.run.ensures.written;
+  status = c.run.ensures.status;
+}

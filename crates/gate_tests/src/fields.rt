@@ -1,0 +1,71 @@
+//! Fields of one crate against a policy that allows one name.
+use crate::rows::{WORDS, observe, tree};
+use std::alloc::Global;
+use std::process::Abort;
+use std::test::Fail;
+
+/// A field, the name that the policy allows, how the run ends, and what it writes.
+const ROWS: [(&str, &str, &str); 20] = [
+    ("(MIT)", "MIT", "a 1.0.0: (MIT) Accepted; licenses ok\n"),
+    ("MIT+", "MIT", "a 1.0.0: MIT+ Accepted; licenses ok\n"),
+    (
+        "GPL-2.0-or-later",
+        "GPL-3.0",
+        "a 1.0.0: GPL-2.0-or-later Accepted; licenses ok\n",
+    ),
+    (
+        "GPL-2.0-only",
+        "GPL-3.0",
+        "a 1.0.0: GPL-2.0-only Rejected; licenses FAILED\n",
+    ),
+    (
+        "Apache-2.0 WITH LLVM-exception",
+        "Apache-2.0",
+        "a 1.0.0: Apache-2.0 WITH LLVM-exception Rejected; licenses FAILED\n",
+    ),
+    (
+        "LicenseRef-x",
+        "Apache-2.0",
+        "a 1.0.0: LicenseRef-x Rejected; licenses FAILED\n",
+    ),
+    // More than one term is not judged yet, be it the same one twice.
+    ("MIT OR MIT", "MIT", "crate a 1.0.0; "),
+    ("MIT/ISC", "MIT", "crate a 1.0.0; "),
+    ("MIT AND ISC", "MIT", "crate a 1.0.0; "),
+    // No expression in strict mode.
+    ("GPL-3.0", "GPL-3.0", "crate a 1.0.0; "),
+    ("mit", "MIT", "crate a 1.0.0; "),
+    (" ", "MIT", "crate a 1.0.0; "),
+    ("", "MIT", "crate a 1.0.0; "),
+    ("(MIT", "MIT", "crate a 1.0.0; "),
+    // A policy has names of the catalogue alone.
+    ("MIT", " MIT", "policy; "),
+    ("MIT", "MIT+", "policy; "),
+    ("MIT", "MIT WITH LLVM-exception", "policy; "),
+    ("LicenseRef-a", "LicenseRef-a", "policy; "),
+    ("MIT", "Mit", "policy; "),
+    ("MIT", "", "policy; "),
+];
+
+/// How a run over a crate with this field ends, and what it writes.
+fn told(alloc: Global, field: &str, name: &str) -> Result<String, Fail> {
+    let policy = format!(in alloc; "[licenses]\nallow = [\"{name}\"]\n")?;
+    let mut tree = tree(alloc, field, policy.as_bytes())?;
+    let seen = observe(alloc, &WORDS, "/w", &mut tree, 1000)?;
+    let ended = seen.ended.as_str();
+    let out = seen.out.as_str();
+    Ok(format!(in alloc; "{ended}; {out}")?)
+}
+
+fn compare(rt: &impl Abort, alloc: Global, rows: &[(&str, &str, &str)]) -> Result<(), Fail> {
+    for (field, name, want) in rows {
+        let seen = told(alloc, field, name)?;
+        assert_eq!(rt; seen.as_str(), *want, "{field}");
+    }
+    Ok(())
+}
+
+#[test]
+fn fields_of_one_term(rt: HostRuntime) -> Result<(), Fail> {
+    compare(&rt, rt.alloc(), &ROWS)
+}
