@@ -1,0 +1,3 @@
+pub mod Goings
+pub mod Stacks
+pub mod Turns

@@ -1,0 +1,17 @@
+-- What values stand for that are no arrays and no tables.
+use Rattle.std.specs.Prelude.{ℕ}
+use Rattle.deny_text.specs.declared.span.Span.{Span}
+use Rattle.toml_subset.specs.Classes.{content_by}
+use Rattle.toml_subset.specs.Data as «data»
+use Rattle.toml_subset.specs.Data.{Content}
+use Rattle.toml_subset.specs.Reading.{Found}
+use Rattle.toml_frames.specs.declared.scalar.Scalar.{Scalar}
+use Rattle.toml_frames.specs.declared.scalar.Scalar.TheVariants.{String, Number, Boolean}
+
+abbrev pub scalar_content : Scalar → Content
+scalar_content (String s) = data.string s
+scalar_content (Number n) = content_by n
+scalar_content (Boolean b) = data.boolean b
+
+abbrev pub scalar_found : Scalar × Span × ℕ → Found
+scalar_found found = (found.1, scalar_content found.0, found.2)
