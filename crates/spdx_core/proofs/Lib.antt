@@ -1,8 +1,10 @@
 pub mod ExpressionLemmas
+pub mod FaultSpans
 pub mod HasTree
 pub mod MachineLemmas
 pub mod NameItems
 pub mod NoFault
+pub mod OnePart
 pub mod ReadingLemmas
 pub mod SpellingLemmas
 pub mod StackLemmas

@@ -1,11 +1,15 @@
 -- What holds of all licence expressions.
-use Rattle.std.specs.Prelude.{◌≡◌, ◌↔◌, ℕ, true, false, IsTrue, List, Some, None, length, map}
-use Rattle.std.specs.Str.{IsUtf8}
+use Rattle.std.specs.Prelude.{◌≡◌, ◌↔◌, ◌≤◌, ℕ, true, false, IsTrue, List, Option, Some, None, length, map}
+use Rattle.std.specs.Str.{IsUtf8, IsCharBoundary}
+use Rattle.deny_text.specs.declared.span.Span.{Span}
 use Rattle.catalog_core.specs.Catalog.{CatalogLists, IsCatalog}
+use Rattle.term_core.specs.declared.error.ParseError.{ParseError}
 use Rattle.term_core.specs.declared.mode.ParseMode.{ParseMode}
 use Rattle.term_core.specs.declared.term.ExpressionReq.{ExpressionReq}
-use Rattle.term_core.specs.Faults.{first_fault}
+use Rattle.term_core.specs.declared.term.LicenseReq.{LicenseReq}
+use Rattle.term_core.specs.Faults.{first_fault, licensee_fault}
 use Rattle.term_core.specs.Laws.{with_slash, has_no_slash}
+use Rattle.term_core.specs.Licensee.{IsLicensee}
 use Rattle.term_core.specs.Spans.{Rise}
 use Rattle.spdx_core.specs.Grammar.{Tree, Spells}
 use Rattle.spdx_core.specs.Reading.{ExpressionView, expression_of, numbered_from}
@@ -38,3 +42,17 @@ PlacesInOrder = (mode : ParseMode) (lists : CatalogLists) (text : List ℕ) (tre
 abbrev pub TermsRise : Type 0
 TermsRise = (mode : ParseMode) (lists : CatalogLists) (text : List ℕ) (tree : Tree) (terms : List ExpressionReq)
     → IsCatalog lists → IsUtf8 text → Spells mode lists text tree terms → Rise text 0 (map (λ term. term.span) terms) (length text)
+
+-- a text is a licensee exactly where it has no fault
+abbrev pub LicenseeOrFault : Type 0
+LicenseeOrFault = (mode : ParseMode) (lists : CatalogLists) (text : List ℕ) → (licensee_fault mode lists text ≡ None) ↔ ((req : LicenseReq) × IsLicensee mode lists text req)
+
+-- a span lies in a text, on character borders
+pub record LiesIn (text : List ℕ) (span : Span) : Type 0 where
+  pub order : span.start ≤ span.end
+  pub start_border : IsCharBoundary text span.start
+  pub end_border : IsCharBoundary text span.end
+
+-- what is wrong with a text is told at a place of it
+abbrev pub FaultsLieIn : (ParseMode → CatalogLists → List ℕ → Option ParseError) → Type 0
+FaultsLieIn fault_in = (mode : ParseMode) (lists : CatalogLists) (text : List ℕ) (fault : ParseError) → IsCatalog lists → IsUtf8 text → fault_in mode lists text ≡ Some fault → LiesIn text fault.span

@@ -1,5 +1,6 @@
 //! What holds of all licence expressions. These functions do nothing: their contracts are the laws.
-ghost use Rattle.spdx_core.specs.Laws.{TreeOrFault, OneTree, ReadIsSpelled, SlashIsStrict, PlacesInOrder, TermsRise};
+ghost use Rattle.term_core.specs.Faults.{first_fault, licensee_fault};
+ghost use Rattle.spdx_core.specs.Laws.{TreeOrFault, OneTree, ReadIsSpelled, SlashIsStrict, PlacesInOrder, TermsRise, LicenseeOrFault, FaultsLieIn};
 
 /// A text has a tree exactly where it has no first fault.
 pub fn tree_or_fault()
@@ -25,4 +26,15 @@ pub fn places_in_order()
 /// The terms of an expression follow one another in its text, are not empty, and begin and end on character borders.
 pub fn terms_rise()
     ensures { TermsRise }
+{}
+
+/// A text is a licensee, one part without parentheses, exactly where it has no fault.
+pub fn licensee_or_fault()
+    ensures { LicenseeOrFault }
+{}
+
+/// The fault of a text, read as an expression or as a licensee, has a place in it, on character borders.
+pub fn faults_lie_in_the_text()
+    ensures expressions { FaultsLieIn first_fault }
+    ensures licensees { FaultsLieIn licensee_fault }
 {}
