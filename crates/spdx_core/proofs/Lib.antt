@@ -1,10 +1,14 @@
 pub mod ExpressionLemmas
 pub mod FaultSpans
 pub mod HasTree
+pub mod ItemKinds
+pub mod JoinedNames
 pub mod MachineLemmas
 pub mod NameItems
 pub mod NoFault
 pub mod OnePart
+pub mod PrintedTerms
 pub mod ReadingLemmas
 pub mod SpellingLemmas
 pub mod StackLemmas
+pub mod TermsOf

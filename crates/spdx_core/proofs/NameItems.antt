@@ -1,11 +1,10 @@
 -- The item that a name of the catalogue is, where a term is wanted.
-use Rattle.std.proofs.Common.{◌≡◌, ◌∙◌, refl, sym, ap, subst, ℕ, ◌+◌, ◌-◌, ◌<◌, ◌≤◌, zero, suc, Bool, true, false, not, ◌&&◌, ◌||◌, cond, nat_lt, nat_eq, List, [], ◌∷◌, ◌++◌, append-nil, Option, Some, None, unwrap_or, length, take, drop, arith}
-use Rattle.std.proofs.lemmas.List.{length-append}
+use Rattle.std.proofs.Common.{◌≡◌, ◌∙◌, refl, sym, ap, ℕ, ◌+◌, ◌-◌, ◌<◌, ◌≤◌, suc, Bool, true, false, not, ◌&&◌, ◌||◌, cond, nat_eq, List, [], ◌∷◌, ◌++◌, append-nil, Some, None, unwrap_or, length, drop, arith}
 use Rattle.std.proofs.Math.Seq.{take-append_seam, drop-append_seam}
 use Rattle.std.proofs.lemmas.Bool.{false≢true, true≢false}
 use Rattle.std.proofs.lemmas.Bool.Decides.{nat_tests}
 use Rattle.std.proofs.lemmas.Slice.Eq.{bytes_eq-Decides}
-use Rattle.std.specs.Prelude.{slice_get, codes}
+use Rattle.std.specs.Prelude.{codes}
 use Rattle.std.specs.Option.{option_map, option_or}
 use Rattle.std.specs.List.{list_all, prefix_len, starts_with}
 use Rattle.std.specs.Str.{bytes_eq}
@@ -13,21 +12,20 @@ use Rattle.catalog_core.specs.declared.catalog.LicenseEntry.{LicenseEntry}
 use Rattle.catalog_core.specs.Catalog.{CatalogLists, IsCatalog, entry_of, names_of}
 use Rattle.catalog_core.specs.Words.{is_word_byte, is_word, is_name, is_operator, is_reference, ends_word}
 use Rattle.term_core.specs.declared.mode.ParseMode.{ParseMode}
-use Rattle.term_core.specs.declared.item.Token.{Token}
 use Rattle.term_core.specs.declared.item.Token.TheVariants.{Word as a_word, Plus as a_plus, Open as an_open, Close as a_close, Slash as a_slash, Other as another}
 use Rattle.term_core.specs.declared.item.Wanted.{Wanted}
 use Rattle.term_core.specs.declared.item.Wanted.TheVariants.{Term as wants_term, AfterTerm}
 use Rattle.term_core.specs.declared.item.Item.{Item}
 use Rattle.term_core.specs.declared.term.LicenseItem.{LicenseItem}
 use Rattle.term_core.specs.Tokens.{in_word, is_white, token_of, rest_len, after_prefix, own_licence, in_document, or_else, reference_of}
-use Rattle.term_core.specs.Items.{item_at, term_of, licence_of, licence_at, plus_behind, imprecise_if, plain_item, term_item, word_item, token_item, first_item, operator_of, items_of, items_from, item_here, with_item, wanted_behind, used_behind, wanted_after}
+use Rattle.term_core.specs.Items.{item_at, term_of, licence_of, licence_at, plus_behind, imprecise_if, plain_item, word_item, token_item, first_item, operator_of, items_of, items_from, item_here, with_item, wanted_behind, used_behind, wanted_after}
 use Rattle.term_core.proofs.ImpreciseLemmas.{both_true, and_true}
 use Rattle.term_core.proofs.ItemLemmas.{items_at, passed}
 
 -- ---- words
 
 -- a run goes as far as all of its bytes are of a kind and the next one is not
-stop : (p : ℕ → Bool) → List ℕ → Bool
+abbrev pub stop : (p : ℕ → Bool) → List ℕ → Bool
 stop p [] = true
 stop p (b ∷ rest) = not (p b)
 
@@ -35,8 +33,7 @@ not_true : (t : Bool) → not t ≡ true → t ≡ false
 not_true true h = absurd (false≢true h)
 not_true false h = refl
 
-run_all : (p : ℕ → Bool) (run rest : List ℕ) → list_all p run ≡ true → stop p rest ≡ true → prefix_len p (run ++ rest) ≡ length run
-unfolding stop
+pub run_all : (p : ℕ → Bool) (run rest : List ℕ) → list_all p run ≡ true → stop p rest ≡ true → prefix_len p (run ++ rest) ≡ length run
 run_all p [] [] all stops = refl
 run_all p [] (b ∷ rest) all stops = ap (λ t. cond t (1 + prefix_len p rest) 0) (not_true (p b) stops)
 run_all p (b ∷ run) rest all stops =
@@ -52,7 +49,7 @@ is_run (b ∷ rest) = in_word b && list_all in_word rest
 letter_in_word : (b : ℕ) → is_word_byte b ≡ true → in_word b ≡ true
 letter_in_word b h = ap (λ t. t || nat_eq b 58) h
 
-letters_in_word : (bs : List ℕ) → list_all is_word_byte bs ≡ true → list_all in_word bs ≡ true
+pub letters_in_word : (bs : List ℕ) → list_all is_word_byte bs ≡ true → list_all in_word bs ≡ true
 letters_in_word [] h = refl
 letters_in_word (b ∷ bs) h =
     let parts = both_true (is_word_byte b) (list_all is_word_byte bs) h in
@@ -63,7 +60,6 @@ word_is_run [] h = h
 word_is_run (b ∷ bs) h = letters_in_word (b ∷ bs) h
 
 ends_stop : (rest : List ℕ) → ends_word rest ≡ true → stop in_word rest ≡ true
-unfolding stop
 ends_stop [] h = refl
 ends_stop (b ∷ rest) h = h
 
@@ -154,23 +150,32 @@ named_item mode lists place name rest entry off own known =
     ∙ ap (λ found. unwrap_or (option_map (λ entry. licence_of name entry (plus_behind text len) place len) found) (item_at (operator_of name) place len)) known in
     ap (λ t. unwrap_or (imprecise_if t lists place text len) (plain_item lists place text len)) off ∙ plain
 
-no_plus_behind : (name : List ℕ) → plus_behind (name ++ []) (length name) ≡ false
-no_plus_behind [] = refl
-no_plus_behind (b ∷ rest) = no_plus_behind rest
+-- what stands behind a name
+behind_name : (name rest : List ℕ) → plus_behind (name ++ rest) (length name) ≡ plus_behind rest 0
+behind_name [] rest = refl
+behind_name (b ∷ name) rest = behind_name name rest
 
-some_bytes : (name : List ℕ) → is_run name ≡ true → 0 < length name
+pub some_bytes : (name : List ℕ) → is_run name ≡ true → 0 < length name
 some_bytes [] h = absurd (false≢true h)
 some_bytes (b ∷ rest) h = omega arith
+
+-- a name and its item, with the `+` directly behind it
+pub name_step : (mode : ParseMode) (lists : CatalogLists) (place : ℕ) (name rest : List ℕ) (entry : LicenseEntry) (plus : Bool) → IsCatalog lists → mode.allow_imprecise_license_names ≡ false → entry_of lists.licences name ≡ Some entry
+    → ends_word rest ≡ true → plus_behind rest 0 ≡ plus → (len : ℕ) → (licence_of name entry plus place (length name)).span.end ≡ place + len → length name ≤ len → len ≤ length (name ++ rest)
+    → items_from mode lists wants_term place place (name ++ rest) ≡ licence_of name entry plus place (length name) ∷ items_from mode lists AfterTerm (place + len) (place + len) (drop len (name ++ rest))
+name_step mode lists place name rest entry plus laws off known ends is_plus len end from to =
+    let named : IsNamed name = entry_named lists name entry laws known in
+    let some : 0 < length name = some_bytes name named.run in
+    let is : word_item mode lists wants_term place (name ++ rest) (length name) ≡ licence_of name entry plus place (length name) =
+    named_item mode lists place name rest entry off named.no_reference known ∙ ap (λ one. licence_of name entry one place (length name)) (behind_name name rest ∙ is_plus) in
+    word_step mode lists wants_term place name rest (licence_of name entry plus place (length name)) len named.run ends is end (omega arith) to
 
 -- a name alone is one item
 pub lone_name : (mode : ParseMode) (lists : CatalogLists) (name : List ℕ) (entry : LicenseEntry) → IsCatalog lists → mode.allow_imprecise_license_names ≡ false → entry_of lists.licences name ≡ Some entry
     → items_of mode lists name ≡ licence_of name entry false 0 (length name) ∷ []
 lone_name mode lists name entry laws off known =
-    let named : IsNamed name = entry_named lists name entry laws known in
     let it : Item = licence_of name entry false 0 (length name) in
-    let is : word_item mode lists wants_term 0 (name ++ []) (length name) ≡ it =
-    named_item mode lists 0 name [] entry off named.no_reference known ∙ ap (λ plus. licence_of name entry plus 0 (length name)) (no_plus_behind name) in
     let whole : length (name ++ []) ≡ length name = ap length (append-nil name) in
     ap (λ (text : List ℕ). items_from mode lists wants_term 0 0 text) (sym (append-nil name))
-    ∙ word_step mode lists wants_term 0 name [] it (length name) named.run refl is refl (some_bytes name named.run) (omega arith)
+    ∙ name_step mode lists 0 name [] entry false laws off known refl refl (length name) refl (omega arith) (omega arith)
     ∙ ap (λ (rest : List ℕ). it ∷ items_from mode lists AfterTerm (0 + length name) (0 + length name) rest) (drop-append_seam name [])

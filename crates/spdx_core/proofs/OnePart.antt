@@ -1,6 +1,5 @@
 -- A licensee's text is one part exactly where it has no fault.
 use Rattle.std.proofs.Common.{◌≡◌, ap, ◌↔◌, ℕ, List, None, length}
-use Rattle.deny_text.specs.declared.span.Span.{Span}
 use Rattle.catalog_core.specs.Catalog.{CatalogLists}
 use Rattle.term_core.specs.declared.mode.ParseMode.{ParseMode}
 use Rattle.term_core.specs.declared.item.Item.{Item}
@@ -17,8 +16,7 @@ fine mode len _ _ (with_exception named name first second third ok) = ap (λ fau
 
 pub licensee_or_fault : (mode : ParseMode) (lists : CatalogLists) (text : List ℕ) → (licensee_fault mode lists text ≡ None) ↔ ((req : LicenseReq) × IsLicensee mode lists text req)
 licensee_or_fault mode lists text =
-    let plain = licensee_mode mode in
-    (
+    let plain = licensee_mode mode in (
       λ none. let one = one_part plain (length text) (items_of plain lists text) none in (one.req, one.one),
       λ found. fine plain (length text) (items_of plain lists text) found.0 found.1,
     )

@@ -1,8 +1,10 @@
 pub mod Answers
 pub mod ExpressionCode
+pub mod ExpressionRows
 pub mod Expressions
 pub mod Grammar
 pub mod Laws
 pub mod Machine
+pub mod Printing
 pub mod Reading
 pub mod Stack

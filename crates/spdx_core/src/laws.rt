@@ -1,5 +1,6 @@
 //! What holds of all licence expressions. These functions do nothing: their contracts are the laws.
 ghost use Rattle.term_core.specs.Faults.{first_fault, licensee_fault};
+ghost use Rattle.spdx_core.specs.Printing.{PrintedReadsBack, TermsAreOfCatalog, LicenseesAreOfCatalog, JoinedNamesAreRead};
 ghost use Rattle.spdx_core.specs.Laws.{TreeOrFault, OneTree, ReadIsSpelled, SlashIsStrict, PlacesInOrder, TermsRise, LicenseeOrFault, FaultsLieIn};
 
 /// A text has a tree exactly where it has no first fault.
@@ -37,4 +38,18 @@ pub fn licensee_or_fault()
 pub fn faults_lie_in_the_text()
     ensures expressions { FaultsLieIn first_fault }
     ensures licensees { FaultsLieIn licensee_fault }
+{}
+
+/// A printed term is read as itself in the mode with deprecated names and `+` behind names of GNU families. The terms of
+/// expressions and licensees are such terms.
+pub fn printed_terms_read_back()
+    ensures reads { PrintedReadsBack }
+    ensures terms { TermsAreOfCatalog }
+    ensures licensees { LicenseesAreOfCatalog }
+{}
+
+/// Names of the catalogue with ` AND ` between are an expression of these names, from left to right, where deprecated
+/// names are allowed.
+pub fn joined_names_are_read()
+    ensures { JoinedNamesAreRead }
 {}

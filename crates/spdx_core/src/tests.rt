@@ -1,8 +1,16 @@
 //! Texts as expressions: their terms, places and nodes, or their first fault.
+ghost use Rattle.std.specs.Prelude.{◌≡◌, codes};
+ghost use Rattle.term_core.specs.ItemRows.{odd};
+ghost use Rattle.term_core.specs.Faults.{first_fault};
+ghost use Rattle.spdx_core.specs.Reading.{expression_of};
+ghost use Rattle.spdx_core.specs.ExpressionRows.{two_terms, operator_is_used_up};
+
 use super::*;
-use std::alloc::Global;
+use std::alloc::{AllocError, Global};
 use std::process::Abort;
 use std::test::Fail;
+
+mod hostile;
 
 const STRICT_ROWS: [(&str, &str); 48] = [
     (
@@ -108,6 +116,29 @@ const LAX_ROWS: [(&str, &str); 11] = [
     ("or mit", "unexpected term 0 2"),
 ];
 
+const IMPRECISE_ROWS: [(&str, &str); 2] = [
+    ("gpl v2+", "a GNU license was followed by a plus 0 7"),
+    ("gpl v2", "GPL-2.0-only 0 6; 0"),
+];
+
+/// In lax mode licensees have no imprecise texts and no slashes.
+const LICENSEE_ROWS: [(&str, &str); 7] = [
+    ("MIT+", "MIT"),
+    ("GPL-2.0-only+", "GPL-2.0-only"),
+    ("GPL-3.0+", "GPL-3.0"),
+    ("MIT/ISC", "invalid character(s) 3 4"),
+    ("mit license", "unknown term 0 3"),
+    ("MIT OR ISC", "unexpected term 4 6"),
+    ("", "expression is empty 0 0"),
+];
+
+const IMPRECISE: ParseMode = ParseMode {
+    allow_deprecated: false,
+    allow_imprecise_license_names: true,
+    allow_postfix_plus_on_gpl: false,
+    allow_slash_as_or_operator: false,
+};
+
 const SLASHED: ParseMode = ParseMode {
     allow_deprecated: false,
     allow_imprecise_license_names: false,
@@ -115,15 +146,21 @@ const SLASHED: ParseMode = ParseMode {
     allow_slash_as_or_operator: true,
 };
 
+/// The reason and the place of a fault.
+fn fault_shown(alloc: Global, fault: &ParseError) -> Result<String, AllocError> {
+    let reason = fault.reason;
+    let start = fault.span.start;
+    let end = fault.span.end;
+    format!(in alloc; "{reason} {start} {end}")
+}
+
 /// The terms of a text with their places, and its nodes; or its fault.
 fn shown(alloc: Global, text: &str, mode: ParseMode) -> Result<String, ExprError> {
     let read = match Expression::parse_mode(alloc, text, mode, &Table) {
         Ok(read) => read.copy(alloc)?,
         Err(ExprError::Parse(fault)) => {
-            let reason = fault.reason;
-            let start = fault.span.start;
-            let end = fault.span.end;
-            return Ok(format!(in alloc; "{reason} {start} {end}")?);
+            let told = fault_shown(alloc, &fault)?;
+            return Ok(told);
         }
         Err(ExprError::Memory) => return Err(ExprError::Memory),
     };
@@ -172,4 +209,38 @@ fn with_the_slash(rt: HostRuntime) -> Result<(), Fail> {
 #[test]
 fn lax(rt: HostRuntime) -> Result<(), Fail> {
     shows(&rt, rt.alloc(), ParseMode::LAX, &LAX_ROWS)
+}
+
+#[test]
+fn imprecise_names_alone(rt: HostRuntime) -> Result<(), Fail> {
+    shows(&rt, rt.alloc(), IMPRECISE, &IMPRECISE_ROWS)
+}
+
+/// What a licensee's text prints as in lax mode, or its fault.
+fn licensee_shown(alloc: Global, text: &str) -> Result<String, ExprError> {
+    match Licensee::parse_mode(alloc, text, ParseMode::LAX, &Table) {
+        Ok(licensee) => Ok(format!(in alloc; "{licensee}")?),
+        Err(ExprError::Parse(fault)) => Ok(fault_shown(alloc, &fault)?),
+        Err(ExprError::Memory) => Err(ExprError::Memory),
+    }
+}
+
+#[test]
+fn licensees_in_lax_mode(rt: HostRuntime) -> Result<(), Fail> {
+    for (text, want) in LICENSEE_ROWS {
+        let seen = licensee_shown(rt.alloc(), text)?;
+        assert_eq!(rt; seen.as_str(), want, "{text}");
+    }
+    Ok(())
+}
+
+/// Does nothing: its clauses are rows over a catalogue in which an imprecise text holds an operator.
+fn an_odd_catalogue()
+    ensures two { expression_of two_terms.0 odd (codes "MIT or MIT") ≡ two_terms.1 }
+    ensures used { first_fault operator_is_used_up.0 odd (codes "MIT or MIT") ≡ operator_is_used_up.1 }
+{}
+
+#[test]
+fn an_operator_within_an_imprecise_text() {
+    an_odd_catalogue();
 }

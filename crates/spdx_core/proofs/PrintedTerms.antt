@@ -1,0 +1,228 @@
+-- Printed terms are read back.
+use Rattle.std.proofs.Common.{◌≡◌, ◌∙◌, refl, sym, ap, subst, ℕ, ◌+◌, ◌<◌, Bool, true, false, not, ◌||◌, cond, List, [], ◌∷◌, ◌++◌, append_assoc, append-nil, Option, Some, None, unwrap_or, length, take, drop, arith}
+use Rattle.std.proofs.lemmas.List.{length-append}
+use Rattle.std.proofs.lemmas.List.Folds.{list_all-append}
+use Rattle.std.proofs.Math.Seq.{take-append_seam, drop-append_seam, drop-append-add}
+use Rattle.std.proofs.lemmas.Bool.{false≢true}
+use Rattle.std.proofs.lemmas.Bool.Decides.{nat_tests}
+use Rattle.std.proofs.lemmas.Slice.Eq.{bytes_eq-Decides}
+use Rattle.std.specs.Prelude.{codes}
+use Rattle.std.specs.Option.{option_map, option_or}
+use Rattle.std.specs.List.{list_all, list_any, before_first, after_first}
+use Rattle.std.specs.Str.{bytes_eq}
+use Rattle.catalog_core.specs.declared.catalog.LicenseEntry.{LicenseEntry}
+use Rattle.catalog_core.specs.Catalog.{CatalogLists, IsCatalog}
+use Rattle.catalog_core.specs.Words.{is_word_byte, is_word, is_name, ends_word}
+use Rattle.term_core.specs.declared.term.LicenseItem.{LicenseItem}
+use Rattle.term_core.specs.declared.term.LicenseItem.TheVariants.{Spdx, Reference}
+use Rattle.term_core.specs.declared.term.ExpressionReq.{ExpressionReq}
+use Rattle.term_core.specs.declared.item.Simple.{Simple}
+use Rattle.term_core.specs.declared.item.Item.{Item}
+use Rattle.term_core.specs.declared.item.What.TheVariants.{Term, Exception, With}
+use Rattle.term_core.specs.declared.item.Wanted.TheVariants.{Term as wants_term, Exception as wants_exception, AfterTerm, AfterPart}
+use Rattle.term_core.specs.Tokens.{in_word, is_colon, after_prefix, own_licence, in_document, or_else, reference_of, one_of}
+use Rattle.term_core.specs.Items.{item_at, term_of, licence_at, plus_behind, operator_of, word_item, items_from}
+use Rattle.term_core.specs.Terms.{reference_text, item_text, exception_text}
+use Rattle.term_core.proofs.ImpreciseLemmas.{both_true, and_true}
+use Rattle.term_core.proofs.ItemBorders.{step_white}
+use Rattle.spdx_core.specs.Grammar.{leaf, Reads, expression, part, Spells, allowed_in, simple, simple_with, one_part, one_conjunction, item, term}
+use Rattle.spdx_core.specs.Printing.{IsLicenceOf, IsWordIf, IsItemOf, IsExceptionOf, printed_mode, PrintedReadsBack}
+use Rattle.spdx_core.proofs.NameItems.{run_all, is_run, letters_in_word, IsNamed, name_parts, some_bytes, word_step, name_step}
+
+-- ---- references
+
+no_colon : (b : ℕ) → is_word_byte b ≡ true → not (is_colon b) ≡ true
+no_colon b h = grind (arith, nat_tests)
+
+no_colons : (bs : List ℕ) → list_all is_word_byte bs ≡ true → list_all (λ b. not (is_colon b)) bs ≡ true
+no_colons [] h = refl
+no_colons (b ∷ bs) h =
+    let parts = both_true (is_word_byte b) (list_all is_word_byte bs) h in
+    and_true (not (is_colon b)) (list_all (λ b. not (is_colon b)) bs) (no_colon b parts.0) (no_colons bs parts.1)
+
+word_bytes : (word : List ℕ) → is_word word ≡ true → list_all is_word_byte word ≡ true
+word_bytes [] h = refl
+word_bytes (b ∷ bs) h = h
+
+-- what stands before the first colon, and behind it
+before_colon : (doc rest : List ℕ) → is_word doc ≡ true → before_first is_colon (doc ++ 58 ∷ rest) ≡ doc
+before_colon doc rest h =
+    ap (λ n. take n (doc ++ 58 ∷ rest)) (run_all (λ b. not (is_colon b)) doc (58 ∷ rest) (no_colons doc (word_bytes doc h)) refl) ∙ take-append_seam doc (58 ∷ rest)
+
+behind_colon : (doc rest : List ℕ) → is_word doc ≡ true → after_first is_colon (doc ++ 58 ∷ rest) ≡ rest
+behind_colon doc rest h =
+    ap (λ n. drop (n + 1) (doc ++ 58 ∷ rest)) (run_all (λ b. not (is_colon b)) doc (58 ∷ rest) (no_colons doc (word_bytes doc h)) refl) ∙ drop-append-add doc (58 ∷ rest) 1
+
+reference_reads : (doc : Option (List ℕ)) (id : List ℕ) → IsWordIf doc → is_word id ≡ true → reference_of (reference_text doc id) ≡ Some (Reference doc id)
+reference_reads None id own ok = ap (λ t. or_else (cond t (Some (Reference None id)) None) (in_document (after_prefix (codes "DocumentRef-") (codes "LicenseRef-" ++ id)))) ok
+reference_reads (Some doc) id own ok =
+    let rest : List ℕ = codes "LicenseRef-" ++ id in
+    ap (λ (found : List ℕ). cond (is_word found) (own_licence (Some found) (after_prefix (codes "LicenseRef-") (after_first is_colon (doc ++ 58 ∷ rest)))) None) (before_colon doc rest own)
+    ∙ ap (λ t. cond t (own_licence (Some doc) (after_prefix (codes "LicenseRef-") (after_first is_colon (doc ++ 58 ∷ rest)))) None) own
+    ∙ ap (λ (found : List ℕ). own_licence (Some doc) (after_prefix (codes "LicenseRef-") found)) (behind_colon doc rest own)
+    ∙ ap (λ t. cond t (Some (Reference (Some doc) id)) None) ok
+
+reference_run : (doc : Option (List ℕ)) (id : List ℕ) → IsWordIf doc → is_word id ≡ true → is_run (reference_text doc id) ≡ true
+reference_run None id own ok = letters_in_word id (word_bytes id ok)
+reference_run (Some doc) id own ok =
+    list_all-append in_word doc (codes ":LicenseRef-" ++ id)
+    ∙ and_true (list_all in_word doc) (list_all in_word (codes ":LicenseRef-" ++ id)) (letters_in_word doc (word_bytes doc own)) (letters_in_word id (word_bytes id ok))
+
+-- ---- items
+
+-- a printed item, and what stands behind it
+record Printed (lists : CatalogLists) (it : LicenseItem) (rest : List ℕ) : Type 0 where
+  named : Simple
+  is : named.item ≡ it
+  end : ℕ
+  ends : end ≡ length (item_text it)
+  items : items_from printed_mode lists wants_term 0 0 (item_text it ++ rest) ≡ item (Term named) 0 end ∷ items_from printed_mode lists AfterTerm end end rest
+
+-- a term as a name spells it
+named_as : List ℕ → LicenseEntry → Bool → Simple
+named_as name entry plus = record {
+  item = Spdx name entry.family entry.rank (plus || entry.later) plus;
+  marks = record { later = entry.later; deprecated = entry.deprecated; gnu = entry.gnu; plus = plus };
+  name_end = 0 + length name;
+}
+
+same_item : (lists : CatalogLists) (name : List ℕ) (family rank : ℕ) (later plus : Bool) (is : IsLicenceOf lists name family rank later plus) → (named_as name is.entry plus).item ≡ Spdx name family rank later plus
+unfolding named_as
+same_item lists name family rank later plus is =
+    let one : is.entry.family ≡ family = sym is.is_family in
+    let two : is.entry.rank ≡ rank = sym is.is_rank in
+    ap (λ n. Spdx name n is.entry.rank (plus || is.entry.later) plus) one ∙ ap (λ n. Spdx name family n (plus || is.entry.later) plus) two ∙ ap (λ t. Spdx name family rank t plus) (sym is.is_later)
+
+printed_licence : (lists : CatalogLists) → IsCatalog lists → (name : List ℕ) (family rank : ℕ) (later plus : Bool) → IsLicenceOf lists name family rank later plus → (rest : List ℕ) → ends_word rest ≡ true → plus_behind rest 0 ≡ false
+    → Printed lists (Spdx name family rank later plus) rest
+unfolding named_as
+printed_licence lists laws name family rank later true is rest stops bare =
+    let it = item (Term (named_as name is.entry true)) 0 (0 + (length name + 1)) in
+    let whole : length (name ++ 43 ∷ rest) ≡ length name + length (43 ∷ rest) = length-append name (43 ∷ rest) in
+    let long : length (name ++ 43 ∷ []) ≡ length name + 1 = length-append name (43 ∷ []) in
+    record {
+      named = named_as name is.entry true;
+      is = same_item lists name family rank later true is;
+      end = 0 + (length name + 1);
+      ends = omega arith;
+      items =
+          ap (λ text. items_from printed_mode lists wants_term 0 0 text) (append_assoc name (43 ∷ []) rest)
+          ∙ name_step printed_mode lists 0 name (43 ∷ rest) is.entry true laws refl is.known refl refl (length name + 1) refl (omega arith) (omega arith)
+          ∙ ap (λ left. it ∷ items_from printed_mode lists AfterTerm (0 + (length name + 1)) (0 + (length name + 1)) left) (drop-append-add name (43 ∷ rest) 1);
+    }
+printed_licence lists laws name family rank later false is rest stops bare =
+    let it = item (Term (named_as name is.entry false)) 0 (0 + length name) in
+    let whole : length (name ++ rest) ≡ length name + length rest = length-append name rest in
+    let long : length (name ++ []) ≡ length name = ap length (append-nil name) in
+    record {
+      named = named_as name is.entry false;
+      is = same_item lists name family rank later false is;
+      end = 0 + length name;
+      ends = omega arith;
+      items =
+          ap (λ (front : List ℕ). items_from printed_mode lists wants_term 0 0 (front ++ rest)) (append-nil name)
+          ∙ name_step printed_mode lists 0 name rest is.entry false laws refl is.known stops bare (length name) refl (omega arith) (omega arith)
+          ∙ ap (λ left. it ∷ items_from printed_mode lists AfterTerm (0 + length name) (0 + length name) left) (drop-append_seam name rest);
+    }
+
+-- a reference as an item
+referred : ℕ → ℕ → LicenseItem → Item
+referred place len found = term_of found (record { later = false; deprecated = false; gnu = false; plus = false }) place len
+
+printed_reference : (lists : CatalogLists) (doc : Option (List ℕ)) (id : List ℕ) → IsWordIf doc → is_word id ≡ true → (rest : List ℕ) → ends_word rest ≡ true → Printed lists (Reference doc id) rest
+unfolding referred
+printed_reference lists doc id own ok rest stops =
+    let word : List ℕ = reference_text doc id in
+    let run : is_run (reference_text doc id) ≡ true = reference_run doc id own ok in
+    let some : 0 < length (reference_text doc id) = some_bytes (reference_text doc id) run in
+    let text : List ℕ = word ++ rest in
+    let len : ℕ = length word in
+    let it : Item = referred 0 len (Reference doc id) in
+    let whole : length (reference_text doc id ++ rest) ≡ length (reference_text doc id) + length rest = length-append (reference_text doc id) rest in
+    let is : word_item printed_mode lists wants_term 0 (word ++ rest) (length word) ≡ it =
+    ap (λ (front : List ℕ). unwrap_or (option_or (option_map (referred 0 len) (reference_of front)) (licence_at lists front 0 text len)) (item_at (operator_of front) 0 len)) (take-append_seam word rest)
+    ∙ ap (λ found. unwrap_or (option_or (option_map (referred 0 len) found) (licence_at lists word 0 text len)) (item_at (operator_of word) 0 len)) (reference_reads doc id own ok) in
+    record {
+      named = record { item = Reference doc id; marks = record { later = false; deprecated = false; gnu = false; plus = false }; name_end = 0 + length word };
+      is = refl;
+      end = 0 + length word;
+      ends = omega arith;
+      items =
+          word_step printed_mode lists wants_term 0 word rest it len run stops is refl some (omega arith)
+          ∙ ap (λ left. it ∷ items_from printed_mode lists AfterTerm (0 + len) (0 + len) left) (drop-append_seam word rest);
+    }
+
+printed_item : (lists : CatalogLists) → IsCatalog lists → (it : LicenseItem) → IsItemOf lists it → (rest : List ℕ) → ends_word rest ≡ true → plus_behind rest 0 ≡ false → Printed lists it rest
+printed_item lists laws (Spdx name family rank later plus) is rest stops bare = printed_licence lists laws name family rank later plus is rest stops bare
+printed_item lists laws (Reference doc id) is rest stops bare = printed_reference lists doc id is.0 is.1 rest stops
+
+-- ---- exceptions
+
+listed_exception : (names : List (List ℕ)) (name : List ℕ) → list_all is_name names ≡ true → list_any (bytes_eq name) names ≡ true → is_name name ≡ true
+listed_exception [] name all h = absurd (false≢true h)
+listed_exception (one ∷ rest) name all h =
+    let parts = both_true (is_name one) (list_all is_name rest) all in
+    elim (bytes_eq name one) as (λ (t : Bool). bytes_eq name one ≡ t → (t || list_any (bytes_eq name) rest) ≡ true → is_name name ≡ true) [
+      | true ↦ λ is e. ap is_name ((bytes_eq-Decides name one).0 is) ∙ parts.0
+      | false ↦ λ is e. listed_exception rest name parts.1 e
+    ]
+    refl h
+
+-- an exception behind a term
+behind_with : (lists : CatalogLists) → IsCatalog lists → (name : List ℕ) → one_of lists.exceptions name ≡ true → (place : ℕ)
+    → items_from printed_mode lists AfterTerm place place (codes " WITH " ++ name)
+    ≡ item With (place + 1) (place + 1 + 4) ∷ item (Exception name) (place + 1 + 4 + 1) (place + 1 + 4 + 1 + length name) ∷ []
+behind_with lists laws name known place =
+    let named : IsNamed name = name_parts name (listed_exception lists.exceptions name laws.exception_names known) in
+    let from : ℕ = place + 1 + 4 + 1 in
+    let it : Item = item_at (Exception name) from (length name) in
+    let some : 0 < length name = some_bytes name named.run in
+    let whole : length (name ++ []) ≡ length name = ap length (append-nil name) in
+    let is : word_item printed_mode lists wants_exception from (name ++ []) (length name) ≡ it =
+    ap (λ (word : List ℕ). item_at (cond (one_of lists.exceptions word) (Exception word) (operator_of word)) from (length name)) (take-append_seam name [])
+    ∙ ap (λ t. item_at (cond t (Exception name) (operator_of name)) from (length name)) known in
+    let last : items_from printed_mode lists wants_exception from from name ≡ it ∷ [] =
+    ap (λ (text : List ℕ). items_from printed_mode lists wants_exception from from text) (sym (append-nil name))
+    ∙ word_step printed_mode lists wants_exception from name [] it (length name) named.run refl is refl some (omega arith)
+    ∙ ap (λ left. it ∷ items_from printed_mode lists AfterPart (from + length name) (from + length name) left) (drop-append_seam name []) in
+    step_white printed_mode lists AfterTerm place 32 (codes "WITH " ++ name) refl
+    ∙ word_step printed_mode lists AfterTerm (place + 1) (codes "WITH") (32 ∷ name) (item_at With (place + 1) 4) 4 refl refl refl refl (omega arith) (omega arith)
+    ∙ ap (λ items. item With (place + 1) (place + 1 + 4) ∷ items) (step_white printed_mode lists wants_exception (place + 1 + 4) 32 name refl ∙ last)
+
+-- ---- whole terms
+
+as_expression : {items : List Item} {terms : List ExpressionReq} → Reads (allowed_in printed_mode) part 0 items (leaf 0) terms → Reads (allowed_in printed_mode) expression 0 items (leaf 0) terms
+as_expression {items} {terms} reads = one_conjunction 0 items (leaf 0) terms (one_part 0 items (leaf 0) terms reads)
+
+-- the term of so many bytes
+abbrev whole_term : LicenseItem → Option (List ℕ) → ℕ → List ExpressionReq
+whole_term it exception end = term it exception 0 end ∷ []
+
+printed_with : (lists : CatalogLists) → IsCatalog lists → (it : LicenseItem) (exception : Option (List ℕ)) → IsItemOf lists it → IsExceptionOf lists exception
+    → Spells printed_mode lists (item_text it ++ exception_text exception) (leaf 0) (whole_term it exception (length (item_text it ++ exception_text exception)))
+printed_with lists laws it None is none =
+    let p : Printed lists it [] = printed_item lists laws it is [] refl refl in
+    let long : length (item_text it ++ []) ≡ length (item_text it) = ap length (append-nil (item_text it)) in
+    let same : p.end ≡ length (item_text it ++ []) = p.ends ∙ sym long in
+    subst (λ items. Reads (allowed_in printed_mode) expression 0 items (leaf 0) (whole_term it None (length (item_text it ++ [])))) (sym p.items)
+    (subst (λ end. Reads (allowed_in printed_mode) expression 0 (item (Term p.named) 0 p.end ∷ []) (leaf 0) (whole_term it None end)) same
+    (subst (λ found. Reads (allowed_in printed_mode) expression 0 (item (Term p.named) 0 p.end ∷ []) (leaf 0) (whole_term found None p.end)) p.is
+    (as_expression (simple 0 p.named 0 p.end refl))))
+printed_with lists laws it (Some name) is known =
+    let rest : List ℕ = codes " WITH " ++ name in
+    let p : Printed lists it rest = printed_item lists laws it is rest refl refl in
+    let last : ℕ = p.end + 1 + 4 + 1 in
+    let end : ℕ = last + length name in
+    let items : List Item = item (Term p.named) 0 p.end ∷ item With (p.end + 1) (p.end + 1 + 4) ∷ item (Exception name) last end ∷ [] in
+    let behind : items_from printed_mode lists wants_term 0 0 (item_text it ++ rest) ≡ items = p.items ∙ ap (λ more. item (Term p.named) 0 p.end ∷ more) (behind_with lists laws name known p.end) in
+    let with_len : length (codes " WITH " ++ name) ≡ 6 + length name = length-append (codes " WITH ") name in
+    let long : length (item_text it ++ (codes " WITH " ++ name)) ≡ length (item_text it) + length (codes " WITH " ++ name) = length-append (item_text it) (codes " WITH " ++ name) in
+    let front : p.end ≡ length (item_text it) = p.ends in
+    let same : p.end + 1 + 4 + 1 + length name ≡ length (item_text it ++ (codes " WITH " ++ name)) = omega arith in
+    subst (λ all. Reads (allowed_in printed_mode) expression 0 all (leaf 0) (whole_term it (Some name) (length (item_text it ++ rest)))) (sym behind)
+    (subst (λ n. Reads (allowed_in printed_mode) expression 0 items (leaf 0) (whole_term it (Some name) n)) same
+    (subst (λ found. Reads (allowed_in printed_mode) expression 0 items (leaf 0) (whole_term found (Some name) end)) p.is
+    (as_expression (simple_with 0 p.named name 0 p.end (p.end + 1) (p.end + 1 + 4) last end refl))))
+
+pub printed_reads : PrintedReadsBack
+printed_reads lists req laws is = printed_with lists laws req.item req.exception is.item is.exception
