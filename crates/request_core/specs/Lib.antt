@@ -1,0 +1,10 @@
+pub mod Named
+pub mod Names
+pub mod Number
+pub mod Cli
+pub mod OptionRow
+pub mod Reading
+pub mod Args
+pub mod Request
+pub mod Given
+pub mod Laws

@@ -1,0 +1,64 @@
+-- The names of levels, formats, colours, checks and layouts, each table in the order in which help lists it.
+use Rattle.std.specs.Prelude.{ℕ, List, [], ◌∷◌, Option, codes, option_map}
+use Rattle.std.specs.Option.{option_or}
+use Rattle.diag_core.specs.declared.severity.LevelFilter.{LevelFilter}
+use Rattle.diag_core.specs.declared.severity.LevelFilter.TheVariants as filter
+use Rattle.diag_core.specs.declared.severity.Severity.{Severity}
+use Rattle.diag_core.specs.declared.severity.Severity.TheVariants as severity
+use Rattle.diag_core.specs.Code.{code_named}
+use Rattle.print_core.specs.declared.context.Format.{Format}
+use Rattle.print_core.specs.declared.context.Format.TheVariants as format
+use Rattle.print_core.specs.declared.context.Color.{Color}
+use Rattle.print_core.specs.declared.context.Color.TheVariants as color
+use Rattle.request_core.specs.declared.level.WhichCheck.{WhichCheck}
+use Rattle.request_core.specs.declared.level.WhichCheck.TheVariants as which
+use Rattle.request_core.specs.declared.level.Level.{Level}
+use Rattle.request_core.specs.declared.level.Level.TheVariants as level
+use Rattle.request_core.specs.declared.level.CodeOrLevel.{CodeOrLevel}
+use Rattle.request_core.specs.declared.level.CodeOrLevel.TheVariants as either
+use Rattle.request_core.specs.declared.output.OutputFormat.{OutputFormat}
+use Rattle.request_core.specs.declared.output.OutputFormat.TheVariants as output
+use Rattle.request_core.specs.declared.output.Layout.{Layout}
+use Rattle.request_core.specs.declared.output.Layout.TheVariants as layout
+use Rattle.request_core.specs.Named.{named_in}
+
+-- names, each with its value
+abbrev pub Table : Type 0 → Type 0
+Table T = List (List ℕ × T)
+
+abbrev pub filter_names : Table LevelFilter
+filter_names =
+    (codes "off", filter.Off) ∷ (codes "error", filter.Error) ∷ (codes "warn", filter.Warn)
+    ∷ (codes "info", filter.Info) ∷ (codes "debug", filter.Debug) ∷ (codes "trace", filter.Trace) ∷ []
+
+abbrev pub format_names : Table Format
+format_names = (codes "human", format.Human) ∷ (codes "json", format.Json) ∷ (codes "sarif", format.Sarif) ∷ []
+
+abbrev pub color_names : Table Color
+color_names = (codes "auto", color.Auto) ∷ (codes "always", color.Always) ∷ (codes "never", color.Never) ∷ []
+
+abbrev pub which_names : Table WhichCheck
+which_names =
+    (codes "advisories", which.Advisories) ∷ (codes "bans", which.Bans) ∷ (codes "licenses", which.Licenses)
+    ∷ (codes "sources", which.Sources) ∷ (codes "all", which.All) ∷ []
+
+abbrev pub level_names : Table Level
+level_names =
+    (codes "allowed", level.Allowed) ∷ (codes "warnings", level.Warnings) ∷ (codes "denied", level.Denied) ∷ []
+
+abbrev pub output_names : Table OutputFormat
+output_names = (codes "human", output.Human) ∷ (codes "json", output.Json) ∷ (codes "tsv", output.Tsv) ∷ []
+
+abbrev pub layout_names : Table Layout
+layout_names = (codes "crate", layout.Crate) ∷ (codes "license", layout.License) ∷ []
+
+-- the level of that name, or else the code of that name; a code's name stands alone, without the letter of its check
+abbrev pub code_or_level_named : List ℕ → Option CodeOrLevel
+code_or_level_named word =
+    option_or (option_map either.Level (named_in level_names word)) (option_map either.Code (code_named word))
+
+-- what is allowed is a note, what is warned of a warning, and what is denied an error
+abbrev pub severity_of_level : Level → Severity
+severity_of_level level.Allowed = severity.Note
+severity_of_level level.Warnings = severity.Warning
+severity_of_level level.Denied = severity.Error

@@ -1,0 +1,119 @@
+//! The command line as a value.
+ghost use Rattle.std.specs.Prelude.{◌≡◌, IfOk, false, true, map};
+ghost use Rattle.clap.specs.Words.{rule_of, new_rule, app_of, shape_of, with_subcommand};
+ghost use Rattle.request_core.specs.Cli.{cli, alone, check_shape, list_shape, sample_shape};
+ghost use Rattle.request_core.specs.OptionRow.{rule_of_row, defaults_of, grown};
+
+use crate::options::{Kind, OptionRow, check_rows, list_rows, main_rows, sample_rows};
+use clap::{Arg, ArgAction, Command};
+use std::alloc::{AllocError, Global};
+
+static VERSION: &str = "0.20.2";
+
+/// The whole command line. Behind the program's name it takes what stands behind the `deny` of `cargo deny`.
+pub fn command<'a>(alloc: Global) -> Result<Command<'a>, AllocError>
+    ensures { IfOk result (λ command. app_of command ≡ cli) }
+{
+    let check = check_command(alloc)?;
+    let command = Command::new(alloc, "cargo-deny")
+        .version(VERSION)
+        .about("Checks the licences of a project's crates against a policy")
+        .subcommand_required(true);
+    let command = with_rows(alloc, command, main_rows())?;
+    add_subcommand(command, check)
+}
+
+/// The subcommand `check`.
+pub(crate) fn check_command<'a>(alloc: Global) -> Result<Command<'a>, AllocError>
+    ensures { IfOk result (λ command. app_of command ≡ alone check_shape) }
+{
+    let command = Command::new(alloc, "check").about("Checks a project's crates");
+    with_rows(alloc, command, check_rows())
+}
+
+/// The subcommand `list`.
+pub(crate) fn list_command<'a>(alloc: Global) -> Result<Command<'a>, AllocError>
+    ensures { IfOk result (λ command. app_of command ≡ alone list_shape) }
+{
+    let command = Command::new(alloc, "list").about("Lists the licences of a project's crates");
+    with_rows(alloc, command, list_rows())
+}
+
+/// The subcommand `sample`.
+pub(crate) fn sample_command<'a>(alloc: Global) -> Result<Command<'a>, AllocError>
+    ensures { IfOk result (λ command. app_of command ≡ alone sample_shape) }
+{
+    let command = Command::new(alloc, "sample").about("Checks a sample of made-up crates");
+    with_rows(alloc, command, sample_rows())
+}
+
+fn add_subcommand<'a>(command: Command<'a>, below: Command<'a>) -> Result<Command<'a>, AllocError>
+    requires { (app_of below).top.is_plain ≡ true }
+    ensures { IfOk result (λ r. app_of r ≡ with_subcommand (app_of command.entry) (shape_of below.entry)) }
+{
+    command.subcommand(below)
+}
+
+fn with_rows<'a>(
+    alloc: Global,
+    command: Command<'a>,
+    rows: &'static [OptionRow],
+) -> Result<Command<'a>, AllocError>
+    ensures { IfOk result (λ r. app_of r ≡ grown (map rule_of_row rows.now) (app_of command.entry)) }
+{
+    let mut command = command;
+    'rows: for row in rows {
+        command = command.arg(arg_of(alloc, row))?;
+    }
+    Ok(command)
+}
+
+/// The argument of a row.
+fn arg_of<'a>(alloc: Global, row: &'static OptionRow) -> Arg<'a>
+    ensures rule { rule_of result ≡ rule_of_row row.now }
+    ensures local { result.global ≡ false }
+{
+    let arg = defaulted(alloc, row);
+    match row.kind {
+        Kind::One => arg
+            .long(row.name)
+            .value_name(row.value)
+            .action(ArgAction::Set),
+        Kind::Many => arg
+            .long(row.name)
+            .value_name(row.value)
+            .action(ArgAction::Append),
+        Kind::Flag => arg.long(row.name).action(ArgAction::SetTrue),
+        Kind::Words => arg.value_name(row.value).action(ArgAction::Append),
+        Kind::Word => arg
+            .value_name(row.value)
+            .action(ArgAction::Set)
+            .required(true),
+    }
+}
+
+/// What each kind of argument has: its letter and its default.
+fn defaulted<'a>(alloc: Global, row: &'static OptionRow) -> Arg<'a>
+    ensures rule { rule_of result ≡ record (new_rule row.now.name.now) {
+      short = row.now.letter;
+      defaults = defaults_of row.now.default;
+    } }
+    ensures local { result.global ≡ false }
+{
+    let arg = lettered(alloc, row);
+    match row.default {
+        Some(value) => arg.default_value(value),
+        None => arg,
+    }
+}
+
+fn lettered<'a>(alloc: Global, row: &'static OptionRow) -> Arg<'a>
+    ensures rule { rule_of result ≡ record (new_rule row.now.name.now) { short = row.now.letter } }
+    ensures local { result.global ≡ false }
+{
+    let arg = Arg::new(alloc, row.name).help(row.help);
+    match row.letter {
+        Some(letter) => arg.short(letter),
+        None => arg,
+    }
+}

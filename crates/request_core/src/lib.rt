@@ -1,0 +1,31 @@
+//! What the words of a command line ask for.
+#![tactic(auto)]
+
+pub mod check;
+pub mod command;
+pub mod context;
+pub mod error;
+pub mod from_word;
+pub mod laws;
+pub mod level;
+pub mod list;
+mod message;
+mod names;
+pub mod number;
+pub mod options;
+pub mod output;
+pub mod read;
+pub mod request;
+mod rows;
+#[cfg(test)]
+mod tests;
+mod words;
+
+pub use context::KrateContext;
+pub use error::ArgsError;
+pub use from_word::FromWord;
+pub use level::{CodeOrLevel, CodeOrLevels, Level, LintLevels, WhichCheck, WhichChecks};
+pub use number::{SampleSize, Threshold};
+pub use output::{Layout, OutputFormat};
+pub use read::Given;
+pub use request::{Request, Subcommand};

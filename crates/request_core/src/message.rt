@@ -1,0 +1,53 @@
+//! What is said of values that are refused.
+
+use crate::options::{Kind, OptionRow, Values};
+use std::alloc::{AllocError, Global};
+
+/// That a value is outside its table, and which values are possible.
+pub(crate) fn bad_value(
+    alloc: Global,
+    rows: &[OptionRow],
+    option: &str,
+    value: &str,
+) -> Result<String, AllocError> {
+    let mut text = format!(in alloc; "invalid value '{value}' for '")?;
+    match rows.iter().find(|row| row.name == option) {
+        Some(row) => {
+            push_label(&mut text, row)?;
+            push_possible(&mut text, row.values)?;
+        }
+        None => write!(text, "{option}'")?,
+    }
+    Ok(text)
+}
+
+/// That a depth for graphs stands beside hidden graphs.
+pub(crate) fn depth_with_hide(alloc: Global) -> Result<String, AllocError> {
+    String::from_str(
+        alloc,
+        "the argument '--feature-depth <DEPTH>' cannot be used with '--hide-inclusion-graph'",
+    )
+}
+
+/// How usage writes the option, and the quote behind it.
+fn push_label(text: &mut String, row: &OptionRow) -> Result<(), AllocError> {
+    let (name, value) = (row.name, row.value);
+    match row.kind {
+        Kind::One | Kind::Many => write!(text, "--{name} <{value}>'"),
+        Kind::Flag => write!(text, "--{name}'"),
+        Kind::Words => write!(text, "[{value}]...'"),
+        Kind::Word => write!(text, "<{value}>'"),
+    }
+}
+
+fn push_possible(text: &mut String, values: Values) -> Result<(), AllocError> {
+    let Values::Names(names) = values else {
+        return Ok(());
+    };
+    let mut before = "\n  [possible values: ";
+    for name in names {
+        write!(text, "{before}{name}")?;
+        before = ", ";
+    }
+    text.push_str("]")
+}
