@@ -1,6 +1,8 @@
 //! What is wrong with an item where it stands.
 ghost use Rattle.std.specs.Prelude.{◌≡◌, Some};
-ghost use Rattle.term_core.specs.Faults.{takes_term, takes_exception, takes_operator, takes_with, word_reason, fault as fault_between, unless as unless_fine, mark_fault as mark_fault_of, fault_at, end_fault as end_fault_at};
+ghost use Rattle.term_core.specs.Faults.{takes_term, takes_exception, takes_operator, takes_with};
+ghost use Rattle.term_core.specs.Faults.{word_reason, fault as fault_between, unless as unless_fine};
+ghost use Rattle.term_core.specs.Faults.{mark_fault as mark_fault_of, fault_at, end_fault as end_fault_at};
 
 use crate::error::{ParseError, ParseReason};
 use crate::item::{Item, Simple, Wanted, What};

@@ -3,7 +3,12 @@ ghost use Rattle.std.specs.Prelude.{◌≡◌, ◌+◌, ◌<◌, ◌≤◌, ◌^
 ghost use Rattle.std.specs.Option.{option_copied, option_map};
 ghost use Rattle.std.specs.Str.{IsCharBoundary};
 ghost use Rattle.term_core.specs.Tokens.{one_of};
-ghost use Rattle.term_core.specs.Items.{wanted_after, operator_of, is_operator_text, plus_behind, term_of as term_at, item_at, licence_of, licence_at, reference_at, has_reading as word_has_reading, imprecise_if, longest, found_of, term_item as term_item_at, plain_item as plain_item_at, exception_item as exception_item_at, word_item as word_item_at, token_item as token_item_at, first_item as first_item_of, items_of};
+ghost use Rattle.term_core.specs.Items.{wanted_after, operator_of, is_operator_text, plus_behind};
+ghost use Rattle.term_core.specs.Items.{term_of as term_at, item_at, licence_of, licence_at, reference_at};
+ghost use Rattle.term_core.specs.Items.{has_reading as word_has_reading, imprecise_if, longest, found_of};
+ghost use Rattle.term_core.specs.Items.{term_item as term_item_at, plain_item as plain_item_at};
+ghost use Rattle.term_core.specs.Items.{exception_item as exception_item_at, word_item as word_item_at};
+ghost use Rattle.term_core.specs.Items.{first_item as first_item_of, items_of};
 
 use crate::item::{Item, Marks, Simple, Token, Wanted, What};
 use crate::mode::ParseMode;
@@ -191,8 +196,8 @@ fn is_exception<C: Catalog>(word: &str, catalog: &C) -> bool
     catalog.exception(word)
 }
 
-/// The licence of the longest imprecise text that begins a text, where it is taken. The text begins with a word of so
-/// many bytes.
+/// The licence of the longest imprecise text that begins a text, where it is taken. The text begins with a
+/// word of so many bytes.
 fn find_imprecise<C: Catalog>(
     alloc: Global,
     place: usize,
@@ -216,8 +221,8 @@ fn find_imprecise<C: Catalog>(
     }
 }
 
-/// A word at the start of a text where a term is wanted: the first of an imprecise text, a reference and a licence name,
-/// else an operator or another word.
+/// A word at the start of a text where a term is wanted: the first of an imprecise text, a reference and a
+/// licence name, else an operator or another word.
 fn term_item<C: Catalog>(
     alloc: Global,
     place: usize,
@@ -268,7 +273,8 @@ fn exception_item<C: Catalog>(
     catalog: &C,
 ) -> Result<Item, AllocError>
     requires room { place + length word.now + 1 < 2 ^ 64 }
-    ensures { IfOk result (λ item. item ≡ exception_item_at (C.lists catalog.now) place word.now (length word.now)) }
+    ensures { IfOk result (λ item.
+        item ≡ exception_item_at (C.lists catalog.now) place word.now (length word.now)) }
 {
     let what = if is_exception(word, catalog) {
         What::Exception(Text::copy(alloc, word)?)
@@ -313,7 +319,8 @@ fn first_item<C: Catalog>(
 ) -> Result<Item, AllocError>
     requires room { place + length text.now + 1 < 2 ^ 64 }
     requires begins { slice_get text.now 0 ≡ Some first }
-    ensures { IfOk result (λ item. item ≡ first_item_of mode (C.lists catalog.now) wanted place first (drop 1 text.now)) }
+    ensures { IfOk result (λ item.
+        item ≡ first_item_of mode (C.lists catalog.now) wanted place first (drop 1 text.now)) }
 {
     let token = words::token_of(first, mode.allow_slash_as_or_operator);
     let len = 1 + token.rest_len(text.as_bytes().split_at(1).1);

@@ -1,5 +1,6 @@
 //! What holds of all terms and licensees. These functions do nothing: their contracts are the laws.
-ghost use Rattle.term_core.specs.Laws.{SatisfiesOwnFamily, PrintedAlikeIsEqual, ItemsRise, ItemsCover, SlashChangesNothing};
+ghost use Rattle.term_core.specs.Laws.{SatisfiesOwnFamily, PrintedAlikeIsEqual, ItemsRise, ItemsCover};
+ghost use Rattle.term_core.specs.Laws.{SlashChangesNothing};
 
 /// A licensee satisfies terms of its own family alone.
 pub fn satisfies_own_family()

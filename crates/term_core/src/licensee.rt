@@ -6,7 +6,8 @@ ghost use Rattle.std.specs.Cmp.{eq_by_cmp_equiv, partial_equiv_from_equiv, parti
 ghost use Rattle.std.specs.Cmp.Rules.{comparing};
 ghost use Rattle.term_core.specs.Terms.{req_text};
 ghost use Rattle.term_core.specs.Satisfaction.{Satisfies};
-ghost use Rattle.term_core.specs.Licensee.{HasNoPlus, printed_order, printed_order_total, without_plus, exception_of, part_of, LicenseeAnswers};
+ghost use Rattle.term_core.specs.Licensee.{HasNoPlus, printed_order, printed_order_total, without_plus};
+ghost use Rattle.term_core.specs.Licensee.{exception_of, part_of, LicenseeAnswers};
 ghost use Rattle.term_core.specs.Faults.{lone_fault as lone_fault_at, licensee_fault_from, licensee_fault_of};
 ghost use Rattle.std.specs.Option.{option_and_then};
 
@@ -24,7 +25,8 @@ use std::fmt;
 use std::marker::Model;
 use std::sync::ledger::Ledger;
 
-/// A term that a policy allows. It keeps the text that it prints, by which licensees are told apart and ordered.
+/// A term that a policy allows. It keeps the text that it prints, by which licensees are told apart and
+/// ordered.
 #[derive(Drop)]
 pub struct Licensee {
     req: LicenseReq,
@@ -41,7 +43,8 @@ impl Model for Licensee {
 
     ghost view = { λ licensee. licensee.req };
 
-    ghost invariant = { λ licensee. (licensee.printed ≡ req_text licensee.req) × HasNoPlus licensee.req.item };
+    ghost invariant = { λ licensee.
+        (licensee.printed ≡ req_text licensee.req) × HasNoPlus licensee.req.item };
 }
 
 impl Licensee {

@@ -32,8 +32,8 @@ impl ParseMode {
         allow_slash_as_or_operator: true,
     };
 
-    /// The mode that licensees are read in: a `+` may follow any licence, and there are no imprecise texts and no
-    /// slashes.
+    /// The mode that licensees are read in: a `+` may follow any licence, and there are no imprecise texts
+    /// and no slashes.
     pub fn of_licensees(self) -> ParseMode
         ensures { result ≡ licensee_mode self }
     {

@@ -161,7 +161,8 @@ fn is_same(one: &Option<Text>, other: &Option<Text>) -> bool
 
 /// Whether a version is content with another of its family.
 fn version_satisfies(rank: u32, later: bool, term_rank: u32, term_later: bool) -> bool
-    ensures { IsTrue result ↔ (IsSameVersion rank later term_rank term_later ⊎ IsLaterVersion rank term_rank term_later) }
+    ensures { IsTrue result
+        ↔ (IsSameVersion rank later term_rank term_later ⊎ IsLaterVersion rank term_rank term_later) }
 {
     let same_version = rank == term_rank && (!later || term_later);
     let later_version = term_later && term_rank < rank;

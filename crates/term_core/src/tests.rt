@@ -65,7 +65,8 @@ fn licensees(rt: HostRuntime) -> Result<(), Fail> {
     Ok(())
 }
 
-/// Two terms, whether the first as a licensee satisfies the second, and whether the second satisfies the first.
+/// Two terms, whether the first as a licensee satisfies the second, and whether the second satisfies the
+/// first.
 const SATISFACTION: [(&str, &str, bool, bool); 20] = [
     ("GPL-3.0-only", "GPL-2.0-or-later", true, false),
     ("GPL-3.0-only", "GPL-2.0-only", false, false),

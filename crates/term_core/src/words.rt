@@ -3,7 +3,11 @@ ghost use Rattle.std.specs.Prelude.{◌≡◌, ◌≤◌, length, Some};
 ghost use Rattle.std.specs.Option.{option_map, option_copied};
 ghost use Rattle.std.specs.List.{list_all};
 ghost use Rattle.catalog_core.specs.Words.{is_word_byte as word_byte, is_word as word_text};
-ghost use Rattle.term_core.specs.Tokens.{is_white as white, in_word as inside_word, goes_on as continues, token_of as token_with, rest_len, says_and as and_text, says_or as or_text, says_with as with_text, after_prefix as behind_prefix, own_licence as own, in_document as within_document, spanned, reference_of};
+ghost use Rattle.term_core.specs.Tokens.{is_white as white, in_word as inside_word, goes_on as continues};
+ghost use Rattle.term_core.specs.Tokens.{token_of as token_with, rest_len, says_and as and_text};
+ghost use Rattle.term_core.specs.Tokens.{says_or as or_text, says_with as with_text};
+ghost use Rattle.term_core.specs.Tokens.{after_prefix as behind_prefix, own_licence as own};
+ghost use Rattle.term_core.specs.Tokens.{in_document as within_document, spanned, reference_of};
 ghost use Rattle.term_core.specs.References.{parts_item};
 
 use crate::item::Token;

@@ -1,7 +1,8 @@
 //! Texts whose items were written by hand, over an odd catalogue.
 ghost use Rattle.std.specs.Prelude.{true, false};
 ghost use Rattle.catalog_core.specs.Catalog.{IsCatalog};
-ghost use Rattle.term_core.specs.ItemRows.{odd, mode_with, RowsHold, plain_rows, imprecise_rows, slash_rows, lax_rows};
+ghost use Rattle.term_core.specs.ItemRows.{odd, mode_with, RowsHold, plain_rows, imprecise_rows, slash_rows};
+ghost use Rattle.term_core.specs.ItemRows.{lax_rows};
 
 /// Does nothing: its clauses are the rows.
 fn items_by_hand()
