@@ -16,7 +16,8 @@ pub(crate) struct BuiltIn {
 impl BuiltIn {
     /// The text as it is stored.
     pub(crate) fn text(&self, alloc: Global) -> Result<StoreText, AllocError>
-        ensures { IfOk result (λ text. text ≡ licence_text self.now.name.now self.now.heading.now self.now.body.now) }
+        ensures { IfOk result (λ text.
+            text ≡ licence_text self.now.name.now self.now.heading.now self.now.body.now) }
     {
         let name = Text::copy(alloc, self.name)?;
         let mut body = String::from_str(alloc, self.heading)?;
@@ -88,7 +89,8 @@ pub(crate) static BUILT_IN: [BuiltIn; 6] = [
 
 /// The texts as they are stored.
 pub(crate) fn built_in_texts(alloc: Global, listed: &[BuiltIn]) -> Result<StoreTexts, AllocError>
-    ensures { IfOk result (λ texts. texts ≡ map (λ built. licence_text built.name.now built.heading.now built.body.now) listed.now) }
+    ensures { IfOk result (λ texts.
+        texts ≡ map (λ built. licence_text built.name.now built.heading.now built.body.now) listed.now) }
 {
     let mut texts = StoreTexts::new(alloc);
     'listed: for built in listed {

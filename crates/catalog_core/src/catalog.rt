@@ -1,7 +1,8 @@
 //! What a catalogue of licences answers.
 ghost use Rattle.std.specs.Prelude.{◌≡◌, ◌↔◌, IsTrue, IfSome, IfNone, Contains};
 ghost use Rattle.catalog_core.specs.Satisfaction.{Satisfies};
-ghost use Rattle.catalog_core.specs.Catalog.{CatalogLists, entry_of, IsLongestImprecise, BeginsNone, IsCatalog};
+ghost use Rattle.catalog_core.specs.Catalog.{CatalogLists, entry_of, IsLongestImprecise, BeginsNone};
+ghost use Rattle.catalog_core.specs.Catalog.{IsCatalog};
 
 /// What a catalogue says of one licence name.
 #[derive(Clone, Copy, PartialEq, Eq, Debug)]
@@ -52,7 +53,8 @@ pub trait Catalog {
 
     /// The longest imprecise text that begins `text`, without regard to ASCII case.
     fn imprecise(&self, text: &str) -> Option<Imprecise<'_>>
-        ensures found { IfSome result (λ found. IsLongestImprecise (lists self.now).imprecise text.now found.len found.name.now) }
+        ensures found { IfSome result (λ found.
+            IsLongestImprecise (lists self.now).imprecise text.now found.len found.name.now) }
         ensures none { IfNone result (BeginsNone (lists self.now).imprecise text.now) };
 
     ghost lawful: { (c : Self) → IsCatalog (lists c) };

@@ -23,8 +23,8 @@ pub struct StoreText {
 /// Licence texts in order.
 pub type StoreTexts = ListOf<StoreText>;
 
-/// An identifier over stored texts: a text is the licence of the first of them that has the same words. Words are
-/// runs of ASCII letters and digits in whatever case, without those of copyright lines.
+/// An identifier over stored texts: a text is the licence of the first of them that has the same words. Words
+/// are runs of ASCII letters and digits in whatever case, without those of copyright lines.
 #[derive(Drop)]
 pub struct LicenseStore {
     texts: StoreTexts,
@@ -78,7 +78,8 @@ impl LicenseStore {
 
     /// The first stored text with these words, which have a space after each.
     fn stored_with(&self, words: &[u8]) -> Option<&StoreText>
-        ensures { (text : List ℕ) → words.now ≡ spelled (words_of text) → option_copied result ≡ stored_for self.now text }
+        ensures { (text : List ℕ) → words.now ≡ spelled (words_of text)
+            → option_copied result ≡ stored_for self.now text }
     {
         if words.is_empty() {
             return None;

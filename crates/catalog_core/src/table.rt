@@ -20,7 +20,8 @@ struct Meaning {
     name: &'static str,
 }
 
-/// The licences of the table: beside each name its family and its rank. A name of a GNU family stands for three.
+/// The licences of the table: beside each name its family and its rank. A name of a GNU family stands for
+/// three.
 macro_rules! licences {
     (
         plain { $($name:literal: $family:literal, $rank:literal;)* }
@@ -167,7 +168,8 @@ macro_rules! meanings {
 }
 
 static IMPRECISE: [Meaning; 33] = meanings! {
-    "Apache-2.0": "apache", "apache2", "apache 2", "apache 2.0", "apache-2", "apache-2.0", "apache license", "apache license 2.0";
+    "Apache-2.0": "apache", "apache2", "apache 2", "apache 2.0", "apache-2", "apache-2.0",
+        "apache license", "apache license 2.0";
     "BSD-2-Clause": "bsd 2-clause", "bsd-2", "simplified bsd";
     "BSD-3-Clause": "bsd 3-clause", "bsd-3", "new bsd";
     "BSL-1.0": "boost";
@@ -233,8 +235,10 @@ fn begins(imprecise: &str, text: &str) -> bool
 
 /// The longest of the texts that begins a text.
 fn longest(meanings: &[Meaning], text: &str) -> Option<Imprecise<'static>>
-    ensures found { IfSome result (λ found. IsLongestImprecise (map (λ one. (one.text.now, one.name.now)) meanings.now) text.now found.len found.name.now) }
-    ensures none { IfNone result (BeginsNone (map (λ one. (one.text.now, one.name.now)) meanings.now) text.now) }
+    ensures found { IfSome result (λ found. IsLongestImprecise
+        (map (λ one. (one.text.now, one.name.now)) meanings.now) text.now found.len found.name.now) }
+    ensures none { IfNone result
+        (BeginsNone (map (λ one. (one.text.now, one.name.now)) meanings.now) text.now) }
 {
     match meanings.split_first() {
         None => None,

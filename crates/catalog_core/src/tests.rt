@@ -19,7 +19,8 @@ const SINGLE: &str =
     Python-2.0 Ruby Unicode-3.0 Unicode-DFS-2016 Unlicense UPL-1.0 Vim W3C WTFPL X11 \
     Zlib zlib-acknowledgement";
 
-/// Each name of a family of several, with its family, its rank and its marks: l for later, d for deprecated, g for gnu.
+/// Each name of a family of several, with its family, its rank and its marks: l for later, d for deprecated,
+/// g for gnu.
 const VERSIONS: [(&str, u32, u32, &str); 12] = [
     ("Apache-1.1", 40, 11, ""),
     ("CC-BY-SA-4.0", 43, 40, ""),
@@ -224,7 +225,7 @@ fn body(alloc: Global, made: Made) -> Result<String, AllocError> {
 }
 
 /// What stands before a body, the body, what stands behind it, and the licence that is found, or nothing.
-const TEXTS: [(&str, Made, &str, &str); 13] = [
+const TEXTS: [(&str, Made, &str, &str); 15] = [
     ("", Made::Mit, "", "MIT"),
     (
         "MIT License\n\nCopyright (c) 2024 A B\n",
@@ -232,6 +233,8 @@ const TEXTS: [(&str, Made, &str, &str); 13] = [
         "",
         "MIT",
     ),
+    ("The MIT License\n", Made::Mit, "", "MIT"),
+    ("The MIT License (MIT)\n", Made::Mit, "", "MIT"),
     ("COPYRIGHT 2024\n", Made::Capitals, "", "MIT"),
     ("Copyright © 2015 X\n", Made::Mit, "", "MIT"),
     ("", Made::Broken, "", "MIT"),

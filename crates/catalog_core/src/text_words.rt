@@ -1,9 +1,11 @@
 //! The words of a text, by which texts are told apart.
-ghost use Rattle.std.specs.Prelude.{◌≡◌, ◌<◌, ◌∷◌, ◌++◌, [], IfOk, OnOk, IfSome, MatchOption, length, position};
+ghost use Rattle.std.specs.Prelude.{◌≡◌, ◌<◌, ◌∷◌, ◌++◌, [], IfOk, OnOk, IfSome, MatchOption, length};
+ghost use Rattle.std.specs.Prelude.{position};
 ghost use Rattle.std.specs.Char.{is_ascii_alphanumeric, is_ascii_digit};
 ghost use Rattle.std.specs.List.{list_all};
 ghost use Rattle.std.specs.Str.{str_to_ascii_lowercase};
-ghost use Rattle.catalog_core.specs.TextWords.{is_between, is_copyright, line_words, lower_of, runs_of, spelled, words_of};
+ghost use Rattle.catalog_core.specs.TextWords.{is_between, is_copyright, line_words, lower_of, runs_of};
+ghost use Rattle.catalog_core.specs.TextWords.{spelled, words_of};
 
 use deny_text::Bytes;
 use std::alloc::{AllocError, Global};
@@ -24,7 +26,8 @@ fn run_end(line: &[u8]) -> Option<usize>
 
 /// The first run of ASCII letters and digits in a line, and what follows it.
 fn next_run(line: &[u8]) -> Option<(&[u8], &[u8])>
-    ensures run { MatchOption result (runs_of line.now ≡ []) (λ found. runs_of line.now ≡ found.0.now ∷ runs_of found.1.now) }
+    ensures run { MatchOption result (runs_of line.now ≡ [])
+        (λ found. runs_of line.now ≡ found.0.now ∷ runs_of found.1.now) }
     ensures shorter { IfSome result (λ found. length found.1.now < length line.now) }
 {
     let start = run_start(line)?;

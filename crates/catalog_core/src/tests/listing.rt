@@ -16,7 +16,11 @@ struct NamedEntry {
 #[derive(Drop)]
 struct Listing {
     licences: ListOf<NamedEntry>,
-    ghost is_catalog: { IsCatalog (record { licences = map (λ listed. (listed.name, listed.entry)) licences; exceptions = []; imprecise = [] }) },
+    ghost is_catalog: { IsCatalog (record {
+      licences = map (λ listed. (listed.name, listed.entry)) licences;
+      exceptions = [];
+      imprecise = [];
+    }) },
 }
 
 const OWN: LicenseEntry = LicenseEntry {
@@ -48,7 +52,11 @@ fn entry_among(licences: &[NamedEntry], name: &str) -> Option<LicenseEntry>
 }
 
 impl Catalog for Listing {
-    ghost lists = { λ c. record { licences = map (λ listed. (listed.name, listed.entry)) c.licences; exceptions = []; imprecise = [] } };
+    ghost lists = { λ c. record {
+      licences = map (λ listed. (listed.name, listed.entry)) c.licences;
+      exceptions = [];
+      imprecise = [];
+    } };
 
     ghost lawful = { λ c. c.is_catalog };
 
