@@ -2,6 +2,7 @@
 PREFIX ?= /usr/local
 PROJECT ?= examples/first
 PROGRAM = crates/cargo_deny/out/cargo_deny
+COMPLETION = crates/completions/stdout
 
 .PHONY: run test install
 
@@ -13,6 +14,7 @@ run:
 test:
 	rt ci
 
-# Puts the proved program where `cargo deny ..` finds it.
+# Puts the proved program where `cargo deny ..` finds it, and its completion where the shell looks.
 install: run
 	install -D -m 755 $(PROGRAM) $(DESTDIR)$(PREFIX)/bin/cargo-deny
+	install -D -m 644 $(COMPLETION) $(DESTDIR)$(PREFIX)/share/bash-completion/completions/cargo-deny
