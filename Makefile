@@ -4,7 +4,7 @@ PROJECT ?= examples/first
 PROGRAM = crates/cargo_deny/out/cargo_deny
 COMPLETION = crates/completions/stdout
 
-.PHONY: run test install
+.PHONY: run test bench install
 
 # Builds the proved program and runs it on a small project.
 run:
@@ -13,6 +13,10 @@ run:
 # The merge gate.
 test:
 	rt ci
+
+# Times the lower layers, beside plain Rust and xxhsum where these are installed.
+bench:
+	sh bench/compare.sh
 
 # Puts the proved program where `cargo deny ..` finds it, and its completion where the shell looks.
 install: run

@@ -1,3 +1,3 @@
 pub mod FlatLemmas
-pub mod FloatLemmas
+pub mod JsonLemmas
 pub mod PrintedLemmas

@@ -1,5 +1,6 @@
 pub mod Human
 pub mod Json
+pub mod JsonTokens
 pub mod Places
 pub mod Printed
 pub mod Refusal

@@ -4,7 +4,7 @@
 pub mod context;
 mod flat;
 mod human;
-mod json;
+mod json_line;
 pub mod lines;
 pub mod place;
 pub mod printer;

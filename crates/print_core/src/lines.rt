@@ -5,7 +5,7 @@ ghost use Rattle.print_core.specs.Printed.{printed_of};
 
 use crate::context::Format;
 use crate::human::push_lines;
-use crate::json::push_json_line;
+use crate::json_line::push_json_line;
 use diag_core::{Diagnostic, Files};
 use std::alloc::{AllocError, Global};
 

@@ -1,0 +1,32 @@
+#!/bin/sh
+# Times the lower layers, and beside them the same work in plain Rust and xxhsum, where these are installed. Run it in the
+# repository, by `make bench`.
+set -e
+root=$(pwd)
+work=$(mktemp -d)
+trap 'rm -rf "$work"' EXIT
+
+cd "$root/crates/hash_bench"
+rt run hash_bench -- bench | grep MiB/s
+if command -v xxhsum > /dev/null; then
+    # xxhsum tells millions of bytes a second.
+    xxhsum -b1 -B67108864 2>&1 | sed -n 's/.*(\([0-9.]*\) MB\/s).*/\1/p' |
+        awk '{ printf "xxhsum %d MiB/s\n", $1 * 1000000 / 1048576 }'
+fi
+
+cd "$root/crates/layer_bench"
+rt run layer_bench -- bench | grep -E '^[a-z-]+ [0-9]+$' > "$work/ours"
+if command -v rustc > /dev/null; then
+    rustc -O -o "$work/yardstick" "$root/bench/yardstick.rs"
+    "$work/yardstick" > "$work/plain"
+else
+    : > "$work/plain"
+fi
+awk '
+    NR == FNR { plain[$1] = $2; next }
+    ($1 in plain) && plain[$1] > 0 {
+        printf "%-20s %9d us, plain Rust %9d us, ratio %.2f\n", $1, $2, plain[$1], $2 / plain[$1]
+        next
+    }
+    { printf "%-20s %9d us\n", $1, $2 }
+' "$work/plain" "$work/ours"
