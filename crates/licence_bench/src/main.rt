@@ -1,7 +1,9 @@
-//! Prints what the identifier says of one MiB of text, how many items one MiB of an expression has, and how
-//! many of a thousand names are known. With the argument `bench` it prints how long one MiB, two MiB and a
-//! million names take.
+//! Prints what the identifier says of one MiB of text, how many items one MiB of an expression has, how
+//! many of a thousand names are known, and how many terms expressions have. With the argument `bench` it prints
+//! how long one MiB, two MiB, a million names and the fields of 40,000 crates take.
 #![tactic(auto)]
+
+mod expressions;
 
 use catalog_core::{Catalog, Identifier, LicenseStore, Table};
 use std::alloc::{AllocError, Global};
@@ -25,9 +27,9 @@ const CALLS: u32 = 1_000_000;
 const NAMES: [&str; 4] = ["0BSD", "MIT", "LGPL-3.0-or-later", "Unknown-1.0"];
 
 /// Of so many times the least is told.
-const ROUNDS: u32 = 15;
+pub(crate) const ROUNDS: u32 = 15;
 
-fn repeated(alloc: Global, line: &str, lines: u32) -> Result<String, AllocError> {
+pub(crate) fn repeated(alloc: Global, line: &str, lines: u32) -> Result<String, AllocError> {
     let mut text = String::new(alloc);
     for _ in 0..lines {
         text.push_str(line)?;
@@ -88,7 +90,7 @@ fn hundredths(time: u128, other: u128) -> u128 {
 }
 
 /// Prints how long one MiB and two MiB took.
-fn show(rt: &impl Print, what: &str, once: u128, twice: u128) -> io::Result<()> {
+pub(crate) fn show(rt: &impl Print, what: &str, once: u128, twice: u128) -> io::Result<()> {
     let ratio = hundredths(twice, once);
     println!(rt; "{what}: 1 MiB {once} us, 2 MiB {twice} us, {ratio} hundredths")
 }
@@ -148,7 +150,8 @@ fn bench<R: Clock + Print>(
     let more_terms = repeated(alloc, TERMS, 2 * LINES)?;
     bench_scan(rt, alloc, store, text, more_text.as_str())?;
     bench_items(rt, alloc, terms, more_terms.as_str())?;
-    bench_license(rt)
+    bench_license(rt)?;
+    expressions::bench(rt, alloc)
 }
 
 fn count(
@@ -162,7 +165,8 @@ fn count(
     println!(rt; "score {}", found.score)?;
     let items = item_count(alloc, terms)?;
     println!(rt; "{items} items")?;
-    println!(rt; "{} names known", known(1000))
+    println!(rt; "{} names known", known(1000))?;
+    expressions::count(rt, alloc)
 }
 
 fn main(rt: HostRuntime) -> io::Result<()> {
