@@ -1,3 +1,4 @@
+pub mod BranchViews
 pub mod DeserText
 pub mod HelperState
 pub mod Kinds
@@ -7,4 +8,5 @@ pub mod Removal
 pub mod ShapeViews
 pub mod Shaped
 pub mod Shapes
+pub mod TreeViews
 pub mod Views

@@ -7,6 +7,7 @@ pub mod hundredths;
 pub mod shape;
 #[cfg(test)]
 mod tests;
+mod tree;
 #[cfg(test)]
 mod typed_tests;
 pub mod value;

@@ -5,6 +5,7 @@ pub mod Fronts
 pub mod Headers
 pub mod InText
 pub mod Inside
+pub mod Made
 pub mod Scalars
 pub mod Steady
 pub mod Texts

@@ -78,6 +78,7 @@ pub fn read_keys(alloc: Global, text: &str, place: usize) -> Result<(Keys<'_>, u
     requires { place ≤ length text.now }
     ensures answer { Answers (λ found. found) (keys_at text.now place) result }
     ensures within { IfOk result (λ found. found.1 ≤ length text.now) }
+    ensures some { IfOk result (λ found. 0 < length found.0) }
 {
     let bytes = text.as_bytes();
     let mut keys = ListOf::new(alloc);
@@ -102,6 +103,7 @@ pub fn read_left(alloc: Global, text: &str, place: usize) -> Result<(Keys<'_>, u
     requires { place ≤ length text.now }
     ensures answer { Answers (λ found. found) (left_at text.now place) result }
     ensures within { IfOk result (λ found. found.1 ≤ length text.now) }
+    ensures some { IfOk result (λ found. 0 < length found.0) }
 {
     match read_keys(alloc, text, place) {
         Ok((keys, end)) => {

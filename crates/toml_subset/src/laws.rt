@@ -1,11 +1,14 @@
 //! Laws of the definition, as contracts of functions that do nothing.
-ghost use Rattle.std.specs.Prelude.{◌≡◌, ◌≤◌, ℕ, List, Ok, Err, false, slice_range};
+ghost use Rattle.std.specs.Prelude.{◌≡◌, ◌<◌, ◌≤◌, ℕ, List, Some, None, Ok, Err, length, false, slice_range};
 ghost use Rattle.deny_text.specs.declared.span.Span.{Span};
 ghost use Rattle.toml_subset.specs.Data.{Content, Toml, depth_limit};
 ghost use Rattle.toml_subset.specs.declared.error.SyntaxError.{SyntaxError};
 ghost use Rattle.toml_subset.specs.Faults.{LiesIn};
 ghost use Rattle.toml_subset.specs.Reading.{enough, read_value, value_at, read_text};
 ghost use Rattle.toml_subset.specs.Strings.{Quoting, IsString};
+ghost use Rattle.toml_subset.specs.TableFaults.{put_fault, header_fault, array_header_fault};
+ghost use Rattle.toml_subset.specs.Tables.{Node, Branches, implicit, along, through_any, put, open_table, open_array};
+ghost use Rattle.toml_subset.specs.declared.string.Key.{Key};
 ghost use Rattle.toml_subset.specs.Text.{IsText, StandsAs};
 ghost use Rattle.toml_subset.specs.Written.{Written};
 
@@ -31,6 +34,20 @@ pub fn more_calls_change_no_answer()
 /// The first fault of a text lies in it.
 pub fn faults_lie_in_the_text()
     ensures { (text : List ℕ) (fault : SyntaxError) → read_text text ≡ Err fault → LiesIn text fault.span }
+{}
+
+/// A key that no part is refused of is put into its table.
+pub fn keys_without_a_fault_are_put()
+    ensures { (keys : List Key) (node : Node) (branches : Branches) (above : ℕ)
+        → 0 < length keys → put_fault keys branches above ≡ None → (new : Branches) × (put keys node branches ≡ Some new) }
+{}
+
+/// The table of a header that no part is refused of is opened.
+pub fn headers_without_a_fault_are_opened()
+    ensures tables { (at : Span) (keys : List Key) (root : Branches) → 0 < length keys → header_fault keys root ≡ None
+        → (new : Branches) × (along implicit through_any (open_table at) keys root ≡ Some new) }
+    ensures arrays { (at : Span) (keys : List Key) (root : Branches) → 0 < length keys → array_header_fault keys root ≡ None
+        → (new : Branches) × (along implicit through_any (open_array at) keys root ≡ Some new) }
 {}
 
 /// A text stands for at most one value.

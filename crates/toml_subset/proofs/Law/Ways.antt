@@ -19,16 +19,16 @@ EndFault = Key → Branches → ℕ → Option SyntaxError
 abbrev pub Edit : Type 0
 Edit = Key → Branches → Option Branches
 
-abbrev inside_fault : (Node → Option Inside) → EndFault → Key → Key → List Key → ℕ → Option Inside → Option SyntaxError
+abbrev pub inside_fault : (Node → Option Inside) → EndFault → Key → Key → List Key → ℕ → Option Inside → Option SyntaxError
 inside_fault inside end key next more above (Some found) = way_fault inside end (next ∷ more) found.0 (above + found.1)
 inside_fault inside end key next more above None = refused RedefinedTable key
 
-abbrev node_fault : (Node → Option Inside) → EndFault → Key → Key → List Key → ℕ → Option Node → Option SyntaxError
+abbrev pub node_fault : (Node → Option Inside) → EndFault → Key → Key → List Key → ℕ → Option Node → Option SyntaxError
 node_fault inside end key next more above (Some node) = inside_fault inside end key next more above (inside node)
 node_fault inside end key next more above None =
     cond (eqb above depth_limit) (refused TooDeep key) (way_fault inside end (next ∷ more) unbranched (above + 1))
 
-way_step : (inside : Node → Option Inside) (end : EndFault) (key next : Key) (more : List Key) (branches : Branches) (above : ℕ)
+pub way_step : (inside : Node → Option Inside) (end : EndFault) (key next : Key) (more : List Key) (branches : Branches) (above : ℕ)
     → way_fault inside end (key ∷ next ∷ more) branches above ≡ node_fault inside end key next more above (node_at key branches)
 way_step inside end key next more branches above =
     elim (node_at key branches) as (λ o. elim o [
@@ -40,14 +40,14 @@ way_step inside end key next more branches above =
       | None ↦ refl
     ]
 
-abbrev new_table : Mark → Key → Branches → Branches → Branches
+abbrev pub new_table : Mark → Key → Branches → Branches → Branches
 new_table mark key branches inner = added key (growing key.span mark inner) branches
 
-abbrev along_by : Mark → Through → Edit → Key → Key → List Key → Branches → Bool → Option Branches
+abbrev pub along_by : Mark → Through → Edit → Key → Key → List Key → Branches → Bool → Option Branches
 along_by mark through edit key next more branches true = changed (through (along mark through edit (next ∷ more))) key branches
 along_by mark through edit key next more branches false = option_map (new_table mark key branches) (along mark through edit (next ∷ more) unbranched)
 
-along_step : (mark : Mark) (through : Through) (edit : Edit) (key next : Key) (more : List Key) (branches : Branches)
+pub along_step : (mark : Mark) (through : Through) (edit : Edit) (key next : Key) (more : List Key) (branches : Branches)
     → along mark through edit (key ∷ next ∷ more) branches ≡ along_by mark through edit key next more branches (has_key key branches)
 along_step mark through edit key next more branches =
     elim (has_key key branches) as (λ b. elim b [

@@ -1,4 +1,4 @@
-use Rattle.std.proofs.Common.{◌≡◌, ◌+◌, ◌≤◌, true, false, Ok, length, sym, ap, subst, ◌∙◌, arith}
+use Rattle.std.proofs.Common.{◌≡◌, ◌+◌, ◌<◌, ◌≤◌, true, false, [], ◌∷◌, Ok, length, length-append, sym, ap, subst, ◌∙◌, arith}
 use Rattle.std.proofs.lemmas.Bool.Decides.{nat_tests}
 use Rattle.toml_subset.specs.Bytes.{dot}
 use Rattle.toml_subset.specs.Places.{stands, after_blanks}
@@ -20,6 +20,10 @@ returns-then-not-stands-clause-answer c =
     let none : stands text (after_blanks text end) dot ≡ false = sym (stands_is ∙ ap (λ k. stands text k dot) dot_is) ∙ no in
     key_last text c.args.place c.parts.keys c.parts.place c.in-Ok.key end c.parts.invariant.0 c.parts.invariant.1 c.in-Ok.ensures.answer none
     ∙ ap (λ keys. Ok (keys, end)) (sym c.in_ok-push-in-Ok.ensures.ok)
+
+pub returns-then-not-stands-clause-some : goal.returns-then-not-stands-clause-some
+returns-then-not-stands-clause-some c =
+    subst (λ keys. 0 < length keys) (sym c.in_ok-push-in-Ok.ensures.ok) (let longer = length-append c.parts.keys (c.in-Ok.key ∷ []) in omega arith)
 
 pub parts-smaller : goal.parts-smaller
 parts-smaller c =

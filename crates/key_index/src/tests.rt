@@ -1,0 +1,29 @@
+use super::*;
+use deny_text::Span;
+use std::test::Fail;
+use toml_subset::plain_string;
+
+#[test]
+fn finds_names(rt: HostRuntime) -> Result<(), Fail> {
+    let span = Span { start: 0, end: 1 };
+    let mut index = KeyIndex::new(rt.alloc());
+    for name in ["b", "a", "", "b", "bb"] {
+        let key = Key {
+            name: plain_string(name),
+            span,
+        };
+        if index.find(name).is_none() {
+            index = index.with(rt.alloc(), key)?;
+        }
+    }
+    for (name, place) in [("a", Some(1)), ("bb", Some(3)), ("", Some(2)), ("c", None)] {
+        assert_eq!(rt; index.find(name), place);
+    }
+    let mut keys = index.into_parts();
+    for want in ["b", "a", "", "bb"] {
+        let next = keys.next().ok_or("too few keys")?;
+        assert_eq!(rt; next.name.as_str(), want);
+    }
+    assert!(rt; keys.next().is_none());
+    Ok(())
+}
