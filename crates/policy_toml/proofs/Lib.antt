@@ -6,4 +6,5 @@ pub mod FinishLemmas
 pub mod Paths
 pub mod PutLemmas
 pub mod TreeLemmas
+pub mod TurnLemmas
 pub mod ValueViews

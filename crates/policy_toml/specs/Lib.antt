@@ -8,5 +8,6 @@ pub mod Removal
 pub mod ShapeViews
 pub mod Shaped
 pub mod Shapes
+pub mod StackViews
 pub mod TreeViews
 pub mod Views

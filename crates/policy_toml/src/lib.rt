@@ -11,6 +11,9 @@ mod tree;
 #[cfg(test)]
 mod typed_tests;
 pub mod value;
+mod values;
+#[cfg(test)]
+mod values_tests;
 
 pub use deserialize::{Deserialize, deserialize_name};
 pub use helper::TableHelper;

@@ -6,6 +6,8 @@ ghost use Rattle.toml_subset.specs.Data.{boolean};
 ghost use Rattle.policy_toml.specs.Lookup.{as_text, has_entries, value_at, item_at, place_of, step_to, steps_to, pointed_at, with_item, with_entry};
 ghost use Rattle.policy_toml.specs.Views.{value_view, content_view, values_view, entries_view, items_from_list, entries_from_list};
 
+#[cfg(test)]
+pub(crate) mod printed;
 mod removal;
 
 use deny_text::Span;
