@@ -1,0 +1,7 @@
+-- What is left of a list from an item on.
+use Rattle.std.proofs.Common.{◌≡◌, ℕ, suc, ◌+◌, ◌<◌, List, ◌∷◌, length, drop, get_or, sym, ◌∙◌, ap, add-one}
+use Rattle.std.proofs.Math.Seq.{drop-cons}
+
+pub at-drop : {A : Type 0} (xs : List A) (i : ℕ) (x : A) → i < length xs → x ≡ get_or xs i x → drop i xs ≡ x ∷ drop (i + 1) xs
+at-drop xs i x h at =
+    drop-cons xs i x h ∙ (ap (λ first. first ∷ drop (suc i) xs) (sym at) ∙ ap (λ n. x ∷ drop n xs) (sym (add-one i)))

@@ -1,0 +1,9 @@
+pub mod AllRows
+pub mod Floats
+pub mod NodeRows
+pub mod Nodes
+pub mod Packages
+pub mod Records
+pub mod Rows
+pub mod Shape
+pub mod Told

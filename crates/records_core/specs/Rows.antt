@@ -1,0 +1,28 @@
+-- What the rows of the code hold, without where it lies in memory.
+use Rattle.std.specs.Prelude.{option_copied}
+use Rattle.semver.specs.Identifiers.{parts_of}
+use Rattle.records_core.specs.declared.package.NamedRow.{NamedRow}
+use Rattle.records_core.specs.declared.package.DescribedRow.{DescribedRow}
+use Rattle.records_core.specs.declared.package.ListedRow.{ListedRow}
+use Rattle.records_core.specs.Packages.{Named, Described, Listed}
+
+abbrev pub named_of : NamedRow → Named
+named_of row = record {
+  name = row.name.now;
+  id = row.id.now;
+  manifest_path = row.manifest_path.now;
+  version = parts_of row.version;
+}
+
+abbrev pub described_of : DescribedRow → Described
+described_of row = record {
+  license = option_copied row.license;
+  license_file = option_copied row.license_file;
+  source = row.source;
+  repository = option_copied row.repository;
+  description = option_copied row.description;
+  rust_version = option_copied row.rust_version;
+}
+
+abbrev pub listed_of : ListedRow → Listed
+listed_of row = record { authors = row.authors; features = row.features; publish = row.publish }

@@ -1,0 +1,16 @@
+//! Reads the metadata of a workspace: the rows of its table of shapes, and the one fault that is told.
+#![tactic(auto)]
+
+pub mod fault;
+mod floats;
+mod nodes;
+mod package;
+mod rows;
+mod shape;
+#[cfg(test)]
+mod tests;
+
+pub use fault::{MetaError, MetaFault, MetaReason};
+pub use floats::floats_are_found;
+pub use graph_core::{DepKind, FeatureMap, Kinds, Krate, Metadata};
+pub use rows::check_shape;
