@@ -19,10 +19,10 @@ pub struct Kinds {
 
 /// A dependency on the crate at a place among the crates of the metadata.
 #[derive(Clone, Copy, Debug, PartialEq, Eq)]
-pub(crate) struct Edge {
-    pub(crate) to: usize,
-    pub(crate) kinds: Kinds,
+pub struct Edge {
+    pub to: usize,
+    pub kinds: Kinds,
 }
 
 /// The dependencies of a crate, in the order of the metadata.
-pub(crate) type Edges = ListOf<Edge>;
+pub type Edges = ListOf<Edge>;

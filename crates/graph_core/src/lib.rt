@@ -8,7 +8,7 @@ pub mod lone;
 mod lone_tests;
 pub mod metadata;
 
-pub use edge::{DepKind, Kinds};
+pub use edge::{DepKind, Edge, Edges, Kinds};
 pub use krate::{FeatureMap, Krate};
 pub use metadata::Metadata;
 pub use source_core::{GitSpec, Source, SourceError, matches_address, normalize_git_url};

@@ -35,7 +35,7 @@ impl Model for Metadata {
 impl Metadata {
     /// Puts the parts together. The crates stand in the order of their ids, with the edges out of each; the members and the
     /// root are places among them.
-    pub(crate) fn of_parts(
+    pub fn of_parts(
         crates: Vec<Krate>,
         edges: Vec<Edges>,
         members: Texts,
@@ -56,8 +56,15 @@ impl Metadata {
         }
     }
 
+    /// How many crates there are.
+    pub fn len(&self) -> usize
+        ensures { result ≡ length self.now.nodes }
+    {
+        self.crates.len()
+    }
+
     /// The crates in the order of their ids.
-    pub(crate) fn crates(&self) -> &[Krate]
+    pub fn crates(&self) -> &[Krate]
         ensures value { map record_of result.now ≡ map (λ node. node.krate) self.now.nodes }
         ensures rising { AreRising (ids_of self.now) }
     {
@@ -65,7 +72,7 @@ impl Metadata {
     }
 
     /// The edges out of the crate at a place.
-    pub(crate) fn edges_at(&self, place: usize) -> &[Edge]
+    pub fn edges_at(&self, place: usize) -> &[Edge]
         requires { place < length self.now.nodes }
         ensures value { map (link_in self.now) result.now ≡ edges_at self.now place }
         ensures within { LeadWithin (length self.now.nodes) result.now }

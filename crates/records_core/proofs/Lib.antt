@@ -1,6 +1,10 @@
 mod Drops
 pub mod EachLemmas
+mod EntryLemmas
 mod FeatureLemmas
 mod FloatLemmas
 mod FloatWalks
 mod FoldLemmas
+mod LeftLemmas
+mod OrderLemmas
+mod SoundLemmas

@@ -2,7 +2,7 @@
 use Rattle.std.specs.Prelude.{map}
 use Rattle.graph_core.specs.Krate.{record_of}
 use Rattle.records_core.specs.declared.rows.AllRows.{AllRows}
-use Rattle.records_core.specs.NodeRows.{root_of, resolve_of, node_of}
+use Rattle.records_core.specs.NodeRows.{root_of, resolve_of, nodes_of}
 use Rattle.records_core.specs.Records.{Rows}
 
 abbrev pub rows_told : AllRows → Rows
@@ -10,6 +10,6 @@ rows_told rows = record {
   root = root_of rows.root;
   crates = map record_of rows.crates.items;
   resolve = resolve_of rows.resolve;
-  nodes = map node_of rows.nodes.items;
+  nodes = nodes_of rows.nodes;
   edges = rows.edges.items;
 }

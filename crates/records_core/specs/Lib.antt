@@ -2,8 +2,10 @@ pub mod AllRows
 pub mod Floats
 pub mod NodeRows
 pub mod Nodes
+pub mod Order
 pub mod Packages
 pub mod Records
 pub mod Rows
 pub mod Shape
+pub mod Sound
 pub mod Told

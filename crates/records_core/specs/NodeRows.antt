@@ -6,8 +6,9 @@ use Rattle.records_core.specs.declared.nodes.MemberRow.{MemberRow}
 use Rattle.records_core.specs.declared.nodes.RootRow.{RootRow}
 use Rattle.records_core.specs.declared.nodes.ResolveRow.{ResolveRow}
 use Rattle.records_core.specs.declared.nodes.NodeRow.{NodeRow}
+use Rattle.records_core.specs.declared.nodes.NodesRow.{NodesRow}
 use Rattle.records_core.specs.declared.nodes.DepRow.{DepRow}
-use Rattle.records_core.specs.Nodes.{Member, RootTold, ResolveTold, NodeTold, DepTold}
+use Rattle.records_core.specs.Nodes.{Member, RootTold, ResolveTold, NodeTold, NodesTold, DepTold}
 
 abbrev pub member_of : MemberRow → Member
 member_of row = record { id = row.id.now; place = row.place }
@@ -25,7 +26,10 @@ abbrev pub resolve_of : ResolveRow → ResolveTold
 resolve_of row = record { nodes = items_view row.nodes.now; root = row.root }
 
 abbrev pub node_of : NodeRow → NodeTold
-node_of row = record { place = row.place; deps = items_view row.deps.now }
+node_of row = record { deps = items_view row.deps.now }
+
+abbrev pub nodes_of : NodesRow → NodesTold
+nodes_of row = record { firsts = row.firsts; nodes = map node_of row.nodes.items }
 
 abbrev pub dep_of : DepRow → DepTold
 dep_of row = record { to = row.to; kinds = option_map (λ items. items_view items.now) row.kinds }

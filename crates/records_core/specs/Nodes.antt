@@ -3,13 +3,13 @@ use Rattle.std.specs.Prelude.{ℕ, ◌+◌, List, true, false, codes, bytes_eq, 
 use Rattle.std.specs.FinMap as finmap
 use Rattle.serde_json.specs.Data.{Data, array, Items, no_items, item}
 use Rattle.serde_json.specs.Find.{get}
+use Rattle.graph_core.specs.declared.edge.Edge.{Edge}
 use Rattle.graph_core.specs.declared.edge.Kinds.{Kinds}
 use Rattle.graph_core.specs.declared.edge.DepKind.{DepKind}
 use Rattle.graph_core.specs.declared.edge.DepKind.TheVariants.{Normal, Dev, Build}
 use Rattle.records_core.specs.declared.fault.MetaReason.TheVariants.{Missing, WrongKind, UnknownKind}
 use Rattle.records_core.specs.declared.fault.Place.{Place}
 use Rattle.records_core.specs.declared.fault.Place.TheVariants.{Root, Resolve, Node, Dep, Kind}
-use Rattle.records_core.specs.declared.nodes.EdgeRow.{EdgeRow}
 use Rattle.records_core.specs.Shape.{object_here, text_at, text_here, optional_text_at, list_at, list_or_empty_at, Known, known_of, known_place, new_from}
 use Rattle.records_core.specs.Told.{Told, ◌>>=◌, each, each_item, fault_at, place_text, key_place, item_place}
 
@@ -75,9 +75,8 @@ resolve_row known found = do
 
 -- ---- nodes
 
--- the place of the package that the node is of, and its dependencies
+-- the dependencies of a node
 pub record NodeTold : Type 0 where
-  pub place : ℕ
   pub deps : Items
 
 -- `firsts` leads from an id to the first node that has it
@@ -88,14 +87,20 @@ node_row known firsts index found = do
   place ← known_place known (key_place (Node index) (codes "id")) id
   new ← new_from index (key_place (Node index) (codes "id")) id (finmap.get firsts id)
   deps ← list_or_empty_at (Node index) (codes "deps") node
-  Ok (record { place = place; deps = deps })
+  Ok (record { deps = deps })
 
 abbrev pub nodes_with : Known → Known → Items → Told (List NodeTold)
 nodes_with known firsts nodes = each_item (node_row known firsts) nodes
 
--- the nodes, of which no two have one id
-abbrev pub nodes_in : Known → Items → Told (List NodeTold)
-nodes_in known nodes = nodes_with known (known_of nodes) nodes
+-- the nodes, of which no two have one id, and the place of the node that has an id
+pub record NodesTold : Type 0 where
+  pub firsts : Known
+  pub nodes : List NodeTold
+
+unfoldable pub nodes_in : Known → Items → Told NodesTold
+nodes_in known nodes = do
+  listed ← nodes_with known (known_of nodes) nodes
+  Ok (record { firsts = known_of nodes; nodes = listed })
 
 -- ---- dependencies
 
@@ -166,14 +171,14 @@ abbrev pub kinds_of : ℕ → ℕ → Option Items → Told Kinds
 kinds_of i j None = Ok (with_kind no_kinds Normal)
 kinds_of i j (Some items) = kinds_in i j 0 no_kinds items
 
-unfoldable pub edge_row : ℕ → ℕ → DepTold → Told EdgeRow
+unfoldable pub edge_row : ℕ → ℕ → DepTold → Told Edge
 edge_row i j dep = do
   kinds ← kinds_of i j dep.kinds
   Ok (record { to = dep.to; kinds = kinds })
 
-abbrev pub edges_in : ℕ → List DepTold → Told (List EdgeRow)
+abbrev pub edges_in : ℕ → List DepTold → Told (List Edge)
 edges_in i deps = each (edge_row i) 0 deps
 
 -- the edges of all nodes
-abbrev pub all_edges : List (List DepTold) → Told (List (List EdgeRow))
+abbrev pub all_edges : List (List DepTold) → Told (List (List Edge))
 all_edges lists = each edges_in 0 lists

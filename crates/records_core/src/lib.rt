@@ -4,7 +4,11 @@
 pub mod fault;
 mod floats;
 mod nodes;
+mod order;
 mod package;
+mod reading;
+#[cfg(test)]
+mod record_tests;
 mod rows;
 mod shape;
 #[cfg(test)]
@@ -12,5 +16,5 @@ mod tests;
 
 pub use fault::{MetaError, MetaFault, MetaReason};
 pub use floats::floats_are_found;
-pub use graph_core::{DepKind, FeatureMap, Kinds, Krate, Metadata};
-pub use rows::check_shape;
+pub use graph_core::{DepKind, Edge, FeatureMap, Kinds, Krate, Metadata};
+pub use reading::records;

@@ -2,7 +2,7 @@
 ghost use Rattle.std.specs.Prelude.{◌≡◌, codes, map, option_map, option_copied};
 ghost use Rattle.serde_json.specs.View.{view, items_view};
 ghost use Rattle.records_core.specs.Nodes as spec;
-ghost use Rattle.records_core.specs.NodeRows.{member_of, root_of, resolve_of, node_of, dep_of, deps_of};
+ghost use Rattle.records_core.specs.NodeRows.{member_of, root_of, resolve_of, node_of, nodes_of, dep_of, deps_of};
 ghost use Rattle.records_core.specs.Told.{Tells, key_place};
 
 use crate::fault::{MetaError, MetaReason, Place, fault_at};
@@ -10,8 +10,7 @@ use crate::shape::{
     Known, known_at, known_in, known_of, list_at, list_or_empty_at, new_at, object_here,
     optional_text_at, text_at, text_here,
 };
-use deny_text::ListOf;
-use graph_core::{DepKind, Kinds};
+use graph_core::{DepKind, Edge, Edges, Kinds};
 use serde_json::Value;
 use std::alloc::Global;
 
@@ -128,10 +127,9 @@ pub(crate) fn resolve_row<'v>(
     Ok(ResolveRow { nodes, root })
 }
 
-/// A node: the place of its package, and its dependencies.
+/// A node: its dependencies.
 #[derive(Drop)]
 pub(crate) struct NodeRow<'v> {
-    pub(crate) place: usize,
     pub(crate) deps: &'v [Value],
 }
 
@@ -147,10 +145,10 @@ fn node_row<'v>(
 {
     let node = object_here(alloc, Place::Node(index), value)?;
     let id = text_at(alloc, Place::Node(index), "id", node)?;
-    let place = known_at(alloc, known, Place::Node(index), "id", id)?;
+    let _place = known_at(alloc, known, Place::Node(index), "id", id)?;
     let _new = new_at(alloc, firsts, Place::Node(index), index, id)?;
     let deps = list_or_empty_at(alloc, Place::Node(index), "deps", node)?;
-    Ok(NodeRow { place, deps })
+    Ok(NodeRow { deps })
 }
 
 fn nodes_with<'v>(
@@ -170,17 +168,25 @@ fn nodes_with<'v>(
     Ok(nodes)
 }
 
+/// The nodes, and the place of the node that has an id.
+#[derive(Drop)]
+pub(crate) struct NodesRow<'v> {
+    pub(crate) firsts: Known,
+    pub(crate) nodes: Vec<NodeRow<'v>>,
+}
+
 /// The nodes, of which no two have one id.
+#[tactic(auto, unfolding(crate::specs::Nodes::nodes_in))]
 pub(crate) fn nodes_in<'v>(
     alloc: Global,
     known: &Known,
     items: &'v [Value],
-) -> Result<Vec<NodeRow<'v>>, MetaError>
-    ensures { Tells (λ nodes. map node_of nodes.items) result
-        (spec.nodes_in known.now (items_view items.now)) }
+) -> Result<NodesRow<'v>, MetaError>
+    ensures { Tells nodes_of result (spec.nodes_in known.now (items_view items.now)) }
 {
     let firsts = known_of(alloc, items)?;
-    nodes_with(alloc, known, &firsts, items)
+    let nodes = nodes_with(alloc, known, &firsts, items)?;
+    Ok(NodesRow { firsts, nodes })
 }
 
 /// A dependency: the place of the package that it leads to, and the list of its kinds, where there is one.
@@ -257,16 +263,6 @@ pub(crate) fn all_deps<'v>(
     Ok(lists)
 }
 
-/// An edge: the place of the package that it leads to, and its kinds.
-#[derive(Clone, Copy, Debug, PartialEq, Eq)]
-pub(crate) struct EdgeRow {
-    pub(crate) to: usize,
-    pub(crate) kinds: Kinds,
-}
-
-/// The edges of a node.
-pub(crate) type EdgeRows = ListOf<EdgeRow>;
-
 const NO_KINDS: Kinds = Kinds {
     normal: false,
     dev: false,
@@ -323,20 +319,20 @@ fn kinds_in(alloc: Global, i: usize, j: usize, items: &[Value]) -> Result<Kinds,
 
 /// The edge of a dependency. Without a list of kinds it is a normal one.
 #[tactic(auto, unfolding(crate::specs::Nodes::edge_row))]
-fn edge_row(alloc: Global, i: usize, j: usize, dep: &DepRow<'_>) -> Result<EdgeRow, MetaError>
+fn edge_row(alloc: Global, i: usize, j: usize, dep: &DepRow<'_>) -> Result<Edge, MetaError>
     ensures { Tells (λ edge. edge) result (spec.edge_row i j (dep_of dep.now)) }
 {
     let kinds = match dep.kinds {
         Some(items) => kinds_in(alloc, i, j, items)?,
         None => with_kind(NO_KINDS, DepKind::Normal),
     };
-    Ok(EdgeRow { to: dep.to, kinds })
+    Ok(Edge { to: dep.to, kinds })
 }
 
-fn edges_in(alloc: Global, i: usize, deps: &[DepRow<'_>]) -> Result<EdgeRows, MetaError>
+fn edges_in(alloc: Global, i: usize, deps: &[DepRow<'_>]) -> Result<Edges, MetaError>
     ensures { Tells (λ edges. edges) result (spec.edges_in i (map dep_of deps.now)) }
 {
-    let mut edges = EdgeRows::new(alloc);
+    let mut edges = Edges::new(alloc);
     'edges: for (j, dep) in deps.iter().enumerate() {
         let edge = edge_row(alloc, i, j, dep)?;
         edges.push(edge)?;
@@ -345,10 +341,7 @@ fn edges_in(alloc: Global, i: usize, deps: &[DepRow<'_>]) -> Result<EdgeRows, Me
 }
 
 /// The edges of each node.
-pub(crate) fn all_edges(
-    alloc: Global,
-    lists: &[Vec<DepRow<'_>>],
-) -> Result<Vec<EdgeRows>, MetaError>
+pub(crate) fn all_edges(alloc: Global, lists: &[Vec<DepRow<'_>>]) -> Result<Vec<Edges>, MetaError>
     ensures { Tells (λ edges. edges.items) result (spec.all_edges (map deps_of lists.now)) }
 {
     let mut all = Vec::new(alloc);

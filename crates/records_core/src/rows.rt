@@ -5,16 +5,15 @@ ghost use Rattle.graph_core.specs.Krate.{record_of};
 ghost use Rattle.records_core.specs.NodeRows.{root_of, resolve_of, node_of};
 ghost use Rattle.records_core.specs.AllRows.{rows_told};
 ghost use Rattle.records_core.specs.Records as spec;
-ghost use Rattle.records_core.specs.Records.{rows_of, IsChecked};
 ghost use Rattle.records_core.specs.Told.{Tells};
 
 use crate::fault::MetaError;
 use crate::floats::unless_float;
 use crate::nodes::{
-    EdgeRows, NodeRow, ResolveRow, RootRow, all_deps, all_edges, nodes_in, resolve_row, root_row,
+    NodesRow, ResolveRow, RootRow, all_deps, all_edges, nodes_in, resolve_row, root_row,
 };
 use crate::package::packages_in;
-use graph_core::Krate;
+use graph_core::{Edges, Krate};
 use serde_json::Value;
 use std::alloc::Global;
 
@@ -24,8 +23,8 @@ pub(crate) struct AllRows<'v> {
     pub(crate) root: RootRow<'v>,
     pub(crate) crates: Vec<Krate>,
     pub(crate) resolve: ResolveRow<'v>,
-    pub(crate) nodes: Vec<NodeRow<'v>>,
-    pub(crate) edges: Vec<EdgeRows>,
+    pub(crate) nodes: NodesRow<'v>,
+    pub(crate) edges: Vec<Edges>,
 }
 
 #[tactic(auto, unfolding(crate::specs::Records::rows_in))]
@@ -41,7 +40,7 @@ pub(crate) fn rows_in<'v>(
     let crates = packages_in(alloc, sparse_dir, &root.known, root.packages)?;
     let resolve = resolve_row(alloc, &root.known, root.resolve)?;
     let nodes = nodes_in(alloc, &root.known, resolve.nodes)?;
-    let deps = all_deps(alloc, &root.known, &nodes)?;
+    let deps = all_deps(alloc, &root.known, &nodes.nodes)?;
     let edges = all_edges(alloc, &deps)?;
     Ok(AllRows {
         root,
@@ -50,15 +49,4 @@ pub(crate) fn rows_in<'v>(
         nodes,
         edges,
     })
-}
-
-/// Whether a text is metadata of the stated shape: the output of `cargo metadata --format-version 1`. Keys that no row
-/// names are passed over, and of equal keys of an object the last holds. `sparse_dir` is the name of the folder that cargo
-/// keeps crates of the sparse index of crates.io in.
-pub fn check_shape(alloc: Global, text: &str, sparse_dir: &str) -> Result<(), MetaError>
-    ensures { IsChecked result (rows_of text.now sparse_dir.now) }
-{
-    let value = Value::from_str(alloc, text)?;
-    let _rows = rows_in(alloc, sparse_dir, &value)?;
-    Ok(())
 }

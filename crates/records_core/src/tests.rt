@@ -1,4 +1,4 @@
-use crate::{MetaError, MetaReason, check_shape};
+use crate::{MetaError, MetaReason, records};
 use std::alloc::{AllocError, Global};
 use std::test::Fail;
 
@@ -24,7 +24,7 @@ fn has_fault(
     reason: MetaReason,
 ) -> Result<bool, AllocError> {
     let text = with(alloc, part, other)?;
-    match check_shape(alloc, text.as_str(), SPARSE_DIR) {
+    match records(alloc, text.as_str(), SPARSE_DIR) {
         Err(MetaError::Shape(fault)) => Ok(fault.place.as_str() == place && fault.fault == reason),
         _ => Ok(false),
     }
