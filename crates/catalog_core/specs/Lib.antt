@@ -1,7 +1,6 @@
 pub mod BuiltIn
 pub mod Catalog
 pub mod Identifier
-pub mod Satisfaction
 pub mod Store
 pub mod Table
 pub mod TextWords

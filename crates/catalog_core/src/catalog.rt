@@ -1,6 +1,5 @@
 //! What a catalogue of licences answers.
 ghost use Rattle.std.specs.Prelude.{◌≡◌, ◌↔◌, IsTrue, IfSome, IfNone, Contains};
-ghost use Rattle.catalog_core.specs.Satisfaction.{Satisfies};
 ghost use Rattle.catalog_core.specs.Catalog.{CatalogLists, entry_of, IsLongestImprecise, BeginsNone};
 ghost use Rattle.catalog_core.specs.Catalog.{IsCatalog};
 
@@ -17,17 +16,6 @@ pub struct LicenseEntry {
     pub deprecated: bool,
     /// The name belongs to a family of the GNU licences.
     pub gnu: bool,
-}
-
-impl LicenseEntry {
-    /// Whether a policy that allows this licence is content with `term`.
-    pub fn satisfies(&self, term: &LicenseEntry) -> bool
-        ensures { IsTrue result ↔ Satisfies self.now term.now }
-    {
-        let same_version = self.rank == term.rank && (!self.later || term.later);
-        let later_version = term.later && term.rank < self.rank;
-        self.family == term.family && (same_version || later_version)
-    }
 }
 
 /// A known way to write a licence that is no licence name, found at the start of a text.

@@ -127,44 +127,6 @@ fn reads_imprecise_texts(rt: HostRuntime) {
     }
 }
 
-#[test]
-fn satisfaction(rt: HostRuntime) {
-    let entry = |family, rank, later| LicenseEntry {
-        family,
-        rank,
-        later,
-        deprecated: false,
-        gnu: false,
-    };
-    let gpl = 0;
-    let apache = 1;
-    let rows = [
-        // GPL-3.0-only satisfies GPL-2.0-or-later and not GPL-2.0-only.
-        (entry(gpl, 30, false), entry(gpl, 20, true), true),
-        (entry(gpl, 30, false), entry(gpl, 20, false), false),
-        // GPL-2.0-or-later does not satisfy GPL-2.0-only, which satisfies it.
-        (entry(gpl, 20, true), entry(gpl, 20, false), false),
-        (entry(gpl, 20, false), entry(gpl, 20, true), true),
-        (entry(gpl, 20, true), entry(gpl, 20, true), true),
-        // An earlier version does not satisfy a later one.
-        (entry(gpl, 20, false), entry(gpl, 30, true), false),
-        (entry(gpl, 20, true), entry(gpl, 30, true), false),
-        // Apache-2.0 satisfies Apache-2.0 and what takes later versions of it.
-        (entry(apache, 20, false), entry(apache, 20, false), true),
-        (entry(apache, 20, false), entry(apache, 20, true), true),
-        // No other family does.
-        (entry(apache, 20, false), entry(gpl, 20, false), false),
-        (entry(apache, 30, false), entry(gpl, 20, true), false),
-    ];
-    for (licensee, term, satisfied) in rows {
-        assert_eq!(rt;
-            licensee.satisfies(&term),
-            satisfied,
-            "{licensee:?} for {term:?}"
-        );
-    }
-}
-
 fn capitals(alloc: Global, text: &str) -> Result<String, AllocError> {
     let mut capitals = String::new(alloc);
     for letter in text.chars() {
