@@ -1,9 +1,9 @@
 -- Tokens that are written one after another.
-use Rattle.std.proofs.Common.{◌≡◌, refl, ap, ap₂, subst, ◌∙◌, sym, ℕ, List, [], ◌∷◌, ◌++◌, append_assoc, append-nil, flat_map, map, take, decimal, Result, Ok, Err, OnOk}
+use Rattle.std.proofs.Common.{◌≡◌, refl, ap, ap₂, subst, ◌∙◌, sym, ℕ, List, [], ◌∷◌, ◌++◌, append_assoc, flat_map, map, decimal, Result, Ok, Err, OnOk}
 use Rattle.std.specs.Str.{IsUtf8}
 use Rattle.std.proofs.lemmas.Str.{IsUtf8-append}
 use Rattle.json.specs.Print.{print}
-use Rattle.json.specs.Token.{Token, begin_array, end_array, key, string, number}
+use Rattle.json.specs.Token.{Token, end_array, key, string, number}
 use Rattle.json.specs.Tree.{items_tokens}
 use Rattle.json.specs.Written.{Written, Writes}
 use Rattle.serde_json.specs.Data.{Data}
@@ -19,9 +19,6 @@ each_tokens f xs = flat_map (λ x. data_tokens (f x)) xs
 pub items_written : {A : Type 0} (f : A → Data) (xs : List A) → each_tokens f xs ++ end_array ∷ [] ≡ items_tokens (items_outline (items_of (map f xs)))
 items_written f [] = refl
 items_written f (x ∷ xs) = append_assoc (data_tokens (f x)) _ _ ∙ ap (λ tokens. data_tokens (f x) ++ tokens) (items_written f xs)
-
-pub nothing : (old : Written) → Adds old old []
-nothing old = record { before = refl; tokens = sym (append-nil old.tokens) }
 
 pub both : (old middle new : Written) (first second : List Token) → Adds old middle first → Adds middle new second → Adds old new (first ++ second)
 both old middle new first second one other = record {

@@ -1,13 +1,12 @@
 -- Findings of which nothing is written, and sinks that gained nothing.
-use Rattle.std.proofs.Common.{◌≡◌, refl, sym, ap, ap₂, ◌∙◌, suc, Bool, true, false, cond, List, [], ◌∷◌, ◌++◌, append-nil, ℕ, Option, Some, None, Result, Ok, Err, OnErr, arith}
+use Rattle.std.proofs.Common.{◌≡◌, refl, sym, ap, ap₂, suc, Bool, true, false, cond, List, [], ◌∷◌, ◌++◌, append-nil, ℕ, Option, Some, None, Result, Ok, Err, OnErr, arith}
 use Rattle.std.proofs.lemmas.Bool.{cond-false}
 use Rattle.diag_core.specs.declared.pack.Diag.{Diag}
-use Rattle.diag_core.specs.declared.diagnostic.Diagnostic.{Diagnostic}
 use Rattle.tree_core.specs.Faults.{Gained, GainedPrefix}
 use Rattle.diag_core.specs.File.{File}
 use Rattle.print_core.specs.declared.context.Format.TheVariants.{Sarif}
 use Rattle.print_core.specs.declared.context.LogContext.{LogContext}
-use Rattle.print_core.specs.Printed.{is_heard, printed_of, printed_at, AllBelow, all_printed_at}
+use Rattle.print_core.specs.Printed.{is_heard, printed_of, AllBelow, all_printed_at}
 
 pub nothing_below : (context : LogContext) (files : List File) (findings : List Diag) → AllBelow context.log_level findings → all_printed_at context files findings ≡ []
 nothing_below context files [] below = refl
