@@ -1,5 +1,6 @@
 //! Keys in the order in which they came, each found by its name without going through all of them.
 #![tactic(auto)]
+
 ghost use Rattle.std.specs.Prelude.{◌≡◌, [], ◌∷◌, ◌++◌, length, None, IfOk};
 ghost use Rattle.key_index.specs.KeyPlaces.{place_of};
 
@@ -7,9 +8,8 @@ mod parts;
 #[cfg(test)]
 mod tests;
 
-pub use parts::KeyParts;
-
 use deny_text::{Text, TextMap};
+pub use parts::KeyParts;
 use std::alloc::{AllocError, Global};
 use std::marker::Model;
 use toml_subset::{Key, Keys};

@@ -52,18 +52,22 @@ module _ (mark : Mark) (through : Through) (inside : Node → Option Inside) (ed
               | Some found ↦ λ into rest.
                   let under = way_made (next ∷ more) found.0 (above + found.1) (omega arith) rest in
                   let change = change_made (through (along mark through edit (next ∷ more))) key branches node there
-                      (enters (along mark through edit (next ∷ more)) node found into under) in
-                  (change.0, along_step mark through edit key next more branches
-                    ∙ ap (along_by mark through edit key next more branches) (some_has key branches node there) ∙ change.1)
+                  (enters (along mark through edit (next ∷ more)) node found into under) in (
+                    change.0,
+                    along_step mark through edit key next more branches
+                        ∙ ap (along_by mark through edit key next more branches) (some_has key branches node there) ∙ change.1,
+                  )
               | None ↦ λ into rest. absurd (cc)
             ] refl is
         | None ↦ λ there is.
             ⊎_elim (λ h. let other = h.1 in absurd (cc))
             (λ h.
             let under = map_made (new_table mark key branches) (along mark through edit (next ∷ more) unbranched)
-                (way_made (next ∷ more) unbranched (above + 1) (omega arith) h.1) in
-            (under.0, along_step mark through edit key next more branches
-              ∙ ap (along_by mark through edit key next more branches) (none_has key branches there) ∙ under.1))
+            (way_made (next ∷ more) unbranched (above + 1) (omega arith) h.1) in (
+              under.0,
+              along_step mark through edit key next more branches
+                  ∙ ap (along_by mark through edit key next more branches) (none_has key branches there) ∙ under.1,
+            ))
             (if_is (eqb above depth_limit) (refused TooDeep key) (way_fault inside end (next ∷ more) unbranched (above + 1)) None is)
       ] refl here
 
