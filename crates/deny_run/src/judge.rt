@@ -1,5 +1,6 @@
 //! The parts of a check: what the policy allows, the crate, and the verdict on it.
-ghost use Rattle.std.specs.Prelude.{◌≡◌, ◌<◌, ◌↔◌, ◌⊎◌, Some, None, IfOk, IfErr, IsTrue, length, option_and_then};
+ghost use Rattle.std.specs.Prelude.{◌≡◌, ◌<◌, ◌↔◌, ◌⊎◌, Some, None, IfOk, IfErr, IsTrue, length};
+ghost use Rattle.std.specs.Prelude.{option_and_then};
 ghost use Rattle.term_core.specs.Satisfaction.{Satisfies};
 ghost use Rattle.deny_run.specs.Heard.{config_in, field_of, krates_in};
 ghost use Rattle.deny_run.specs.Report.{Allows, IsVerdictOf};

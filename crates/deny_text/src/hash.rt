@@ -1,6 +1,8 @@
 //! XXH32, the fast hash of 32 bits, with initial value 0.
 ghost use Rattle.std.specs.Prelude.{◌≡◌, ◌+◌, ◌≤◌, length, fold, take, drop};
-ghost use Rattle.deny_text.specs.Hash.{word_of, round, stripe, start, merged, of_groups, with_word, with_byte, mixed, whole_groups, after_groups, xxh32_of, HashIgnoresReturns};
+ghost use Rattle.deny_text.specs.Hash.{word_of, round, stripe, start, merged, of_groups, with_word};
+ghost use Rattle.deny_text.specs.Hash.{with_byte, mixed, whole_groups, after_groups, xxh32_of};
+ghost use Rattle.deny_text.specs.Hash.{HashIgnoresReturns};
 
 const PRIME_1: u32 = 2_654_435_761;
 
@@ -21,7 +23,8 @@ struct Lanes {
     fourth: u32,
 }
 
-/// The accumulators at the start: the sum of the first two primes, the second, 0, and 0 less the first, modulo 2^32.
+/// The accumulators at the start: the sum of the first two primes, the second, 0, and 0 less the first,
+/// modulo 2^32.
 const START: Lanes = Lanes {
     first: 606_290_984,
     second: PRIME_2,
@@ -168,7 +171,8 @@ mod tests {
         Ok(bytes)
     }
 
-    // The values are those that the program `xxhsum -H0` of the package xxhash writes for a file of these bytes.
+    // The values are those that the program `xxhsum -H0` of the package xxhash writes for a file of these
+    // bytes.
     #[test]
     fn agrees_with_xxhsum(rt: HostRuntime) -> Result<(), Fail> {
         assert_eq!(rt; hash(b""), 0x02cc_5d05);

@@ -47,7 +47,8 @@ pub fn home(alloc: Global, env: &HomeEnv) -> Result<PathBuf, HomeError>
 /// Cargo's home folder: a non-empty `cargo_home`, seen from `cwd`, or else `.cargo` in the home folder.
 pub fn cargo_home(alloc: Global, env: &HomeEnv, cwd: &str) -> Result<PathBuf, HomeError>
     ensures home { IfOk result (λ path. cargo_home_of env.now.home env.now.cargo_home cwd.now ≡ Some path) }
-    ensures no_home { (result ≡ Err HomeError.NoHome) ↔ (cargo_home_of env.now.home env.now.cargo_home cwd.now ≡ None) }
+    ensures no_home { (result ≡ Err HomeError.NoHome)
+        ↔ (cargo_home_of env.now.home env.now.cargo_home cwd.now ≡ None) }
 {
     match &env.cargo_home {
         Some(folder) if !folder.as_str().is_empty() => Ok(join(alloc, cwd, folder.as_str())?),

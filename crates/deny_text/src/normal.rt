@@ -1,6 +1,7 @@
 //! Texts with one LF at the end of each line.
 ghost use Rattle.std.specs.Prelude.{◌≡◌, ◌<◌, ◌∷◌, ◌++◌, length, IfOk};
-ghost use Rattle.deny_text.specs.Normal.{line_body, line_feed, normal_of, NormalIsNormal, NormalIgnoresReturns};
+ghost use Rattle.deny_text.specs.Normal.{line_body, line_feed, normal_of, NormalIsNormal};
+ghost use Rattle.deny_text.specs.Normal.{NormalIgnoresReturns};
 
 use crate::text::Text;
 use std::alloc::{AllocError, Global};
@@ -33,7 +34,8 @@ fn first_line(text: &str) -> (&str, &str)
     }
 }
 
-/// The text with the CR and LF at the end of each line replaced by one LF, the last line too. An empty text stays empty.
+/// The text with the CR and LF at the end of each line replaced by one LF, the last line too. An empty text
+/// stays empty.
 pub fn normalize(alloc: Global, text: &str) -> Result<Text, AllocError>
     ensures { IfOk result (λ normal. normal ≡ normal_of text.now) }
 {

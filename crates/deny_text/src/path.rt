@@ -1,5 +1,6 @@
 //! Paths, read by their components.
-ghost use Rattle.std.specs.Prelude.{◌≡◌, ℕ, ◌↔◌, ◌==◌, List, IfOk, IfSome, IsTrue, string_bytes, Some, if◌then◌else◌};
+ghost use Rattle.std.specs.Prelude.{◌≡◌, ℕ, ◌↔◌, ◌==◌, List, IfOk, IfSome, IsTrue, string_bytes, Some};
+ghost use Rattle.std.specs.Prelude.{if◌then◌else◌};
 ghost use Rattle.std.specs.Option.{option_copied};
 ghost use Rattle.std.specs.Path.{components_remaining};
 ghost use Rattle.std.specs.Iterator.{item_count};
@@ -7,7 +8,10 @@ ghost use Rattle.std.specs.Ordering.{eq_by_cmp};
 ghost use Rattle.std.specs.Cmp.{eq_by_cmp_equiv, partial_equiv_from_equiv, partial_order_from_total};
 ghost use Rattle.std.specs.Cmp.Rules.{comparing};
 ghost use Rattle.std.proofs.Common.{rules};
-ghost use Rattle.deny_text.specs.Path.{components_of, join_of, parent_of, ParentDropsLast, RootHasNoParent, JoinsByParts, IsSharedSlash, KeysTellPaths, key_of, part_rank, part_cmp, path_order, path_order_total, file_name_of, EndsWithParts, BeginsAtRoot};
+ghost use Rattle.deny_text.specs.Path.{components_of, join_of, parent_of, ParentDropsLast, RootHasNoParent};
+ghost use Rattle.deny_text.specs.Path.{JoinsByParts, IsSharedSlash, KeysTellPaths, key_of, part_rank};
+ghost use Rattle.deny_text.specs.Path.{part_cmp, path_order, path_order_total, file_name_of, EndsWithParts};
+ghost use Rattle.deny_text.specs.Path.{BeginsAtRoot};
 
 use crate::text::Text;
 use std::alloc::{AllocError, Global};
@@ -233,7 +237,8 @@ impl Ord for PathBuf {
     }
 }
 
-/// `path` where it is absolute. Else `base`, a `/` where `base` is not empty and lacks one at its end, and `path`.
+/// `path` where it is absolute. Else `base`, a `/` where `base` is not empty and lacks one at its end, and
+/// `path`.
 pub fn join(alloc: Global, base: &str, path: &str) -> Result<PathBuf, AllocError>
     ensures { IfOk result (λ p. p ≡ join_of base.now path.now) }
 {

@@ -11,8 +11,8 @@ use std::alloc::{AllocError, Global};
 use std::collections::{BTreeMap, btree_map};
 use std::marker::Model;
 
-/// Values by texts, in the byte order of the texts. A look-up, an insertion and a removal among n entries take about
-/// log2 n comparisons.
+/// Values by texts, in the byte order of the texts. A look-up, an insertion and a removal among n entries
+/// take about log2 n comparisons.
 #[derive(Drop)]
 pub struct TextMap<V> {
     held: BTreeMap<String, V>,

@@ -104,7 +104,8 @@ impl Model for DiagnosticCodeIter {
 
     ghost Value = { List DiagnosticCode };
 
-    ghost view = { λ rest. map License (array_into_iter_items rest.licenses) ++ map General (array_into_iter_items rest.general) };
+    ghost view = { λ rest. map License (array_into_iter_items rest.licenses)
+        ++ map General (array_into_iter_items rest.general) };
 }
 
 impl Iterator for DiagnosticCodeIter {

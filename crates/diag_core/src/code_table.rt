@@ -17,7 +17,8 @@ pub struct Unknown;
 
 /// The code of that name in a table.
 pub(crate) fn code_named<C: Copy>(rows: &[CodeRow<C>], name: &str) -> Result<C, Unknown>
-    ensures { result_ok result ≡ option_map (λ row. row.code) (find (λ row. bytes_eq row.name.now name.now) rows.now) }
+    ensures { result_ok result
+        ≡ option_map (λ row. row.code) (find (λ row. bytes_eq row.name.now name.now) rows.now) }
 {
     'rows: for row in rows {
         if row.name == name {

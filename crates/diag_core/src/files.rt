@@ -1,5 +1,6 @@
 //! The files that findings point into.
-ghost use Rattle.std.specs.Prelude.{◌≡◌, ◌<◌, ◌+◌, ◌⊎◌, ◌↔◌, [], ◌∷◌, ◌++◌, length, IfOk, IfErr, OnOk, OnErr, IsSome, Some, None, Ok, Err, true, false, slice_get};
+ghost use Rattle.std.specs.Prelude.{◌≡◌, ◌<◌, ◌+◌, ◌⊎◌, ◌↔◌, [], ◌∷◌, ◌++◌, length, IfOk, IfErr, OnOk, OnErr};
+ghost use Rattle.std.specs.Prelude.{IsSome, Some, None, Ok, Err, true, false, slice_get};
 ghost use Rattle.std.specs.Option.{option_copied, option_and_then};
 ghost use Rattle.diag_core.specs.File.{File, with_source_at, source_of, name_of, id_at, asked_of_text};
 ghost use Rattle.diag_core.specs.FileName.{name_text, is_path};
@@ -30,8 +31,8 @@ impl From<AllocError> for AddError {
     }
 }
 
-/// Files by number, in the order in which they were added. Those that were added with a path are also found by it:
-/// among n of them, in about log2 n comparisons.
+/// Files by number, in the order in which they were added. Those that were added with a path are also found
+/// by it: among n of them, in about log2 n comparisons.
 #[derive(Drop)]
 pub struct Files {
     files: Vec<SourceFile>,
@@ -60,7 +61,8 @@ fn append(
     source: Text,
 ) -> Result<FileId, AllocError>
     ensures number { IfOk result (λ id. id ≡ length files.old.items) }
-    ensures ok { OnOk result (files.new.items ≡ files.old.items ++ record { name = name_text name; source = source; has_path = is_path name } ∷ []) }
+    ensures ok { OnOk result (files.new.items ≡ files.old.items
+        ++ record { name = name_text name; source = source; has_path = is_path name } ∷ []) }
     ensures err { OnErr result (files.new.items ≡ files.old.items) }
 {
     let id = files.len();
@@ -90,9 +92,11 @@ impl Files {
     /// Adds a file that is found by its path.
     pub fn add(&mut self, path: PathBuf, source: Text) -> Result<FileId, AddError>
         ensures number { IfOk result (λ id. id ≡ length self.old) }
-        ensures ok { OnOk result (self.new ≡ self.old ++ record { name = path; source = source; has_path = true } ∷ []) }
+        ensures ok { OnOk result (self.new
+            ≡ self.old ++ record { name = path; source = source; has_path = true } ∷ []) }
         ensures taken { (result ≡ Err (AddError.PathTaken path source)) ↔ IsSome (id_at self.old path) }
-        ensures otherwise { IfErr result (λ error. (error ≡ AddError.PathTaken path source) ⊎ (error ≡ AddError.Memory)) }
+        ensures otherwise { IfErr result (λ error. (error ≡ AddError.PathTaken path source)
+            ⊎ (error ≡ AddError.Memory)) }
         ensures err { OnErr result (self.new ≡ self.old) }
     {
         if self.id_for_path(path.as_path()).is_some() {
@@ -112,7 +116,8 @@ impl Files {
     /// Adds a file that no path finds.
     pub fn add_unnamed(&mut self, name: Text, source: Text) -> Result<FileId, AllocError>
         ensures number { IfOk result (λ id. id ≡ length self.old) }
-        ensures ok { OnOk result (self.new ≡ self.old ++ record { name = name; source = source; has_path = false } ∷ []) }
+        ensures ok { OnOk result (self.new
+            ≡ self.old ++ record { name = name; source = source; has_path = false } ∷ []) }
         ensures err { OnErr result (self.new ≡ self.old) }
     {
         append(self.alloc, &mut self.files, FileName::Label(name), source)
@@ -131,7 +136,8 @@ impl Files {
     /// The file of that number.
     fn file(&self, id: FileId) -> Result<&SourceFile, FilesErr>
         ensures file { IfOk result (λ file. slice_get self.now id ≡ Some file.now) }
-        ensures missing { IfErr result (λ error. (error ≡ FilesErr.FileMissing) × (slice_get self.now id ≡ None)) }
+        ensures missing { IfErr result (λ error. (error ≡ FilesErr.FileMissing)
+            × (slice_get self.now id ≡ None)) }
     {
         match self.files.get(id) {
             Some(file) => Ok(file),
@@ -142,7 +148,8 @@ impl Files {
     /// The text of a file.
     pub fn source(&self, id: FileId) -> Result<&str, FilesErr>
         ensures source { IfOk result (λ text. source_of self.now id ≡ Some text.now) }
-        ensures missing { IfErr result (λ error. (error ≡ FilesErr.FileMissing) × (source_of self.now id ≡ None)) }
+        ensures missing { IfErr result (λ error. (error ≡ FilesErr.FileMissing)
+            × (source_of self.now id ≡ None)) }
     {
         Ok(self.file(id)?.source())
     }
@@ -150,7 +157,8 @@ impl Files {
     /// The name of a file: its path, where it has one.
     pub fn name(&self, id: FileId) -> Result<&str, FilesErr>
         ensures name { IfOk result (λ text. name_of self.now id ≡ Some text.now) }
-        ensures missing { IfErr result (λ error. (error ≡ FilesErr.FileMissing) × (name_of self.now id ≡ None)) }
+        ensures missing { IfErr result (λ error. (error ≡ FilesErr.FileMissing)
+            × (name_of self.now id ≡ None)) }
     {
         Ok(self.file(id)?.name())
     }

@@ -3,7 +3,8 @@ ghost use Rattle.std.specs.Prelude.{◌≡◌, Some, map};
 ghost use Rattle.std.specs.Array.Iter.{array_into_iter_items};
 ghost use Rattle.std.specs.Result.{result_ok};
 ghost use Rattle.diag_core.specs.CodeTable.{HaveNames};
-ghost use Rattle.diag_core.specs.LicenseCode.{license_codes, license_code_name, license_code_description, license_code_named};
+ghost use Rattle.diag_core.specs.LicenseCode.{license_codes, license_code_name, license_code_description};
+ghost use Rattle.diag_core.specs.LicenseCode.{license_code_named};
 
 use crate::code_table::{CodeRow, Unknown, code_named};
 use std::{array, fmt};

@@ -40,7 +40,8 @@ fn first_output(pairs: &[LevelPair], severity: Severity) -> Severity
 }
 
 impl DiagnosticOverrides {
-    /// The level of a finding with the code `name` and its own level `severity`: first by code, and then by level.
+    /// The level of a finding with the code `name` and its own level `severity`: first by code, and then by
+    /// level.
     pub fn get(&self, name: &str, severity: Severity) -> Severity
         ensures { result ≡ level_of self.now name.now severity }
     {
@@ -94,7 +95,8 @@ impl ErrorSink {
 
     /// Appends a pack, with the overrides applied to each finding that has a code.
     pub fn push(&mut self, pack: Pack) -> Result<(), AllocError>
-        ensures ok { OnOk result (self.new ≡ record self.old { packs = self.old.packs ++ pack_overridden self.old.overrides pack ∷ [] }) }
+        ensures ok { OnOk result (self.new
+            ≡ record self.old { packs = self.old.packs ++ pack_overridden self.old.overrides pack ∷ [] }) }
         ensures err { OnErr result (self.new ≡ self.old) }
     {
         let mut pack = pack;

@@ -36,7 +36,12 @@ pub struct Diag {
 impl Diag {
     /// A finding about no crate yet. The name of its code is written into the diagnostic.
     pub fn new(diag: Diagnostic, code: Option<DiagnosticCode>) -> Result<Diag, AllocError>
-        ensures { IfOk result (λ finding. finding ≡ record { diag = with_code_of code diag; code = code; graph_nodes = []; with_features = false }) }
+        ensures { IfOk result (λ finding. finding ≡ record {
+          diag = with_code_of code diag;
+          code = code;
+          graph_nodes = [];
+          with_features = false;
+        }) }
     {
         let graph_nodes = GraphNodes::new(diag.alloc);
         let diag = match code {
@@ -111,7 +116,8 @@ impl Pack {
 
     /// Appends a finding. One that is about no crate is then about the pack's.
     pub fn push(&mut self, diag: Diag) -> Result<(), AllocError>
-        ensures ok { OnOk result (self.new ≡ record self.old { findings = self.old.findings ++ with_crate self.old.kid diag ∷ [] }) }
+        ensures ok { OnOk result (self.new
+            ≡ record self.old { findings = self.old.findings ++ with_crate self.old.kid diag ∷ [] }) }
         ensures err { OnErr result (self.new ≡ self.old) }
     {
         let mut diag = diag;

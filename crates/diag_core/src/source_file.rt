@@ -2,7 +2,9 @@
 ghost use Rattle.std.specs.Prelude.{◌≡◌, ◌<◌, ◌≤◌, count_by, length, take, IfOk, OnOk, OnErr, true, false};
 ghost use Rattle.diag_core.specs.File.{with_source, is_at};
 ghost use Rattle.diag_core.specs.FileName.{name_text, is_path};
-ghost use Rattle.diag_core.specs.Position.{line_of, line_start, line_end, line_range_of, location_of, line_count, line_starts as starts_of, begins_character as begins, is_inside_character as is_inside};
+ghost use Rattle.diag_core.specs.Position.{line_of, line_start, line_end, line_range_of, location_of};
+ghost use Rattle.diag_core.specs.Position.{line_count, line_starts as starts_of, begins_character as begins};
+ghost use Rattle.diag_core.specs.Position.{is_inside_character as is_inside};
 ghost use Rattle.diag_core.specs.Lines.{FoundLine};
 
 use crate::characters::{begins_character, characters_before, count_blocks};
@@ -38,7 +40,11 @@ impl Model for SourceFile {
 
     ghost Value = { File };
 
-    ghost view = { λ file. record { name = name_text file.name; source = file.source; has_path = is_path file.name } };
+    ghost view = { λ file. record {
+      name = name_text file.name;
+      source = file.source;
+      has_path = is_path file.name;
+    } };
 
     ghost invariant = { λ file. IsIndexOf file.source file.line_starts.items file.character_counts.items };
 }
@@ -66,7 +72,8 @@ fn is_inside_character(text: &str, place: usize) -> bool
 
 impl SourceFile {
     pub(crate) fn new(alloc: Global, name: FileName, source: Text) -> Result<SourceFile, AllocError>
-        ensures { IfOk result (λ file. file ≡ record { name = name_text name; source = source; has_path = is_path name }) }
+        ensures { IfOk result (λ file. file
+            ≡ record { name = name_text name; source = source; has_path = is_path name }) }
     {
         let line_starts = line_starts(alloc, source.as_str())?;
         let character_counts = count_blocks(alloc, source.as_str().as_bytes())?;

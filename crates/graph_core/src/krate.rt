@@ -58,8 +58,8 @@ fn holds_all(texts: &[Text], names: &[Text]) -> bool
 }
 
 impl Krate {
-    /// Whether it is published at most to registries of the list: its publish list is there, and each name in it is among
-    /// them.
+    /// Whether it is published at most to registries of the list: its publish list is there, and each name in
+    /// it is among them.
     pub fn is_private(&self, registries: &Texts) -> bool
         ensures { result ≡ spec.is_private registries.now self.now.publish }
     {
@@ -69,8 +69,8 @@ impl Krate {
         }
     }
 
-    /// Whether it comes from an address. An exact match asks for equal hosts and paths, another for a path that the
-    /// address begins. A crate without a source matches none.
+    /// Whether it comes from an address. An exact match asks for equal hosts and paths, another for a path
+    /// that the address begins. A crate without a source matches none.
     pub fn matches_url(&self, url: &Url, exact: bool) -> bool
         ensures { IsTrue result ↔ SourceMatches exact self.now.source url.now }
     {

@@ -1,5 +1,6 @@
 //! The metadata of one crate without dependencies, which the run reads until it reads whole metadata.
-ghost use Rattle.std.specs.Prelude.{◌≡◌, ◌↔◌, codes, Some, None, IfOk, IsErr, IsErrOf, option_map, option_copied};
+ghost use Rattle.std.specs.Prelude.{◌≡◌, ◌↔◌, codes, Some, None, IfOk, IsErr, IsErrOf, option_map};
+ghost use Rattle.std.specs.Prelude.{option_copied};
 ghost use Rattle.serde_json.specs.Errors.{IsMemory};
 ghost use Rattle.serde_json.specs.Find.{get};
 ghost use Rattle.serde_json.specs.View.{view, items_view};
@@ -96,7 +97,8 @@ fn package_of(metadata: &Value) -> Option<&Value>
     only_item(items_of(metadata, "packages")?)
 }
 
-/// The licence of a package: `Some(None)` where it is null or missing, `None` where it is outside of the form.
+/// The licence of a package: `Some(None)` where it is null or missing, `None` where it is outside of the
+/// form.
 fn license_of(listed: &Value) -> Option<Option<&str>>
     ensures { option_map (λ license. option_map (λ text. text.now) license) result
         ≡ spec.license_of (get (codes "license") (view listed.now)) }
@@ -154,8 +156,8 @@ fn resolves_alone(resolve: &Value, id: &str) -> bool
         && items_of(resolve, "nodes").is_some_and(|nodes| are_lone_nodes(nodes, id))
 }
 
-/// Reads the output of `cargo metadata --format-version 1` for a crate without dependencies. Keys that it has no use
-/// for are passed over, and of equal keys of an object the last holds.
+/// Reads the output of `cargo metadata --format-version 1` for a crate without dependencies. Keys that it has
+/// no use for are passed over, and of equal keys of an object the last holds.
 pub fn records(alloc: Global, text: &str) -> Result<Krate, MetaError>
     ensures ok { IfOk result (λ krate. record_of text.now ≡ Some krate) }
     ensures form { IsErrOf result MetaError.Form → record_of text.now ≡ None }

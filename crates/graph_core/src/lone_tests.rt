@@ -38,7 +38,8 @@ const RESOLVE: &str = r#"{"nodes":[{"id":"a 1.0.0","deps":[]}],"root":"a 1.0.0"}
 
 fn metadata(alloc: Global, packages: &str, resolve: &str) -> Result<String, AllocError> {
     format!(in alloc;
-        "{{\"packages\":{packages},\"workspace_members\":[\"a 1.0.0\"],\"workspace_root\":\"/w\",\"resolve\":{resolve}}}"
+        "{{\"packages\":{packages},\"workspace_members\":[\"a \
+         1.0.0\"],\"workspace_root\":\"/w\",\"resolve\":{resolve}}}"
     )
 }
 
@@ -190,8 +191,18 @@ fn reads_a_whole_text(rt: HostRuntime) -> Result<(), Fail> {
 }
 
 /// What cargo 1.95.0 writes for a new library with a licence, under `/project`.
-const WRITTEN_BY_CARGO: &str =
-    r#"{"packages":[{"name":"tiny","version":"0.1.0","id":"path+file:///project/tiny#0.1.0","license":"MIT OR Apache-2.0","license_file":null,"description":null,"source":null,"dependencies":[],"targets":[{"kind":["lib"],"crate_types":["lib"],"name":"tiny","src_path":"/project/tiny/src/lib.rs","edition":"2024","doc":true,"doctest":true,"test":true}],"features":{},"manifest_path":"/project/tiny/Cargo.toml","metadata":null,"publish":null,"authors":[],"categories":[],"keywords":[],"readme":null,"repository":null,"homepage":null,"documentation":null,"edition":"2024","links":null,"default_run":null,"rust_version":null}],"workspace_members":["path+file:///project/tiny#0.1.0"],"workspace_default_members":["path+file:///project/tiny#0.1.0"],"resolve":{"nodes":[{"id":"path+file:///project/tiny#0.1.0","dependencies":[],"deps":[],"features":[]}],"root":"path+file:///project/tiny#0.1.0"},"target_directory":"/project/tiny/target","build_directory":"/project/tiny/target","version":1,"workspace_root":"/project/tiny","metadata":null}
+const WRITTEN_BY_CARGO: &str = r#"
+{"packages":[{"name":"tiny","version":"0.1.0","id":"path+file:///project/tiny#0.1.0",
+"license":"MIT OR Apache-2.0","license_file":null,"description":null,"source":null,"dependencies":[],
+"targets":[{"kind":["lib"],"crate_types":["lib"],"name":"tiny","src_path":"/project/tiny/src/lib.rs",
+"edition":"2024","doc":true,"doctest":true,"test":true}],"features":{},
+"manifest_path":"/project/tiny/Cargo.toml","metadata":null,"publish":null,"authors":[],"categories":[],
+"keywords":[],"readme":null,"repository":null,"homepage":null,"documentation":null,"edition":"2024",
+"links":null,"default_run":null,"rust_version":null}],"workspace_members":["path+file:///project/tiny#0.1.0"],
+"workspace_default_members":["path+file:///project/tiny#0.1.0"],
+"resolve":{"nodes":[{"id":"path+file:///project/tiny#0.1.0","dependencies":[],"deps":[],"features":[]}],
+"root":"path+file:///project/tiny#0.1.0"},"target_directory":"/project/tiny/target",
+"build_directory":"/project/tiny/target","version":1,"workspace_root":"/project/tiny","metadata":null}
 "#;
 
 #[test]

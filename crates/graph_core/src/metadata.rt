@@ -1,7 +1,8 @@
 //! What metadata tells of a workspace: its crates, and the edges between them.
 ghost use Rattle.std.specs.Prelude.{◌≡◌, ◌<◌, map, length, option_map};
 ghost use Rattle.graph_core.specs.Krate.{record_of};
-ghost use Rattle.graph_core.specs.Metadata.{AreRising, LeadWithin, ArePlaces, IsPlace, FitTogether, ids_of, id_of_node, edges_at, link_in};
+ghost use Rattle.graph_core.specs.Metadata.{AreRising, LeadWithin, ArePlaces, IsPlace, FitTogether, ids_of};
+ghost use Rattle.graph_core.specs.Metadata.{id_of_node, edges_at, link_in};
 ghost use Rattle.graph_core.specs.Graph.{graph_with};
 
 use crate::edge::{Edge, Edges};
@@ -9,7 +10,8 @@ use crate::krate::Krate;
 use deny_text::{PathBuf, Texts};
 use std::marker::Model;
 
-/// The crates of a workspace and of all that it depends on, in the order of their ids, with the edges between them.
+/// The crates of a workspace and of all that it depends on, in the order of their ids, with the edges between
+/// them.
 #[derive(Drop)]
 pub struct Metadata {
     crates: Vec<Krate>,
@@ -29,12 +31,13 @@ impl Model for Metadata {
 
     ghost view = { λ m. graph_with m.crates.items m.edges.items m.members m.workspace_root m.root };
 
-    ghost invariant = { λ m. FitTogether m.crates.items m.edges.items m.members m.member_places.items m.root };
+    ghost invariant = { λ m.
+        FitTogether m.crates.items m.edges.items m.members m.member_places.items m.root };
 }
 
 impl Metadata {
-    /// Puts the parts together. The crates stand in the order of their ids, with the edges out of each; the members and the
-    /// root are places among them.
+    /// Puts the parts together. The crates stand in the order of their ids, with the edges out of each; the
+    /// members and the root are places among them.
     pub fn of_parts(
         crates: Vec<Krate>,
         edges: Vec<Edges>,

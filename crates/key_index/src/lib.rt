@@ -14,7 +14,8 @@ use std::alloc::{AllocError, Global};
 use std::marker::Model;
 use toml_subset::{Key, Keys};
 
-/// The keys of a table, no two of one name. A look-up and a further key among n keys take about log2 n comparisons.
+/// The keys of a table, no two of one name. A look-up and a further key among n keys take about log2 n
+/// comparisons.
 #[derive(Drop)]
 pub struct KeyIndex<'de> {
     keys: Vec<Key<'de>>,

@@ -1,5 +1,5 @@
-//! Times texts, files and the printer of findings. Without the argument `bench` it does the same work on a small scale, and
-//! prints no times.
+//! Times texts, files and the printer of findings. Without the argument `bench` it does the same work on a
+//! small scale, and prints no times.
 #![tactic(auto)]
 
 use deny_text::normal::normalize;
@@ -207,7 +207,8 @@ const SMALL: Scale = Scale {
     lines: 10,
 };
 
-/// Adding files by path in rising and in falling order, then looking up paths that are there and paths that are not.
+/// Adding files by path in rising and in falling order, then looking up paths that are there and paths that
+/// are not.
 fn time_files<R: Clock>(rt: &R, alloc: Global, count: u32) -> Result<[u128; 4], Fault> {
     let rising = time_adding(rt, alloc, paths(alloc, 100_000, count, false)?)?;
     let falling = time_adding(rt, alloc, paths(alloc, 100_000, count, true)?)?;

@@ -1,6 +1,6 @@
 //! Prints what the identifier says of one MiB of text, how many items one MiB of an expression has, how
-//! many of a thousand names are known, and how many terms expressions have. With the argument `bench` it prints
-//! how long one MiB, two MiB, a million names and the fields of 40,000 crates take.
+//! many of a thousand names are known, and how many terms expressions have. With the argument `bench` it
+//! prints how long one MiB, two MiB, a million names and the fields of 40,000 crates take.
 #![tactic(auto)]
 
 mod expressions;

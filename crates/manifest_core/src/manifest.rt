@@ -8,8 +8,8 @@ ghost use Rattle.manifest_core.specs.Synthetic.{written_all};
 use crate::synthetic::{Piece, Synthetic};
 use std::alloc::{AllocError, Global};
 
-/// What a line of the list tells of a file: its hash, and its score in hundredths with the name that was found.
-/// Marked is why it gives no name.
+/// What a line of the list tells of a file: its hash, and its score in hundredths with the name that was
+/// found. Marked is why it gives no name.
 #[derive(Clone, Copy)]
 pub enum Told<'a> {
     /// Its name was joined.
@@ -47,7 +47,8 @@ impl Synthetic {
         version: &str,
         field: &str,
     ) -> Result<(), AllocError>
-        ensures { OnOk result (self.new ≡ written_all self.old (manifest_pieces name.now version.now field.now)) }
+        ensures { OnOk result (self.new
+            ≡ written_all self.old (manifest_pieces name.now version.now field.now)) }
     {
         self.write(Piece::Plain("[package]\nname = \""))?;
         self.write(Piece::Marked(name))?;

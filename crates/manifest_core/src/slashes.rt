@@ -5,8 +5,8 @@ ghost use Rattle.manifest_core.specs.Slashes.{corrected, corrected_by};
 use deny_text::Span;
 
 /// Leads a place of the text in which each slash was replaced by ` OR ` back to the text with the slashes. A
-/// start inside a replacement leads to the slash. The end loses only what the slashes up to the start gave, so
-/// a place over later slashes may end past the text.
+/// start inside a replacement leads to the slash. The end loses only what the slashes up to the start gave,
+/// so a place over later slashes may end past the text.
 pub fn correct_span(original: &str, error_span: &mut Span)
     ensures { error_span.new ≡ corrected original.now error_span.old }
 {

@@ -71,7 +71,8 @@ impl<'de> Branches<'de> {
     /// What stands at a key.
     fn at(&self, key: &Key<'_>) -> Option<&Node<'de>>
         requires { IsTrue (is_whole self.now) }
-        ensures value { option_map (λ node. node_view node.now) result ≡ node_at key.now (branches_view self.now) }
+        ensures value { option_map (λ node. node_view node.now) result
+            ≡ node_at key.now (branches_view self.now) }
         ensures whole { IfSome result (λ node. IsTrue (is_whole_node node.now)) }
     {
         let place = self.find(key)?;
@@ -88,7 +89,8 @@ impl<'de> Branches<'de> {
         requires whole { IsTrue (is_whole self) }
         requires node { IsTrue (is_whole_node node) }
         requires new { has_key key (branches_view self) ≡ false }
-        ensures view { IfOk result (λ new. branches_view new ≡ added key.entry (node_view node.entry) (branches_view self.entry)) }
+        ensures view { IfOk result (λ new. branches_view new
+            ≡ added key.entry (node_view node.entry) (branches_view self.entry)) }
         ensures whole { IfOk result (λ new. IsTrue (is_whole new)) }
     {
         let Branches { keys, mut nodes } = self;
@@ -101,7 +103,8 @@ impl<'de> Branches<'de> {
     fn replace(&mut self, place: usize, node: Node<'de>) -> Node<'de>
         requires { place < length (out-Branches self.old).nodes.items }
         ensures keys { (out-Branches self.new).keys ≡ (out-Branches self.old).keys }
-        ensures nodes { (out-Branches self.new).nodes.items ≡ set (out-Branches self.old).nodes.items place node.entry }
+        ensures nodes { (out-Branches self.new).nodes.items
+            ≡ set (out-Branches self.old).nodes.items place node.entry }
         ensures value { result ≡ get_or (out-Branches self.old).nodes.items place result }
     {
         mem::replace(&mut self.nodes[place], node)

@@ -3,8 +3,10 @@ ghost use Rattle.std.specs.Prelude.{◌≡◌, ◌==◌, [], ◌∷◌, map, opt
 ghost use Rattle.std.specs.List.{slice_split};
 ghost use Rattle.std.specs.Option.{option_copied};
 ghost use Rattle.toml_subset.specs.Data.{boolean};
-ghost use Rattle.policy_toml.specs.Lookup.{as_text, has_entries, value_at, item_at, place_of, step_to, steps_to, pointed_at, with_item, with_entry};
-ghost use Rattle.policy_toml.specs.Views.{value_view, content_view, values_view, entries_view, items_from_list, entries_from_list};
+ghost use Rattle.policy_toml.specs.Lookup.{as_text, has_entries, value_at, item_at, place_of, step_to};
+ghost use Rattle.policy_toml.specs.Lookup.{steps_to, pointed_at, with_item, with_entry};
+ghost use Rattle.policy_toml.specs.Views.{value_view, content_view, values_view, entries_view};
+ghost use Rattle.policy_toml.specs.Views.{items_from_list, entries_from_list};
 
 #[cfg(test)]
 pub(crate) mod printed;
@@ -77,7 +79,8 @@ impl<'de> Value<'de> {
     /// Hands the inner out, and leaves the boolean false at the same place.
     pub fn take(&mut self) -> ValueInner<'de>
         ensures taken { content_view result ≡ (value_view self.old).content }
-        ensures left { value_view self.new ≡ record { content = boolean false; span = (value_view self.old).span } }
+        ensures left { value_view self.new
+            ≡ record { content = boolean false; span = (value_view self.old).span } }
     {
         mem::replace(&mut self.inner, ValueInner::Boolean(false))
     }
@@ -105,7 +108,8 @@ impl<'de> Value<'de> {
 
 /// The value at the end of the parts between slashes.
 fn walk<'v, 'de>(target: &'v Value<'de>, rest: &str) -> Option<&'v Value<'de>>
-    ensures { option_map (λ v. value_view v.now) result ≡ steps_to (slice_split (λ b. b == 47) rest.now) (value_view target.now) }
+    ensures { option_map (λ v. value_view v.now) result
+        ≡ steps_to (slice_split (λ b. b == 47) rest.now) (value_view target.now) }
 {
     match rest.split_once('/') {
         Some((part, more)) => walk(step(target, part)?, more),
@@ -166,7 +170,8 @@ impl<'de> Values<'de> {
 
     /// Appends an item. An item that finds no room is dropped.
     pub fn push(&mut self, item: Value<'de>) -> Result<(), AllocError>
-        ensures ok { OnOk result (values_view self.new ≡ with_item (values_view self.old) (value_view item.entry)) }
+        ensures ok { OnOk result (values_view self.new
+            ≡ with_item (values_view self.old) (value_view item.entry)) }
         ensures err { OnErr result (values_view self.new ≡ values_view self.old) }
     {
         self.items.push(item)?;
@@ -185,7 +190,8 @@ impl<'de> Entries<'de> {
 
     /// Appends an entry. One that finds no room is dropped.
     pub(crate) fn push(&mut self, key: Key<'de>, value: Value<'de>) -> Result<(), AllocError>
-        ensures ok { OnOk result (entries_view self.new ≡ with_entry (entries_view self.old) key.entry (value_view value.entry)) }
+        ensures ok { OnOk result (entries_view self.new
+            ≡ with_entry (entries_view self.old) key.entry (value_view value.entry)) }
         ensures err { OnErr result (entries_view self.new ≡ entries_view self.old) }
     {
         self.items.push((key, value))?;
@@ -201,7 +207,8 @@ impl<'de> Entries<'de> {
 }
 
 fn find<'v, 'de>(entries: &'v [(Key<'de>, Value<'de>)], name: &str) -> Option<&'v Value<'de>>
-    ensures { option_map (λ v. value_view v.now) result ≡ value_at name.now (entries_from_list (map (λ p. (p.0, value_view p.1)) entries.now)) }
+    ensures { option_map (λ v. value_view v.now) result
+        ≡ value_at name.now (entries_from_list (map (λ p. (p.0, value_view p.1)) entries.now)) }
 {
     let mut place = 0;
     'entries: while place < entries.len() {

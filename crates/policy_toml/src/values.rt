@@ -1,5 +1,6 @@
 //! Values, read with a stack of what stands open.
-ghost use Rattle.std.specs.Prelude.{◌≡◌, ◌+◌, ◌-◌, ◌<◌, ◌≤◌, ◌||◌, ◌++◌, length, map, true, false, [], ◌∷◌, IfOk, OnOk};
+ghost use Rattle.std.specs.Prelude.{◌≡◌, ◌+◌, ◌-◌, ◌<◌, ◌≤◌, ◌||◌, ◌++◌, length, map, true, false, [], ◌∷◌};
+ghost use Rattle.std.specs.Prelude.{IfOk, OnOk};
 ghost use Rattle.toml_subset.specs.Answer.{Answers};
 ghost use Rattle.toml_subset.specs.Bytes.{open_bracket, open_brace};
 ghost use Rattle.toml_subset.specs.Data as «data»;
@@ -8,7 +9,9 @@ ghost use Rattle.toml_subset.specs.Places.{stands as stands_at};
 ghost use Rattle.toml_subset.specs.Reading.{read_scalar as scalar_at, value_at};
 ghost use Rattle.toml_subset.specs.Tables.{entries_of};
 ghost use Rattle.toml_frames.specs.Between.{place_of};
-ghost use Rattle.toml_frames.specs.Frames.{in_array, in_table, outside, inside as inside_of, IsShallow, on_with, array_turn as turn_of_array, table_turn as turn_of_table, table_on};
+ghost use Rattle.toml_frames.specs.Frames.{in_array, in_table, outside, inside as inside_of, IsShallow};
+ghost use Rattle.toml_frames.specs.Frames.{on_with, array_turn as turn_of_array, table_turn as turn_of_table};
+ghost use Rattle.toml_frames.specs.Frames.{table_on};
 ghost use Rattle.toml_frames.specs.Scalars.{scalar_content};
 ghost use Rattle.policy_toml.specs.StackViews.{value_found, frame_view, turn_view, TakesTurn};
 ghost use Rattle.policy_toml.specs.TreeViews.{tree_view};
@@ -129,7 +132,8 @@ fn entry_turn<'de>(
 ) -> Result<Turn<'de>, TomlError>
     requires inside { place ≤ length text.now }
     requires shallow { at.above + depth_of (data.table (entries_of (tree_view tree))) ≤ depth_limit }
-    ensures { TakesTurn text.now place at.above (table_on text.now at.place at.above (tree_view tree.entry) (Next.Further place)) result }
+    ensures { TakesTurn text.now place at.above
+        (table_on text.now at.place at.above (tree_view tree.entry) (Next.Further place)) result }
 {
     match read_left(alloc, text, place) {
         Ok((keys, next)) => match tree.await_value(keys, at.above + 1) {
@@ -150,7 +154,8 @@ fn table_turn<'de>(
 ) -> Result<Turn<'de>, TomlError>
     requires inside { place_of next ≤ length text.now }
     requires shallow { at.above + depth_of (data.table (entries_of (tree_view tree))) ≤ depth_limit }
-    ensures { TakesTurn text.now (place_of next) at.above (table_on text.now at.place at.above (tree_view tree.entry) next) result }
+    ensures { TakesTurn text.now (place_of next) at.above
+        (table_on text.now at.place at.above (tree_view tree.entry) next) result }
 {
     match next {
         Next::Closed(end) => match closed_table(alloc, at, tree, end) {
@@ -171,7 +176,8 @@ fn opens(text: &[u8], place: usize) -> bool
 /// A value that begins with a bracket or a brace.
 fn opening_turn(alloc: Global, text: &str, at: Opening) -> Result<Turn<'_>, TomlError>
     requires shallow { at.above < depth_limit }
-    requires opens { (stands_at text.now at.place open_bracket || stands_at text.now at.place open_brace) ≡ true }
+    requires opens { (stands_at text.now at.place open_bracket || stands_at text.now at.place open_brace)
+        ≡ true }
     ensures { TakesTurn text.now (at.place + 1) at.above (value_at text.now at.above at.place) result }
 {
     if stands(text.as_bytes(), at.place, b'[') {
@@ -212,7 +218,8 @@ fn behind_value<'de>(
     requires inside { next ≤ length text.now }
     requires shallow { IsShallow (in_array at.place at.above (values_view items)) }
     requires value { at.above + 1 + depth_of (value_view value).content ≤ depth_limit }
-    ensures { TakesTurn text.now (next + 1) at.above (on_with text.now (in_array at.place at.above (values_view items.entry)) (value_found (value.entry, next))) result }
+    ensures { TakesTurn text.now (next + 1) at.above (on_with text.now
+        (in_array at.place at.above (values_view items.entry)) (value_found (value.entry, next))) result }
 {
     let mut items = items;
     items.push(value)?;
@@ -233,8 +240,10 @@ fn behind_pair<'de>(
 ) -> Result<Turn<'de>, TomlError>
     requires inside { next ≤ length text.now }
     requires shallow { IsShallow (in_table at.place at.above (tree_view awaiting.tree) awaiting.keys) }
-    requires value { at.above + 1 + (length awaiting.keys - 1) + depth_of (value_view value).content ≤ depth_limit }
-    ensures { TakesTurn text.now (next + 1) at.above (on_with text.now (in_table at.place at.above (tree_view awaiting.entry.tree) awaiting.entry.keys) (value_found (value.entry, next))) result }
+    requires value { at.above + 1 + (length awaiting.keys - 1) + depth_of (value_view value).content
+        ≤ depth_limit }
+    ensures { TakesTurn text.now (next + 1) at.above (on_with text.now (in_table at.place at.above
+        (tree_view awaiting.entry.tree) awaiting.entry.keys) (value_found (value.entry, next))) result }
 {
     let tree = awaiting.put(alloc, value)?;
     match behind_entry(text, next) {
@@ -255,7 +264,8 @@ fn next_turn<'de>(
     requires shallow { IsShallow (frame_view frame) }
     requires value { inside_of (frame_view frame) + depth_of (value_view value).content ≤ depth_limit }
     ensures { let seen = frame_view frame.entry in
-        TakesTurn text.now (next + 1) (outside seen) (on_with text.now seen (value_found (value.entry, next))) result }
+        TakesTurn text.now (next + 1) (outside seen) (on_with text.now seen (value_found (value.entry, next)))
+        result }
 {
     match frame {
         Frame::Array(at, items) => behind_value(text, at, items, value, next),

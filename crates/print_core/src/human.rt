@@ -1,7 +1,8 @@
 //! The lines of a finding for a person.
 ghost use Rattle.std.specs.Prelude.{◌≡◌, ◌++◌, OnOk, All, codes, string_bytes};
 ghost use Rattle.std.specs.List.{flat_map};
-ghost use Rattle.print_core.specs.Human.{severity_word, pointer_of, in_brackets, behind_colon, headline_of, place_text, label_line, note_line, human_lines};
+ghost use Rattle.print_core.specs.Human.{severity_word, pointer_of, in_brackets, behind_colon, headline_of};
+ghost use Rattle.print_core.specs.Human.{place_text, label_line, note_line, human_lines};
 ghost use Rattle.print_core.specs.Places.{LabelIsInside, LabelsAreInside};
 
 use crate::flat::push_flat;
@@ -102,7 +103,8 @@ fn push_note(out: &mut String, note: &str) -> Result<(), AllocError>
 
 fn push_labels(out: &mut String, files: &Files, labels: &[Label]) -> Result<(), AllocError>
     requires { All (LabelIsInside files.now) labels.now }
-    ensures { OnOk result (string_bytes out.new ≡ string_bytes out.old ++ flat_map (label_line files.now) labels.now) }
+    ensures { OnOk result (string_bytes out.new
+        ≡ string_bytes out.old ++ flat_map (label_line files.now) labels.now) }
 {
     'labels: for label in labels {
         push_label(out, files, label)?;

@@ -18,7 +18,8 @@ pub fn push_printed(
     files: &Files,
 ) -> Result<(), AllocError>
     requires { LabelsAreInside files.now diag.now }
-    ensures ok { OnOk result (string_bytes out.new ≡ string_bytes out.old ++ printed_of format files.now diag.now) }
+    ensures ok { OnOk result (string_bytes out.new
+        ≡ string_bytes out.old ++ printed_of format files.now diag.now) }
     ensures sarif { format ≡ Format.Sarif → IsOk result }
 {
     match format {

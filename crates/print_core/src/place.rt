@@ -1,6 +1,7 @@
 //! Where a label points.
 ghost use Rattle.std.specs.Prelude.{◌≡◌, ◌↔◌, IsTrue};
-ghost use Rattle.print_core.specs.Places.{LabelIsInside, LabelsAreInside, AllLabelsAreInside, source_under, file_under, text_under, line_number, column_number};
+ghost use Rattle.print_core.specs.Places.{LabelIsInside, LabelsAreInside, AllLabelsAreInside, source_under};
+ghost use Rattle.print_core.specs.Places.{file_under, text_under, line_number, column_number};
 
 use diag_core::{Diagnostic, Files, Label, Pack};
 

@@ -1,5 +1,6 @@
 //! The printer of findings.
-ghost use Rattle.std.specs.Prelude.{◌≡◌, ◌≢◌, ◌↔◌, ◌≤◌, ◌++◌, false, [], string_bytes, IsNone, IfSome, IsOk, IfOk, IfErr, OnOk, OnErr, Err};
+ghost use Rattle.std.specs.Prelude.{◌≡◌, ◌≢◌, ◌↔◌, ◌≤◌, ◌++◌, false, [], string_bytes, IsNone, IfSome, IsOk};
+ghost use Rattle.std.specs.Prelude.{IfOk, IfErr, OnOk, OnErr, Err};
 ghost use Rattle.tree_core.specs.Faults.{Gained, GainedPrefix};
 ghost use Rattle.print_core.specs.Places.{LabelsAreInside, AllLabelsAreInside};
 ghost use Rattle.print_core.specs.Printed.{is_heard, printed_at, AllBelow, all_printed_at};
@@ -16,7 +17,8 @@ use tree_core::{Sink, SinkFailed};
 /// Why findings were not printed.
 #[derive(Clone, Copy, Debug, PartialEq, Eq)]
 pub enum PrintError {
-    /// The sink refused a write. The numbers are its counts of faults, at the start of the call and once the write had failed.
+    /// The sink refused a write. The numbers are its counts of faults, at the start of the call and once the
+    /// write had failed.
     WriteFault { before: u64, after: u64 },
     Memory,
 }
@@ -96,7 +98,8 @@ impl DiagPrinter {
         files: &Files,
     ) -> Result<(), AllocError>
         requires { LabelsAreInside files.now diag.now }
-        ensures ok { OnOk result (string_bytes out.new ≡ string_bytes out.old ++ printed_at self.now files.now diag.now) }
+        ensures ok { OnOk result (string_bytes out.new
+            ≡ string_bytes out.old ++ printed_at self.now files.now diag.now) }
         ensures below { is_heard self.now.log_level diag.now.severity ≡ false → IsOk result }
         ensures sarif { self.now.format ≡ Format.Sarif → IsOk result }
     {
@@ -116,7 +119,8 @@ impl DiagPrinter {
         files: &Files,
     ) -> Result<(), AllocError>
         requires { AllLabelsAreInside files.now pack.now.findings }
-        ensures ok { OnOk result (string_bytes out.new ≡ string_bytes out.old ++ all_printed_at self.now files.now pack.now.findings) }
+        ensures ok { OnOk result (string_bytes out.new
+            ≡ string_bytes out.old ++ all_printed_at self.now files.now pack.now.findings) }
         ensures below { AllBelow self.now.log_level pack.now.findings → IsOk result }
         ensures sarif { self.now.format ≡ Format.Sarif → IsOk result }
     {
@@ -136,10 +140,14 @@ impl<'p, S: Sink> OutputLock<'p, S> {
         files: &Files,
     ) -> Result<(), PrintError>
         requires { LabelsAreInside files.now diag.now }
-        ensures ok { OnOk result (Gained (S.written self.old.sink.now) (S.written self.new.sink.now) (printed_at self.old.printer.now files.now diag.now)) }
-        ensures err { OnErr result (GainedPrefix (S.written self.old.sink.now) (S.written self.new.sink.now) (printed_at self.old.printer.now files.now diag.now)) }
-        ensures memory { result ≡ Err PrintError.Memory → S.written self.new.sink.now ≡ S.written self.old.sink.now }
-        ensures reason { IfErr result (HasReason (S.fault_count self.old.sink.now) (S.fault_count self.new.sink.now)) }
+        ensures ok { OnOk result (Gained (S.written self.old.sink.now) (S.written self.new.sink.now)
+            (printed_at self.old.printer.now files.now diag.now)) }
+        ensures err { OnErr result (GainedPrefix (S.written self.old.sink.now) (S.written self.new.sink.now)
+            (printed_at self.old.printer.now files.now diag.now)) }
+        ensures memory { result ≡ Err PrintError.Memory
+            → S.written self.new.sink.now ≡ S.written self.old.sink.now }
+        ensures reason { IfErr result
+            (HasReason (S.fault_count self.old.sink.now) (S.fault_count self.new.sink.now)) }
         ensures later { S.fault_count self.old.sink.now ≤ S.fault_count self.new.sink.now }
 
         // A finding that is not written needs no memory.
@@ -162,10 +170,14 @@ impl<'p, S: Sink> OutputLock<'p, S> {
         files: &Files,
     ) -> Result<(), PrintError>
         requires { AllLabelsAreInside files.now pack.now.findings }
-        ensures ok { OnOk result (Gained (S.written self.old.sink.now) (S.written self.new.sink.now) (all_printed_at self.old.printer.now files.now pack.now.findings)) }
-        ensures err { OnErr result (GainedPrefix (S.written self.old.sink.now) (S.written self.new.sink.now) (all_printed_at self.old.printer.now files.now pack.now.findings)) }
-        ensures memory { result ≡ Err PrintError.Memory → S.written self.new.sink.now ≡ S.written self.old.sink.now }
-        ensures reason { IfErr result (HasReason (S.fault_count self.old.sink.now) (S.fault_count self.new.sink.now)) }
+        ensures ok { OnOk result (Gained (S.written self.old.sink.now) (S.written self.new.sink.now)
+            (all_printed_at self.old.printer.now files.now pack.now.findings)) }
+        ensures err { OnErr result (GainedPrefix (S.written self.old.sink.now) (S.written self.new.sink.now)
+            (all_printed_at self.old.printer.now files.now pack.now.findings)) }
+        ensures memory { result ≡ Err PrintError.Memory
+            → S.written self.new.sink.now ≡ S.written self.old.sink.now }
+        ensures reason { IfErr result
+            (HasReason (S.fault_count self.old.sink.now) (S.fault_count self.new.sink.now)) }
         ensures later { S.fault_count self.old.sink.now ≤ S.fault_count self.new.sink.now }
 
         // Findings that are not written need no memory.
@@ -182,10 +194,13 @@ impl<'p, S: Sink> OutputLock<'p, S> {
 
     /// Writes a text at once. An empty text is always written.
     fn write(&mut self, text: &str) -> Result<(), PrintError>
-        ensures ok { OnOk result (Gained (S.written self.old.sink.now) (S.written self.new.sink.now) text.now) }
-        ensures err { OnErr result (GainedPrefix (S.written self.old.sink.now) (S.written self.new.sink.now) text.now) }
+        ensures ok { OnOk result
+            (Gained (S.written self.old.sink.now) (S.written self.new.sink.now) text.now) }
+        ensures err { OnErr result
+            (GainedPrefix (S.written self.old.sink.now) (S.written self.new.sink.now) text.now) }
         ensures refused { result ≢ Err PrintError.Memory }
-        ensures reason { IfErr result (HasReason (S.fault_count self.old.sink.now) (S.fault_count self.new.sink.now)) }
+        ensures reason { IfErr result
+            (HasReason (S.fault_count self.old.sink.now) (S.fault_count self.new.sink.now)) }
         ensures later { S.fault_count self.old.sink.now ≤ S.fault_count self.new.sink.now }
         ensures nothing { text.now ≡ [] → IsOk result }
         ensures same_printer { self.new.printer.now ≡ self.old.printer.now }

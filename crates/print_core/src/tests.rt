@@ -15,13 +15,20 @@ use std::test::Fail;
 use tree_core::{MemSink, Sink};
 
 const HUMAN: &str =
-    "error[rejected]: first second\n  --> a/b.toml:1:4: here there\n  ::: Cargo.toml:4:12\n  = one\n  = two lines\n";
+    "error[rejected]: first second\n  --> a/b.toml:1:4: here there\n  ::: Cargo.toml:4:12\n  = one\n  = two \
+     lines\n";
 
-const JSON: &str =
-    "{\"fields\":{\"code\":\"rejected\",\"labels\":[{\"column\":4,\"line\":1,\"message\":\"here\\nthere\",\"span\":\"x\\r\\n字\"},{\"column\":12,\"line\":4,\"message\":\"\",\"span\":\"MIT\"}],\"message\":\"first\\nsecond\",\"notes\":[\"one\",\"two\\nlines\"],\"severity\":\"error\"},\"type\":\"diagnostic\"}\n";
+const JSON: &str = "{\"fields\":{\"code\":\"rejected\",\"labels\":[\
+     {\"column\":4,\"line\":1,\"message\":\"here\\nthere\",\"span\":\"x\\r\\n字\"},\
+     {\"column\":12,\"line\":4,\"message\":\"\",\"span\":\"MIT\"}],\"message\":\"first\\nsecond\",\
+     \"notes\":[\"one\",\"two\\nlines\"],\"severity\":\"error\"},\"type\":\"diagnostic\"}\n";
 
 const ACCEPTED: &str =
-    "{\"fields\":{\"code\":\"accepted\",\"labels\":[{\"column\":12,\"line\":4,\"message\":\"license expression retrieved via Cargo.toml `license`\",\"span\":\"MIT\"},{\"column\":12,\"line\":4,\"message\":\"accepted: license is explicitly allowed\",\"span\":\"MIT\"}],\"message\":\"license requirements satisfied\",\"notes\":[],\"severity\":\"note\"},\"type\":\"diagnostic\"}\n";
+    "{\"fields\":{\"code\":\"accepted\",\"labels\":[{\"column\":12,\"line\":4,\"message\":\"license \
+     expression retrieved via Cargo.toml `license`\",\"span\":\"MIT\"},\
+     {\"column\":12,\"line\":4,\"message\":\"accepted: license is explicitly \
+     allowed\",\"span\":\"MIT\"}],\"message\":\"license requirements \
+     satisfied\",\"notes\":[],\"severity\":\"note\"},\"type\":\"diagnostic\"}\n";
 
 /// Prints a finding to a sink: nothing at level off.
 fn print_to<S: Sink>(
@@ -32,7 +39,8 @@ fn print_to<S: Sink>(
     sink: &mut S,
 ) -> Result<(), PrintError>
     requires { LabelsAreInside files.now diag.now }
-    ensures { OnOk result (Gained (S.written sink.old) (S.written sink.new) (printed_at context files.now diag.now)) }
+    ensures { OnOk result
+        (Gained (S.written sink.old) (S.written sink.new) (printed_at context files.now diag.now)) }
 {
     match DiagPrinter::new(context) {
         None => Ok(()),

@@ -1,7 +1,8 @@
 //! Why metadata is not read.
 ghost use Rattle.std.specs.Prelude.{◌≡◌, Some};
 ghost use Rattle.records_core.specs.declared.fault.MetaError.TheVariants.{Memory};
-ghost use Rattle.records_core.specs.Told.{IsFault, IsFaultOf, ReadFails, dep_place, place_text, key_place, item_place};
+ghost use Rattle.records_core.specs.Told.{IsFault, IsFaultOf, ReadFails, dep_place, place_text, key_place};
+ghost use Rattle.records_core.specs.Told.{item_place};
 
 use deny_text::Text;
 use std::alloc::{AllocError, AllocFailed, Global};
@@ -31,8 +32,8 @@ pub enum MetaReason {
 /// A fault of the metadata.
 #[derive(Debug, Drop)]
 pub struct MetaFault {
-    /// The keys and the places in lists that lead to it, from the root, each behind a `/`. The root itself is the empty
-    /// text. Nothing in a key is escaped.
+    /// The keys and the places in lists that lead to it, from the root, each behind a `/`. The root itself is
+    /// the empty text. Nothing in a key is escaped.
     pub place: Text,
     pub fault: MetaReason,
 }

@@ -96,7 +96,8 @@ fn float_in_members(
     place: &str,
     members: &Map<String, Value>,
 ) -> Result<Option<Text>, AllocError>
-    ensures { IfOk result (λ found. found ≡ spec.float_in_members place.now (members_view members.now.entries)) }
+    ensures { IfOk result (λ found. found
+        ≡ spec.float_in_members place.now (members_view members.now.entries)) }
 {
     'members: for (key, value) in members {
         if holds_float(value) {

@@ -2,7 +2,8 @@
 ghost use Rattle.std.specs.Prelude.{◌≡◌, codes, map, option_map, option_copied};
 ghost use Rattle.serde_json.specs.View.{view, items_view};
 ghost use Rattle.records_core.specs.Nodes as spec;
-ghost use Rattle.records_core.specs.NodeRows.{member_of, root_of, resolve_of, node_of, nodes_of, dep_of, deps_of};
+ghost use Rattle.records_core.specs.NodeRows.{member_of, root_of, resolve_of, node_of, nodes_of, dep_of};
+ghost use Rattle.records_core.specs.NodeRows.{deps_of};
 ghost use Rattle.records_core.specs.Told.{Tells, key_place};
 
 use crate::fault::{MetaError, MetaReason, Place, fault_at};
@@ -40,7 +41,8 @@ fn members_in<'v>(
     known: &Known,
     items: &'v [Value],
 ) -> Result<Vec<MemberRow<'v>>, MetaError>
-    ensures { Tells (λ members. map member_of members.items) result (spec.members_in known.now (items_view items.now)) }
+    ensures { Tells (λ members. map member_of members.items) result
+        (spec.members_in known.now (items_view items.now)) }
 {
     let mut members = Vec::new(alloc);
     'members: for (index, item) in items.iter().enumerate() {
@@ -253,7 +255,8 @@ pub(crate) fn all_deps<'v>(
     known: &Known,
     nodes: &[NodeRow<'v>],
 ) -> Result<Vec<Vec<DepRow<'v>>>, MetaError>
-    ensures { Tells (λ lists. map deps_of lists.items) result (spec.all_deps known.now (map node_of nodes.now)) }
+    ensures { Tells (λ lists. map deps_of lists.items) result
+        (spec.all_deps known.now (map node_of nodes.now)) }
 {
     let mut lists = Vec::new(alloc);
     'lists: for (i, node) in nodes.iter().enumerate() {

@@ -1,10 +1,12 @@
 //! Crates in the order of their ids, with their edges.
-ghost use Rattle.std.specs.Prelude.{◌≡◌, ◌<◌, [], ◌++◌, map, length, option_map, slice_get, slice_set, slice_index_or, Some, None, IfOk, OnOk};
+ghost use Rattle.std.specs.Prelude.{◌≡◌, ◌<◌, [], ◌++◌, map, length, option_map, slice_get, slice_set};
+ghost use Rattle.std.specs.Prelude.{slice_index_or, Some, None, IfOk, OnOk};
 ghost use Rattle.std.specs.List.{AllByRecursion, cons_option, filter_map};
 ghost use Rattle.records_core.specs.AllRows.{rows_told};
 ghost use Rattle.records_core.specs.NodeRows.{member_of};
 ghost use Rattle.records_core.specs.Order as spec;
-ghost use Rattle.records_core.specs.Order.{AreRanks, id_of_member, place_of, rank_at, rank_of_member, ranked_edge, ranked_edges};
+ghost use Rattle.records_core.specs.Order.{AreRanks, id_of_member, place_of, rank_at, rank_of_member};
+ghost use Rattle.records_core.specs.Order.{ranked_edge, ranked_edges};
 ghost use Rattle.records_core.specs.Records as records;
 ghost use Rattle.records_core.specs.Records.{graph_of};
 ghost use Rattle.records_core.specs.Sound.{AreApart, AreSound};
@@ -98,7 +100,8 @@ fn crates_in_order(
 ) -> Result<Vec<Krate>, AllocError>
     requires apart { AreApart (map place_of spots.now) }
     requires within { AllByRecursion (λ place. place < length crates.items) (map place_of spots.now) }
-    ensures { IfOk result (λ ordered. ordered.items ≡ filter_map (slice_get crates.items) (map place_of spots.now)) }
+    ensures { IfOk result (λ ordered. ordered.items
+        ≡ filter_map (slice_get crates.items) (map place_of spots.now)) }
 {
     let mut slots = slots_of(alloc, crates)?;
     let mut ordered = Vec::with_capacity(alloc, slots.len())?;
@@ -179,7 +182,8 @@ fn member_ranks(
     ranks: &[usize],
     members: &[MemberRow<'_>],
 ) -> Result<Vec<usize>, AllocError>
-    ensures { IfOk result (λ found. found.items ≡ map (rank_of_member ranks.now) (map member_of members.now)) }
+    ensures { IfOk result (λ found. found.items
+        ≡ map (rank_of_member ranks.now) (map member_of members.now)) }
 {
     let mut found = Vec::new(alloc);
     'members: for member in members {

@@ -75,7 +75,8 @@ fn source_in(
     manifest: &str,
     text: Option<&str>,
 ) -> Result<Option<Source>, AllocError>
-    ensures { IfOk result (λ source. source ≡ spec.source_in sparse_dir.now manifest.now (option_copied text.entry)) }
+    ensures { IfOk result (λ source. source
+        ≡ spec.source_in sparse_dir.now manifest.now (option_copied text.entry)) }
 {
     let Some(text) = text else {
         return Ok(None);
@@ -95,7 +96,8 @@ fn source_row(
     manifest: &str,
     value: &Value,
 ) -> Result<Option<Source>, MetaError>
-    ensures { Tells (λ source. source) result (spec.source_row sparse_dir.now index manifest.now (view value.now)) }
+    ensures { Tells (λ source. source) result
+        (spec.source_row sparse_dir.now index manifest.now (view value.now)) }
 {
     let text = optional_text_at(alloc, Place::Package(index), "source", value)?;
     Ok(source_in(alloc, sparse_dir, manifest, text)?)

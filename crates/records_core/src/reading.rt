@@ -12,14 +12,15 @@ use graph_core::Metadata;
 use serde_json::Value;
 use std::alloc::Global;
 
-/// Reads the output of `cargo metadata --format-version 1`: the crates of a workspace and of all that it depends on, and
-/// the edges between them. Keys that no row of the table of shapes names are passed over, and of equal keys of an object
-/// the last holds. A source that can't be read is none. `sparse_dir` is the name of the folder in which cargo keeps crates
-/// of the sparse index of crates.io.
+/// Reads the output of `cargo metadata --format-version 1`: the crates of a workspace and of all that it
+/// depends on, and the edges between them. Keys that no row of the table of shapes names are passed over, and
+/// of equal keys of an object the last holds. A source that can't be read is none. `sparse_dir` is the name
+/// of the folder in which cargo keeps crates of the sparse index of crates.io.
 pub fn records(alloc: Global, text: &str, sparse_dir: &str) -> Result<Metadata, MetaError>
     ensures records { IfOk result (λ metadata. records_of text.now sparse_dir.now ≡ Some (Ok metadata)) }
     ensures cause { IfErr result (λ error. IsCause error (records_of text.now sparse_dir.now)) }
-    ensures told { (graph : Graph) → records_of text.now sparse_dir.now ≡ Some (Ok graph) → AnswersOr result (Ok graph) }
+    ensures told { (graph : Graph) → records_of text.now sparse_dir.now ≡ Some (Ok graph)
+        → AnswersOr result (Ok graph) }
     ensures faulty { (fault : MetaFault) → records_of text.now sparse_dir.now ≡ Some (Err fault)
         → AnswersOr result (Err (Shape fault)) }
     ensures unread { records_of text.now sparse_dir.now ≡ None → AnswersOr result (Err Syntax) }

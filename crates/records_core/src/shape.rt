@@ -49,7 +49,8 @@ pub(crate) fn optional_text_at<'v>(
     key: &str,
     value: &'v Value,
 ) -> Result<Option<&'v str>, MetaError>
-    ensures { Tells (λ text. option_copied text) result (spec.optional_text_at place key.now (view value.now)) }
+    ensures { Tells (λ text. option_copied text) result
+        (spec.optional_text_at place key.now (view value.now)) }
 {
     match value.get(key) {
         None | Some(Value::Null) => Ok(None),
@@ -81,7 +82,8 @@ pub(crate) fn list_or_empty_at<'v>(
     key: &str,
     value: &'v Value,
 ) -> Result<&'v [Value], MetaError>
-    ensures { Tells (λ items. items_view items.now) result (spec.list_or_empty_at place key.now (view value.now)) }
+    ensures { Tells (λ items. items_view items.now) result
+        (spec.list_or_empty_at place key.now (view value.now)) }
 {
     match value.get(key) {
         Some(Value::Array(items)) => Ok(items),
@@ -125,7 +127,8 @@ pub(crate) fn text_here<'v>(
     index: usize,
     value: &'v Value,
 ) -> Result<&'v str, MetaError>
-    ensures { Tells (λ text. text.now) result (spec.text_here (item_place place key.now index) (view value.now)) }
+    ensures { Tells (λ text. text.now) result
+        (spec.text_here (item_place place key.now index) (view value.now)) }
 {
     match value {
         Value::String(text) => Ok(text.as_str()),
@@ -245,7 +248,8 @@ pub(crate) fn known_in(
     index: usize,
     id: &str,
 ) -> Result<usize, MetaError>
-    ensures { Tells (λ found. found) result (spec.known_place known.now (item_place place key.now index) id.now) }
+    ensures { Tells (λ found. found) result
+        (spec.known_place known.now (item_place place key.now index) id.now) }
 {
     match known.get(id) {
         Some(found) => Ok(*found),

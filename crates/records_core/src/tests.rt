@@ -5,8 +5,10 @@ use std::test::Fail;
 const SPARSE_DIR: &str = "index.crates.io-1949cf8c6b5b557f";
 
 /// The metadata of one crate, with one text in place of another.
-const BASE: &str =
-    r#"{"packages":[{"name":"a","version":"1.0.0","id":"a 1.0.0","license":"MIT","manifest_path":"/w/Cargo.toml"}],"workspace_members":["a 1.0.0"],"workspace_root":"/w","resolve":{"nodes":[{"id":"a 1.0.0","deps":[]}],"root":"a 1.0.0"}}"#;
+const BASE: &str = r#"
+{"packages":[{"name":"a","version":"1.0.0","id":"a 1.0.0","license":"MIT","manifest_path":"/w/Cargo.toml"}],
+"workspace_members":["a 1.0.0"],"workspace_root":"/w",
+"resolve":{"nodes":[{"id":"a 1.0.0","deps":[]}],"root":"a 1.0.0"}}"#;
 
 fn with(alloc: Global, part: &str, other: &str) -> Result<String, AllocError> {
     match BASE.split_once(part) {
@@ -80,7 +82,7 @@ fn tells_faults_of_the_root(rt: HostRuntime) -> Result<(), Fail> {
             WrongKind,
         ),
         (
-            r#","resolve":{"nodes":[{"id":"a 1.0.0","deps":[]}],"root":"a 1.0.0"}"#,
+            ",\n\"resolve\":{\"nodes\":[{\"id\":\"a 1.0.0\",\"deps\":[]}],\"root\":\"a 1.0.0\"}",
             "",
             "/resolve",
             Missing,

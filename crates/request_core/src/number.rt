@@ -1,6 +1,7 @@
 //! The numbers that words write.
 ghost use Rattle.std.specs.Prelude.{◌≡◌, ◌+◌, ◌-◌, ◌*◌, ◌≤◌, pos, Some, option_map};
-ghost use Rattle.request_core.specs.Number.{number_of, sample_size_of, threshold_of, hundredths_of, behind_point, digit_of};
+ghost use Rattle.request_core.specs.Number.{number_of, sample_size_of, threshold_of, hundredths_of};
+ghost use Rattle.request_core.specs.Number.{behind_point, digit_of};
 
 use crate::from_word::FromWord;
 

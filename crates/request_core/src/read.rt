@@ -3,7 +3,8 @@ ghost use Rattle.std.specs.Prelude.{◌≡◌, ◌≢◌, IfOk, IfErr, map};
 ghost use Rattle.clap.specs.Words.{HasKind, app_of, fault_of, found_of, kind_of, rows_of, subcommand_rows_of};
 ghost use Rattle.request_core.specs.Cli.{cli};
 ghost use Rattle.request_core.specs.Request.{gate_words};
-ghost use Rattle.request_core.specs.Given.{AnswersHelp, AnswersMistake, AnswersRequest, HasMatches, IsAsked, IsGiven, IsGivenFor, IsTold, IsUsage, texts};
+ghost use Rattle.request_core.specs.Given.{AnswersHelp, AnswersMistake, AnswersRequest, HasMatches, IsAsked};
+ghost use Rattle.request_core.specs.Given.{IsGiven, IsGivenFor, IsTold, IsUsage, texts};
 ghost use Rattle.request_core.specs.declared.error.ArgsError.TheVariants.{Memory};
 
 use crate::command::command;

@@ -2,7 +2,8 @@
 ghost use Rattle.std.specs.Prelude.{◌≡◌, ◌++◌, map, option_map, IfOk, OnOk};
 ghost use Rattle.std.specs.List.{flat_map, slice_split};
 ghost use Rattle.clap.specs.Words.{found_of, rows_of, first_of, all_of};
-ghost use Rattle.request_core.specs.Reading.{Answers, value_read, maybe_read, first_read, words_read, all_read, words_of, is_set, is_comma};
+ghost use Rattle.request_core.specs.Reading.{Answers, value_read, maybe_read, first_read, words_read};
+ghost use Rattle.request_core.specs.Reading.{all_read, words_of, is_set, is_comma};
 
 use crate::error::ArgsError;
 use crate::from_word::FromWord;

@@ -1,7 +1,8 @@
 //! Addresses of git repositories.
 ghost use Rattle.std.specs.Prelude.{◌≡◌, IfOk, OnOk};
 ghost use Rattle.source_core.specs.Git as spec;
-ghost use Rattle.source_core.specs.Git.{query_of, with_normal_path, without_master, normal_address, spec_of, value_of};
+ghost use Rattle.source_core.specs.Git.{query_of, with_normal_path, without_master, normal_address, spec_of};
+ghost use Rattle.source_core.specs.Git.{value_of};
 
 use crate::query::{QueryPairs, query_pairs};
 use crate::source::GitSpec;
@@ -53,9 +54,9 @@ fn cut_master(alloc: Global, url: &mut Url, pairs: &QueryPairs) -> ParseResult<(
     url.set_query(Some(query.as_str()))
 }
 
-/// Brings the address of a git repository into its normal form: its path without `.git` and then without a `/` at the
-/// end, its query without `branch=master`. Answers what its query named, and the value of that. When memory is
-/// refused the address may be half changed.
+/// Brings the address of a git repository into its normal form: its path without `.git` and then without a
+/// `/` at the end, its query without `branch=master`. Answers what its query named, and the value of that.
+/// When memory is refused the address may be half changed.
 pub fn normalize_git_url(
     alloc: Global,
     url: &mut Url,

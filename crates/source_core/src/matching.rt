@@ -35,8 +35,9 @@ fn address_matches(exact: bool, own: &Url, address: &Url) -> bool
     own.host() == address.host() && has_path(exact, own.path(), address.path())
 }
 
-/// Whether a source matches an address: crates.io by the host and the path of its two addresses, another source by
-/// equal hosts and, where it is to be exact, equal paths, else an address whose path is a front of the source's.
+/// Whether a source matches an address: crates.io by the host and the path of its two addresses, another
+/// source by equal hosts and, where it is to be exact, equal paths, else an address whose path is a front of
+/// the source's.
 pub fn matches_address(source: &Source, address: &Url, exact: bool) -> bool
     ensures { IsTrue result ↔ Matches exact source.now address.now }
 {

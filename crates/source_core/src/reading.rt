@@ -84,8 +84,8 @@ fn cut_at_plus(text: &str) -> Option<(&str, &str)>
 }
 
 impl Source {
-    /// Reads a source as cargo writes it. A sparse crates.io is told by the folder of the manifest: `sparse_dir` is the
-    /// name of the folder that cargo keeps crates of the sparse index in.
+    /// Reads a source as cargo writes it. A sparse crates.io is told by the folder of the manifest:
+    /// `sparse_dir` is the name of the folder that cargo keeps crates of the sparse index in.
     #[tactic(auto, unfolding(crate::specs::Reading::source_of))]
     pub fn from_metadata(
         alloc: Global,
@@ -93,7 +93,8 @@ impl Source {
         manifest: Option<&str>,
         sparse_dir: &str,
     ) -> Result<Source, SourceError>
-        ensures ok { IfOk result (λ source. source_of text.now (option_copied manifest.entry) sparse_dir.now ≡ Ok source) }
+        ensures ok { IfOk result (λ source. source_of text.now (option_copied manifest.entry) sparse_dir.now
+            ≡ Ok source) }
         ensures refused { IfErr result (λ error. (error ≡ Memory)
             ⊎ (source_of text.now (option_copied manifest.entry) sparse_dir.now ≡ Err error)) }
     {

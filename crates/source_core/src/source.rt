@@ -18,7 +18,8 @@ pub enum GitSpec {
     Rev,
 }
 
-/// Where a crate comes from. Sources are equal and ordered by variant, then by fields, and addresses by their texts.
+/// Where a crate comes from. Sources are equal and ordered by variant, then by fields, and addresses by their
+/// texts.
 #[derive(Drop)]
 pub enum Source {
     /// The registry crates.io, and whether its sparse index is used.

@@ -127,9 +127,11 @@ fn reads_queries_of_git_repositories(rt: HostRuntime) {
     use GitSpec::{Branch, Rev, Tag};
     let rows = [
         (
-            "git+https://github.com/EmbarkStudios/wasmtime?branch=v6.0.1-profiler#84b8cacceacb585ef53774c3790b2372ba080067",
+            "git+https://github.com/EmbarkStudios/wasmtime\
+             ?branch=v6.0.1-profiler#84b8cacceacb585ef53774c3790b2372ba080067",
             Wanted::Git(
-                "https://github.com/EmbarkStudios/wasmtime?branch=v6.0.1-profiler#84b8cacceacb585ef53774c3790b2372ba080067",
+                "https://github.com/EmbarkStudios/wasmtime\
+                 ?branch=v6.0.1-profiler#84b8cacceacb585ef53774c3790b2372ba080067",
                 Branch,
                 Some("v6.0.1-profiler"),
             ),

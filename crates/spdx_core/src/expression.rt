@@ -14,8 +14,8 @@ use term_core::fault::empty_fault;
 use term_core::items::item_vec;
 use term_core::{ExprError, ExpressionReq, ParseMode};
 
-/// A licence expression as it was read: its text, its terms in text order, and how they are joined. It prints its
-/// text.
+/// A licence expression as it was read: its text, its terms in text order, and how they are joined. It prints
+/// its text.
 #[derive(Drop)]
 pub struct Expression {
     text: Text,

@@ -1,6 +1,8 @@
 //! The reader of licence expressions: one pass over the items, with a level for each open parenthesis.
 ghost use Rattle.std.specs.Prelude.{◌≡◌, OnOk, Some, None};
-ghost use Rattle.spdx_core.specs.Machine.{machine_of, advanced, after_part as part_after, after_or as or_after, after_close as close_after, after_open as open_after, no_machine, written};
+ghost use Rattle.spdx_core.specs.Machine.{machine_of, advanced, after_part as part_after};
+ghost use Rattle.spdx_core.specs.Machine.{after_or as or_after, after_close as close_after};
+ghost use Rattle.spdx_core.specs.Machine.{after_open as open_after, no_machine, written};
 ghost use Rattle.spdx_core.specs.Reading.{with_exception, excepted as with_name};
 
 use crate::node::ExprNode;
@@ -25,7 +27,8 @@ impl Waits {
     };
 }
 
-/// What was read so far: the nodes and terms, and what waits, in each open parenthesis and in the one at hand.
+/// What was read so far: the nodes and terms, and what waits, in each open parenthesis and in the one at
+/// hand.
 #[derive(Drop)]
 pub struct Reader {
     pub outer: Stack<Waits>,
@@ -104,7 +107,8 @@ impl Reader {
 
     /// A `)` makes one part of its level.
     fn close(&mut self) -> Result<(), AllocError>
-        ensures { OnOk result (machine_of self.new ≡ close_after (machine_of self.old).outer (machine_of self.old)) }
+        ensures { OnOk result (machine_of self.new
+            ≡ close_after (machine_of self.old).outer (machine_of self.old)) }
     {
         match self.outer.pop() {
             None => Ok(()),
@@ -155,7 +159,8 @@ impl Reader {
 
     /// The nodes are whole: an `OR` that waits has its right side.
     pub fn finish(&mut self) -> Result<(), AllocError>
-        ensures nodes { OnOk result (self.new.nodes.items ≡ written self.old.level.or ExprNode.Or self.old.nodes.items) }
+        ensures nodes { OnOk result (self.new.nodes.items
+            ≡ written self.old.level.or ExprNode.Or self.old.nodes.items) }
         ensures terms { OnOk result (self.new.terms ≡ self.old.terms) }
     {
         if self.level.or {

@@ -1,7 +1,8 @@
 //! Where an array and an inline table go on.
 ghost use Rattle.std.specs.Prelude.{◌≡◌, ◌≤◌, ◌<◌, ◌&&◌, nat_lt, length, IfOk};
 ghost use Rattle.toml_subset.specs.Reading.{cut_in_comment, space_fault as fault_of_space};
-ghost use Rattle.toml_frames.specs.Between.{place_of, item_place as item_at, behind_item as on_behind_item, entry_place as entry_at, behind_entry as on_behind_entry};
+ghost use Rattle.toml_frames.specs.Between.{place_of, item_place as item_at, behind_item as on_behind_item};
+ghost use Rattle.toml_frames.specs.Between.{entry_place as entry_at, behind_entry as on_behind_entry};
 
 use toml_subset::{Space, SyntaxError, after_blanks, control_character, space_from, stands, stuck};
 

@@ -12,8 +12,12 @@ ghost use Rattle.toml_frames.specs.Frames.{in_array, in_table, on_with, with_las
 /// What an array and an inline table owe behind a value is the definition, read on from that place.
 pub fn frames_owe_what_reading_owes()
     ensures array { (text : List ℕ) (start above : ℕ) (items : Items) (v : Found) → above + 1 ≤ depth_limit
-        → on_with text (in_array start above items) v ≡ then_read (array_on text start above (with_last items v)) (behind_item text v.2) }
-    ensures table { (text : List ℕ) (start above : ℕ) (branches : Branches) (keys : List Key) (v : Found) (new : Branches)
-        → put keys (closed v.0 v.1) branches ≡ Some new → above + depth_of (data.table (entries_of new)) ≤ depth_limit
-        → on_with text (in_table start above branches keys) v ≡ then_read (table_on text start above new) (behind_entry text v.2) }
+        → on_with text (in_array start above items) v
+        ≡ then_read (array_on text start above (with_last items v)) (behind_item text v.2) }
+    ensures table { (text : List ℕ) (start above : ℕ) (branches : Branches) (keys : List Key) (v : Found)
+        (new : Branches)
+        → put keys (closed v.0 v.1) branches ≡ Some new
+        → above + depth_of (data.table (entries_of new)) ≤ depth_limit
+        → on_with text (in_table start above branches keys) v
+        ≡ then_read (table_on text start above new) (behind_entry text v.2) }
 {}

@@ -1,5 +1,5 @@
-//! Values of the subset of TOML without what stands in them: scalars, where arrays and inline tables go on, and what
-//! reading owes of those that stand open.
+//! Values of the subset of TOML without what stands in them: scalars, where arrays and inline tables go on,
+//! and what reading owes of those that stand open.
 #![tactic(auto)]
 
 mod between;

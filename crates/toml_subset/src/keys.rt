@@ -3,7 +3,9 @@ ghost use Rattle.std.specs.Prelude.{◌≡◌, ◌<◌, ◌≤◌, length, false
 ghost use Rattle.toml_subset.specs.Answer.{Answers};
 ghost use Rattle.toml_subset.specs.Bytes.{is_bare as bare};
 ghost use Rattle.toml_subset.specs.Places.{passes_at};
-ghost use Rattle.toml_subset.specs.StringReading.{bare_key as bare_key_at, quoted_key as quoted_key_at, read_key as key_at, keys_at, equals_behind, read_left as left_at};
+ghost use Rattle.toml_subset.specs.StringReading.{bare_key as bare_key_at, quoted_key as quoted_key_at};
+ghost use Rattle.toml_subset.specs.StringReading.{read_key as key_at, keys_at, equals_behind};
+ghost use Rattle.toml_subset.specs.StringReading.{read_left as left_at};
 
 use crate::error::TomlError;
 use crate::fault::stuck;

@@ -7,7 +7,8 @@ ghost use Rattle.toml_subset.specs.Faults.{LiesIn};
 ghost use Rattle.toml_subset.specs.Reading.{enough, read_value, value_at, read_text};
 ghost use Rattle.toml_subset.specs.Strings.{Quoting, IsString};
 ghost use Rattle.toml_subset.specs.TableFaults.{put_fault, header_fault, array_header_fault};
-ghost use Rattle.toml_subset.specs.Tables.{Node, Branches, implicit, along, through_any, put, open_table, open_array};
+ghost use Rattle.toml_subset.specs.Tables.{Node, Branches, implicit, along, through_any, put, open_table};
+ghost use Rattle.toml_subset.specs.Tables.{open_array};
 ghost use Rattle.toml_subset.specs.declared.string.Key.{Key};
 ghost use Rattle.toml_subset.specs.Text.{IsText, StandsAs};
 ghost use Rattle.toml_subset.specs.Written.{Written};
@@ -23,12 +24,14 @@ pub fn reading_a_value_answers_where_one_stands()
     ensures answers { (above : ℕ) (text : List ℕ) (i : ℕ) (span : Span) (content : Content) (next : ℕ)
         → StandsAs above text i span content next → value_at text above i ≡ Ok (span, content, next) }
     ensures stands { (above : ℕ) (text : List ℕ) (i : ℕ) (span : Span) (content : Content) (next : ℕ)
-        → above ≤ depth_limit → value_at text above i ≡ Ok (span, content, next) → StandsAs above text i span content next }
+        → above ≤ depth_limit → value_at text above i ≡ Ok (span, content, next)
+        → StandsAs above text i span content next }
 {}
 
 /// A larger bound on how often reading a value calls itself changes no answer.
 pub fn more_calls_change_no_answer()
-    ensures { (text : List ℕ) (above i n : ℕ) → above ≤ depth_limit → enough text ≤ n → read_value n text above i ≡ value_at text above i }
+    ensures { (text : List ℕ) (above i n : ℕ) → above ≤ depth_limit → enough text ≤ n
+        → read_value n text above i ≡ value_at text above i }
 {}
 
 /// The first fault of a text lies in it.
@@ -39,14 +42,17 @@ pub fn faults_lie_in_the_text()
 /// A key that no part is refused of is put into its table.
 pub fn keys_without_a_fault_are_put()
     ensures { (keys : List Key) (node : Node) (branches : Branches) (above : ℕ)
-        → 0 < length keys → put_fault keys branches above ≡ None → (new : Branches) × (put keys node branches ≡ Some new) }
+        → 0 < length keys → put_fault keys branches above ≡ None
+        → (new : Branches) × (put keys node branches ≡ Some new) }
 {}
 
 /// The table of a header that no part is refused of is opened.
 pub fn headers_without_a_fault_are_opened()
-    ensures tables { (at : Span) (keys : List Key) (root : Branches) → 0 < length keys → header_fault keys root ≡ None
+    ensures tables { (at : Span) (keys : List Key) (root : Branches) → 0 < length keys
+        → header_fault keys root ≡ None
         → (new : Branches) × (along implicit through_any (open_table at) keys root ≡ Some new) }
-    ensures arrays { (at : Span) (keys : List Key) (root : Branches) → 0 < length keys → array_header_fault keys root ≡ None
+    ensures arrays { (at : Span) (keys : List Key) (root : Branches) → 0 < length keys
+        → array_header_fault keys root ≡ None
         → (new : Branches) × (along implicit through_any (open_array at) keys root ≡ Some new) }
 {}
 
@@ -58,5 +64,6 @@ pub fn at_most_one_value()
 /// A string that was written without an escape is the text's own slice at its span.
 pub fn plain_strings_stand_in_the_text()
     ensures { (text : List ℕ) (i : ℕ) (kind : Quoting) (w : Written) (span : Span) (next : ℕ)
-        → IsString text i kind w span next → w.escaped ≡ false → w.text ≡ slice_range text span.start span.end }
+        → IsString text i kind w span next → w.escaped ≡ false
+        → w.text ≡ slice_range text span.start span.end }
 {}

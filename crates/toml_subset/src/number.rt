@@ -1,5 +1,6 @@
 //! Number runs and their classes.
-ghost use Rattle.std.specs.Prelude.{ℕ, ◌≡◌, ◌+◌, ◌-◌, ◌*◌, ◌^◌, ◌<◌, ◌≤◌, Bool, true, false, IsTrue, length, take, drop, option_map};
+ghost use Rattle.std.specs.Prelude.{ℕ, ◌≡◌, ◌+◌, ◌-◌, ◌*◌, ◌^◌, ◌<◌, ◌≤◌, Bool, true, false, IsTrue, length};
+ghost use Rattle.std.specs.Prelude.{take, drop, option_map};
 ghost use Rattle.std.specs.List.{list_all, position_or_len, before_first, after_first};
 ghost use Rattle.std.specs.Option.{SomeIff, ok_or};
 ghost use Rattle.toml_subset.specs.Bytes.{is_digit as digit};
@@ -9,7 +10,18 @@ ghost use Rattle.toml_subset.specs.Classes.{class_answer, number_found};
 ghost use Rattle.toml_subset.specs.Faults.{begins_number as number_begins};
 ghost use Rattle.toml_subset.specs.Places.{passes_at, run_at};
 ghost use Rattle.toml_subset.specs.Reading.{number_read};
-ghost use Rattle.toml_subset.specs.Numbers.{digit_value as value_of_digit, is_digit_in as digit_in, are_grouped as grouped, are_digits as digits, count_behind, count as counts, unsigned as without_sign, is_negative as negative_run, is_whole as whole, whole_part as whole_of, fraction as fraction_of, before_e, after_e, is_mantissa as mantissa, has_exponent as exponent, has_long_fraction as long_fraction, digits_before, begins_date as date, is_special as special, is_unsupported as unsupported_run, base_of as base_named, hundredths as hundredths_of, is_decimal as decimal_form, in_range, with_sign, decimal_count, based_form, form_of as form, class_of};
+ghost use Rattle.toml_subset.specs.Numbers.{digit_value as value_of_digit, is_digit_in as digit_in};
+ghost use Rattle.toml_subset.specs.Numbers.{are_grouped as grouped, are_digits as digits, count_behind};
+ghost use Rattle.toml_subset.specs.Numbers.{count as counts, unsigned as without_sign};
+ghost use Rattle.toml_subset.specs.Numbers.{is_negative as negative_run, is_whole as whole};
+ghost use Rattle.toml_subset.specs.Numbers.{whole_part as whole_of, fraction as fraction_of, before_e};
+ghost use Rattle.toml_subset.specs.Numbers.{after_e, is_mantissa as mantissa, has_exponent as exponent};
+ghost use Rattle.toml_subset.specs.Numbers.{has_long_fraction as long_fraction, digits_before};
+ghost use Rattle.toml_subset.specs.Numbers.{begins_date as date, is_special as special};
+ghost use Rattle.toml_subset.specs.Numbers.{is_unsupported as unsupported_run, base_of as base_named};
+ghost use Rattle.toml_subset.specs.Numbers.{hundredths as hundredths_of, is_decimal as decimal_form};
+ghost use Rattle.toml_subset.specs.Numbers.{in_range, with_sign, decimal_count, based_form, form_of as form};
+ghost use Rattle.toml_subset.specs.Numbers.{class_of};
 
 use crate::error::{SyntaxError, SyntaxReason};
 use crate::fault::fault_at;
@@ -252,7 +264,8 @@ fn signed(negative: bool, magnitude: u64) -> Option<i64>
 
 fn integer_of(negative: bool, base: u8, digits: &[u8]) -> Option<i64>
     requires { 0 < base }
-    ensures { SomeIff result (IsTrue (in_range negative (counts base digits.now))) (with_sign negative (counts base digits.now)) }
+    ensures { SomeIff result (IsTrue (in_range negative (counts base digits.now)))
+        (with_sign negative (counts base digits.now)) }
 {
     signed(negative, count(base, digits)?)
 }
@@ -277,7 +290,8 @@ fn decimal_magnitude(run: &[u8]) -> Option<u64>
 }
 
 fn decimal_of(negative: bool, run: &[u8]) -> Option<i64>
-    ensures { SomeIff result (IsTrue (in_range negative (decimal_count run.now))) (with_sign negative (decimal_count run.now)) }
+    ensures { SomeIff result (IsTrue (in_range negative (decimal_count run.now)))
+        (with_sign negative (decimal_count run.now)) }
 {
     signed(negative, decimal_magnitude(run)?)
 }
@@ -346,7 +360,8 @@ pub fn classify(run: &[u8]) -> Result<Number, SyntaxReason>
 /// The number whose run begins at a place, and the place behind it.
 pub fn read_number(text: &str, place: usize) -> Result<(Number, usize), SyntaxError>
     requires { place ≤ length text.now }
-    ensures { Gives (number_found place) (number_read text.now place (class_of (run_at run text.now place))) result }
+    ensures { Gives (number_found place) (number_read text.now place (class_of (run_at run text.now place)))
+        result }
 {
     let bytes = text.as_bytes();
     let end = run_end(bytes, place, Run::Number);

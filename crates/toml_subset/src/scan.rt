@@ -1,9 +1,15 @@
 //! How far a run goes from a place.
 ghost use Rattle.std.specs.Prelude.{◌≡◌, ◌+◌, ◌<◌, ◌≤◌, length};
 ghost use Rattle.std.specs.Str.{IsCharBoundary};
-ghost use Rattle.toml_subset.specs.Bytes.{is_blank as blank, may_stand as may, is_digit as digit, is_letter as letter, is_sign as sign, is_bare as bare, is_run as run, goes_on as on};
+ghost use Rattle.toml_subset.specs.Bytes.{is_blank as blank, may_stand as may, is_digit as digit};
+ghost use Rattle.toml_subset.specs.Bytes.{is_letter as letter, is_sign as sign, is_bare as bare};
+ghost use Rattle.toml_subset.specs.Bytes.{is_run as run, goes_on as on};
 ghost use Rattle.toml_subset.specs.Gaps.{goes_over};
-ghost use Rattle.toml_subset.specs.Places.{stands as stands_at, belongs, run_end as run_ends, after_blanks as blanks_end, line_end as line_ends, after_comment as comment_end, next_line as line_after, after_lines_of, after_space, in_comment as ends_in_comment, after_white as white_end, char_end as character_end};
+ghost use Rattle.toml_subset.specs.Places.{stands as stands_at, belongs, run_end as run_ends};
+ghost use Rattle.toml_subset.specs.Places.{after_blanks as blanks_end, line_end as line_ends};
+ghost use Rattle.toml_subset.specs.Places.{after_comment as comment_end, next_line as line_after};
+ghost use Rattle.toml_subset.specs.Places.{after_lines_of, after_space, in_comment as ends_in_comment};
+ghost use Rattle.toml_subset.specs.Places.{after_white as white_end, char_end as character_end};
 
 /// What may stand before a line's end in a gap.
 #[derive(Clone, Copy)]

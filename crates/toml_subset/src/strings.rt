@@ -1,14 +1,26 @@
 //! Strings, read piece by piece.
-ghost use Rattle.std.specs.Prelude.{◌≡◌, ◌+◌, ◌<◌, ◌≤◌, ◌==◌, ◌&&◌, ◌++◌, min, not, nat_le, true, false, length, take, drop, option_map, unwrap_or, string_bytes, slice_get, Some, encode_utf8, IsTrue, IfOk, OnOk};
+ghost use Rattle.std.specs.Prelude.{◌≡◌, ◌+◌, ◌<◌, ◌≤◌, ◌==◌, ◌&&◌, ◌++◌, min, not, nat_le, true, false};
+ghost use Rattle.std.specs.Prelude.{length, take, drop, option_map, unwrap_or, string_bytes, slice_get, Some};
+ghost use Rattle.std.specs.Prelude.{encode_utf8, IsTrue, IfOk, OnOk};
 ghost use Rattle.std.specs.List.{prefix_len};
 ghost use Rattle.std.specs.Option.{SomeIff};
 ghost use Rattle.std.specs.Str.{IsCharBoundary};
 ghost use Rattle.toml_subset.specs.Answer.{Answers};
 ghost use Rattle.toml_subset.specs.Numbers.{is_digit_in as digit_in, count as counts};
 ghost use Rattle.toml_subset.specs.Places.{line_end as line_ends};
-ghost use Rattle.toml_subset.specs.StringReading.{scalar_fault as fault_of_scalar, escape_fault as fault_of_escape, part_fault as fault_of_part, string_from, read_string as string_at};
-ghost use Rattle.toml_subset.specs.StringViews.{kind_of, opened, meaning_of, part_of, is_plain as plain, GoesOn, EndsOnBorder, ClosesWithin, kept_at, IsPlainRun, IsRead};
-ghost use Rattle.toml_subset.specs.Strings.{mark_of, is_long as long_kind, has_escapes as escapes_in, marks_at as marks_from, opening as opening_at, is_scalar, scalar_of, letter_escape as letter_means, scalar_escape as scalar_part, trimming_escape as trimming_part, escape_by as escape_of, escape_at as escape_part, mark_at as mark_part, part_at as part_from};
+ghost use Rattle.toml_subset.specs.StringReading.{scalar_fault as fault_of_scalar};
+ghost use Rattle.toml_subset.specs.StringReading.{escape_fault as fault_of_escape};
+ghost use Rattle.toml_subset.specs.StringReading.{part_fault as fault_of_part, string_from};
+ghost use Rattle.toml_subset.specs.StringReading.{read_string as string_at};
+ghost use Rattle.toml_subset.specs.StringViews.{kind_of, opened, meaning_of, part_of, is_plain as plain};
+ghost use Rattle.toml_subset.specs.StringViews.{GoesOn, EndsOnBorder, ClosesWithin, kept_at, IsPlainRun};
+ghost use Rattle.toml_subset.specs.StringViews.{IsRead};
+ghost use Rattle.toml_subset.specs.Strings.{mark_of, is_long as long_kind, has_escapes as escapes_in};
+ghost use Rattle.toml_subset.specs.Strings.{marks_at as marks_from, opening as opening_at, is_scalar};
+ghost use Rattle.toml_subset.specs.Strings.{scalar_of, letter_escape as letter_means};
+ghost use Rattle.toml_subset.specs.Strings.{scalar_escape as scalar_part, trimming_escape as trimming_part};
+ghost use Rattle.toml_subset.specs.Strings.{escape_by as escape_of, escape_at as escape_part};
+ghost use Rattle.toml_subset.specs.Strings.{mark_at as mark_part, part_at as part_from};
 
 use crate::error::{SyntaxError, SyntaxReason, TomlError};
 use crate::fault::{control_character, fault_at, stuck};

@@ -1,5 +1,6 @@
 //! The real files.
-ghost use Rattle.std.specs.Prelude.{◌≡◌, ◌≢◌, ℕ, ◌↔◌, ◌≤◌, ◌++◌, [], ◌∷◌, Err, None, IfOk, IfErr, OnOk, IsSorted, vec_len};
+ghost use Rattle.std.specs.Prelude.{◌≡◌, ◌≢◌, ℕ, ◌↔◌, ◌≤◌, ◌++◌, [], ◌∷◌, Err, None, IfOk, IfErr, OnOk};
+ghost use Rattle.std.specs.Prelude.{IsSorted, vec_len};
 ghost use Rattle.std.specs.List.{filter};
 ghost use Rattle.std.specs.declared.io.ErrorKind.{ErrorKind};
 ghost use Rattle.std.specs.Io.{ReadsAtMost};
@@ -27,7 +28,8 @@ const LIMIT: usize = 67_108_864;
 /// How many bytes one read asks for.
 const PIECE: usize = 65_536;
 
-/// The real files, reached through the runtime that it keeps and seen as the count of faults. Links are followed.
+/// The real files, reached through the runtime that it keeps and seen as the count of faults. Links are
+/// followed.
 #[derive(Drop)]
 pub struct FolderTree<R> {
     rt: R,
@@ -192,7 +194,8 @@ fn read_file<R: Files>(rt: &R, alloc: Global, path: &str) -> Result<Bytes, TreeE
 /// All bytes, where they are not more than the limit.
 fn read_to_limit<F: Read>(file: &mut F, alloc: Global, limit: usize) -> Result<Vec<u8>, TreeError>
     ensures most { IfOk result (λ bytes. vec_len bytes ≤ limit) }
-    ensures bytes { IfOk result (λ bytes. Consumes (F.remaining file.old) (F.remaining file.new) bytes.items) }
+    ensures bytes { IfOk result
+        (λ bytes. Consumes (F.remaining file.old) (F.remaining file.new) bytes.items) }
     ensures end { OnOk result (IsAtEnd (F.remaining file.new)) }
 {
     let mut bytes = Vec::new(alloc);
@@ -257,7 +260,8 @@ fn list_opened<R: Files, D: Read>(
     path: &str,
     folder: &mut D,
 ) -> Result<Entries, TreeError>
-    ensures told { IfOk result (λ entries. TellsNames (D.remaining folder.old) (D.remaining folder.new) (names_of entries)) }
+    ensures told { IfOk result
+        (λ entries. TellsNames (D.remaining folder.old) (D.remaining folder.new) (names_of entries)) }
     ensures ordered { IfOk result IsInNameOrder }
 {
     let names = names_in(alloc, folder)?;
@@ -301,7 +305,8 @@ fn is_file_entry<R: Files>(
 
 /// The names that the system tells of a folder, in byte order.
 fn names_in<D: Read>(alloc: Global, folder: &mut D) -> Result<Vec<Text>, TreeError>
-    ensures told { IfOk result (λ names. TellsNames (D.remaining folder.old) (D.remaining folder.new) names.items) }
+    ensures told { IfOk result
+        (λ names. TellsNames (D.remaining folder.old) (D.remaining folder.new) names.items) }
     ensures ordered { IfOk result (λ names. IsSorted (slice_cmp nat_cmp) names.items) }
 {
     let bytes = read_to_limit(folder, alloc, usize::MAX)?;

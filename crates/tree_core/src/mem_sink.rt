@@ -58,14 +58,17 @@ impl Sink for MemSink {
     fn write(&mut self, piece: &[u8]) -> Result<usize, SinkFailed>
         ensures most { IfOk result (λ n. n ≤ length piece.now) }
         ensures least { IfOk result (λ n. 0 < length piece.now → 0 < n) }
-        ensures taken { IfOk result (λ n. Gained (Some self.old.held) (Some self.new.held) (take n piece.now)) }
+        ensures taken { IfOk result
+            (λ n. Gained (Some self.old.held) (Some self.new.held) (take n piece.now)) }
         ensures refused { OnErr result (Some self.new.held ≡ Some self.old.held) }
         ensures cause { IsCounted self.old.faults self.new.faults result }
 
         ensures count { IfOk result (λ n. n ≡ taken_of self.old (length piece.now)) }
-        ensures after { IfOk result (λ n. self.new ≡ record self.old { held = self.old.held ++ take n piece.now }) }
+        ensures after { IfOk result (λ n. self.new
+            ≡ record self.old { held = self.old.held ++ take n piece.now }) }
         ensures full { IsErr result ↔ ((0 < length piece.now) × (self.old.room ≤ length self.old.held)) }
-        ensures after_refusal { OnErr result (self.new ≡ record self.old { faults = counted self.old.faults }) }
+        ensures after_refusal { OnErr result
+            (self.new ≡ record self.old { faults = counted self.old.faults }) }
     {
         let left = self.limit - self.bytes.len();
         let count = piece.len().min(self.most.min(left));

@@ -1,8 +1,10 @@
 //! A tree in memory.
-ghost use Rattle.std.specs.Prelude.{◌≡◌, ℕ, ◌↔◌, ◌≤◌, ◌<◌, ◌++◌, [], ◌∷◌, Some, None, Ok, IsTrue, IfOk, OnOk, OnErr, map, if◌then◌else◌};
+ghost use Rattle.std.specs.Prelude.{◌≡◌, ℕ, ◌↔◌, ◌≤◌, ◌<◌, ◌++◌, [], ◌∷◌, Some, None, Ok, IsTrue, IfOk, OnOk};
+ghost use Rattle.std.specs.Prelude.{OnErr, map, if◌then◌else◌};
 ghost use Rattle.std.specs.FinMap.{get};
 ghost use Rattle.tree_core.specs.Content.{Content, IsRooted, entries_in, file, node_at, resolve};
-ghost use Rattle.tree_core.specs.Answer.{ReadAnswers, ListAnswers, FileAnswers, ExistsAnswers, FailsOrLacksMemory, IsInNameOrder, listed};
+ghost use Rattle.tree_core.specs.Answer.{ReadAnswers, ListAnswers, FileAnswers, ExistsAnswers};
+ghost use Rattle.tree_core.specs.Answer.{FailsOrLacksMemory, IsInNameOrder, listed};
 ghost use Rattle.tree_core.specs.Faults.{HasCause};
 ghost use Rattle.tree_core.specs.Found.{found_node};
 ghost use Rattle.tree_core.specs.TreeState.{root_alone, fails_next, after_call, Clashes, Puts};
@@ -34,7 +36,11 @@ impl Model for MemTree {
 
     ghost use Rattle.tree_core.specs.Stored.{content_of, IsSound};
 
-    ghost view = { λ t. record { content = content_of t.nodes.entries; faults = t.failed; failing = t.waits.items } };
+    ghost view = { λ t. record {
+      content = content_of t.nodes.entries;
+      faults = t.failed;
+      failing = t.waits.items;
+    } };
 
     ghost invariant = { λ t. IsSound t.nodes.entries };
 }
@@ -67,7 +73,8 @@ impl MemTree {
 
     /// Puts a file, in place of one that stands there. The parents that are missing become folders.
     pub fn put(&mut self, path: &str, bytes: &[u8]) -> Result<(), PutError>
-        ensures ok { OnOk result (Puts self.old.content self.new.content (resolve path.now) (file bytes.now)) }
+        ensures ok { OnOk result
+            (Puts self.old.content self.new.content (resolve path.now) (file bytes.now)) }
         ensures ok_only { OnOk result (¬ (Clashes self.old.content (resolve path.now))) }
         ensures clash_only { result ≡ Err PutError.Clash → Clashes self.old.content (resolve path.now) }
         ensures err { OnErr result (self.new ≡ self.old) }
@@ -116,7 +123,8 @@ impl MemTree {
 
     /// What stands right in a folder.
     fn entries(&self, alloc: Global, folder: &Place) -> Result<Entries, AllocError>
-        ensures answer { IfOk result (λ entries. map listed entries ≡ entries_in self.now.content folder.now) }
+        ensures answer { IfOk result (λ entries. map listed entries
+            ≡ entries_in self.now.content folder.now) }
         ensures ordered { IfOk result IsInNameOrder }
     {
         entries_at(&self.nodes, alloc, folder)

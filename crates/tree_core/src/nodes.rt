@@ -81,7 +81,8 @@ pub fn find<'a>(nodes: &'a Nodes, place: &Place) -> Found<'a>
 pub fn put_at(nodes: &mut Nodes, alloc: Global, place: &Place, node: Stored) -> Result<(), PutError>
     requires { IsSound nodes.old.entries }
     ensures sound { IsSound nodes.new.entries }
-    ensures ok { OnOk result (Puts (content_of nodes.old.entries) (content_of nodes.new.entries) place.now (node_of node)) }
+    ensures ok { OnOk result
+        (Puts (content_of nodes.old.entries) (content_of nodes.new.entries) place.now (node_of node)) }
     ensures ok_only { OnOk result (¬ (Clashes (content_of nodes.old.entries) place.now)) }
     ensures clash_only { result ≡ Err PutError.Clash → Clashes (content_of nodes.old.entries) place.now }
     ensures err { OnErr result (nodes.new.entries ≡ nodes.old.entries) }
@@ -105,7 +106,8 @@ fn add(nodes: &mut Nodes, alloc: Global, place: &Place, node: Stored) -> Result<
     requires absent { stored_at nodes.old.entries place.now ≡ None }
     requires closed { IsClosedAbove (content_of nodes.old.entries) place.now }
     ensures ordered { T (finite.is_sorted place_cmp (with_root nodes.new.entries)) }
-    ensures ok { OnOk result (Puts (content_of nodes.old.entries) (content_of nodes.new.entries) place.now (node_of node)) }
+    ensures ok { OnOk result
+        (Puts (content_of nodes.old.entries) (content_of nodes.new.entries) place.now (node_of node)) }
     ensures ok_only { OnOk result (¬ (Clashes (content_of nodes.old.entries) place.now)) }
     ensures clash_only { result ≡ Err PutError.Clash → Clashes (content_of nodes.old.entries) place.now }
     ensures err { OnErr result (nodes.new.entries ≡ nodes.old.entries) }
@@ -133,11 +135,12 @@ fn add(nodes: &mut Nodes, alloc: Global, place: &Place, node: Stored) -> Result<
     }
 }
 
-/// What stands right in a folder, in order: from the folder's least possible entry on, which has the empty name, up to
-/// the first of another folder.
+/// What stands right in a folder, in order: from the folder's least possible entry on, which has the empty
+/// name, up to the first of another folder.
 pub fn entries_at(nodes: &Nodes, alloc: Global, folder: &Place) -> Result<Entries, AllocError>
     requires { T (finite.is_sorted place_cmp (with_root nodes.now.entries)) }
-    ensures answer { IfOk result (λ entries. map listed entries ≡ entries_in (content_of nodes.now.entries) folder.now) }
+    ensures answer { IfOk result (λ entries. map listed entries
+        ≡ entries_in (content_of nodes.now.entries) folder.now) }
     ensures ordered { IfOk result IsInNameOrder }
 {
     let least = folder.child(alloc, "")?;

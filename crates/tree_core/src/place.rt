@@ -1,5 +1,6 @@
 //! Places in a tree: the names that lead there from the root.
-ghost use Rattle.std.specs.Prelude.{◌≡◌, ℕ, List, [], ◌∷◌, IfOk, OnOk, IfSome, IfNone, ◌≢◌, ◌++◌, IsTrue, ◌↔◌, Some};
+ghost use Rattle.std.specs.Prelude.{◌≡◌, ℕ, List, [], ◌∷◌, IfOk, OnOk, IfSome, IfNone, ◌≢◌, ◌++◌, IsTrue};
+ghost use Rattle.std.specs.Prelude.{◌↔◌, Some};
 ghost use Rattle.std.proofs.Common.{rules};
 ghost use Rattle.std.specs.Ordering.{eq_by_cmp};
 ghost use Rattle.std.specs.Cmp.{eq_by_cmp_equiv, partial_equiv_from_equiv, partial_order_from_total};
@@ -12,8 +13,8 @@ use std::alloc::{AllocError, Global};
 use std::cmp::Ordering;
 use std::marker::Model;
 
-/// The names that lead to a place from the root. Places are ordered by the folder that they stand in, and then by their
-/// name.
+/// The names that lead to a place from the root. Places are ordered by the folder that they stand in, and
+/// then by their name.
 #[derive(Drop)]
 pub struct Place {
     names: Vec<Text>,

@@ -13,7 +13,8 @@ pub trait Sink {
     /// How often a write was refused.
     ghost fault_count: { Self → ℕ };
 
-    /// Takes a front of the piece, and tells how many bytes it took: at least one of a piece that is not empty.
+    /// Takes a front of the piece, and tells how many bytes it took: at least one of a piece that is not
+    /// empty.
     fn write(&mut self, piece: &[u8]) -> Result<usize, SinkFailed>
         ensures most { IfOk result (λ n. n ≤ length piece.now) }
         ensures least { IfOk result (λ n. 0 < length piece.now → 0 < n) }

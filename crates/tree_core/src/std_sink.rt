@@ -1,5 +1,6 @@
 //! A sink over a writer of the standard library.
-ghost use Rattle.std.specs.Prelude.{◌≡◌, ◌≢◌, IfErr, ◌<◌, ◌≤◌, None, Ok, length, take, IfOk, OnErr, is_ok, if◌then◌else◌};
+ghost use Rattle.std.specs.Prelude.{◌≡◌, ◌≢◌, IfErr, ◌<◌, ◌≤◌, None, Ok, length, take, IfOk, OnErr, is_ok};
+ghost use Rattle.std.specs.Prelude.{if◌then◌else◌};
 ghost use Rattle.std.specs.declared.io.ErrorKind.{ErrorKind};
 ghost use Rattle.std.specs.Io.{WritesAtMost};
 ghost use Rattle.std.specs.Io.KnownBytes.{Appends, Keeps, WriteAppends};
@@ -47,7 +48,8 @@ impl<W: Write> Sink for StdSink<W> {
 
         ensures nothing { length piece.now ≡ 0 → result ≡ Ok 0 }
         ensures counts { self.new.1 ≡ (if is_ok result then self.old.1 else counted self.old.1) }
-        ensures gained { IfOk result (λ n. Appends (W.contents self.old.0) (W.contents self.new.0) (take n piece.now)) }
+        ensures gained { IfOk result
+            (λ n. Appends (W.contents self.old.0) (W.contents self.new.0) (take n piece.now)) }
         ensures kept { OnErr result (Keeps (W.contents self.old.0) (W.contents self.new.0)) }
     {
         if piece.is_empty() {

@@ -31,7 +31,8 @@ fn last_fault(table: &Branches<'_>, key: &Key<'_>) -> Option<SyntaxError>
     }
 }
 
-/// The first part of a key that a table refuses, so many tables and arrays standing around the table's entries.
+/// The first part of a key that a table refuses, so many tables and arrays standing around the table's
+/// entries.
 pub(crate) fn key_fault(table: &Branches<'_>, keys: &[Key<'_>], above: usize) -> Option<SyntaxError>
     requires whole { IsTrue (is_whole table.now) }
     requires fits { above + length keys.now < 2 ^ 64 }

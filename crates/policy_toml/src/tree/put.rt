@@ -1,7 +1,8 @@
 //! A value at the end of a dotted key.
 ghost use Rattle.std.specs.Prelude.{◌≡◌, ◌∷◌, Some, true, is_some, IsTrue, IfOk, IfSome, option_map};
 ghost use Rattle.toml_subset.specs.Tables.{put};
-ghost use Rattle.policy_toml.specs.BranchViews.{node_view, branches_view, is_whole, is_whole_node, shut, parts_of_dotted};
+ghost use Rattle.policy_toml.specs.BranchViews.{node_view, branches_view, is_whole, is_whole_node, shut};
+ghost use Rattle.policy_toml.specs.BranchViews.{parts_of_dotted};
 
 use super::{Branches, Mark, Node};
 use crate::value::{Value, ValueInner};
@@ -13,7 +14,8 @@ use toml_subset::Key;
 /// The place and the keys of a table that a dotted key made.
 fn dotted_parts(node: Node<'_>) -> Option<(Span, Branches<'_>)>
     requires whole { IsTrue (is_whole_node node) }
-    ensures parts { option_map (λ p. (p.0, branches_view p.1)) result ≡ parts_of_dotted (node_view node.entry) }
+    ensures parts { option_map (λ p. (p.0, branches_view p.1)) result
+        ≡ parts_of_dotted (node_view node.entry) }
     ensures whole { IfSome result (λ p. IsTrue (is_whole p.1)) }
 {
     match node {
@@ -32,7 +34,8 @@ pub(crate) fn put_along<'de>(
 ) -> Result<Branches<'de>, AllocError>
     requires whole { IsTrue (is_whole table) }
     requires free { is_some (put (key ∷ rest) (shut value) (branches_view table)) ≡ true }
-    ensures view { IfOk result (λ new. put (key.entry ∷ rest.entry) (shut value.entry) (branches_view table.entry) ≡ Some (branches_view new)) }
+    ensures view { IfOk result (λ new. put (key.entry ∷ rest.entry) (shut value.entry)
+        (branches_view table.entry) ≡ Some (branches_view new)) }
     ensures whole { IfOk result (λ new. IsTrue (is_whole new)) }
 {
     let mut rest = rest;

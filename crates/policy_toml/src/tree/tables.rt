@@ -46,8 +46,8 @@ impl<'de> Tree<'de> {
         }
     }
 
-    /// A further key, so many tables and arrays standing around the table's entries. It is refused before its value is
-    /// looked at, and then nothing is left.
+    /// A further key, so many tables and arrays standing around the table's entries. It is refused before its
+    /// value is looked at, and then nothing is left.
     pub(crate) fn await_value(
         self,
         keys: Keys<'de>,
@@ -55,7 +55,8 @@ impl<'de> Tree<'de> {
     ) -> Result<Awaiting<'de>, SyntaxError>
         requires some { 0 < length keys }
         requires shallow { above ≤ depth_limit }
-        ensures { IsAwaited (put_fault keys.entry (tree_view self.entry) above) keys.entry (tree_view self.entry) result }
+        ensures { IsAwaited (put_fault keys.entry (tree_view self.entry) above) keys.entry
+            (tree_view self.entry) result }
     {
         match key_fault(&self.root, keys.items(), above) {
             Some(fault) => Err(fault),
@@ -90,7 +91,8 @@ impl<'de> Awaiting<'de> {
 
     /// The table with the value at the key. Where memory ends, nothing is left.
     pub(crate) fn put(self, alloc: Global, value: Value<'de>) -> Result<Tree<'de>, AllocError>
-        ensures { IfOk result (λ tree. put self.entry.keys (shut value.entry) (tree_view self.entry.tree) ≡ Some (tree_view tree)) }
+        ensures { IfOk result (λ tree. put self.entry.keys (shut value.entry) (tree_view self.entry.tree)
+            ≡ Some (tree_view tree)) }
     {
         let Awaiting {
             tree,

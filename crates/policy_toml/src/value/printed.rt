@@ -4,7 +4,8 @@ use crate::value::{Value, ValueInner};
 use std::alloc::{AllocError, Global};
 use toml_subset::{Key, Str};
 
-/// A value and all that stands in it, level by level, each with its span; strings and keys with escapes have a `!`.
+/// A value and all that stands in it, level by level, each with its span; strings and keys with escapes have
+/// a `!`.
 pub(crate) fn printed(alloc: Global, root: &Value<'_>) -> Result<String, AllocError> {
     let mut out = String::new(alloc);
     let mut seen = Vec::new(alloc);
