@@ -13,6 +13,7 @@ use Rattle.std.specs.Char.{to_ascii_lowercase}
 use Rattle.std.specs.Str.{IsUtf8, IsCharBoundary, str_to_ascii_lowercase}
 use Rattle.catalog_core.specs.declared.catalog.LicenseEntry.{LicenseEntry}
 use Rattle.catalog_core.specs.Catalog.{CatalogLists, IsCatalog, entry_of, names_of}
+use Rattle.term_core.specs.NextItem.{StandsNext}
 use Rattle.catalog_core.specs.Words.{is_word_byte, is_word, is_space, is_imprecise}
 use Rattle.term_core.specs.declared.mode.ParseMode.{ParseMode}
 use Rattle.term_core.specs.declared.item.Token.{Token}
@@ -334,13 +335,8 @@ pub white_border : (text : List ℕ) (place : ℕ) → IsUtf8 text → place < l
 white_border text place utf8 inside white = IsCharBoundary-after_ascii text place utf8 inside (white_ascii (get_or text place 0) white)
 
 -- a step at an item
-pub record ItemStep (mode : ParseMode) (lists : CatalogLists) (wanted : Wanted) (place : ℕ) (text : List ℕ) (it : Item) : Type 0 where
-  pub later : place < it.span.end
-  pub border : IsCharBoundary text it.span.end
-  pub items : items_from mode lists wanted place place (drop place text) ≡ it ∷ items_from mode lists (wanted_after wanted it.what) it.span.end it.span.end (drop it.span.end text)
-
 step_there : (mode : ParseMode) (lists : CatalogLists) → IsCatalog lists → (wanted : Wanted) (place : ℕ) (text : List ℕ) (b : ℕ) (rest : List ℕ) → IsUtf8 (b ∷ rest) → place < length text → drop place text ≡ b ∷ rest
-    → is_white b ≡ false → ItemStep mode lists wanted place text (first_item mode lists wanted place b rest)
+    → is_white b ≡ false → StandsNext mode lists wanted place text (first_item mode lists wanted place b rest)
 step_there mode lists laws wanted place text b rest utf8 inside is dark =
     let it = first_item mode lists wanted place b rest in
     let fits : FitsAt place (b ∷ rest) it = first_fits mode lists laws wanted place b rest utf8 in
@@ -359,11 +355,11 @@ step_there mode lists laws wanted place text b rest utf8 inside is dark =
     }
 
 pub item_step : (mode : ParseMode) (lists : CatalogLists) → IsCatalog lists → (wanted : Wanted) (place : ℕ) (text : List ℕ) → IsUtf8 text → IsCharBoundary text place → place < length text
-    → is_white (get_or text place 0) ≡ false → (it : Item) → it ≡ first_item mode lists wanted place (get_or text place 0) (drop 1 (drop place text)) → ItemStep mode lists wanted place text it
+    → is_white (get_or text place 0) ≡ false → (it : Item) → it ≡ first_item mode lists wanted place (get_or text place 0) (drop 1 (drop place text)) → StandsNext mode lists wanted place text it
 item_step mode lists laws wanted place text utf8 border inside dark it is =
     let b : ℕ = get_or text place 0 in
     let all : drop place text ≡ b ∷ drop (suc place) text = drop-cons text place 0 inside in
     let rest : drop 1 (drop place text) ≡ drop (suc place) text = ap (drop 1) all in
-    let there : ItemStep mode lists wanted place text (first_item mode lists wanted place b (drop (suc place) text)) =
+    let there : StandsNext mode lists wanted place text (first_item mode lists wanted place b (drop (suc place) text)) =
     step_there mode lists laws wanted place text b (drop (suc place) text) (subst (λ t. IsUtf8 t) all (IsUtf8-drop text place utf8 border)) inside all dark in
-    subst (λ found. ItemStep mode lists wanted place text found) (sym (is ∙ ap (λ r. first_item mode lists wanted place b r) rest)) there
+    subst (λ found. StandsNext mode lists wanted place text found) (sym (is ∙ ap (λ r. first_item mode lists wanted place b r) rest)) there

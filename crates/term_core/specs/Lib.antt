@@ -3,6 +3,7 @@ pub mod ItemRows
 pub mod Items
 pub mod Laws
 pub mod Licensee
+pub mod NextItem
 pub mod Reasons
 pub mod References
 pub mod Satisfaction

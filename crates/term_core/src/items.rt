@@ -9,6 +9,7 @@ ghost use Rattle.term_core.specs.Items.{has_reading as word_has_reading, impreci
 ghost use Rattle.term_core.specs.Items.{term_item as term_item_at, plain_item as plain_item_at};
 ghost use Rattle.term_core.specs.Items.{exception_item as exception_item_at, word_item as word_item_at};
 ghost use Rattle.term_core.specs.Items.{first_item as first_item_of, items_of};
+ghost use Rattle.term_core.specs.NextItem.{IsNext};
 
 use crate::item::{Item, Marks, Simple, Token, Wanted, What};
 use crate::mode::ParseMode;
@@ -335,6 +336,32 @@ fn first_item<C: Catalog>(
     Ok(item(what, place, len))
 }
 
+/// The first item of a text from a place on, where there is one: a reader goes on behind it, with what is wanted
+/// there.
+pub fn next_item<C: Catalog>(
+    alloc: Global,
+    text: &str,
+    place: usize,
+    wanted: Wanted,
+    mode: ParseMode,
+    catalog: &C,
+) -> Result<Option<Item>, AllocError>
+    requires border { IsCharBoundary text.now place }
+    ensures { IfOk result (λ found. IsNext mode (C.lists catalog.now) wanted place text.now found) }
+{
+    let mut place = place;
+    'white: while place < text.len() && words::is_white(text.as_bytes()[place]) {
+        place += 1;
+    }
+    if place == text.len() {
+        return Ok(None);
+    }
+    let first = text.as_bytes()[place];
+    let rest = text.split_at(place).1;
+    let found = first_item(alloc, wanted, place, rest, first, mode, catalog)?;
+    Ok(Some(found))
+}
+
 /// The items of a text, from left to right.
 pub fn items<C: Catalog>(
     alloc: Global,
@@ -360,17 +387,10 @@ pub fn item_vec<C: Catalog>(
     let mut items = Vec::new(alloc);
     let mut wanted = Wanted::Term;
     let mut place = 0;
-    'bytes: while place < text.len() {
-        let first = text.as_bytes()[place];
-        if words::is_white(first) {
-            place += 1;
-        } else {
-            let rest = text.split_at(place).1;
-            let found = first_item(alloc, wanted, place, rest, first, mode, catalog)?;
-            wanted = wanted.after(&found.what);
-            place = found.span.end;
-            items.push(found)?;
-        }
+    'items: while let Some(found) = next_item(alloc, text, place, wanted, mode, catalog)? {
+        wanted = wanted.after(&found.what);
+        place = found.span.end;
+        items.push(found)?;
     }
     Ok(items)
 }
