@@ -32,9 +32,9 @@ impl HasSpec for PackageSpec {
     }
 }
 
-/// The names of a list of specs, in order, each with its places. It keeps no spec: its calls take the list again,
-/// which has to have these names. A question among n specs, m of which have the crate's name, takes about log2 n
-/// comparisons of names and looks at those m alone.
+/// The names of a list of specs, in order, each with its places. It keeps no spec: its calls take the list
+/// again, which has to have these names. A question among n specs, m of which have the crate's name, takes
+/// about log2 n comparisons of names and looks at those m alone.
 #[derive(Drop)]
 pub struct SpecIndex {
     names: Texts,

@@ -13,8 +13,8 @@ pub fn order_is_total()
     ensures { IsTotalOrder spec_order }
 {}
 
-/// The equality and the order of specs: two are equal where their names and requirements are, and there alone the
-/// order says Equal.
+/// The equality and the order of specs: two are equal where their names and requirements are, and there alone
+/// the order says Equal.
 #[tactic(auto, using(crate::proofs::SameLemmas::spec_decides))]
 pub fn compares_specs(x: &PackageSpec, y: &PackageSpec) -> (bool, Ordering)
     ensures equality { IsTrue result.0 ↔ AreSame x.now y.now }
