@@ -1,3 +1,5 @@
 pub mod Between
 pub mod Frames
+pub mod Levels
+pub mod LinesRead
 pub mod Scalars

@@ -1,12 +1,14 @@
 //! Values of the subset of TOML without what stands in them: scalars, where arrays and inline tables go on,
-//! and what reading owes of those that stand open.
+//! what reading owes of those that stand open, and which tables headers open.
 #![tactic(auto)]
 
 mod between;
 pub mod laws;
+mod part;
 mod scalar;
 #[cfg(test)]
 mod tests;
 
 pub use between::{Next, behind_entry, behind_item, entry_place, item_place};
+pub use part::Part;
 pub use scalar::{Scalar, read_scalar};

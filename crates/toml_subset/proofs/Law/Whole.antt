@@ -392,6 +392,14 @@ lines_read (suc n) text i (s ∷ more) document new is mean low room =
     (line_read text (after_blanks text i) document first.0 s line.0 next (run_stops is_blank text i) line.1 line.2 first.1 (omega arith) within)
     ∙ lines_read n text next more first.0 new is.1.2 first.2 low (omega arith)
 
+-- a line that is read ends behind its beginning
+pub line_forward : (text : List ℕ) (i : ℕ) (document : Document) (r : LineFound) → i < length text → depth document.root ≤ depth_limit
+    → line_from text document (after_blanks text i) ≡ Ok r → i < r.1
+line_forward text i document r inside low e =
+    let is = line_sound text (after_blanks text i) document r low e in
+    let statement = statement_goes text (after_blanks text i) is.0 is.1.0 is.1.1 in
+    ⊎_elim (λ h. omega arith) (λ h. let at = h.0 in omega arith) (next_line_goes text is.1.0 r.1 is.1.2)
+
 pub text_complete : (text : List ℕ) (value : Toml) → IsText text value → read_text text ≡ Ok value
 text_complete text value is =
     ap (then_read (λ (document : Document). Ok (whole text document))) (lines_read (suc (length text)) text 0 is.lines no_lines is.document is.stand is.makes is.shallow (omega arith))
