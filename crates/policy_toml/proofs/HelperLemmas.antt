@@ -5,12 +5,12 @@ use Rattle.std.specs.Str.{bytes_eq}
 use Rattle.toml_subset.specs.Data.{Entries, Toml, no_entry, entry}
 use Rattle.toml_subset.specs.declared.string.Key.{Key}
 use Rattle.policy_toml.specs.HelperState.{HelperState, without_key, with_faults, without_faults, read_at, given_value, faults_of, needed_value}
-use Rattle.policy_toml.specs.Lookup.{value_at}
-use Rattle.policy_toml.specs.Removal.{entry_at}
+use Rattle.toml_value.specs.Lookup.{value_at}
+use Rattle.toml_value.specs.Removal.{entry_at}
 use Rattle.policy_toml.proofs.ShapedLemmas.{tells}
-use Rattle.policy_toml.specs.Shaped.{Shaped, Tells, IsToldBy}
-use Rattle.policy_toml.specs.Shapes.{Fault, fault_alone, missing}
-use Rattle.policy_toml.specs.declared.shape.DeserError.{DeserError}
+use Rattle.toml_shapes.specs.Shaped.{Shaped, Tells, IsToldBy}
+use Rattle.toml_shapes.specs.Shapes.{Fault, fault_alone, missing}
+use Rattle.toml_shapes.specs.declared.shape.DeserError.{DeserError}
 
 -- the value at a key is that of the entry
 pub value_at-entry_at : (name : List ℕ) (entries : Entries) → value_at name entries ≡ option_map (λ p. p.1) (entry_at name entries)

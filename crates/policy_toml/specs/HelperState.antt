@@ -3,17 +3,17 @@ use Rattle.std.specs.Prelude.{ℕ, Bool, ◌⊎◌, if◌then◌else◌, List, [
 use Rattle.std.proofs.Common.{inl, inr}
 use denote.MutBor.{MutBor}
 use Rattle.deny_text.specs.declared.span.Span.{Span}
-use Rattle.toml_subset.specs.Data.{Entries, Toml, table}
-use Rattle.policy_toml.specs.Kinds.{kind_word}
-use Rattle.policy_toml.specs.Lookup.{value_at}
-use Rattle.policy_toml.specs.Readings.{or_wanted, as_table}
-use Rattle.policy_toml.specs.Removal.{entries_without, names_in}
-use Rattle.policy_toml.specs.Shaped.{Shaped, shaped_map}
-use Rattle.policy_toml.specs.Shapes.{Fault, fault_alone, missing, unexpected_keys}
-use Rattle.policy_toml.specs.Views.{value_view, entries_view}
+use Rattle.toml_subset.specs.Data.{Entries, Toml}
+use Rattle.toml_shapes.specs.Kinds.{kind_word}
+use Rattle.toml_value.specs.Lookup.{value_at}
+use Rattle.toml_value.specs.Taken.{or_wanted, as_table}
+use Rattle.toml_value.specs.Removal.{entries_without, names_in}
+use Rattle.toml_shapes.specs.Shaped.{Shaped, shaped_map}
+use Rattle.toml_shapes.specs.Shapes.{Fault, fault_alone, missing, unexpected_keys}
+use Rattle.toml_value.specs.Views.{value_view, entries_view}
 use Rattle.policy_toml.specs.declared.helper.TableHelper.{TableHelper}
-use Rattle.policy_toml.specs.declared.shape.Kind.TheVariants as kind
-use Rattle.policy_toml.specs.declared.value.Value.{Value}
+use Rattle.toml_shapes.specs.declared.shape.Kind.TheVariants as kind
+use Rattle.toml_value.specs.declared.value.Value.{Value}
 
 pub record HelperState : Type 0 where
   pub left : Entries
@@ -83,10 +83,6 @@ unexpected_faults (name ∷ names) span = fault_alone (unexpected_keys (name ∷
 -- all faults of a table whose left keys go back, or do not
 abbrev pub faults_at_end : Bool → HelperState → List Fault
 faults_at_end goes_back state = if goes_back then state.faults else state.faults ++ unexpected_faults (names_in state.left) state.span
-
--- a value that is a table of those entries now, at its place
-abbrev pub given_back : Entries → Toml → Toml
-given_back entries value = record { content = table entries; span = value.span }
 
 -- what stands behind a reference that may be there, at the end of a call
 abbrev pub target_at_exit : Unit {0} ⊎ ((MutBor Value × Unit {0}) ⊎ ⊥) → Option Toml

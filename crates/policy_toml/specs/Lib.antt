@@ -1,13 +1,2 @@
-pub mod BranchViews
-pub mod DeserText
 pub mod HelperState
-pub mod Kinds
-pub mod Lookup
 pub mod Readings
-pub mod Removal
-pub mod ShapeViews
-pub mod Shaped
-pub mod Shapes
-pub mod StackViews
-pub mod TreeViews
-pub mod Views

@@ -1,5 +1,5 @@
--- What the types of the crate make of a value, and what they leave of it.
-use Rattle.std.specs.Prelude.{ℕ, ◌^◌, ◌*ℤ◌, ℤ, pos, negsuc, Bool, false, nat_lt, if◌then◌else◌, List, [], ◌∷◌, ◌++◌, Option, Some, None, Ok, Err, codes, map}
+-- What the types of the crate make of a value.
+use Rattle.std.specs.Prelude.{ℕ, ◌^◌, ◌*ℤ◌, ℤ, pos, negsuc, Bool, nat_lt, if◌then◌else◌, List, [], ◌∷◌, Option, Some, None, Ok, Err, codes, map}
 use Rattle.std.specs.Int.{w64, saturate_signed}
 use Rattle.std.specs.List.{filter_map, flat_map}
 use Rattle.std.specs.Result.{result_ok}
@@ -7,19 +7,15 @@ use Rattle.std.specs.Str.{bytes_eq}
 use denote.Ref.{Bor}
 use Rattle.deny_text.specs.declared.span.Span.{Span}
 use Rattle.deny_text.specs.declared.span.Spanned.{Spanned}
-use Rattle.toml_subset.specs.Data.{Content, Items, Entries, Toml, string, integer, decimal, boolean, array, table, no_item, item}
-use Rattle.toml_subset.specs.Written.{Written}
-use Rattle.policy_toml.specs.Kinds.{kind_of, kind_word}
-use Rattle.policy_toml.specs.Shaped.{Shaped, shaped_map, shaped_then, faults_in, answer_of}
-use Rattle.policy_toml.specs.Shapes.{Fault, fault_alone, wanted, out_of_range, unexpected_value}
+use Rattle.toml_subset.specs.Data.{Content, Toml, integer, decimal, boolean}
+use Rattle.toml_shapes.specs.Kinds.{kind_word}
+use Rattle.toml_shapes.specs.Shaped.{Shaped, shaped_map, shaped_then, faults_in, answer_of}
+use Rattle.toml_shapes.specs.Shapes.{fault_alone, out_of_range, unexpected_value}
+use Rattle.toml_shapes.specs.declared.shape.Kind.TheVariants as kind
+use Rattle.toml_value.specs.Taken.{as_array, or_wanted, string_of, values_of}
 use Rattle.policy_toml.specs.declared.hundredths.Hundredths.{Hundredths}
-use Rattle.policy_toml.specs.declared.shape.Kind.TheVariants as kind
 
 -- what a value holds, where it is of the kind
-
-abbrev pub as_string : Content → Option Written
-as_string (string w) = Some w
-as_string _ = None
 
 abbrev pub as_boolean : Content → Option Bool
 as_boolean (boolean b) = Some b
@@ -35,23 +31,6 @@ as_hundredths (integer z) = Some (saturate_signed w64 (z *ℤ pos 100))
 as_hundredths (decimal z) = Some z
 as_hundredths _ = None
 
-abbrev pub as_array : Content → Option Items
-as_array (array items) = Some items
-as_array _ = None
-
-abbrev pub as_table : Content → Option Entries
-as_table (table entries) = Some entries
-as_table _ = None
-
--- a value of another kind was wanted there
-abbrev pub wrong_kind : List ℕ → Toml → List Fault
-wrong_kind expected value = fault_alone (wanted expected (kind_word (kind_of value.content))) value.span
-
--- what was found, or else that fault
-abbrev pub or_wanted : {A : Type 0} → List ℕ → Toml → Option A → Shaped A
-or_wanted expected value (Some x) = Ok x
-or_wanted expected value None = Err (wrong_kind expected value)
-
 -- what the type holds of a number, or else that the number leaves its range
 abbrev pub or_out_of_range : {A : Type 0} → List ℕ → Span → Option A → Shaped A
 or_out_of_range type span (Some x) = Ok x
@@ -66,10 +45,6 @@ in_32_bits_with_sign (negsuc n) = if nat_lt n (2 ^ 31) then Some (negsuc n) else
 abbrev pub in_32_bits : ℤ → Option ℕ
 in_32_bits (pos n) = if nat_lt n (2 ^ 32) then Some n else None
 in_32_bits (negsuc n) = None
-
--- a string where a thing of that name is wanted
-abbrev pub string_of : List ℕ → Toml → Shaped Written
-string_of expected value = or_wanted expected value (as_string value.content)
 
 abbrev pub text_of : Toml → Shaped (List ℕ)
 text_of value = shaped_map (λ w. w.text) (string_of (kind_word kind.String) value)
@@ -92,11 +67,6 @@ hundredths_of value = shaped_map (λ z. record { 0 = z }) (or_wanted (kind_word 
 -- what is read, with the place of its value
 abbrev pub spanned_of : {A : Type 0} → (Toml → Shaped A) → Toml → Shaped (Spanned A)
 spanned_of reads value = shaped_map (λ x. record { value = x; span = value.span }) (reads value)
-
--- the items of an array as values
-abbrev pub values_of : Items → List Toml
-values_of no_item = []
-values_of (item span content more) = record { content = content; span = span } ∷ values_of more
 
 abbrev pub array_of : Toml → Shaped (List Toml)
 array_of value = shaped_map values_of (or_wanted (kind_word kind.Array) value (as_array value.content))
@@ -126,16 +96,3 @@ or_unexpected names span None = Err (fault_alone (unexpected_value names) span)
 abbrev pub name_of : {A : Type 0} → List ℕ → List (List ℕ × A) → Toml → Shaped A
 name_of expected rows value =
     shaped_then (λ w. or_unexpected (map (λ row. row.0) rows) value.span (thing_of_name rows w.text)) (string_of expected value)
-
--- what `take` leaves: the boolean false, at the same place
-abbrev pub emptied_value : Toml → Toml
-emptied_value value = record { content = boolean false; span = value.span }
-
--- a value of which a part was taken out, where it was of the kind
-abbrev pub left_where : Bool → Toml → Toml
-left_where taken value = if taken then emptied_value value else value
-
--- a value that was read is taken out whole; one that was refused stays as it was
-abbrev pub left_by : {A : Type 0} → Shaped A → Toml → Toml
-left_by (Ok x) value = emptied_value value
-left_by (Err faults) value = value

@@ -3,16 +3,17 @@ ghost use Rattle.std.specs.Prelude.{◌≡◌, ◌++◌, List, map, None, IfOk, 
 ghost use Rattle.std.specs.Result.{result_ok};
 ghost use Rattle.toml_subset.specs.Data.{Toml};
 ghost use Rattle.policy_toml.specs.Readings.{text_of, boolean_of, i64_of, i32_of, u32_of, hundredths_of};
-ghost use Rattle.policy_toml.specs.Readings.{spanned_of, array_of, values_of, each_of, list_of, left_by};
+ghost use Rattle.policy_toml.specs.Readings.{spanned_of, array_of, each_of, list_of};
+ghost use Rattle.toml_value.specs.Taken.{values_of, left_by};
 ghost use Rattle.policy_toml.specs.Readings.{thing_of_name, name_of, rows_of};
-ghost use Rattle.policy_toml.specs.Shaped.{Shaped, Gives, OnAnswer, faults_in};
-ghost use Rattle.policy_toml.specs.Views.{value_view, values_view};
+ghost use Rattle.toml_shapes.specs.Shaped.{Shaped, Gives, OnAnswer, faults_in};
+ghost use Rattle.toml_value.specs.Views.{value_view, values_view};
 
 use crate::hundredths::Hundredths;
-use crate::shape::{DeserError, ErrorKind, Kind, ShapeErrors, answer, refuse, refuse_kind};
-use crate::value::{Value, ValueInner, Values};
 use deny_text::{ListOf, Spanned, Text, Texts};
 use std::alloc::{AllocError, Global};
+use toml_shapes::{DeserError, ErrorKind, Kind, ShapeErrors, answer, refuse};
+use toml_value::{Value, ValueInner, Values, refuse_kind};
 
 /// A type that is read from a value, in a context.
 pub trait Deserialize<X> {

@@ -2,20 +2,22 @@
 ghost use Rattle.std.specs.Prelude.{◌≡◌, ◌++◌, option_map, is_some, IfOk, OnOk};
 ghost use Rattle.policy_toml.specs.HelperState.{state_of, opened_table, without_key, without_faults};
 ghost use Rattle.policy_toml.specs.HelperState.{optional_of, after_optional, required_of};
-ghost use Rattle.policy_toml.specs.HelperState.{faults_at_end, unexpected_faults, given_back, target_at_exit};
-ghost use Rattle.policy_toml.specs.Readings.{left_by, spanned_of};
-ghost use Rattle.policy_toml.specs.Removal.{entry_at, names_in};
-ghost use Rattle.policy_toml.specs.Shaped.{Gives, GivesBy, HasFaults, IsToldBy, OnFaults, answer_of};
-ghost use Rattle.policy_toml.specs.Shapes.{fault_alone, missing};
-ghost use Rattle.policy_toml.specs.Views.{value_view, entries_view};
+ghost use Rattle.policy_toml.specs.HelperState.{faults_at_end, unexpected_faults, target_at_exit};
+ghost use Rattle.toml_value.specs.Taken.{given_back};
+ghost use Rattle.policy_toml.specs.Readings.{spanned_of};
+ghost use Rattle.toml_value.specs.Taken.{left_by};
+ghost use Rattle.toml_value.specs.Removal.{entry_at, names_in};
+ghost use Rattle.toml_shapes.specs.Shaped.{Gives, GivesBy, HasFaults, IsToldBy, OnFaults, answer_of};
+ghost use Rattle.toml_shapes.specs.Shapes.{fault_alone, missing};
+ghost use Rattle.toml_value.specs.Views.{value_view, entries_view};
 
 use crate::deserialize::{Deserialize, read_value};
-use crate::shape::{DeserError, ErrorKind, Kind, ShapeError, ShapeErrors, answer, kind_fault};
-use crate::value::{Entries, Value};
 use deny_text::{Span, Spanned};
 use std::alloc::{AllocError, Global};
 use std::mem;
+use toml_shapes::{DeserError, ErrorKind, Kind, ShapeError, ShapeErrors, answer};
 use toml_subset::Key;
+use toml_value::{Entries, Value, kind_fault};
 
 /// A table of which keys are taken one after another. It collects what was wrong with their values.
 #[derive(Drop)]

@@ -1,6 +1,6 @@
 use Rattle.std.specs.Result.{result_ok}
-use Rattle.policy_toml.specs.Shaped.{faults_in}
-use Rattle.policy_toml.specs.Views.{value_view}
+use Rattle.toml_shapes.specs.Shaped.{faults_in}
+use Rattle.toml_value.specs.Views.{value_view}
 use Rattle.policy_toml.proofs.ListReading.{values_more, faults_more}
 use Rattle.policy_toml.proofs.deserialize.read_items.Goals as goal
 

@@ -1,8 +1,8 @@
 use Rattle.std.proofs.Common.{◌≡◌, map}
 use Rattle.std.specs.List.{filter_map, flat_map}
 use Rattle.std.specs.Result.{result_ok}
-use Rattle.policy_toml.specs.Shaped.{faults_in}
-use Rattle.policy_toml.specs.Views.{value_view}
+use Rattle.toml_shapes.specs.Shaped.{faults_in}
+use Rattle.toml_value.specs.Views.{value_view}
 use Rattle.policy_toml.proofs.deserialize.read_items.Given as goal
 
 -- what was read of the items so far, and what was wrong with them

@@ -1,6 +1,6 @@
 use Rattle.std.proofs.Common.{Some, sym, ap, ◌∙◌}
 use Rattle.policy_toml.specs.HelperState.{state_of, read_at, given_value, faults_of}
-use Rattle.policy_toml.specs.Views.{value_view}
+use Rattle.toml_value.specs.Views.{value_view}
 use Rattle.policy_toml.proofs.HelperLemmas.{read_at-taken, read_at-missing, after_nothing, after_faults}
 use Rattle.policy_toml.proofs.helper.TableHelper.optional.Goals as goal
 

@@ -1,6 +1,6 @@
 use Rattle.std.proofs.Common.{Some, sym, ap, ◌∙◌}
 use Rattle.policy_toml.specs.HelperState.{state_of, read_at, needed_value}
-use Rattle.policy_toml.specs.Views.{value_view}
+use Rattle.toml_value.specs.Views.{value_view}
 use Rattle.policy_toml.proofs.HelperLemmas.{read_at-taken, read_at-missing, needed-refused, needed-missing}
 use Rattle.policy_toml.proofs.helper.TableHelper.required.Goals as goal
 

@@ -1,5 +1,0 @@
-use Rattle.std.proofs.Common.{length}
-use Rattle.policy_toml.proofs.tree.put.+put_along.Given as goal
-
-abbrev pub decreases-put_along : goal.decreases-put_along
-decreases-put_along l = length l.rest

@@ -1,5 +1,0 @@
-use Rattle.std.proofs.Common.{◌≡◌, map, take}
-use Rattle.policy_toml.proofs.value.removal.names_of.Given as goal
-
-abbrev pub invariant-entries : goal.invariant-entries
-invariant-entries l = l.names ≡ map (λ p. p.0.name.text) (take l.key-index l.entries)

@@ -1,0 +1,5 @@
+pub mod DeserText
+pub mod Kinds
+pub mod ShapeViews
+pub mod Shaped
+pub mod Shapes

@@ -1,0 +1,61 @@
+-- What a type makes of a value: the value that was read, or what is wrong with it.
+use Rattle.std.specs.Prelude.{◌≡◌, List, [], ◌∷◌, Option, Some, None, Result, Ok, Err, ⊤}
+use Rattle.toml_shapes.specs.Shapes.{Fault}
+use Rattle.toml_shapes.specs.declared.shape.DeserError.{DeserError}
+use Rattle.toml_shapes.specs.declared.shape.DeserError.TheVariants.{Faults, Memory}
+
+abbrev pub Shaped : Type 0 → Type 0
+Shaped T = Result T (List Fault)
+
+abbrev pub shaped_map : {A B : Type 0} → (A → B) → Shaped A → Shaped B
+shaped_map f (Ok x) = Ok (f x)
+shaped_map f (Err faults) = Err faults
+
+abbrev pub shaped_then : {A B : Type 0} → (A → Shaped B) → Shaped A → Shaped B
+shaped_then f (Ok x) = f x
+shaped_then f (Err faults) = Err faults
+
+abbrev pub faults_in : {A : Type 0} → Shaped A → List Fault
+faults_in (Ok x) = []
+faults_in (Err faults) = faults
+
+-- the value, where nothing was wrong with it
+abbrev pub answer_of : {A : Type 0} → List Fault → A → Shaped A
+answer_of [] x = Ok x
+answer_of (fault ∷ faults) x = Err (fault ∷ faults)
+
+abbrev pub HasFaults : List Fault → Type 0
+HasFaults [] = ⊥
+HasFaults (fault ∷ faults) = ⊤
+
+-- the error tells these faults, or that memory was wanting
+abbrev pub IsToldBy : DeserError → List Fault → Type 0
+IsToldBy (Faults told) faults = (told ≡ faults) × HasFaults told
+IsToldBy Memory faults = ⊤
+
+-- The error tells the faults of a reading, of which there is one at least. Memory may end anywhere.
+abbrev pub Tells : {A : Type 0} → Shaped A → DeserError → Type 0
+Tells read (Faults faults) = (read ≡ Err faults) × HasFaults faults
+Tells read Memory = ⊤
+
+-- the answer is the reading: its value, or its faults
+abbrev pub Gives : {A : Type 0} → Shaped A → Result A DeserError → Type 0
+Gives read (Ok x) = read ≡ Ok x
+Gives read (Err error) = Tells read error
+
+-- the same of an answer that is seen by `view`
+abbrev pub GivesBy : {A B : Type 0} → (B → A) → Shaped A → Result B DeserError → Type 0
+GivesBy view read (Ok x) = read ≡ Ok (view x)
+GivesBy view read (Err error) = Tells read error
+
+-- a fact of each answer but want of memory
+abbrev pub OnAnswer : {A : Type 0} → Result A DeserError → Type 0 → Type 0
+OnAnswer (Ok x) P = P
+OnAnswer (Err (Faults faults)) P = P
+OnAnswer (Err Memory) P = ⊤
+
+-- a fact of an answer that tells faults
+abbrev pub OnFaults : {A : Type 0} → Result A DeserError → Type 0 → Type 0
+OnFaults (Ok x) P = ⊤
+OnFaults (Err (Faults faults)) P = P
+OnFaults (Err Memory) P = ⊤

@@ -1,0 +1,8 @@
+//! What may be wrong with the shape of a value: the words for it, and how an answer tells it.
+#![tactic(auto)]
+
+pub mod shape;
+#[cfg(test)]
+mod tests;
+
+pub use shape::{DeserError, ErrorKind, Kind, ShapeError, ShapeErrors, answer, one_fault, refuse};

@@ -1,0 +1,7 @@
+mod RemovalLemmas
+pub mod FinishLemmas
+pub mod Paths
+pub mod PutLemmas
+pub mod TreeLemmas
+pub mod TurnLemmas
+pub mod ValueViews

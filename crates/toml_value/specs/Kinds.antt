@@ -1,0 +1,13 @@
+-- The kind of a value.
+use Rattle.toml_subset.specs.Data as «data»
+use Rattle.toml_subset.specs.Data.{Content}
+use Rattle.toml_shapes.specs.declared.shape.Kind.{Kind}
+use Rattle.toml_shapes.specs.declared.shape.Kind.TheVariants.{String, Integer, Decimal, Boolean, Array, Table}
+
+abbrev pub kind_of : Content → Kind
+kind_of (data.string w) = String
+kind_of (data.integer z) = Integer
+kind_of (data.decimal z) = Decimal
+kind_of (data.boolean b) = Boolean
+kind_of (data.array items) = Array
+kind_of (data.table entries) = Table

@@ -1,0 +1,16 @@
+//! Values of the subset of TOML, each with its place in the text: what they hold, how they are read, and what
+//! is taken out of them.
+#![tactic(auto)]
+
+mod kind;
+#[cfg(test)]
+mod tests;
+mod tree;
+pub mod value;
+mod values;
+#[cfg(test)]
+mod values_tests;
+
+pub use kind::{kind_fault, refuse_kind};
+pub use value::{Entries, Value, ValueInner, Values};
+pub use values::read_value;

@@ -1,0 +1,113 @@
+//! Tables that grow key by key, as the table rules of the subset have them.
+ghost use Rattle.std.specs.Prelude.{◌≡◌, ◌<◌, length, get_or, set, false, IsTrue, IfOk, IfSome, option_map};
+ghost use Rattle.key_index.specs.KeyPlaces.{place_of};
+ghost use Rattle.toml_subset.specs.TableFaults.{node_at};
+ghost use Rattle.toml_subset.specs.Tables.{unbranched, has_key, added};
+ghost use Rattle.toml_value.specs.BranchViews.{node_view, branches_view, is_whole, is_whole_node};
+ghost use Rattle.toml_value.specs.declared.tree.Branches.{out-Branches};
+
+mod fault;
+mod finish;
+mod put;
+mod tables;
+#[cfg(test)]
+mod tests;
+
+use crate::value::Value;
+use deny_text::Span;
+pub(crate) use fault::DEPTH_LIMIT;
+use key_index::KeyIndex;
+use std::alloc::{AllocError, Global};
+use std::mem;
+pub(crate) use tables::{Awaiting, Tree};
+use toml_subset::Key;
+
+/// What made a table.
+#[derive(Clone, Copy)]
+pub(crate) enum Mark {
+    /// A header of its own.
+    Header,
+    /// A part of a header before the last.
+    Implicit,
+    /// A part of a dotted key.
+    Dotted,
+}
+
+/// What stands at a key.
+#[derive(Drop)]
+#[cycle(tree)]
+pub(crate) enum Node<'de> {
+    /// A value as it was written, which nothing extends.
+    Closed(Value<'de>),
+    /// A table that may grow, with its place.
+    Growing(Span, Mark, Branches<'de>),
+}
+
+/// The keys of a table that may grow, in the order in which they first appear, and what stands at each.
+#[derive(Drop)]
+#[cycle(tree)]
+pub(crate) struct Branches<'de> {
+    keys: KeyIndex<'de>,
+    nodes: Vec<Node<'de>>,
+}
+
+impl<'de> Branches<'de> {
+    pub(crate) fn new(alloc: Global) -> Branches<'de>
+        ensures empty { branches_view result ≡ unbranched }
+        ensures whole { IsTrue (is_whole result) }
+    {
+        Branches {
+            keys: KeyIndex::new(alloc),
+            nodes: Vec::new(alloc),
+        }
+    }
+
+    /// The place of a key.
+    fn find(&self, key: &Key<'_>) -> Option<usize>
+        ensures { result ≡ place_of key.now.name.text (out-Branches self.now).keys }
+    {
+        self.keys.find(key.name.as_str())
+    }
+
+    /// What stands at a key.
+    fn at(&self, key: &Key<'_>) -> Option<&Node<'de>>
+        requires { IsTrue (is_whole self.now) }
+        ensures value { option_map (λ node. node_view node.now) result
+            ≡ node_at key.now (branches_view self.now) }
+        ensures whole { IfSome result (λ node. IsTrue (is_whole_node node.now)) }
+    {
+        let place = self.find(key)?;
+        Some(&self.nodes[place])
+    }
+
+    /// The table with a further key, which it does not have. Where memory ends, nothing is left.
+    fn with(
+        self,
+        alloc: Global,
+        key: Key<'de>,
+        node: Node<'de>,
+    ) -> Result<Branches<'de>, AllocError>
+        requires whole { IsTrue (is_whole self) }
+        requires node { IsTrue (is_whole_node node) }
+        requires new { has_key key (branches_view self) ≡ false }
+        ensures view { IfOk result (λ new. branches_view new
+            ≡ added key.entry (node_view node.entry) (branches_view self.entry)) }
+        ensures whole { IfOk result (λ new. IsTrue (is_whole new)) }
+    {
+        let Branches { keys, mut nodes } = self;
+        let keys = keys.with(alloc, key)?;
+        nodes.push(node)?;
+        Ok(Branches { keys, nodes })
+    }
+
+    /// Puts another node at a place, and hands out the one that was there.
+    fn replace(&mut self, place: usize, node: Node<'de>) -> Node<'de>
+        requires { place < length (out-Branches self.old).nodes.items }
+        ensures keys { (out-Branches self.new).keys ≡ (out-Branches self.old).keys }
+        ensures nodes { (out-Branches self.new).nodes.items
+            ≡ set (out-Branches self.old).nodes.items place node.entry }
+        ensures value { result ≡ get_or (out-Branches self.old).nodes.items place result }
+    {
+        mem::replace(&mut self.nodes[place], node)
+    }
+}
