@@ -10,5 +10,5 @@ pub mod metadata;
 
 pub use edge::{DepKind, Edge, Edges, Kinds};
 pub use krate::{FeatureMap, Krate};
-pub use metadata::Metadata;
+pub use metadata::{Metadata, MetadataParts};
 pub use source_core::{GitSpec, Source, SourceError, matches_address, normalize_git_url};

@@ -23,6 +23,15 @@ pub struct Metadata {
     root: Option<usize>,
 }
 
+/// What metadata holds besides edges: the crates in the order of their ids, the ids of the members and the root
+/// folder of the workspace.
+#[derive(Drop)]
+pub struct MetadataParts {
+    pub crates: Vec<Krate>,
+    pub members: Texts,
+    pub workspace_root: PathBuf,
+}
+
 impl Model for Metadata {
     ghost use Rattle.graph_core.specs.Metadata.{Graph, FitTogether};
     ghost use Rattle.graph_core.specs.Graph.{graph_with};
@@ -59,6 +68,19 @@ impl Metadata {
         }
     }
 
+    /// Takes the crates, the members and the root folder out, by value.
+    pub fn into_parts(self) -> MetadataParts
+        ensures crates { map record_of result.crates.items ≡ map (λ node. node.krate) self.nodes }
+        ensures members { result.members ≡ self.members }
+        ensures workspace_root { result.workspace_root ≡ self.workspace_root }
+    {
+        MetadataParts {
+            crates: self.crates,
+            members: self.members,
+            workspace_root: self.workspace_root,
+        }
+    }
+
     /// How many crates there are.
     pub fn len(&self) -> usize
         ensures { result ≡ length self.now.nodes }
@@ -92,7 +114,7 @@ impl Metadata {
     }
 
     /// The places of the members.
-    pub(crate) fn member_places(&self) -> &[usize]
+    pub fn member_places(&self) -> &[usize]
         ensures value { map (id_of_node self.now) result.now ≡ self.now.members }
         ensures within { ArePlaces (length self.now.nodes) result.now }
     {
@@ -107,7 +129,7 @@ impl Metadata {
     }
 
     /// The place of the root crate, where there is one.
-    pub(crate) fn root(&self) -> Option<usize>
+    pub fn root(&self) -> Option<usize>
         ensures value { option_map (id_of_node self.now) result ≡ self.now.root }
         ensures within { IsPlace (length self.now.nodes) result }
     {
