@@ -1,16 +1,15 @@
 -- The expression that items without a fault are.
-use Rattle.std.proofs.Common.{◌≡◌, ◌∙◌, refl, sym, ap, subst, ℕ, ◌<◌, Bool, false, nat_eq, List, [], ◌∷◌, append-nil, Option, Some, None, length, arith}
-use Rattle.std.proofs.lemmas.Bool.Decides.{nat_tests}
+use Rattle.std.proofs.Common.{◌≡◌, ◌∙◌, refl, sym, ap, subst, ℕ, ◌<◌, List, [], ◌∷◌, append-nil, Some, None, length, arith}
 use Rattle.std.proofs.lemmas.List.{length-append}
 use Rattle.std.specs.Str.{IsUtf8}
 use Rattle.catalog_core.specs.Catalog.{CatalogLists, IsCatalog}
 use Rattle.term_core.specs.declared.mode.ParseMode.{ParseMode}
-use Rattle.term_core.specs.declared.error.ParseError.{ParseError}
 use Rattle.term_core.specs.declared.item.Item.{Item}
 use Rattle.term_core.specs.declared.item.Wanted.TheVariants.{Term as wants_term}
 use Rattle.term_core.specs.declared.term.ExpressionReq.{ExpressionReq}
 use Rattle.term_core.specs.Items.{items_of}
 use Rattle.term_core.specs.Faults.{fault_from, fault_of, first_fault}
+use Rattle.term_core.proofs.FaultLemmas.{no}
 use Rattle.spdx_core.specs.declared.node.ExprNode.{ExprNode}
 use Rattle.spdx_core.specs.declared.node.ExprNode.TheVariants.{Or as or_node}
 use Rattle.spdx_core.specs.Grammar.{Tree, Rule, Reads, Spells, Allowed, simple, simple_with, grouped, one_part, and, one_conjunction, or}
@@ -32,14 +31,10 @@ some_terms (and n from to before behind left right some more l r) = let first : 
 some_terms (one_conjunction n items tree terms reads) = some_terms reads
 some_terms (or n from to before behind left right some more l r) = let first : 0 < length some = some_terms l in omega (arith, length-append some more)
 
-fault_of_some : (mode : ParseMode) (len : ℕ) (items : List Item) → 0 < length items → fault_of mode len items ≡ fault_from mode len wants_term [] items
-fault_of_some mode len [] some = absurd (omega arith)
-fault_of_some mode len (it ∷ items) some = refl
-
--- the first fault of a text is that of its items
-pub told : (mode : ParseMode) (lists : CatalogLists) (text : List ℕ) (items : List Item) (fault : Option ParseError) → items ≡ items_of mode lists text → 0 < length items → fault_from mode (length text) wants_term [] items ≡ fault
-    → first_fault mode lists text ≡ fault
-told mode lists text items fault is some h = ap (fault_of mode (length text)) (sym is) ∙ fault_of_some mode (length text) items some ∙ h
+-- a text without a fault has none among its items
+fine_from : (mode : ParseMode) (len : ℕ) (items : List Item) → fault_of mode len items ≡ None → fault_from mode len wants_term [] items ≡ None
+fine_from mode len [] none = no none
+fine_from mode len (it ∷ items) none = none
 
 -- what the reader made of a text
 pub record Made (mode : ParseMode) (lists : CatalogLists) (text : List ℕ) (nodes : List ExprNode) (terms : List ExpressionReq) : Type 0 where
@@ -48,14 +43,15 @@ pub record Made (mode : ParseMode) (lists : CatalogLists) (text : List ℕ) (nod
   pub postfix_is : nodes ≡ postfix tree
   pub fine : first_fault mode lists text ≡ None
 
-made_by : (mode : ParseMode) (lists : CatalogLists) (text : List ℕ) (items : List Item) (m : Machine) (tree : Tree) (terms : List ExpressionReq) → items ≡ items_of mode lists text → fault_from mode (length text) wants_term [] items ≡ None
-    → first_fault mode lists text ≡ None → m ≡ run no_machine items → Spells mode lists text tree terms → Made mode lists text (written m.level.or or_node m.nodes) m.terms
-made_by mode lists text items m tree terms is fine none ran spells =
-    let whole : ReadWhole [] [] (items_of mode lists text) [] tree terms = complete spells [] None None [] [] refl in
+made_by : (mode : ParseMode) (lists : CatalogLists) (text : List ℕ) (m : Machine) (tree : Tree) (terms : List ExpressionReq) → first_fault mode lists text ≡ None → m ≡ run no_machine (items_of mode lists text)
+    → Spells mode lists text tree terms → Made mode lists text (written m.level.or or_node m.nodes) m.terms
+made_by mode lists text m tree terms none ran spells =
+    let items = items_of mode lists text in
+    let whole : ReadWhole [] [] items [] tree terms = complete spells [] None None [] [] refl in
     let read : after_items nothing_read items ≡ record { outer = []; level = record { sum = whole.sum; product = Some whole.last }; terms = terms } =
-    ap (after_items nothing_read) (is ∙ sym (append-nil (items_of mode lists text))) ∙ whole.read in
+    ap (after_items nothing_read) (sym (append-nil items)) ∙ whole.read in
     let machine : m ≡ shown (record { outer = []; level = record { sum = whole.sum; product = Some whole.last }; terms = terms }) =
-    ran ∙ run_same mode (length text) wants_term [] nothing_read items fine tt ∙ ap shown read in
+    ran ∙ run_same mode (length text) wants_term [] nothing_read items (fine_from mode (length text) items none) tt ∙ ap shown read in
     let same_terms : m.terms ≡ terms = ap (λ k. k.terms) machine in
     record {
       tree = tree;
@@ -64,12 +60,11 @@ made_by mode lists text items m tree terms is fine none ran spells =
       fine = none;
     }
 
-pub made : (mode : ParseMode) (lists : CatalogLists) (text : List ℕ) (items : List Item) (m : Machine) → items ≡ items_of mode lists text → 0 < length items → fault_from mode (length text) wants_term [] items ≡ None
-    → m ≡ run no_machine items → Made mode lists text (written m.level.or or_node m.nodes) m.terms
-made mode lists text items m is some fine ran =
-    let none : first_fault mode lists text ≡ None = told mode lists text items None is some fine in
+made : (mode : ParseMode) (lists : CatalogLists) (text : List ℕ) (m : Machine) → first_fault mode lists text ≡ None → m ≡ run no_machine (items_of mode lists text)
+    → Made mode lists text (written m.level.or or_node m.nodes) m.terms
+made mode lists text m none ran =
     let tree = has_tree mode lists text none in
-    made_by mode lists text items m tree.0 tree.1 is fine none ran tree.2
+    made_by mode lists text m tree.0 tree.1 none ran tree.2
 
 -- what was made is kept, and is what the text spells
 pub kept : (mode : ParseMode) (lists : CatalogLists) (text : List ℕ) (nodes : List ExprNode) (terms : List ExpressionReq) → IsCatalog lists → IsUtf8 text → Made mode lists text nodes terms → IsKept text terms nodes
@@ -86,14 +81,9 @@ read_is mode lists text own nodes terms same m =
     let tree : tree_of nodes ≡ m.tree = ap (λ all. tree_of all) m.postfix_is ∙ tree_of_postfix m.tree in
     record { text_kept = same; spelled = subst (λ t. Spells mode lists text t terms) (sym tree) m.spells; fine = m.fine }
 
-not_empty : (n : ℕ) → nat_eq n 0 ≡ false → 0 < n
-not_empty n h = grind (arith, nat_tests)
-
 -- what the reader leaves once it is finished
-pub finished : (mode : ParseMode) (lists : CatalogLists) (text : List ℕ) (items : List Item) (len : ℕ) (empty : Bool) (m : Machine) (nodes : List ExprNode) (terms : List ExpressionReq)
-    → items ≡ items_of mode lists text → len ≡ length items → empty ≡ nat_eq len 0 → empty ≡ false → fault_from mode (length text) wants_term [] items ≡ None → m ≡ run no_machine items
+pub finished : (mode : ParseMode) (lists : CatalogLists) (text : List ℕ) (m : Machine) (nodes : List ExprNode) (terms : List ExpressionReq) → first_fault mode lists text ≡ None → m ≡ run no_machine (items_of mode lists text)
     → nodes ≡ written m.level.or or_node m.nodes → terms ≡ m.terms → Made mode lists text nodes terms
-finished mode lists text items len empty m nodes terms is is_len is_empty has fine ran is_nodes is_terms =
-    let some : 0 < length items = subst (λ n. 0 < n) is_len (not_empty len (sym is_empty ∙ has)) in
-    let done : Made mode lists text (written m.level.or or_node m.nodes) m.terms = made mode lists text items m is some fine ran in
+finished mode lists text m nodes terms fine ran is_nodes is_terms =
+    let done : Made mode lists text (written m.level.or or_node m.nodes) m.terms = made mode lists text m fine ran in
     subst (λ all. Made mode lists text all terms) (sym is_nodes) (subst (λ all. Made mode lists text (written m.level.or or_node m.nodes) all) (sym is_terms) done)

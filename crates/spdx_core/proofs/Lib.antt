@@ -8,6 +8,7 @@ pub mod NameItems
 pub mod NoFault
 pub mod OnePart
 pub mod PrintedTerms
+pub mod ReadText
 pub mod ReadingLemmas
 pub mod SpellingLemmas
 pub mod StackLemmas

@@ -1,12 +1,12 @@
 -- What the private calls of the reader of expressions answer.
-use Rattle.std.specs.Prelude.{◌≡◌, ℕ, List, [], Some, None, Result, Ok, Err}
+use Rattle.std.specs.Prelude.{◌≡◌, ℕ, List, Some, None, Result, Ok, Err}
+use Rattle.catalog_core.specs.Catalog.{CatalogLists}
 use Rattle.term_core.specs.declared.mode.ParseMode.{ParseMode}
 use Rattle.term_core.specs.declared.error.ExprError.{ExprError}
 use Rattle.term_core.specs.declared.error.ExprError.TheVariants.{Parse, Memory}
 use Rattle.term_core.specs.declared.item.Item.{Item}
-use Rattle.term_core.specs.declared.item.Wanted.TheVariants.{Term as wants_term}
-use Rattle.term_core.specs.Items.{wanted_after}
-use Rattle.term_core.specs.Faults.{fault_at, fault_from, has_open, opened_after}
+use Rattle.term_core.specs.Items.{wanted_after, items_of}
+use Rattle.term_core.specs.Faults.{fault_at, first_fault, has_open, opened_after}
 use Rattle.spdx_core.specs.declared.reader.Reader.{Reader}
 use Rattle.spdx_core.specs.declared.read.Progress.{Progress}
 use Rattle.spdx_core.specs.Machine.{machine_of, no_machine, advanced, run}
@@ -23,12 +23,12 @@ StepAnswers mode old item new (Ok done) = Steps mode old item new
 StepAnswers mode old item new (Err (Parse fault)) = fault_at mode old.wanted (has_open old.opened) item.what item.span ≡ Some fault
 StepAnswers mode old item new (Err Memory) = Unit {0}
 
--- items without a fault are all taken
-pub record AllTaken (mode : ParseMode) (len : ℕ) (items : List Item) (reader : Reader) : Type 0 where
-  pub fine : fault_from mode len wants_term [] items ≡ None
-  pub machine : machine_of reader ≡ run no_machine items
+-- the items of a text without a fault are all taken
+pub record AllTaken (mode : ParseMode) (lists : CatalogLists) (text : List ℕ) (reader : Reader) : Type 0 where
+  pub fine : first_fault mode lists text ≡ None
+  pub machine : machine_of reader ≡ run no_machine (items_of mode lists text)
 
-abbrev pub ItemsAnswer : ParseMode → ℕ → List Item → Result Reader ExprError → Type 0
-ItemsAnswer mode len items (Ok reader) = AllTaken mode len items reader
-ItemsAnswer mode len items (Err (Parse fault)) = fault_from mode len wants_term [] items ≡ Some fault
-ItemsAnswer mode len items (Err Memory) = Unit {0}
+abbrev pub TextAnswer : ParseMode → CatalogLists → List ℕ → Result Reader ExprError → Type 0
+TextAnswer mode lists text (Ok reader) = AllTaken mode lists text reader
+TextAnswer mode lists text (Err (Parse fault)) = first_fault mode lists text ≡ Some fault
+TextAnswer mode lists text (Err Memory) = Unit {0}

@@ -4,14 +4,12 @@ ghost use Rattle.spdx_core.specs.Expressions.{ExpressionAnswers, IsExpression};
 ghost use Rattle.spdx_core.specs.Reading.{postfix};
 
 use crate::node::ExprNode;
-use crate::read::read_items;
+use crate::read::read_text;
 use catalog_core::Catalog;
 use deny_text::Text;
 use std::alloc::{AllocError, Global};
 use std::fmt;
 use std::marker::Model;
-use term_core::fault::empty_fault;
-use term_core::items::item_vec;
 use term_core::{ExprError, ExpressionReq, ParseMode};
 
 /// A licence expression as it was read: its text, its terms in text order, and how they are joined. It prints
@@ -70,11 +68,7 @@ impl Expression {
     ) -> Result<Expression, ExprError>
         ensures { ExpressionAnswers mode (C.lists catalog.now) text.now result }
     {
-        let items = item_vec(alloc, text, mode, catalog)?;
-        if items.is_empty() {
-            return Err(ExprError::Parse(empty_fault(text.len())));
-        }
-        let mut reader = read_items(alloc, items, mode, text.len())?;
+        let mut reader = read_text(alloc, text, mode, catalog)?;
         reader.finish()?;
         let text = Text::copy(alloc, text)?;
         Ok(Expression {

@@ -1,14 +1,16 @@
-//! Reading items up to their first fault.
+//! Reading the items of a text up to their first fault.
 ghost use Rattle.std.specs.Prelude.{◌≡◌, OnOk};
 ghost use Rattle.term_core.specs.Faults.{opened_after};
-ghost use Rattle.spdx_core.specs.Answers.{StepAnswers, ItemsAnswer};
+ghost use Rattle.spdx_core.specs.Answers.{StepAnswers, TextAnswer};
 
 use crate::reader::Reader;
 use crate::stack::Stack;
+use catalog_core::Catalog;
 use deny_text::Span;
 use std::alloc::{AllocError, Global};
-use term_core::fault::{end_fault, item_fault};
+use term_core::fault::{empty_fault, end_fault, item_fault};
 use term_core::item::{Item, Wanted, What};
+use term_core::items::next_item;
 use term_core::{ExprError, ParseMode};
 
 /// What was read, what is wanted behind it, and where the open parentheses stand.
@@ -49,25 +51,29 @@ impl Progress {
     }
 }
 
-/// Reads items, or tells the first fault among them or at their end.
-pub fn read_items(
+/// Reads the items of a text one by one, or tells the first fault among them or at their end.
+pub fn read_text<C: Catalog>(
     alloc: Global,
-    items: Vec<Item>,
+    text: &str,
     mode: ParseMode,
-    len: usize,
+    catalog: &C,
 ) -> Result<Reader, ExprError>
-    ensures { ItemsAnswer mode len items.items result }
+    ensures { TextAnswer mode (C.lists catalog.now) text.now result }
 {
     let mut progress = Progress {
         reader: Reader::new(alloc),
         wanted: Wanted::Term,
         opened: Stack::new(alloc),
     };
-    let mut rest = items.into_iter();
-    'items: while let Some(item) = rest.next() {
+    let mut place = 0;
+    'items: while let Some(item) = next_item(alloc, text, place, progress.wanted, mode, catalog)? {
+        place = item.span.end;
         progress.step(item, mode)?;
     }
-    match end_fault(len, progress.wanted, progress.opened.top()) {
+    if place == 0 {
+        return Err(ExprError::Parse(empty_fault(text.len())));
+    }
+    match end_fault(text.len(), progress.wanted, progress.opened.top()) {
         Some(fault) => Err(ExprError::Parse(fault)),
         None => Ok(progress.reader),
     }

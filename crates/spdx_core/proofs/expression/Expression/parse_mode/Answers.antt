@@ -1,4 +1,4 @@
-use Rattle.std.proofs.Common.{sym, ap, subst, vec_len}
+use Rattle.std.proofs.Common.{sym, ap, subst}
 use Rattle.spdx_core.specs.Expressions.{IsKept}
 use Rattle.spdx_core.specs.Machine.{machine_of}
 use Rattle.spdx_core.proofs.ExpressionLemmas.{Made, finished, kept, read_is}
@@ -6,17 +6,17 @@ use Rattle.spdx_core.proofs.expression.Expression.parse_mode.Goals as goal
 
 pub invariant_of-result : goal.invariant_of-result
 invariant_of-result g c =
-    let made : Made c.args.mode (g.C.Catalog.lists c.args.catalog.now) c.args.text.now c.finish.new.self.nodes.items c.finish.new.self.terms.items =
-    finished c.args.mode (g.C.Catalog.lists c.args.catalog.now) c.args.text.now c.in_ok-items.items.items (vec_len c.in_ok-items.items) c.is_empty.result (machine_of c.in_ok-reader.reader)
-    c.finish.new.self.nodes.items c.finish.new.self.terms.items c.in_ok-items.ensures c.in_ok-items.items.ok.0 c.is_empty.ensures c.if-is_empty.false c.in_ok-reader.ensures.fine c.in_ok-reader.ensures.machine
+    let lists = g.C.Catalog.lists c.args.catalog.now in
+    let made : Made c.args.mode lists c.args.text.now c.finish.new.self.nodes.items c.finish.new.self.terms.items =
+    finished c.args.mode lists c.args.text.now (machine_of c.in_ok-reader.reader) c.finish.new.self.nodes.items c.finish.new.self.terms.items c.in_ok-reader.ensures.fine c.in_ok-reader.ensures.machine
     c.in_ok-finish.ensures.nodes (ap (λ v. v.items) c.in_ok-finish.ensures.terms) in
     subst (λ text. IsKept text c.finish.new.self.terms.items c.finish.new.self.nodes.items) (sym c.in_ok-text.ensures)
-    (kept c.args.mode (g.C.Catalog.lists c.args.catalog.now) c.args.text.now c.finish.new.self.nodes.items c.finish.new.self.terms.items (g.met.C.Catalog.lawful c.args.catalog.now) c.utf8.text made)
+    (kept c.args.mode lists c.args.text.now c.finish.new.self.nodes.items c.finish.new.self.terms.items (g.met.C.Catalog.lawful c.args.catalog.now) c.utf8.text made)
 
 pub returns : goal.returns
 returns g c =
-    let made : Made c.args.mode (g.C.Catalog.lists c.args.catalog.now) c.args.text.now c.finish.new.self.nodes.items c.finish.new.self.terms.items =
-    finished c.args.mode (g.C.Catalog.lists c.args.catalog.now) c.args.text.now c.in_ok-items.items.items (vec_len c.in_ok-items.items) c.is_empty.result (machine_of c.in_ok-reader.reader)
-    c.finish.new.self.nodes.items c.finish.new.self.terms.items c.in_ok-items.ensures c.in_ok-items.items.ok.0 c.is_empty.ensures c.if-is_empty.false c.in_ok-reader.ensures.fine c.in_ok-reader.ensures.machine
+    let lists = g.C.Catalog.lists c.args.catalog.now in
+    let made : Made c.args.mode lists c.args.text.now c.finish.new.self.nodes.items c.finish.new.self.terms.items =
+    finished c.args.mode lists c.args.text.now (machine_of c.in_ok-reader.reader) c.finish.new.self.nodes.items c.finish.new.self.terms.items c.in_ok-reader.ensures.fine c.in_ok-reader.ensures.machine
     c.in_ok-finish.ensures.nodes (ap (λ v. v.items) c.in_ok-finish.ensures.terms) in
-    read_is c.args.mode (g.C.Catalog.lists c.args.catalog.now) c.args.text.now c.in_ok-text.text c.finish.new.self.nodes.items c.finish.new.self.terms.items c.in_ok-text.ensures made
+    read_is c.args.mode lists c.args.text.now c.in_ok-text.text c.finish.new.self.nodes.items c.finish.new.self.terms.items c.in_ok-text.ensures made
