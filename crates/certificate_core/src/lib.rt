@@ -1,0 +1,15 @@
+//! Certificates of verdicts on licence expressions: which terms are chosen and what allows each of them, or
+//! which terms stand in the way.
+#![tactic(auto)]
+
+pub mod certificates;
+pub mod laws;
+mod mark;
+mod stack;
+#[cfg(test)]
+mod tests;
+pub mod verdict;
+mod walk;
+
+pub use certificates::certificate;
+pub use verdict::{Hit, Hits, Places, Verdict};
