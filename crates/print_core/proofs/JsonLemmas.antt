@@ -1,7 +1,5 @@
 -- Tokens that are written one after another.
-use Rattle.std.proofs.Common.{◌≡◌, refl, ap, ap₂, subst, ◌∙◌, sym, ℕ, List, [], ◌∷◌, ◌++◌, append_assoc, flat_map, map, decimal, Result, Ok, Err, OnOk}
-use Rattle.std.specs.Str.{IsUtf8}
-use Rattle.std.proofs.lemmas.Str.{IsUtf8-append}
+use Rattle.std.proofs.Common.{◌≡◌, refl, ap, ap₂, subst, ◌∙◌, ℕ, List, [], ◌∷◌, ◌++◌, append_assoc, flat_map, map, decimal, Result, Ok, Err, OnOk}
 use Rattle.json.specs.Print.{print}
 use Rattle.json.specs.Token.{Token, end_array, key, string, number}
 use Rattle.json.specs.Tree.{items_tokens}
@@ -58,7 +56,3 @@ number_member old new name value wanted e adds = same old new _ _ (ap (λ known.
 pub held : (start items : List ℕ) (old new : Written) (tokens : List Token) → old.before ≡ start → old.tokens ≡ [] → Adds old new tokens → items ≡ new.before ++ print new.tokens → items ≡ start ++ print tokens
 held start items old new tokens before none adds e =
     e ∙ ap₂ (λ bytes written. bytes ++ print written) (adds.before ∙ before) (adds.tokens ∙ ap (λ written. written ++ tokens) none)
-
-pub held_utf8 : (start items : List ℕ) (old new : Written) (tokens : List Token) → old.before ≡ start → Adds old new tokens → items ≡ new.before ++ print new.tokens → IsUtf8 start → IsUtf8 (print new.tokens) → IsUtf8 items
-held_utf8 start items old new tokens before adds e first second =
-    subst IsUtf8 (sym (e ∙ ap (λ bytes. bytes ++ print new.tokens) (adds.before ∙ before))) (IsUtf8-append start (print new.tokens) first second)

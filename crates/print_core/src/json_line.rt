@@ -13,7 +13,6 @@ use deny_text::Text;
 use diag_core::{Diagnostic, Files, Label};
 use json::Writer;
 use std::alloc::{AllocError, Global};
-use std::mem;
 
 /// The code as a string, or null.
 fn write_code(out: &mut Writer, code: &Option<Text>) -> Result<(), AllocError>
@@ -109,7 +108,11 @@ fn write_finding(out: &mut Writer, files: &Files, diag: &Diagnostic) -> Result<(
     out.end_object()
 }
 
-/// Appends the text of the object, and a line feed.
+/// The bytes that a line has room for from the start.
+const LINE_ROOM: usize = 512;
+
+/// Appends the text of the object, and a line feed. The line is made apart, since a writer that begins behind a long text clears
+/// much room ahead.
 pub(crate) fn push_json_line(
     out: &mut String,
     alloc: Global,
@@ -119,9 +122,9 @@ pub(crate) fn push_json_line(
     requires { LabelsAreInside files.now diag.now }
     ensures { OnOk result (string_bytes out.new ≡ string_bytes out.old ++ json_line files.now diag.now) }
 {
-    let text = mem::replace(out, String::new(alloc));
-    let mut writer = Writer::new(text.into_bytes());
+    let mut writer = Writer::new(Vec::with_capacity(alloc, LINE_ROOM)?);
     write_finding(&mut writer, files, diag)?;
-    *out = unsafe { String::from_utf8_unchecked(writer.into_inner()) };
+    let line = unsafe { String::from_utf8_unchecked(writer.into_inner()) };
+    out.push_str(line.as_str())?;
     out.push_str("\n")
 }
