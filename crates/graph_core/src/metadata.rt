@@ -23,8 +23,8 @@ pub struct Metadata {
     root: Option<usize>,
 }
 
-/// What metadata holds besides edges: the crates in the order of their ids, the ids of the members and the root
-/// folder of the workspace.
+/// What metadata holds besides edges: the crates in the order of their ids, the ids of the members and the
+/// root folder of the workspace.
 #[derive(Drop)]
 pub struct MetadataParts {
     pub crates: Vec<Krate>,

@@ -111,8 +111,8 @@ fn write_finding(out: &mut Writer, files: &Files, diag: &Diagnostic) -> Result<(
 /// The bytes that a line has room for from the start.
 const LINE_ROOM: usize = 512;
 
-/// Appends the text of the object, and a line feed. The line is made apart, since a writer that begins behind a
-/// long text clears much room ahead.
+/// Appends the text of the object, and a line feed. The line is made apart, since a writer that begins behind
+/// a long text clears much room ahead.
 pub(crate) fn push_json_line(
     out: &mut String,
     alloc: Global,

@@ -336,8 +336,8 @@ fn first_item<C: Catalog>(
     Ok(item(what, place, len))
 }
 
-/// The first item of a text from a place on, where there is one: a reader goes on behind it, with what is wanted
-/// there.
+/// The first item of a text from a place on, where there is one: a reader goes on behind it, with what is
+/// wanted there.
 pub fn next_item<C: Catalog>(
     alloc: Global,
     text: &str,
