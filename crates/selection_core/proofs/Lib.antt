@@ -1,0 +1,16 @@
+mod Rising
+mod WalkLemmas
+mod PutLemmas
+mod LeftLemmas
+mod FollowLemmas
+mod GraphPlaces
+mod UnderWay
+mod TurnLemmas
+mod RootLemmas
+mod StandingLemmas
+mod KeptLemmas
+mod KeepLemmas
+mod ChosenLemmas
+mod CountLemmas
+mod SelectedLemmas
+mod Examples

@@ -1,0 +1,13 @@
+//! The crates of a workspace that are checked: those that walks from its roots reach.
+#![tactic(auto)]
+
+pub mod exclude;
+pub mod krates;
+mod marks;
+pub mod selection;
+mod standing;
+
+pub use exclude::{ExcludeSpec, ExcludeSpecs};
+pub use graph_core::{DepKind, Edge, Edges, Kinds, Krate, Metadata};
+pub use krates::{KrateRefs, Krates};
+pub use selection::{BuildError, Include, Selection};
