@@ -10,14 +10,17 @@ use std::alloc::{AllocError, Global};
 use std::io::Print;
 use std::time::{Clock, Instant};
 use std::{env, io};
-use term_core::ParseMode;
-use term_core::items::item_vec;
+use term_core::items::next_item;
+use term_core::{ParseMode, Wanted};
 
 /// A line of a text, of 64 bytes.
 const LINE: &str = "Permission is granted to copy, modify & merge this text (2024).\n";
 
 /// A line of an expression, of 64 bytes and six items.
 const TERMS: &str = "LGPL-2.1-only WITH OCaml-LGPL-linking-exception/mit license+ OR\n";
+
+/// A line of 64 bytes and twelve items.
+const DENSE: &str = "ISC OR Zlib AND X11 OR 0BSD WITH LLVM-exception OR Apache-2.0 /\n";
 
 /// The lines of one MiB.
 const LINES: u32 = 16_384;
@@ -50,8 +53,15 @@ fn known(calls: u32) -> u32 {
 
 /// How many items a text has.
 fn item_count(alloc: Global, text: &str) -> Result<usize, AllocError> {
-    let items = item_vec(alloc, text, ParseMode::LAX, &Table)?;
-    Ok(items.len())
+    let mut count: usize = 0;
+    let mut wanted = Wanted::Term;
+    let mut place = 0;
+    'items: while let Some(item) = next_item(alloc, text, place, wanted, ParseMode::LAX, &Table)? {
+        wanted = wanted.after(&item.what);
+        place = item.span.end;
+        count = count.wrapping_add(1);
+    }
+    Ok(count)
 }
 
 /// The microseconds that a scan takes.
@@ -128,10 +138,13 @@ fn bench_scan<R: Clock + Print>(
     show(rt, "scan", once, twice)
 }
 
-fn bench_items<R: Clock + Print>(rt: &R, alloc: Global, text: &str, more: &str) -> io::Result<()> {
-    let once = best_items(rt, alloc, text)?;
-    let twice = best_items(rt, alloc, more)?;
-    show(rt, "items", once, twice)
+/// Prints how long the items of a line take that is repeated.
+fn bench_items<R: Clock + Print>(rt: &R, alloc: Global, what: &str, line: &str) -> io::Result<()> {
+    let text = repeated(alloc, line, LINES)?;
+    let more = repeated(alloc, line, 2 * LINES)?;
+    let once = best_items(rt, alloc, text.as_str())?;
+    let twice = best_items(rt, alloc, more.as_str())?;
+    show(rt, what, once, twice)
 }
 
 fn bench_license<R: Clock + Print>(rt: &R) -> io::Result<()> {
@@ -144,27 +157,23 @@ fn bench<R: Clock + Print>(
     alloc: Global,
     store: &LicenseStore,
     text: &str,
-    terms: &str,
 ) -> io::Result<()> {
-    let more_text = repeated(alloc, LINE, 2 * LINES)?;
-    let more_terms = repeated(alloc, TERMS, 2 * LINES)?;
-    bench_scan(rt, alloc, store, text, more_text.as_str())?;
-    bench_items(rt, alloc, terms, more_terms.as_str())?;
+    let more = repeated(alloc, LINE, 2 * LINES)?;
+    bench_scan(rt, alloc, store, text, more.as_str())?;
+    bench_items(rt, alloc, "items", TERMS)?;
+    bench_items(rt, alloc, "dense items", DENSE)?;
     bench_license(rt)?;
     expressions::bench(rt, alloc)
 }
 
-fn count(
-    rt: &impl Print,
-    alloc: Global,
-    store: &LicenseStore,
-    text: &str,
-    terms: &str,
-) -> io::Result<()> {
+fn count(rt: &impl Print, alloc: Global, store: &LicenseStore, text: &str) -> io::Result<()> {
     let found = store.scan(alloc, text)?;
     println!(rt; "score {}", found.score)?;
-    let items = item_count(alloc, terms)?;
-    println!(rt; "{items} items")?;
+    let terms = repeated(alloc, TERMS, LINES)?;
+    let dense = repeated(alloc, DENSE, LINES)?;
+    let items = item_count(alloc, terms.as_str())?;
+    let more = item_count(alloc, dense.as_str())?;
+    println!(rt; "{items} items, {more} of the dense text")?;
     println!(rt; "{} names known", known(1000))?;
     expressions::count(rt, alloc)
 }
@@ -177,10 +186,9 @@ fn main(rt: HostRuntime) -> io::Result<()> {
     let alloc = rt.alloc();
     let store = LicenseStore::from_cache(alloc)?;
     let text = repeated(alloc, LINE, LINES)?;
-    let terms = repeated(alloc, TERMS, LINES)?;
     if is_bench {
-        bench(&rt, alloc, &store, text.as_str(), terms.as_str())
+        bench(&rt, alloc, &store, text.as_str())
     } else {
-        count(&rt, alloc, &store, text.as_str(), terms.as_str())
+        count(&rt, alloc, &store, text.as_str())
     }
 }
