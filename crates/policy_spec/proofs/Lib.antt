@@ -1,3 +1,4 @@
+mod Examples
 pub mod IndexLemmas
 pub mod MatchLemmas
 pub mod SameLemmas

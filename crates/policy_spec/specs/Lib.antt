@@ -1,6 +1,10 @@
+pub mod Extended
+pub mod Grammar
 pub mod Index
 pub mod Matching
 pub mod Order
 pub mod OrderLaws
+pub mod Reading
 pub mod Same
 pub mod Spec
+pub mod Views

@@ -4,6 +4,7 @@ ghost use Rattle.std.specs.Cmp.{IsTotalOrder};
 ghost use Rattle.policy_spec.specs.Order.{spec_order};
 ghost use Rattle.policy_spec.specs.Same.{AreSame};
 
+use crate::extended::PackageSpecOrExtended;
 use crate::package_spec::PackageSpec;
 use std::cmp::Ordering;
 
@@ -22,4 +23,16 @@ pub fn compares_specs(x: &PackageSpec, y: &PackageSpec) -> (bool, Ordering)
     ensures agree { IsTrue result.0 ↔ (result.1 ≡ Ordering.Equal) }
 {
     (x == y, x.cmp(y))
+}
+
+/// The same of specs with further keys, which do not count.
+pub fn compares_extended<T>(
+    x: &PackageSpecOrExtended<T>,
+    y: &PackageSpecOrExtended<T>,
+) -> (bool, Ordering)
+    ensures equality { IsTrue result.0 ↔ AreSame x.now.spec y.now.spec }
+    ensures order { result.1 ≡ spec_order x.now.spec y.now.spec }
+    ensures agree { IsTrue result.0 ↔ (result.1 ≡ Ordering.Equal) }
+{
+    compares_specs(&x.spec, &y.spec)
 }

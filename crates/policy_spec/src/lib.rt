@@ -1,15 +1,22 @@
 //! Package specs: which crates an entry of a policy is about.
 #![tactic(auto)]
 
+pub mod extended;
+mod fault;
 pub mod index;
 pub mod laws;
 pub mod matching;
 mod order;
 pub mod package_spec;
+mod reading;
+#[cfg(test)]
+mod reading_tests;
 mod same;
 #[cfg(test)]
 mod tests;
+mod text;
 
+pub use extended::PackageSpecOrExtended;
 pub use index::{HasSpec, Places, SpecIndex};
 pub use matching::{match_krate, match_req};
 pub use package_spec::PackageSpec;
