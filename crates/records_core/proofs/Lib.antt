@@ -1,4 +1,4 @@
-mod Drops
+pub mod Drops
 pub mod EachLemmas
 mod EntryLemmas
 mod FeatureLemmas
@@ -7,4 +7,5 @@ mod FloatWalks
 mod FoldLemmas
 mod LeftLemmas
 mod OrderLemmas
+pub mod RisingLemmas
 mod SoundLemmas

@@ -1,0 +1,94 @@
+-- The crates from what was heard of the metadata's file, by what each step answers.
+use Rattle.std.proofs.Common.{◌≡◌, ◌∙◌, refl, sym, ap, subst, ℕ, List, Option, Some, None, Result, Ok, Err, IfErr}
+use Rattle.graph_core.specs.Metadata.{Graph}
+use Rattle.records_core.specs.declared.fault.MetaError.{MetaError}
+use Rattle.records_core.specs.declared.fault.MetaError.TheVariants as records
+use Rattle.records_core.specs.Records.{records_of, IsCause}
+use Rattle.records_core.specs.Told.{Told}
+use Rattle.selection_core.specs.declared.selection.BuildError.{BuildError}
+use Rattle.selection_core.specs.declared.selection.BuildError.TheVariants as build
+use Rattle.selection_core.specs.Choice.{Choice}
+use Rattle.selection_core.specs.Listed.{Chosen}
+use Rattle.selection_core.specs.Roots as roots
+use Rattle.workspace_core.specs.declared.error.ReadFault.{ReadFault}
+use Rattle.workspace_core.specs.declared.error.ReadFault.TheVariants.{Failed, Absent, Folder, NotUtf8}
+use Rattle.workspace_core.specs.declared.error.KratesError.{KratesError}
+use Rattle.workspace_core.specs.declared.error.KratesError.TheVariants.{Memory, NotCarried, MetadataRead, MetadataSyntax, MetadataShape, NoRoots}
+use Rattle.workspace_core.specs.Cause.{heard_cause, ReadCounts}
+use Rattle.workspace_core.specs.Krates.{krates_cause, error_of_build, error_of_records, graph_in, graph_told, sparse_dir, AreFrom, AreOf, TellsGraph}
+
+-- ---- what is told
+
+error_told : (told : Option (Told Graph)) (error : MetaError) → IsCause error told → TellsGraph (graph_told told) (Err (error_of_records error))
+error_told told records.Memory cause = tt
+error_told told records.Syntax cause = ap graph_told cause
+error_told told (records.Shape fault) cause = ap graph_told cause
+
+-- the refusal of a text
+pub text_refused : (text dir : List ℕ) (heard : Result (List ℕ) ReadFault) (error : MetaError) → heard ≡ Ok text → dir ≡ sparse_dir
+    → IsCause error (records_of text dir) → TellsGraph (graph_in heard) (Err (error_of_records error))
+text_refused text dir heard error is named cause =
+    subst (λ one. TellsGraph (graph_in one) (Err (error_of_records error))) (sym is)
+    (error_told (records_of text sparse_dir) error (subst (λ one. IsCause error (records_of text one)) named cause))
+
+-- the graph of a text
+pub text_told : (text dir : List ℕ) (heard : Result (List ℕ) ReadFault) (graph : Graph) → heard ≡ Ok text → dir ≡ sparse_dir
+    → records_of text dir ≡ Some (Ok graph) → graph_in heard ≡ Ok graph
+text_told text dir heard graph is named tells =
+    ap graph_in is ∙ (ap (λ one. graph_told (records_of text one)) (sym named) ∙ ap graph_told tells)
+
+-- ---- the crates
+
+rootless : (told : Option (Told Graph)) (base excluded unpublished : ℕ) → graph_told told ≡ Err (NoRoots base excluded unpublished) → ⊥
+rootless None base excluded unpublished e = cc
+rootless (Some (Err fault)) base excluded unpublished e = cc
+rootless (Some (Ok graph)) base excluded unpublished e = cc
+
+never_rootless : (heard : Result (List ℕ) ReadFault) (base excluded unpublished : ℕ) → graph_in heard ≡ Err (NoRoots base excluded unpublished) → ⊥
+never_rootless (Ok text) base excluded unpublished e = rootless (records_of text sparse_dir) base excluded unpublished e
+never_rootless (Err fault) base excluded unpublished e = cc
+
+-- the refusal of the graph
+pub graph_refused : (choice : Choice) (heard : Result (List ℕ) ReadFault) (error : KratesError) → TellsGraph (graph_in heard) (Err error)
+    → AreFrom choice heard (Err error)
+graph_refused choice heard Memory tells = tt
+graph_refused choice heard (NotCarried what) tells = tells
+graph_refused choice heard (MetadataRead fault) tells = tells
+graph_refused choice heard MetadataSyntax tells = tells
+graph_refused choice heard (MetadataShape fault) tells = tells
+graph_refused choice heard (NoRoots base excluded unpublished) tells = absurd (never_rootless heard base excluded unpublished tells)
+
+-- the refusal of the selection
+pub build_refused : (choice : Choice) (heard : Result (List ℕ) ReadFault) (graph : Graph) (error : BuildError) → graph_in heard ≡ Ok graph
+    → roots.IsCause graph choice error → AreFrom choice heard (Err (error_of_build error))
+build_refused choice heard graph build.Memory tells cause = tt
+build_refused choice heard graph (build.NoRoots base excluded unpublished) tells cause = record { graph = graph; tells = tells; lacks = cause }
+
+-- ---- counts
+
+read_told : (told : Option (Told Graph)) (fault : ReadFault) → graph_told told ≡ Err (MetadataRead fault) → ⊥
+read_told None fault e = cc
+read_told (Some (Err other)) fault e = cc
+read_told (Some (Ok graph)) fault e = cc
+
+same_fault : (x y : ReadFault) → ◌≡◌ {A = Result Graph KratesError} (Err (MetadataRead x)) (Err (MetadataRead y)) → x ≡ y
+same_fault x y e = cc
+
+read_fault : (heard : Result (List ℕ) ReadFault) (fault : ReadFault) → graph_in heard ≡ Err (MetadataRead fault) → heard ≡ Err fault
+read_fault (Ok text) fault e = absurd (read_told (records_of text sparse_dir) fault e)
+read_fault (Err other) fault e = ap Err (same_fault other fault e)
+
+-- a failed read has the counts of the step
+pub krates_counts : (choice : Choice) (begun before after : ℕ) (heard : Result (List ℕ) ReadFault) (result : Result Chosen KratesError)
+    → ReadCounts begun before after (heard_cause heard) → AreFrom choice heard result → IfErr result (λ error. ReadCounts begun before after (krates_cause error))
+krates_counts choice begun before after heard (Ok chosen) counts from = tt
+krates_counts choice begun before after heard (Err Memory) counts from = tt
+krates_counts choice begun before after heard (Err (NotCarried what)) counts from = tt
+krates_counts choice begun before after heard (Err (MetadataRead (Failed first last))) counts from =
+    subst (λ one. ReadCounts begun before after (heard_cause one)) (read_fault heard (Failed first last) from) counts
+krates_counts choice begun before after heard (Err (MetadataRead Absent)) counts from = tt
+krates_counts choice begun before after heard (Err (MetadataRead Folder)) counts from = tt
+krates_counts choice begun before after heard (Err (MetadataRead (NotUtf8 at))) counts from = tt
+krates_counts choice begun before after heard (Err MetadataSyntax) counts from = tt
+krates_counts choice begun before after heard (Err (MetadataShape fault)) counts from = tt
+krates_counts choice begun before after heard (Err (NoRoots base excluded unpublished)) counts from = tt

@@ -1,0 +1,3 @@
+pub mod Cause
+pub mod Heard
+pub mod Krates

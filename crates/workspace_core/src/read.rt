@@ -1,0 +1,54 @@
+//! Reading a file as a text.
+ghost use Rattle.std.specs.Prelude.{◌≡◌, ◌≤◌, Some, IfOk};
+ghost use Rattle.std.specs.Option.{ForSome};
+ghost use Rattle.tree_core.specs.Content.{file};
+ghost use Rattle.tree_core.specs.Hearing.{KeepsTree};
+ghost use Rattle.workspace_core.specs.Cause.{ReadCounts, heard_cause};
+ghost use Rattle.workspace_core.specs.Heard.{IsHeard, heard_of};
+
+use crate::error::ReadFault;
+use deny_text::{Bytes, Text};
+use std::alloc::{AllocError, Global};
+use tree_core::{Tree, TreeError};
+
+/// A file's text, or why there is none.
+pub type Heard = Result<Text, ReadFault>;
+
+/// A file's bytes as a text, which is made of them without a copy.
+fn text_of(bytes: Bytes) -> Heard
+    ensures { result ≡ heard_of (Some (file bytes)) }
+{
+    match String::from_utf8(bytes.into_vec()) {
+        Ok(text) => Ok(Text::from(text)),
+        Err(error) => Err(ReadFault::NotUtf8 {
+            at: error.utf8_error().valid_up_to(),
+        }),
+    }
+}
+
+/// What is heard of the file at a path. `before` is the tree's count of faults when the run began.
+pub fn load<T: Tree>(
+    alloc: Global,
+    tree: &mut T,
+    path: &str,
+    before: u64,
+) -> Result<Heard, AllocError>
+    requires { before ≤ T.fault_count tree.old }
+    ensures answer { ForSome (T.content tree.old) (λ c. IfOk result
+        (IsHeard c before path.now (T.fault_count tree.old) (T.fault_count tree.new))) }
+    ensures kept { KeepsTree (T.content tree.old) (T.content tree.new)
+        (T.fault_count tree.old) (T.fault_count tree.new) }
+    ensures counts { IfOk result (λ heard.
+        ReadCounts before (T.fault_count tree.old) (T.fault_count tree.new) (heard_cause heard)) }
+{
+    match tree.read(alloc, path) {
+        Ok(bytes) => Ok(text_of(bytes)),
+        Err(TreeError::Absent) => Ok(Err(ReadFault::Absent)),
+        Err(TreeError::WrongKind) => Ok(Err(ReadFault::Folder)),
+        Err(TreeError::Failed) => Ok(Err(ReadFault::Failed {
+            before,
+            after: tree.faults(),
+        })),
+        Err(TreeError::Memory) => Err(AllocError),
+    }
+}
