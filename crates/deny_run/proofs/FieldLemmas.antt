@@ -13,7 +13,7 @@ use Rattle.spdx_core.specs.Grammar.{Spells}
 use Rattle.spdx_core.specs.Expressions.{IsRead}
 use Rattle.spdx_core.specs.Reading.{ExpressionView, expression_if, expression_of, after_items, nothing_read}
 use Rattle.spdx_core.proofs.SpellingLemmas.{is_read, is_spelled}
-use Rattle.graph_core.specs.declared.lone.Krate.{Krate}
+use Rattle.graph_core.specs.Krate.{Record}
 use Rattle.deny_run.specs.Given.{Given}
 use Rattle.deny_run.specs.Heard.{field_mode, of_one_term, field_of, expression_heard}
 use Rattle.deny_run.specs.Report.{ReadsField, HasExpression}
@@ -22,7 +22,7 @@ one_term : (read : ExpressionView) → length read.terms ≡ 1 → of_one_term r
 one_term read h = ap (λ n. cond (nat_eq n 1) (Some read) None) h
 
 -- what a field spells is heard
-pub heard_by : (given : Given) (config : List LicenseReq) (hearing : Hearing) (krate : Krate) (read : ExpressionView) → ReadsField given config hearing krate read → expression_heard given config hearing krate ≡ Some read
+pub heard_by : (given : Given) (config : List LicenseReq) (hearing : Hearing) (krate : Record) (read : ExpressionView) → ReadsField given config hearing krate read → expression_heard given config hearing krate ≡ Some read
 heard_by given config hearing krate read reads =
     ap (option_and_then (field_of given.lists)) reads.field
     ∙ ap (option_and_then of_one_term) (is_read field_mode given.lists read.text read.tree read.terms reads.spelled)
@@ -75,17 +75,17 @@ spelled_by lists (Some text) read h =
     refl h
 
 -- what is heard of a field is what it spells
-pub reads_by : (given : Given) (config : List LicenseReq) (hearing : Hearing) (krate : Krate) (read : ExpressionView) → expression_heard given config hearing krate ≡ Some read → ReadsField given config hearing krate read
+pub reads_by : (given : Given) (config : List LicenseReq) (hearing : Hearing) (krate : Record) (read : ExpressionView) → expression_heard given config hearing krate ≡ Some read → ReadsField given config hearing krate read
 reads_by given config hearing krate read h =
     let spelled = spelled_by given.lists krate.license read h in
     record { field = spelled.0; spelled = spelled.1; one = spelled.2 }
 
 -- the same of an expression that there is
-pub has_expression : (given : Given) (config : List LicenseReq) (hearing : Hearing) (krate : Krate) (found : Option ExpressionView) → found ≡ expression_heard given config hearing krate → IsSome found → HasExpression given config hearing krate
+pub has_expression : (given : Given) (config : List LicenseReq) (hearing : Hearing) (krate : Record) (found : Option ExpressionView) → found ≡ expression_heard given config hearing krate → IsSome found → HasExpression given config hearing krate
 has_expression given config hearing krate None is some = absurd (cc)
 has_expression given config hearing krate (Some read) is some = (read, reads_by given config hearing krate read (sym is))
 
-pub reads_reported : (given : Given) (config : List LicenseReq) (hearing : Hearing) (krate : Krate) (found : Option ExpressionView) → found ≡ expression_heard given config hearing krate → IsSome found
+pub reads_reported : (given : Given) (config : List LicenseReq) (hearing : Hearing) (krate : Record) (found : Option ExpressionView) → found ≡ expression_heard given config hearing krate → IsSome found
     → IsSomeAnd found (ReadsField given config hearing krate)
 reads_reported given config hearing krate None is some = absurd (cc)
 reads_reported given config hearing krate (Some read) is some = reads_by given config hearing krate read (sym is)

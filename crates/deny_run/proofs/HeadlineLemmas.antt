@@ -1,14 +1,22 @@
 -- The headline, from what a run answers.
-use Rattle.std.proofs.Common.{◌≡◌, ℕ, zero, suc, ◌+◌, IfErr, false, cond, nat_lt, List, [], ◌∷◌, count_by, Option, Result, Ok, Err, All, refl, sym, ap, subst, ◌∙◌, arith}
+use Rattle.std.proofs.Common.{◌≡◌, ℕ, zero, suc, ◌+◌, IfErr, Bool, true, false, cond, nat_lt, List, [], ◌∷◌, count_by, Option, Result, Ok, Err, All, refl, sym, ap, subst, ◌∙◌, arith}
+use Rattle.std.specs.Prelude.{is_none}
 use Rattle.std.specs.List.{AllByRecursion as ByRecursion}
 use Rattle.std.proofs.lemmas.Bool.Decides.{nat_tests}
 use Rattle.std.proofs.lemmas.List.Sums.{sum_by-cons}
-use Rattle.std.proofs.lemmas.List.Elements.{All-from_recursion}
+use Rattle.std.proofs.lemmas.List.Elements.{All-contains, All-from_recursion}
 use Rattle.tree_core.specs.Content.{Content}
 use Rattle.tree_core.specs.Hearing.{Hearing}
 use Rattle.tree_core.specs.Script.{FaultCounts, IsWithoutFault}
 use Rattle.tree_core.proofs.HearingLemmas.{none_failed}
+use Rattle.graph_core.specs.Krate.{Record}
+use Rattle.records_core.proofs.RisingLemmas.{graph-rising}
+use Rattle.selection_core.specs.Walks.{Selected}
+use Rattle.workspace_core.specs.Cause.{Cause, no_memory, told, failed_read, refused_write}
+use Rattle.workspace_core.specs.Krates.{sparse_dir}
+use Rattle.deny_run.specs.declared.error.Part.TheVariants.{Words, Policy, Crate}
 use Rattle.deny_run.specs.declared.error.Error.{Error}
+use Rattle.deny_run.specs.declared.error.Error.TheVariants.{Memory, NotCarried, ConfigRead, MetadataRead, MetadataSyntax, MetadataShape, NoRoots, WriteFault, NotYet}
 use Rattle.deny_run.specs.declared.report.Verdict.{Verdict}
 use Rattle.deny_run.specs.declared.report.Verdict.TheVariants.{Accepted, Rejected}
 use Rattle.deny_run.specs.declared.report.CrateReport.{CrateReport}
@@ -17,25 +25,58 @@ use Rattle.deny_run.specs.declared.report.Ended.{Ended}
 use Rattle.deny_run.specs.declared.report.Ended.TheVariants.{Checked, Refused}
 use Rattle.deny_run.specs.declared.report.Outcome.{Outcome}
 use Rattle.deny_run.specs.Counts.{is_against, counts_of, status_of}
-use Rattle.deny_run.specs.Error.{Cause, no_memory, told, failed_read, refused_write, cause_of, FreeOr, MayEndLawful}
+use Rattle.deny_run.specs.Error.{cause_of, FreeOr, MayEndLawful}
 use Rattle.deny_run.specs.Given.{Given}
 use Rattle.deny_run.specs.Headline.{EndsInReport, all_heard, Headline}
-use Rattle.deny_run.specs.Heard.{Asked, asked_of}
-use Rattle.deny_run.specs.Report.{Asks, IsAnswer, IsRefusal}
+use Rattle.deny_run.specs.Heard.{expression_heard, found_of}
+use Rattle.deny_run.specs.Report.{Asked, Asks, HasExpression, IsAnswer, IsRefusal}
 use Rattle.deny_run.specs.Run.{answer_of, exit_status}
 use Rattle.deny_run.specs.Script.{SummaryCut}
-use Rattle.deny_run.proofs.AnswerLemmas.{asked_of-from_Asks}
+use Rattle.deny_run.specs.Selection.{included, plain_choice, IsFirstWithout, Refuses, RefusesSelection}
+use Rattle.deny_run.proofs.AnswerLemmas.{found_of-from_Asks}
+use Rattle.deny_run.proofs.FieldLemmas.{heard_by}
+use Rattle.deny_run.proofs.ListedLemmas.{find-stands, stands-too}
 
--- a refusal where no read failed is that of the whole content
-refusal_heard : (given : Given) (content : Content) (counts : FaultCounts) (error : Error) → IsWithoutFault counts → IsRefusal given content counts.tree_before counts.tree_after error → asked_of given (all_heard content counts) ≡ Err error
-refusal_heard given content counts error quiet refused =
+-- a first crate without an expression is none of those that all have one
+crate_apart : (given : Given) (hearing : Hearing) (asked : Asked) (id : List ℕ) → Asks given hearing asked
+    → IsFirstWithout given hearing (record { request = asked.request; config = asked.config; graph = asked.graph }) id → ⊥
+crate_apart given hearing asked id asks first =
+    let lacks = λ (one : Record). is_none (expression_heard given asked.config hearing one) in
+    let (stands, none) = find-stands lacks first.crates first.krate first.first in
+    let rising = graph-rising asks.metadata.text sparse_dir asked.graph asks.metadata.tells in
+    let other = stands-too asked.graph (Selected asked.graph plain_choice included) first.crates asked.crates first.krate rising first.selected asks.selected stands in
+    let (read, reads) = All-contains (HasExpression given asked.config hearing) asked.crates first.krate asks.expressions other in
+    let both : ◌≡◌ {A = Bool} true false = sym none ∙ ap is_none (heard_by given asked.config hearing first.krate read reads) in
+    cc
+
+-- lawful input has a selection
+selection_apart : (given : Given) (hearing : Hearing) (asked : Asked) (error : Error) → Asks given hearing asked
+    → RefusesSelection given hearing (record { request = asked.request; config = asked.config; graph = asked.graph }) error → ⊥
+selection_apart given hearing asked Memory asks refuses = refuses
+selection_apart given hearing asked (NotCarried what) asks refuses = refuses
+selection_apart given hearing asked (ConfigRead fault) asks refuses = refuses
+selection_apart given hearing asked (MetadataRead fault) asks refuses = refuses
+selection_apart given hearing asked MetadataSyntax asks refuses = refuses
+selection_apart given hearing asked (MetadataShape fault) asks refuses = refuses
+selection_apart given hearing asked (NoRoots base excluded unpublished) asks refuses = refuses.none asks.root
+selection_apart given hearing asked (WriteFault before after) asks refuses = refuses
+selection_apart given hearing asked (NotYet Words) asks refuses = refuses
+selection_apart given hearing asked (NotYet Policy) asks refuses = refuses
+selection_apart given hearing asked (NotYet (Crate id)) asks refuses = crate_apart given hearing asked id asks refuses
+
+-- lawful input without a fault is not refused
+not_refused : (given : Given) (content : Content) (counts : FaultCounts) (asked : Asked) (error : Error) → Asks given (all_heard content counts) asked
+    → IsWithoutFault counts → IsRefusal given content counts.tree_before counts.tree_after error → ⊥
+not_refused given content counts asked error asks quiet refused =
     let heard = refused.hearing in
     let none = none_failed counts.tree_before heard.failed counts.tree_after refused.heard.rises quiet.tree in
     let same : ◌≡◌ {A = Hearing} heard (all_heard content counts) =
     ap (λ held. record { content = held; begun = heard.begun; failed = heard.failed }) refused.heard.content
     ∙ ap (λ begun. record { content = content; begun = begun; failed = heard.failed }) refused.heard.begun
     ∙ ap (λ failed. record { content = content; begun = counts.tree_before; failed = failed }) none in
-    ap (asked_of given) (sym same) ∙ refused.asked
+    let refuses = subst (λ one. Refuses given one (found_of given one) error) same refused.refused in
+    selection_apart given (all_heard content counts) asked error asks
+    (subst (λ found. Refuses given (all_heard content counts) found error) (found_of-from_Asks given (all_heard content counts) asked asks) refuses)
 
 -- a cause that may end a lawful run, since no other one is there
 lawful_cause : (cause : Cause) (P : Type 0) (Cuts : Report → Type 0) (old new : Option (List ℕ)) (counts : FaultCounts) → FreeOr cause P → ¬ P → SummaryCut Cuts old new counts.out_before counts.out_after cause → IsWithoutFault counts → MayEndLawful cause
@@ -44,15 +85,12 @@ lawful_cause told P Cuts old new counts free fails cut quiet = absurd (fails fre
 lawful_cause (failed_read before after) P Cuts old new counts free fails cut quiet = absurd (fails free)
 lawful_cause (refused_write before after) P Cuts old new counts free fails cut quiet = absurd (quiet.out cut.2)
 
-differ : {X : Type 0} (x : X) (error : Error) (asked : Result X Error) → asked ≡ Ok x → asked ≡ Err error → ⊥
-differ x error asked ok err = let e : ◌≡◌ {A = Result _ Error} (Ok x) (Err error) = sym ok ∙ err in absurd (cc)
-
 -- lawful input without a fault ends in a report or in want of memory
 ends_lawful : (given : Given) (content : Content) (counts : FaultCounts) (asked : Asked) (Cuts : Report → Type 0) (old new : Option (List ℕ)) (ended : Ended) → Asks given (all_heard content counts) asked → IsWithoutFault counts → IsAnswer given content counts.tree_before counts.tree_after (answer_of ended) → IfErr (answer_of ended) (λ error. SummaryCut Cuts old new counts.out_before counts.out_after (cause_of error)) → EndsInReport ended
 ends_lawful given content counts asked Cuts old new (Checked report) asks quiet answer cut = tt
 ends_lawful given content counts asked Cuts old new (Refused error) asks quiet answer cut =
     lawful_cause (cause_of error) (IsRefusal given content counts.tree_before counts.tree_after error) Cuts old new counts answer
-    (λ refused. differ asked error (asked_of given (all_heard content counts)) (asked_of-from_Asks given (all_heard content counts) asked asks) (refusal_heard given content counts error quiet refused))
+    (not_refused given content counts asked error asks quiet)
     cut quiet
 
 -- no verdict is against a crate where none was counted

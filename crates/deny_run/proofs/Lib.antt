@@ -1,8 +1,9 @@
 pub mod AnswerLemmas
 pub mod FieldLemmas
 pub mod HeadlineLemmas
-pub mod HeardLemmas
 pub mod LicenseeLemmas
+pub mod JudgeLemmas
+pub mod ListedLemmas
 pub mod Pieces
 pub mod ReadBack
 pub mod ScriptLemmas

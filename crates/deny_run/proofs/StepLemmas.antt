@@ -2,19 +2,27 @@
 use Rattle.std.proofs.Common.{◌≡◌, ℕ, ◌⊎◌, ◌↔◌, List, Option, Some, None, Result, Ok, Err, refl, sym, ap, subst, ◌∙◌, inl, inr}
 use Rattle.catalog_core.specs.Catalog.{CatalogLists}
 use Rattle.term_core.specs.declared.term.LicenseReq.{LicenseReq}
-use Rattle.deny_run.specs.declared.error.ReadFault.{ReadFault}
-use Rattle.deny_run.specs.declared.error.ReadFault.TheVariants.{Failed, Absent, Folder, NotUtf8}
+use Rattle.workspace_core.specs.declared.error.ReadFault.{ReadFault}
+use Rattle.workspace_core.specs.declared.error.ReadFault.TheVariants.{Failed, Absent, Folder, NotUtf8}
 use Rattle.deny_run.specs.declared.error.Part.TheVariants.{Words, Policy}
 use Rattle.deny_run.specs.declared.error.Error.{Error}
 use Rattle.deny_run.specs.declared.error.Error.TheVariants.{Memory, ConfigRead, NotYet}
 use Rattle.deny_run.specs.declared.error.Refusal.{Refusal}
 use Rattle.deny_run.specs.declared.error.Refusal.TheVariants as refusal
+use Rattle.deny_run.specs.declared.report.CrateReport.{CrateReport}
 use Rattle.deny_run.specs.declared.report.Report.{Report}
 use Rattle.deny_run.specs.declared.words.Request.{Request}
-use Rattle.deny_run.specs.Error.{cause_of, error_of, ReadCounts}
+use Rattle.graph_core.specs.Krate.{Record}
+use Rattle.graph_core.specs.Metadata.{Graph}
+use Rattle.selection_core.specs.Choice.{Choice}
+use Rattle.selection_core.specs.Listed.{IsListOf}
+use Rattle.selection_core.specs.Walks.{Selected}
+use Rattle.workspace_core.specs.Cause.{heard_cause, ReadCounts}
+use Rattle.deny_run.specs.Error.{cause_of, error_of}
 use Rattle.deny_run.specs.Heard.{or_refused, config_in}
 use Rattle.deny_run.specs.Policy.{policy_of}
-use Rattle.deny_run.specs.Steps.{heard_cause}
+use Rattle.deny_run.specs.Selection.{included}
+use Rattle.deny_run.specs.Steps.{AreJudged, Checks, IsOfCrates}
 
 -- the policy's fault is the policy's refusal
 pub policy_fault : (lists : CatalogLists) (fault : ReadFault) → config_in lists (Err fault) ≡ Err (error_of (refusal.PolicyRead fault))
@@ -73,3 +81,28 @@ there words request some none = let e : ◌≡◌ {A = Option Request} (Some req
 pub config_words : (lists : CatalogLists) (heard : Result (List ℕ) ReadFault) (refused : Refusal) (words : Option Request) (request : Request) → words ≡ Some request → (refused ≡ refusal.Memory) ⊎ (config_in lists heard ≡ Err (error_of refused)) → ◌≡◌ {A = Result Report Refusal} (Err refused) (Err refusal.Words) ↔ (words ≡ None)
 config_words lists heard refused words request some refuses =
     (λ e. absurd (config_not_words lists heard refused refuses (same_refusal refused refusal.Words e)), λ none. absurd (there words request some none))
+
+-- ---- the refusal of a crate
+
+pub crates_counts : (begun before after : ℕ) (refused : Refusal) → IsOfCrates refused → ReadCounts begun before after (cause_of (error_of refused))
+crates_counts begun before after refusal.Memory cause = tt
+crates_counts begun before after refusal.Words cause = absurd cause
+crates_counts begun before after (refusal.PolicyRead fault) cause = absurd cause
+crates_counts begun before after refusal.PolicyForm cause = absurd cause
+crates_counts begun before after (refusal.Krates error) cause = absurd cause
+crates_counts begun before after (refusal.CrateForm id) cause = tt
+
+pub crates_words : (refused : Refusal) (words : Option Request) (request : Request) → words ≡ Some request → IsOfCrates refused → ◌≡◌ {A = Result Report Refusal} (Err refused) (Err refusal.Words) ↔ (words ≡ None)
+crates_words refused words request some cause =
+    (λ e. absurd (subst IsOfCrates (same_refusal refused refusal.Words e) cause), λ none. absurd (there words request some none))
+
+-- the crates that are judged are those that are checked
+pub are_checked : (lists : CatalogLists) (config : List LicenseReq) (graph : Graph) (choice : Choice) (crates : List Record) (result : Result (List CrateReport) Refusal)
+    → IsListOf graph (Selected graph choice included) crates → AreJudged lists config crates result → Checks lists config graph choice result
+are_checked lists config graph choice crates (Ok reports) selected judged = record { crates = crates; selected = selected; judged = judged }
+are_checked lists config graph choice crates (Err refusal.Memory) selected judged = tt
+are_checked lists config graph choice crates (Err refusal.Words) selected judged = record { crates = crates; selected = selected; judged = judged }
+are_checked lists config graph choice crates (Err (refusal.PolicyRead fault)) selected judged = record { crates = crates; selected = selected; judged = judged }
+are_checked lists config graph choice crates (Err refusal.PolicyForm) selected judged = record { crates = crates; selected = selected; judged = judged }
+are_checked lists config graph choice crates (Err (refusal.Krates error)) selected judged = record { crates = crates; selected = selected; judged = judged }
+are_checked lists config graph choice crates (Err (refusal.CrateForm id)) selected judged = record { crates = crates; selected = selected; judged = judged }

@@ -5,8 +5,8 @@
 -- failed reads; without overrides the status is zero only if none is unlicensed or rejected; and lawful input without
 -- a fault gives a `Report` or want of memory.
 --
--- So far the words name no overrides, one crate is selected, a verdict is Accepted or Rejected, and no file of a crate
--- is read.
+-- So far the words name no overrides and leave no crate out, a verdict is Accepted or Rejected, and no file of a crate is
+-- read.
 use Rattle.std.specs.Prelude.{◌≡◌, false, [], All}
 use Rattle.tree_core.specs.Content.{Content}
 use Rattle.tree_core.specs.Hearing.{Hearing}
@@ -18,8 +18,7 @@ use Rattle.deny_run.specs.declared.report.Outcome.{Outcome}
 use Rattle.deny_run.specs.Counts.{is_against}
 use Rattle.deny_run.specs.Error.{cause_of, MayEndLawful}
 use Rattle.deny_run.specs.Given.{Given}
-use Rattle.deny_run.specs.Heard.{Asked}
-use Rattle.deny_run.specs.Report.{Asks, IsReport}
+use Rattle.deny_run.specs.Report.{Asked, Asks, IsReport}
 
 -- the run ended with a report, or for want of memory
 abbrev pub EndsInReport : Ended → Type 0

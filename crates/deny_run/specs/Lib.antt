@@ -7,5 +7,6 @@ pub mod Policy
 pub mod Report
 pub mod Run
 pub mod Script
+pub mod Selection
 pub mod Steps
 pub mod Words

@@ -8,18 +8,24 @@ use Rattle.term_core.specs.declared.term.LicenseReq.{LicenseReq}
 use Rattle.term_core.specs.Satisfaction.{Satisfies}
 use Rattle.spdx_core.specs.Grammar.{Spells}
 use Rattle.spdx_core.specs.Reading.{ExpressionView}
-use Rattle.graph_core.specs.declared.lone.Krate.{Krate}
-use Rattle.graph_core.specs.Lone.{record_of}
+use Rattle.graph_core.specs.Krate.{Record}
+use Rattle.graph_core.specs.Metadata.{Graph}
+use Rattle.records_core.specs.Records.{records_of}
+use Rattle.selection_core.specs.Roots.{HasRoot}
+use Rattle.workspace_core.specs.Heard.{text_heard}
+use Rattle.workspace_core.specs.Krates.{sparse_dir}
 use Rattle.deny_run.specs.declared.error.Error.{Error}
 use Rattle.deny_run.specs.declared.report.Verdict.{Verdict}
 use Rattle.deny_run.specs.declared.report.Verdict.TheVariants.{Accepted, Rejected}
 use Rattle.deny_run.specs.declared.report.CrateReport.{CrateReport}
 use Rattle.deny_run.specs.declared.report.Report.{Report}
+use Rattle.deny_run.specs.declared.words.Request.{Request}
 use Rattle.deny_run.specs.Counts.{counts_of}
 use Rattle.deny_run.specs.Error.{cause_of, FreeOr}
 use Rattle.deny_run.specs.Given.{Given}
-use Rattle.deny_run.specs.Heard.{Asked, asked_of, field_mode, selected_of, text_heard}
+use Rattle.deny_run.specs.Heard.{field_mode, found_of}
 use Rattle.deny_run.specs.Policy.{policy_of}
+use Rattle.deny_run.specs.Selection.{plain_choice, AreSelected, Refuses}
 use Rattle.deny_run.specs.Words.{request_of}
 
 -- ---- what is asked for
@@ -30,29 +36,37 @@ pub record PolicyAt (given : Given) (hearing : Hearing) (path : List ℕ) (confi
   pub heard : text_heard hearing policy path ≡ Ok text
   pub allows : policy_of given.lists text ≡ Some config
 
--- the crate's record: the file at the path is a text, and as metadata it tells of this crate
-pub record CrateAt (hearing : Hearing) (path : List ℕ) (krate : Krate) : Type 0 where
+-- the metadata's bytes: the file at the path is a text, and as metadata it tells of this graph
+pub record GraphAt (hearing : Hearing) (path : List ℕ) (graph : Graph) : Type 0 where
   pub text : List ℕ
   pub heard : text_heard hearing metadata path ≡ Ok text
-  pub tells : record_of text ≡ Some krate
+  pub tells : records_of text sparse_dir ≡ Some (Ok graph)
 
 -- the expression of a crate: its field spells it, in strict mode with the slash as OR, and it has one term
-pub record ReadsField (given : Given) (config : List LicenseReq) (hearing : Hearing) (krate : Krate) (read : ExpressionView) : Type 0 where
+pub record ReadsField (given : Given) (config : List LicenseReq) (hearing : Hearing) (krate : Record) (read : ExpressionView) : Type 0 where
   pub field : krate.license ≡ Some read.text
   pub spelled : Spells field_mode given.lists read.text read.tree read.terms
   pub one : length read.terms ≡ 1
 
 -- a crate has an expression
-abbrev pub HasExpression : Given → List LicenseReq → Hearing → Krate → Type 0
+abbrev pub HasExpression : Given → List LicenseReq → Hearing → Record → Type 0
 HasExpression given config hearing krate = (read : ExpressionView) × ReadsField given config hearing krate read
+
+-- what is to be checked: the request, the licensees that its policy allows, the graph of its metadata, and the crates of it
+-- that are checked
+pub record Asked : Type 0 where
+  pub request : Request
+  pub config : List LicenseReq
+  pub graph : Graph
+  pub crates : List Record
 
 -- lawful input: the words, the policy, the metadata and the crates are of the forms that are built, and ask to check this
 pub record Asks (given : Given) (hearing : Hearing) (asked : Asked) : Type 0 where
   pub request : request_of given.words given.cwd ≡ Some asked.request
   pub config : PolicyAt given hearing asked.request.config_path asked.config
-  pub krate : Krate
-  pub metadata : CrateAt hearing asked.request.metadata_path krate
-  pub selected : asked.crates ≡ selected_of krate
+  pub metadata : GraphAt hearing asked.request.metadata_path asked.graph
+  pub root : HasRoot asked.graph plain_choice
+  pub selected : AreSelected asked.graph asked.crates
   pub expressions : All (HasExpression given asked.config hearing) asked.crates
 
 -- ---- what is reported
@@ -73,7 +87,7 @@ IsVerdictOf config expression Accepted = IsSomeAnd expression (λ read. OfOneTer
 IsVerdictOf config expression Rejected = IsSomeAnd expression (λ read. OfOneTerm (λ term. ¬ (Allows config term)) read.terms)
 
 -- the report on a crate
-pub record IsReportOf (given : Given) (config : List LicenseReq) (hearing : Hearing) (krate : Krate) (report : CrateReport) : Type 0 where
+pub record IsReportOf (given : Given) (config : List LicenseReq) (hearing : Hearing) (krate : Record) (report : CrateReport) : Type 0 where
   pub id : report.id ≡ krate.id
   pub expression : IsSomeAnd report.expression (ReadsField given config hearing krate)
   pub verdict : IsVerdictOf config report.expression report.verdict
@@ -98,11 +112,11 @@ pub record IsReport (given : Given) (content : Content) (before after : ℕ) (re
   pub asks : Asks given hearing asked
   pub gives : GivesVerdicts given hearing asked report
 
--- the refusal is what is asked for, by the content less some reads that failed
+-- the refusal is the first one, by the content less some reads that failed
 pub record IsRefusal (given : Given) (content : Content) (before after : ℕ) (error : Error) : Type 0 where
   pub hearing : Hearing
   pub heard : IsHearing content before after hearing
-  pub asked : asked_of given hearing ≡ Err error
+  pub refused : Refuses given hearing (found_of given hearing) error
 
 -- What a run answers over this content, between these counts of faults. Want of memory and a refused write may come in
 -- the place of any answer.

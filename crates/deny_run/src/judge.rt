@@ -1,21 +1,29 @@
-//! The parts of a check: what the policy allows, the crate, and the verdict on it.
-ghost use Rattle.std.specs.Prelude.{◌≡◌, ◌<◌, ◌↔◌, ◌⊎◌, Some, None, IfOk, IfErr, IsTrue, length};
-ghost use Rattle.std.specs.Prelude.{option_and_then};
+//! The parts of a check: what the policy allows, the crates, and the verdict on each.
+ghost use Rattle.std.specs.Prelude.{◌≡◌, ◌<◌, ◌↔◌, ◌⊎◌, Some, IfOk, IfErr, IsTrue, length, map, None};
+ghost use Rattle.graph_core.specs.Krate.{record_of};
+ghost use Rattle.graph_core.specs.Metadata.{Graph};
 ghost use Rattle.term_core.specs.Satisfaction.{Satisfies};
-ghost use Rattle.deny_run.specs.Heard.{config_in, field_of, krates_in};
+ghost use Rattle.selection_core.specs.Choice.{Choice};
+ghost use Rattle.selection_core.specs.Listed.{IsChosen, record_behind};
+ghost use Rattle.deny_run.specs.Heard.{config_in, field_of, field_read};
 ghost use Rattle.deny_run.specs.Report.{Allows, IsVerdictOf};
-ghost use Rattle.deny_run.specs.Steps.{Tells};
+ghost use Rattle.deny_run.specs.Steps.{AreJudged, Checks, IsJudged, IsOfCrates, Tells};
 
 use crate::error::Refusal;
-use crate::load::Heard;
 use crate::policy::allowed;
 use crate::report::{CrateReport, Verdict};
-use deny_text::{ListOf, Steps};
-use graph_core::lone::{Krate, MetaError, records};
+use deny_text::{ListOf, Steps, Text};
 use spdx_core::{Catalog, ExprError, Expression, LicenseReq, Licensee, ParseMode};
 use std::alloc::{AllocError, Global};
 use std::marker::Brand;
 use std::sync::ledger::{Blank, Ledger};
+use workspace_core::{Heard, Include, Krate, Krates};
+
+/// Crates that only dev dependencies lead to are not checked, those that only build dependencies lead to are.
+const INCLUDED: Include = Include {
+    dev: false,
+    build: true,
+};
 
 /// The mode that the field of a crate is read in: strict, and a slash says `OR`.
 const FIELD: ParseMode = ParseMode {
@@ -40,20 +48,6 @@ pub(crate) fn config_of<C: Catalog>(
             None => Err(Refusal::PolicyForm),
         },
         Err(fault) => Err(Refusal::PolicyRead(fault)),
-    }
-}
-
-/// The crate that the metadata tells of, from what was heard of its file.
-pub(crate) fn krate_of(alloc: Global, heard: Heard) -> Result<Krate, Refusal>
-    ensures { Tells (krates_in heard) result }
-{
-    match heard {
-        Ok(text) => match records(alloc, text.as_str()) {
-            Ok(krate) => Ok(krate),
-            Err(MetaError::Form) => Err(Refusal::MetadataForm),
-            Err(MetaError::Memory) => Err(Refusal::Memory),
-        },
-        Err(fault) => Err(Refusal::MetadataRead(fault)),
     }
 }
 
@@ -116,26 +110,36 @@ fn verdict(config: &[Licensee], expression: &Expression) -> Verdict
     }
 }
 
+/// The expression of a crate's field; none where there is none of one term.
+fn field_read<C: Catalog>(
+    alloc: Global,
+    krate: &Krate,
+    catalog: &C,
+) -> Result<Option<Expression>, AllocError>
+    ensures { IfOk result (λ read. read ≡ field_read (C.lists catalog.now) (record_of krate.now)) }
+{
+    match &krate.license {
+        Some(field) => expression_of(alloc, field.as_str(), catalog),
+        None => Ok(None),
+    }
+}
+
 /// The report on a crate, by the licensees that the policy allows.
-pub(crate) fn judge<C: Catalog>(
+fn judge<C: Catalog>(
     alloc: Global,
     config: &[Licensee],
-    krate: Krate,
+    krate: &Krate,
     catalog: &C,
 ) -> Result<CrateReport, Refusal>
-    ensures id { IfOk result (λ report. report.id ≡ krate.id) }
-    ensures expression { IfOk result (λ report.
-        report.expression ≡ option_and_then (field_of (C.lists catalog.now)) krate.license) }
-    ensures verdict { IfOk result (λ report. IsVerdictOf config.now report.expression report.verdict) }
+    ensures ok { IfOk result (λ report.
+        IsJudged (C.lists catalog.now) config.now (record_of krate.now) report) }
     ensures refused { IfErr result (λ refusal. (refusal ≡ Refusal.Memory)
-        ⊎ ((refusal ≡ Refusal.CrateForm krate.id)
-        × (option_and_then (field_of (C.lists catalog.now)) krate.license ≡ None))) }
+        ⊎ ((refusal ≡ Refusal.CrateForm krate.now.id)
+        × (field_read (C.lists catalog.now) (record_of krate.now) ≡ None))) }
+    ensures cause { IfErr result IsOfCrates }
 {
-    let Krate { id, license } = krate;
-    let expression = match &license {
-        Some(field) => expression_of(alloc, field.as_str(), catalog)?,
-        None => None,
-    };
+    let expression = field_read(alloc, krate, catalog)?;
+    let id = Text::copy(alloc, krate.id.as_str())?;
     match expression {
         Some(expression) => {
             let verdict = verdict(config, &expression);
@@ -147,4 +151,38 @@ pub(crate) fn judge<C: Catalog>(
         }
         None => Err(Refusal::CrateForm(id)),
     }
+}
+
+/// The reports on some crates, in order, or the refusal of the first that has no expression.
+fn judge_all<C: Catalog>(
+    alloc: Global,
+    config: &[Licensee],
+    crates: &[&Krate],
+    catalog: &C,
+) -> Result<ListOf<CrateReport>, Refusal>
+    ensures judged { AreJudged (C.lists catalog.now) config.now (map record_behind crates.now) result }
+    ensures cause { IfErr result IsOfCrates }
+{
+    let mut reports = ListOf::new(alloc);
+    'crates: for krate in crates {
+        let report = judge(alloc, config, krate, catalog)?;
+        reports.push(report)?;
+    }
+    Ok(reports)
+}
+
+/// The reports on the crates that are checked, in the order of their ids.
+pub(crate) fn check_all<C: Catalog>(
+    alloc: Global,
+    config: &[Licensee],
+    krates: &Krates,
+    catalog: &C,
+) -> Result<ListOf<CrateReport>, Refusal>
+    // of each graph and choice that the crates are of
+    ensures checked { (graph : Graph) (choice : Choice) → IsChosen graph choice krates.now
+        → Checks (C.lists catalog.now) config.now graph choice result }
+    ensures cause { IfErr result IsOfCrates }
+{
+    let crates = krates.selected(alloc, INCLUDED)?;
+    judge_all(alloc, config, crates.items(), catalog)
 }

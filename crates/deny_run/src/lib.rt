@@ -3,7 +3,6 @@
 
 pub mod error;
 mod judge;
-mod load;
 pub mod policy;
 pub mod report;
 pub mod run;

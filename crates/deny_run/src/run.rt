@@ -1,39 +1,52 @@
 //! The run: from words and files to a report, a summary and a status.
-ghost use Rattle.std.specs.Prelude.{◌≡◌, ◌≢◌, ◌≤◌, ◌↔◌, [], ◌∷◌, IfOk, IfErr, OnOk, OnErr};
+ghost use Rattle.std.specs.Prelude.{◌≡◌, ◌≢◌, ◌≤◌, ◌↔◌, IfOk, IfErr, OnOk, OnErr};
 ghost use Rattle.std.specs.Option.{ForSome};
 ghost use Rattle.tree_core.specs.Faults.{Gained, GainedPrefix, IsCounted};
 ghost use Rattle.tree_core.specs.Hearing.{KeepsTree};
 ghost use Rattle.tree_core.specs.Script.{LineWritten};
 ghost use Rattle.deny_run.specs.declared.error.Part.{Part};
-ghost use Rattle.deny_run.specs.declared.error.ReadFault.{ReadFault};
+ghost use Rattle.workspace_core.specs.declared.error.ReadFault.{ReadFault};
+ghost use Rattle.workspace_core.specs.Cause.{ReadCounts};
+ghost use Rattle.selection_core.specs.Choice.{choice_of};
 ghost use Rattle.deny_run.specs.Counts.{counts_of, status_of, summary_of};
-ghost use Rattle.deny_run.specs.Error.{ReadCounts, cause_of, error_of, fault_line};
+ghost use Rattle.deny_run.specs.Error.{cause_of, error_of, fault_line};
 ghost use Rattle.deny_run.specs.Given.{given_of};
 ghost use Rattle.deny_run.specs.Headline.{Headline};
 ghost use Rattle.deny_run.specs.Report.{IsAnswer, IsReport};
 ghost use Rattle.deny_run.specs.Run.{answer_from, answer_of, exit_status};
 ghost use Rattle.deny_run.specs.Script.{SummaryCut, Writes};
+ghost use Rattle.deny_run.specs.Selection.{plain_choice};
 ghost use Rattle.deny_run.specs.Words.{request_of, texts};
 
 use crate::error::{Error, Refusal};
-use crate::judge::{config_of, judge, krate_of};
-use crate::load::load;
+use crate::judge::{check_all, config_of};
 use crate::report::{AllStats, CrateReport, Ended, Outcome, Report};
 use crate::words::Request;
 use deny_text::ListOf;
 use spdx_core::{Catalog, Identifier};
-use std::alloc::{AllocError, Global};
+use std::alloc::Global;
 use tree_core::{Sink, SinkFailed, Tree, write_all};
+use workspace_core::{ExcludeSpecs, Selection, krates_at, load};
 
-/// The report on one crate.
-fn report_on(alloc: Global, checked: CrateReport) -> Result<Report, AllocError>
-    ensures crates { IfOk result (λ report. report.crates ≡ checked ∷ []) }
-    ensures stats { IfOk result (λ report. report.stats ≡ counts_of report.crates) }
+/// The selection that the words ask for: nothing is left out.
+fn plain_selection(alloc: Global) -> Selection
+    ensures { choice_of result ≡ plain_choice }
 {
-    let mut crates = ListOf::new(alloc);
-    crates.push(checked)?;
+    Selection {
+        workspace: false,
+        exclude: ExcludeSpecs::new(alloc),
+        exclude_dev: false,
+        exclude_unpublished: false,
+    }
+}
+
+/// The report with these verdicts.
+fn report_of(crates: ListOf<CrateReport>) -> Report
+    ensures crates { result.crates ≡ crates }
+    ensures stats { result.stats ≡ counts_of crates }
+{
     let stats = AllStats::of_verdicts(crates.items());
-    Ok(Report { stats, crates })
+    Report { stats, crates }
 }
 
 /// The report that the words and the files ask for.
@@ -63,11 +76,11 @@ fn report<T: Tree, C: Catalog, I: Identifier>(
     };
     let policy = load(alloc, tree, request.config_path.as_path(), before)?;
     let config = config_of(alloc, policy, catalog)?;
-    let metadata = load(alloc, tree, request.metadata_path.as_path(), before)?;
-    let krate = krate_of(alloc, metadata)?;
-    let checked = judge(alloc, config.items(), krate, catalog)?;
-    let report = report_on(alloc, checked)?;
-    Ok(report)
+    let selection = plain_selection(alloc);
+    let path = request.metadata_path.as_path();
+    let krates = krates_at(alloc, tree, path, &selection, before)?;
+    let checked = check_all(alloc, config.items(), &krates, catalog)?;
+    Ok(report_of(checked))
 }
 
 /// Writes the summary of a report.

@@ -20,7 +20,10 @@ fn each_failed_call_is_told_as_its_own(rt: HostRuntime) -> Result<(), Fail> {
     let policy_failed = refused("policy: Failed { before: 0, after: 1 }", NO_POLICY);
     let metadata_failed = refused("metadata: Failed { before: 0, after: 1 }", NO_METADATA);
     let other_policy = refused("policy", OPEN);
-    let other_metadata = refused("metadata", OPEN);
+    let other_metadata = refused(
+        "shape: /packages Missing",
+        "error: the metadata has not the stated shape\n",
+    );
     for Sweep {
         policy,
         metadata,

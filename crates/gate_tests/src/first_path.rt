@@ -108,9 +108,6 @@ struct Changed {
     want: Want,
 }
 
-const TWO_PACKAGES: &[u8] = b"{\"packages\":[{\"id\":\"a 1.0.0\"},{\"id\":\"b 1.0.0\"}],\
-\"resolve\":{\"nodes\":[],\"root\":\"a 1.0.0\"}}";
-
 #[test]
 fn other_files_are_refused(rt: HostRuntime) -> Result<(), Fail> {
     let alloc = rt.alloc();
@@ -129,8 +126,8 @@ fn other_files_are_refused(rt: HostRuntime) -> Result<(), Fail> {
         },
         Changed {
             path: "/w/m.json",
-            bytes: TWO_PACKAGES,
-            want: refused("metadata", OPEN),
+            bytes: b"\xff",
+            want: refused("metadata: NotUtf8 { at: 0 }", no_metadata),
         },
     ] {
         let mut tree = tree(alloc, "MIT", POLICY.as_bytes())?;

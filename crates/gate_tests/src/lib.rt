@@ -13,3 +13,5 @@ mod process;
 mod rows;
 #[cfg(test)]
 mod sizes;
+#[cfg(test)]
+mod workspace;

@@ -63,22 +63,48 @@ pub(crate) struct Seen {
 pub(crate) fn told(alloc: Global, ended: &Ended) -> Result<String, AllocError> {
     match ended {
         Ended::Checked(report) => told_report(alloc, report),
-        Ended::Refused(Error::Memory) => String::from_str(alloc, "memory"),
-        Ended::Refused(Error::ConfigRead(fault)) => format!(in alloc; "policy: {fault:?}"),
-        Ended::Refused(Error::MetadataRead(fault)) => format!(in alloc; "metadata: {fault:?}"),
-        Ended::Refused(Error::WriteFault { before, after }) => format!(in alloc;
-            "write: {before} {after}"
-        ),
-        Ended::Refused(Error::NotYet(Part::Words)) => String::from_str(alloc, "words"),
-        Ended::Refused(Error::NotYet(Part::Policy)) => String::from_str(alloc, "policy"),
-        Ended::Refused(Error::NotYet(Part::Metadata)) => String::from_str(alloc, "metadata"),
-        Ended::Refused(Error::NotYet(Part::Crate(id))) => format!(in alloc; "crate {id}"),
+        Ended::Refused(Error::NotYet(part)) => told_part(alloc, part),
+        Ended::Refused(error) => told_error(alloc, error),
     }
 }
 
+fn told_part(alloc: Global, part: &Part) -> Result<String, AllocError> {
+    match part {
+        Part::Words => String::from_str(alloc, "words"),
+        Part::Policy => String::from_str(alloc, "policy"),
+        Part::Crate(id) => format!(in alloc; "crate {id}"),
+    }
+}
+
+fn told_error(alloc: Global, error: &Error) -> Result<String, AllocError> {
+    match error {
+        Error::Memory => String::from_str(alloc, "memory"),
+        Error::NotCarried(what) => format!(in alloc; "not carried: {what:?}"),
+        Error::ConfigRead(fault) => format!(in alloc; "policy: {fault:?}"),
+        Error::MetadataRead(fault) => format!(in alloc; "metadata: {fault:?}"),
+        Error::MetadataSyntax => String::from_str(alloc, "no json"),
+        Error::MetadataShape(fault) => {
+            let place = &fault.place;
+            let reason = fault.fault;
+            format!(in alloc; "shape: {place} {reason:?}")
+        }
+        Error::NoRoots {
+            base,
+            excluded,
+            unpublished,
+        } => format!(in alloc; "no roots: {base} {excluded} {unpublished}"),
+        Error::WriteFault { before, after } => format!(in alloc; "write: {before} {after}"),
+        Error::NotYet(part) => told_part(alloc, part),
+    }
+}
+
+/// The verdicts, with a comma and a space between.
 pub(crate) fn told_report(alloc: Global, report: &Report) -> Result<String, AllocError> {
     let mut told = String::new(alloc);
     for checked in report.crates.items() {
+        if !told.is_empty() {
+            told.push_str(", ")?;
+        }
         let line = told_crate(alloc, checked)?;
         told.push_str(line.as_str())?;
     }

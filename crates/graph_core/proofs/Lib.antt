@@ -1,2 +1,1 @@
 mod GraphLemmas
-mod Lists

@@ -1,4 +1,3 @@
 pub mod Graph
 pub mod Krate
-pub mod Lone
 pub mod Metadata

@@ -3,9 +3,6 @@
 
 pub mod edge;
 pub mod krate;
-pub mod lone;
-#[cfg(test)]
-mod lone_tests;
 pub mod metadata;
 
 pub use edge::{DepKind, Edge, Edges, Kinds};

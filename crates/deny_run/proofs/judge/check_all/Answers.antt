@@ -1,0 +1,12 @@
+use Rattle.std.proofs.Common.{map, sym, subst}
+use Rattle.selection_core.specs.Listed.{record_behind}
+use Rattle.deny_run.specs.Steps.{AreJudged}
+use Rattle.deny_run.proofs.StepLemmas.{are_checked}
+use Rattle.deny_run.proofs.judge.check_all.Goals as goal
+
+pub returns-clause-checked : goal.returns-clause-checked
+returns-clause-checked g c = λ graph choice chosen.
+    let lists = g.C.Catalog.lists c.args.catalog.now in
+    are_checked lists c.args.config.now graph choice (map record_behind c.in_ok-crates.crates) c.judge_all.result
+    (c.in_ok-crates.ensures.listed graph choice chosen)
+    (subst (λ crates. AreJudged lists c.args.config.now (map record_behind crates) c.judge_all.result) c.items.ensures c.judge_all.ensures.judged)

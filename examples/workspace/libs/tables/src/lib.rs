@@ -1,0 +1,1 @@
+//! Tables that are made while a crate is built.

@@ -1,0 +1,1 @@
+//! Puts reader and writer together.
