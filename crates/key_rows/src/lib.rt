@@ -1,5 +1,6 @@
 //! Types that are tables of keys: how a table is opened, read row by row, and ended.
 #![tactic(auto)]
+
 ghost use Rattle.std.specs.Prelude.{◌≡◌, [], false, option_map, unwrap_or};
 ghost use Rattle.deny_text.specs.declared.span.Span.{Span};
 ghost use Rattle.toml_subset.specs.Data as «data»;

@@ -120,7 +120,11 @@ static VALUES: [(&str, &str, &str); 17] = [
         "0..31 unexpected keys: name, allow;",
     ),
     // a name is not split
-    ("{name=\"b@2\",version=\"1\"}", "[b@2] b@2 = ^1 at 7..10", ""),
+    (
+        "{name=\"b@2\",version=\"1\"}",
+        "[b@2] b@2 = ^1 at 7..10",
+        "",
+    ),
     (
         "{z=1,name=\"b\",a=2}",
         "[b] b at 11..12",
@@ -163,11 +167,7 @@ static VALUES: [(&str, &str, &str); 17] = [
         "19..20 invalid version requirement;",
         "",
     ),
-    (
-        "{crate=\"b@y\"}",
-        "10..11 invalid version requirement;",
-        "",
-    ),
+    ("{crate=\"b@y\"}", "10..11 invalid version requirement;", ""),
     (
         "\"b@y\"",
         "3..4 invalid version requirement;",
