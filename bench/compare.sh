@@ -30,3 +30,31 @@ awk '
     }
     { printf "%-20s %9d us\n", $1, $2 }
 ' "$work/plain" "$work/ours"
+
+cd "$root/crates/words_bench"
+rt run words_bench -- bench | grep ' us$'
+
+cd "$root/crates/metadata_bench"
+rt run metadata_bench -- bench | grep ' us$'
+metadata_bench=$(pwd)/out/metadata_bench
+
+# The least of five whole runs in seconds, and the memory at its highest in KiB.
+least() {
+    for _ in 1 2 3 4 5; do
+        /usr/bin/time -f '%e %M' "$@" 2>&1 > /dev/null | tail -n 1
+    done | sort -n | head -n 1
+}
+
+if command -v python3 > /dev/null && [ -x /usr/bin/time ]; then
+    cd "$work"
+    for shape in full small; do
+        "$metadata_bench" $shape > metadata.json
+        ours=$(least "$metadata_bench" read)
+        plain=$(least python3 -c 'import json; json.load(open("metadata.json"))')
+        bytes=$(wc -c < metadata.json)
+        echo "$shape $bytes $ours $plain" | awk '{
+            printf "read %s metadata of %d bytes: %.2f of the time of Python'"'"'s json, ", $1, $2, $3 / $5
+            printf "memory %.1f times the text (Python %.1f)\n", $4 * 1024 / $2, $6 * 1024 / $2
+        }'
+    done
+fi
