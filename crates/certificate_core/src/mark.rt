@@ -1,5 +1,5 @@
 //! Marks on the nodes of an expression, which say where walks go on.
-ghost use Rattle.std.specs.Prelude.{◌≡◌, ◌<◌, ◌^◌, OnOk, IfOk};
+ghost use Rattle.std.specs.Prelude.{◌≡◌, ◌<◌, ◌^◌, false, OnOk, IfOk};
 ghost use Rattle.certificate_core.specs.Certificates.{hit_at as hit_of, has_hit};
 ghost use Rattle.certificate_core.specs.Machine.{marked_of, marked_after, marks_after, unmarked, total};
 
@@ -46,10 +46,10 @@ impl Marking {
         put(&mut self.marks, Mark::Term(place))
     }
 
-    fn mark_and(&mut self, kept: &[Option<Hit>]) -> Result<(), AllocError>
+    fn mark_and(&mut self) -> Result<(), AllocError>
         requires { total (marked_of self.old).counts < 2 ^ 64 }
         ensures { OnOk result (marked_of self.new
-            ≡ marked_after (has_hit kept.now) (marked_of self.old) ExprNode.And) }
+            ≡ marked_after (λ _. false) (marked_of self.old) ExprNode.And) }
     {
         let right = take_off(&mut self.counts, 0);
         let left = take_off(&mut self.counts, 0);
@@ -57,9 +57,9 @@ impl Marking {
         put(&mut self.marks, Mark::And { right: left == 0 })
     }
 
-    fn mark_or(&mut self, kept: &[Option<Hit>]) -> Result<(), AllocError>
+    fn mark_or(&mut self) -> Result<(), AllocError>
         ensures { OnOk result (marked_of self.new
-            ≡ marked_after (has_hit kept.now) (marked_of self.old) ExprNode.Or) }
+            ≡ marked_after (λ _. false) (marked_of self.old) ExprNode.Or) }
     {
         let right = take_off(&mut self.counts, 0);
         let left = take_off(&mut self.counts, 0);
@@ -75,8 +75,8 @@ impl Marking {
     {
         match node {
             ExprNode::Term(place) => self.mark_term(place, kept),
-            ExprNode::And => self.mark_and(kept),
-            ExprNode::Or => self.mark_or(kept),
+            ExprNode::And => self.mark_and(),
+            ExprNode::Or => self.mark_or(),
         }
     }
 }
