@@ -1,0 +1,30 @@
+-- The types of a policy that are one of a table of names.
+use Rattle.std.specs.Prelude.{ℕ, List, [], ◌∷◌, codes}
+use Rattle.toml_subset.specs.Data.{Toml}
+use Rattle.toml_shapes.specs.Shaped.{Shaped}
+use Rattle.policy_toml.specs.Readings.{name_of}
+use Rattle.policy_parts.specs.declared.names.BlanketAgreement.{BlanketAgreement}
+use Rattle.policy_parts.specs.declared.names.BlanketAgreement.TheVariants as agreement
+use Rattle.policy_parts.specs.declared.names.Scope.{Scope}
+use Rattle.policy_parts.specs.declared.names.Scope.TheVariants as scope
+
+abbrev pub scope_names : List (List ℕ × Scope)
+scope_names =
+    (codes "all", scope.All) ∷ (codes "workspace", scope.Workspace) ∷ (codes "transitive", scope.Transitive) ∷ (codes "none", scope.None) ∷ []
+
+abbrev pub scope_of : Toml → Shaped Scope
+scope_of = name_of (codes "Scope") scope_names
+
+abbrev pub scope_name : Scope → List ℕ
+scope_name scope.All = codes "all"
+scope_name scope.Workspace = codes "workspace"
+scope_name scope.Transitive = codes "transitive"
+scope_name scope.None = codes "none"
+
+abbrev pub agreement_names : List (List ℕ × BlanketAgreement)
+agreement_names =
+    (codes "both", agreement.Both) ∷ (codes "either", agreement.Either) ∷ (codes "osi", agreement.Osi) ∷ (codes "fsf", agreement.Fsf)
+    ∷ (codes "osi-only", agreement.OsiOnly) ∷ (codes "fsf-only", agreement.FsfOnly) ∷ (codes "neither", agreement.Neither) ∷ []
+
+abbrev pub agreement_of : Toml → Shaped BlanketAgreement
+agreement_of = name_of (codes "BlanketAgreement") agreement_names
