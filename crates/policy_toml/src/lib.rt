@@ -12,4 +12,4 @@ pub use helper::TableHelper;
 pub use hundredths::Hundredths;
 pub use toml_shapes::{DeserError, ErrorKind, ShapeError, ShapeErrors};
 pub use toml_subset::{Key, Str, SyntaxError, SyntaxReason, TomlError};
-pub use toml_value::{Entries, Value, ValueInner, Values};
+pub use toml_value::{Entries, Value, ValueInner, Values, parse};

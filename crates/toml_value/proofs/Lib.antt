@@ -1,3 +1,5 @@
+mod LevelLemmas
+mod ReaderLemmas
 mod RemovalLemmas
 pub mod FinishLemmas
 pub mod Paths

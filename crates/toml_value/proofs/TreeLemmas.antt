@@ -14,12 +14,13 @@ use Rattle.toml_value.specs.BranchViews.{joined, node_view, branches_view, is_wh
 use Rattle.toml_value.specs.declared.tree.Mark.TheVariants.{Dotted}
 use Rattle.toml_value.specs.declared.tree.Node.{Node as NodeOf, Growing, the_lemmas}
 use Rattle.toml_value.specs.declared.tree.Node.TheOpen.{Branches-F}
+use Rattle.toml_value.specs.declared.tree.Body.{Body as BodyOf}
 use Rattle.toml_value.specs.declared.tree.Branches.{Branches as BranchesOf, out-Branches, roll-Branches}
 
 pub branches_view-is : (b : BranchesOf) → branches_view b ≡ joined (out-Branches b).keys (map (λ n. node_view n) (out-Branches b).nodes.items)
 branches_view-is b = search (rules, the_lemmas)
 
-pub branches_view-roll : (r : Branches-F NodeOf BranchesOf) → branches_view (roll-Branches r) ≡ joined r.keys (map (λ n. node_view n) r.nodes.items)
+pub branches_view-roll : (r : Branches-F NodeOf BodyOf BranchesOf) → branches_view (roll-Branches r) ≡ joined r.keys (map (λ n. node_view n) r.nodes.items)
 branches_view-roll r = search (rules, the_lemmas)
 
 abbrev all_whole : List NodeOf → Bool
@@ -31,7 +32,7 @@ test_whole keys nodes = eqb (length keys) (length (map (λ n. is_whole_node n) n
 is_whole-is : (b : BranchesOf) → is_whole b ≡ test_whole (out-Branches b).keys (out-Branches b).nodes.items
 is_whole-is b = search (rules, the_lemmas)
 
-is_whole-roll : (r : Branches-F NodeOf BranchesOf) → is_whole (roll-Branches r) ≡ test_whole r.keys r.nodes.items
+is_whole-roll : (r : Branches-F NodeOf BodyOf BranchesOf) → is_whole (roll-Branches r) ≡ test_whole r.keys r.nodes.items
 is_whole-roll r = search (rules, the_lemmas)
 
 -- a whole table has a node for each key, and whole nodes
@@ -51,7 +52,7 @@ opened_whole b whole =
     let longs : length (out-Branches b).keys ≡ length (map (λ n. is_whole_node n) (out-Branches b).nodes.items) = grind (arith, nat_tests, parts.0) in
     record { same = longs ∙ length-map (out-Branches b).nodes.items (λ n. is_whole_node n); all = parts.1 }
 
-pub closed_whole : (r : Branches-F NodeOf BranchesOf) → AreWhole r.keys r.nodes.items → IsTrue (is_whole (roll-Branches r))
+pub closed_whole : (r : Branches-F NodeOf BodyOf BranchesOf) → AreWhole r.keys r.nodes.items → IsTrue (is_whole (roll-Branches r))
 closed_whole r whole =
     let longs : length r.keys ≡ length (map (λ n. is_whole_node n) r.nodes.items) = whole.same ∙ sym (length-map r.nodes.items (λ n. is_whole_node n)) in
     let test : eqb (length r.keys) (length (map (λ n. is_whole_node n) r.nodes.items)) ≡ true = grind (arith, nat_tests, longs) in

@@ -1,6 +1,9 @@
+pub mod AroundViews
 pub mod BranchViews
 pub mod Kinds
+pub mod LevelViews
 pub mod Lookup
+pub mod ReaderViews
 pub mod Removal
 pub mod StackViews
 pub mod Taken

@@ -2,7 +2,12 @@
 //! is taken out of them.
 #![tactic(auto)]
 
+#[cfg(test)]
+mod example_tests;
 mod kind;
+#[cfg(test)]
+mod parse_tests;
+pub mod reader;
 #[cfg(test)]
 mod tests;
 mod tree;
@@ -12,5 +17,6 @@ mod values;
 mod values_tests;
 
 pub use kind::{kind_fault, refuse_kind};
+pub use reader::parse;
 pub use value::{Entries, Value, ValueInner, Values};
 pub use values::read_value;

@@ -3,18 +3,22 @@ ghost use Rattle.std.specs.Prelude.{◌≡◌, ◌<◌, length, get_or, set, fal
 ghost use Rattle.key_index.specs.KeyPlaces.{place_of};
 ghost use Rattle.toml_subset.specs.TableFaults.{node_at};
 ghost use Rattle.toml_subset.specs.Tables.{unbranched, has_key, added};
+ghost use Rattle.toml_frames.specs.Levels.{size as size_of, replaced, hole as hole_at};
 ghost use Rattle.toml_value.specs.BranchViews.{node_view, branches_view, is_whole, is_whole_node};
 ghost use Rattle.toml_value.specs.declared.tree.Branches.{out-Branches};
 
+mod document;
 mod fault;
 mod finish;
+mod levels;
 mod put;
 mod tables;
 #[cfg(test)]
 mod tests;
 
-use crate::value::Value;
+use crate::value::{Value, ValueInner};
 use deny_text::Span;
+pub(crate) use document::{Document, Pending};
 pub(crate) use fault::DEPTH_LIMIT;
 use key_index::KeyIndex;
 use std::alloc::{AllocError, Global};
@@ -41,6 +45,16 @@ pub(crate) enum Node<'de> {
     Closed(Value<'de>),
     /// A table that may grow, with its place.
     Growing(Span, Mark, Branches<'de>),
+    /// An array of tables, with its place: the tables before its last one, and that one's place and keys.
+    Tables(Span, Vec<Body<'de>>, Span, Branches<'de>),
+}
+
+/// A table of an array of tables, which nothing extends any more, with its place.
+#[derive(Drop)]
+#[cycle(tree)]
+pub(crate) struct Body<'de> {
+    span: Span,
+    table: Branches<'de>,
 }
 
 /// The keys of a table that may grow, in the order in which they first appear, and what stands at each.
@@ -110,4 +124,31 @@ impl<'de> Branches<'de> {
     {
         mem::replace(&mut self.nodes[place], node)
     }
+
+    /// How many keys it has.
+    fn size(&self) -> usize
+        requires { IsTrue (is_whole self.now) }
+        ensures { result ≡ size_of (branches_view self.now) }
+    {
+        self.nodes.len()
+    }
+
+    /// Takes out what stands at the place of a key. A hole is left there.
+    fn take(&mut self, place: usize, key: &Key<'_>) -> Node<'de>
+        requires whole { IsTrue (is_whole self.old) }
+        requires inside { place < length (out-Branches self.old).nodes.items }
+        ensures value { result ≡ get_or (out-Branches self.old).nodes.items place result }
+        ensures left { branches_view self.new ≡ replaced place (hole_at key.now) (branches_view self.old) }
+        ensures whole { IsTrue (is_whole self.new) }
+    {
+        self.replace(place, hole(key))
+    }
+}
+
+/// What stands at the place of a table that was taken out.
+fn hole<'de>(key: &Key<'_>) -> Node<'de>
+    ensures view { node_view result ≡ hole_at key.now }
+    ensures whole { IsTrue (is_whole_node result) }
+{
+    Node::Closed(Value::new(ValueInner::Boolean(false), key.span))
 }

@@ -10,7 +10,7 @@ use super::put::put_along;
 use crate::value::{Entries, Value};
 use key_index::KeyParts;
 use std::alloc::{AllocError, Global};
-use toml_subset::{Keys, SyntaxError};
+use toml_subset::{Key, Keys, SyntaxError};
 
 /// The table of a body or of an inline table, with all that dotted keys made in it.
 #[derive(Drop)]
@@ -30,7 +30,9 @@ pub(crate) struct Awaiting<'de> {
 }
 
 impl<'de> Tree<'de> {
-    ghost use Rattle.std.specs.Prelude.{◌≡◌, ◌<◌, ◌≤◌, length, IfOk};
+    ghost use Rattle.std.specs.Prelude.{◌≡◌, ◌<◌, ◌≤◌, length, IsTrue, IfOk, option_map};
+    ghost use Rattle.toml_frames.specs.Levels.{found_at};
+    ghost use Rattle.toml_value.specs.BranchViews.{branches_view, is_whole};
     ghost use Rattle.toml_subset.specs.Data.{depth_limit};
     ghost use Rattle.toml_subset.specs.TableFaults.{put_fault};
     ghost use Rattle.toml_subset.specs.Tables.{unbranched, entries_of};
@@ -44,6 +46,27 @@ impl<'de> Tree<'de> {
         Tree {
             root: Branches::new(alloc),
         }
+    }
+
+    /// The place of a key among those of the table.
+    pub(super) fn find(&self, key: &Key<'_>) -> Option<usize>
+        ensures { result ≡ option_map (λ found. found.0) (found_at key.now (tree_view self.now)) }
+    {
+        self.root.find(key)
+    }
+
+    pub(super) fn from_root(root: Branches<'de>) -> Tree<'de>
+        requires { IsTrue (is_whole root) }
+        ensures { tree_view result ≡ branches_view root.entry }
+    {
+        Tree { root }
+    }
+
+    pub(super) fn into_root(self) -> Branches<'de>
+        ensures view { branches_view result ≡ tree_view self.entry }
+        ensures whole { IsTrue (is_whole result) }
+    {
+        self.root
     }
 
     /// A further key, so many tables and arrays standing around the table's entries. It is refused before its

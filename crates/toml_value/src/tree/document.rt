@@ -1,0 +1,275 @@
+//! The tables that the lines of a text make.
+ghost use Rattle.std.specs.Prelude.{◌≡◌, ◌+◌, ◌≤◌, length, None};
+ghost use Rattle.toml_subset.specs.Data.{depth_limit};
+ghost use Rattle.toml_subset.specs.TableFaults.{put_fault};
+ghost use Rattle.toml_frames.specs.Levels.{refusal};
+ghost use Rattle.toml_value.specs.TreeViews.{tree_view};
+
+use super::levels::{Level, fresh, opened};
+use super::{Awaiting, Branches, Tree, hole};
+use crate::value::{Entries, Value};
+use key_index::KeyParts;
+use std::alloc::{AllocError, Global};
+use toml_frames::Part;
+use toml_subset::{Key, Keys, SyntaxError, SyntaxReason, TomlError};
+
+/// The table that the last header opened, taken out of the tables around it. So a further key of it is looked
+/// up in it alone.
+#[derive(Drop)]
+pub(crate) struct Document<'de> {
+    around: Vec<Level<'de>>,
+    body: Tree<'de>,
+    /// How many tables and arrays stand around its entries.
+    above: usize,
+}
+
+/// A document and a further key of its open table, which nothing refuses and whose value is still to come.
+#[derive(Drop)]
+pub(crate) struct Pending<'de> {
+    around: Vec<Level<'de>>,
+    awaiting: Awaiting<'de>,
+    above: usize,
+    ghost free: { put_fault awaiting.keys (tree_view awaiting.tree) above ≡ None },
+    ghost room: { above + length awaiting.keys ≤ depth_limit + 1 },
+}
+
+impl<'de> Document<'de> {
+    ghost use Rattle.std.specs.Prelude.{◌≡◌, ◌+◌, ◌<◌, ◌≤◌, ◌++◌, [], ◌∷◌, length, map};
+    ghost use Rattle.std.specs.Prelude.{Some, None, IsTrue, IfOk, option_map};
+    ghost use Rattle.toml_subset.specs.Answer.{Answers};
+    ghost use Rattle.toml_subset.specs.Data.{depth_limit};
+    ghost use Rattle.toml_subset.specs.TableFaults.{put_fault};
+    ghost use Rattle.toml_subset.specs.Tables.{entries_of};
+    ghost use Rattle.toml_frames.specs.Levels.{at_start, at_root, found_at, into_part, into_header, steps_in};
+    ghost use Rattle.toml_value.specs.BranchViews.{branches_view, is_whole};
+    ghost use Rattle.toml_value.specs.LevelViews.{level_view, cursor_view, IsPending, IsShallow};
+    ghost use Rattle.toml_value.specs.Views.{entries_view};
+
+    /// The document of no lines, which takes no memory.
+    pub(crate) fn new(alloc: Global) -> Document<'de>
+        ensures { cursor_view result ≡ at_start }
+    {
+        Document {
+            around: Vec::new(alloc),
+            body: Tree::new(alloc),
+            above: 0,
+        }
+    }
+
+    /// A further key of the open table. It is refused before its value is looked at, and then nothing is
+    /// left.
+    pub(crate) fn await_value(self, keys: Keys<'de>) -> Result<Pending<'de>, SyntaxError>
+        requires some { 0 < length keys }
+        requires shallow { IsShallow (cursor_view self) }
+        ensures { let c = cursor_view self.entry in
+            IsPending (put_fault keys.entry c.here c.above) keys.entry c result }
+    {
+        let Document {
+            around,
+            body,
+            above,
+        } = self;
+        match body.await_value(keys, above) {
+            Ok(awaiting) => Ok(Pending {
+                around,
+                awaiting,
+                above,
+            }),
+            Err(fault) => Err(fault),
+        }
+    }
+
+    /// The document with the root as the open table.
+    fn at_root(self) -> Document<'de>
+        ensures { cursor_view result ≡ at_root (cursor_view self.entry) }
+    {
+        let Document {
+            mut around,
+            body,
+            ..
+        } = self;
+        let mut table = body.into_root();
+        'levels: while let Some(level) = around.pop() {
+            table = level.with(table);
+        }
+        Document {
+            around,
+            body: Tree::from_root(table),
+            above: 0,
+        }
+    }
+
+    /// The way one table further.
+    fn further(
+        around: Vec<Level<'de>>,
+        above: usize,
+        level: Level<'de>,
+        inner: Branches<'de>,
+    ) -> Result<Document<'de>, AllocError>
+        requires whole { IsTrue (is_whole inner) }
+        requires shallow { above + steps_in (level_view level).around ≤ depth_limit }
+        ensures { IfOk result (λ document. cursor_view document ≡ record {
+          around = map (λ l. level_view l) around.entry.items ++ level_view level.entry ∷ [];
+          here = branches_view inner.entry;
+          above = above + steps_in (level_view level.entry).around;
+        }) }
+    {
+        let mut around = around;
+        let above = above + level.around.steps();
+        around.push(level)?;
+        Ok(Document {
+            around,
+            body: Tree::from_root(inner),
+            above,
+        })
+    }
+
+    /// A part of a header.
+    fn enter(self, alloc: Global, key: Key<'de>, part: Part) -> Result<Document<'de>, TomlError>
+        requires { IsShallow (cursor_view self) }
+        ensures { Answers cursor_view (into_part part key.entry (cursor_view self.entry)) result }
+    {
+        match self.body.find(&key) {
+            Some(place) => self.enter_old(alloc, key, part, place),
+            None => self.enter_new(alloc, key, part),
+        }
+    }
+
+    /// A part of a header whose key the open table has at a place.
+    fn enter_old(
+        self,
+        alloc: Global,
+        key: Key<'de>,
+        part: Part,
+        place: usize,
+    ) -> Result<Document<'de>, TomlError>
+        requires shallow { IsShallow (cursor_view self) }
+        requires found { option_map (λ found. found.0) (found_at key (cursor_view self).here) ≡ Some place }
+        ensures { Answers cursor_view (into_part part key.entry (cursor_view self.entry)) result }
+    {
+        let Document {
+            around,
+            body,
+            above,
+        } = self;
+        let mut table = body.into_root();
+        let node = table.take(place, &key);
+        let Some((kind, inner)) = opened(alloc, part, node)? else {
+            return Err(TomlError::Syntax(refuse(SyntaxReason::RedefinedTable, &key)));
+        };
+        let level = Level {
+            table,
+            place,
+            around: kind,
+        };
+        let document = Document::further(around, above, level, inner)?;
+        Ok(document)
+    }
+
+    /// A part of a header whose key the open table does not have.
+    fn enter_new(self, alloc: Global, key: Key<'de>, part: Part) -> Result<Document<'de>, TomlError>
+        requires shallow { IsShallow (cursor_view self) }
+        requires new { found_at key (cursor_view self).here ≡ None }
+        ensures { Answers cursor_view (into_part part key.entry (cursor_view self.entry)) result }
+    {
+        let Document {
+            around,
+            body,
+            above,
+        } = self;
+        let Some(kind) = fresh(alloc, part, &key, above) else {
+            return Err(TomlError::Syntax(refuse(SyntaxReason::TooDeep, &key)));
+        };
+        let table = body.into_root();
+        let place = table.size();
+        let empty = hole(&key);
+        let table = table.with(alloc, key, empty)?;
+        let level = Level {
+            table,
+            place,
+            around: kind,
+        };
+        let document = Document::further(around, above, level, Branches::new(alloc))?;
+        Ok(document)
+    }
+
+    /// The table of a header, whose last part this is, as the open one. Where it is refused, nothing is left.
+    pub(crate) fn with_header(
+        self,
+        alloc: Global,
+        keys: Keys<'de>,
+        last: Part,
+    ) -> Result<Document<'de>, TomlError>
+        requires some { 0 < length keys }
+        requires shallow { IsShallow (at_root (cursor_view self)) }
+        ensures { Answers cursor_view (into_header last keys.entry (cursor_view self.entry)) result }
+    {
+        let mut document = self.at_root();
+        let mut parts = KeyParts::new(keys);
+        let Some(first) = parts.next() else {
+            return Ok(document);
+        };
+        let mut key = first;
+        'parts: while let Some(next) = parts.next() {
+            match document.enter(alloc, key, Part::Through) {
+                Ok(inner) => document = inner,
+                Err(error) => return Err(error),
+            }
+            key = next;
+        }
+        document.enter(alloc, key, last)
+    }
+
+    /// The entries of the root. Where memory ends, nothing is left.
+    pub(crate) fn into_entries(self, alloc: Global) -> Result<Entries<'de>, AllocError>
+        ensures { let root = (at_root (cursor_view self.entry)).here in
+            IfOk result (λ entries. entries_view entries ≡ entries_of root) }
+    {
+        let document = self.at_root();
+        document.body.into_entries(alloc)
+    }
+}
+
+impl<'de> Pending<'de> {
+    ghost use Rattle.std.specs.Prelude.{◌≡◌, ◌+◌, ◌-◌, length, Some, IfOk};
+    ghost use Rattle.toml_subset.specs.Tables.{put};
+    ghost use Rattle.toml_value.specs.BranchViews.{shut};
+    ghost use Rattle.toml_value.specs.LevelViews.{cursor_view, pending_view};
+
+    /// How many tables and arrays stand around the value.
+    pub(crate) fn inside(&self) -> usize
+        ensures { result ≡ self.now.above + (length self.now.awaiting.keys - 1) }
+    {
+        self.above + self.awaiting.parts().saturating_sub(1)
+    }
+
+    /// The document with the value at the key. Where memory ends, nothing is left.
+    pub(crate) fn put(self, alloc: Global, value: Value<'de>) -> Result<Document<'de>, AllocError>
+        ensures { let c = pending_view self.entry in
+            let made = put self.entry.awaiting.keys (shut value.entry) c.here in
+            IfOk result (λ document. made ≡ Some (cursor_view document).here
+            × (cursor_view document ≡ record c { here = (cursor_view document).here })) }
+    {
+        let Pending {
+            around,
+            awaiting,
+            above,
+        } = self;
+        let body = awaiting.put(alloc, value)?;
+        Ok(Document {
+            around,
+            body,
+            above,
+        })
+    }
+}
+
+/// The fault at a part of a header.
+fn refuse(reason: SyntaxReason, key: &Key<'_>) -> SyntaxError
+    ensures { result ≡ refusal reason key.now }
+{
+    SyntaxError {
+        reason,
+        span: key.span,
+    }
+}
