@@ -3,7 +3,7 @@ use Rattle.std.proofs.Common.{◌≡◌, List, [], ◌∷◌, map, length, refl,
 use Rattle.toml_subset.specs.Data as «data»
 use Rattle.deny_text.specs.declared.span.Span.{Span}
 use Rattle.toml_subset.specs.Data.{Entries, Items, Toml}
-use Rattle.toml_subset.specs.Tables.{Node, Branches, unbranched, branch, entries_of, items_of}
+use Rattle.toml_subset.specs.Tables.{Branches, entries_of, items_of}
 use Rattle.toml_subset.specs.declared.string.Key.{Key}
 use Rattle.toml_frames.specs.Levels.{bodies_to}
 use Rattle.toml_value.specs.BranchViews.{joined, node_view, branches_view, body_view, body_items, finished}

@@ -1,12 +1,12 @@
 -- A value at the end of a dotted key, part by part.
-use Rattle.std.proofs.Common.{◌≡◌, ℕ, ⊎_elim, Bool, true, false, cond, List, [], ◌∷◌, Option, Some, None, option_map, is_some, map, set, get_or, refl, ap, sym, subst, ◌∙◌}
+use Rattle.std.proofs.Common.{◌≡◌, ℕ, Bool, true, false, cond, List, [], ◌∷◌, Option, Some, None, option_map, is_some, map, set, get_or, refl, ap, sym, ◌∙◌}
 use Rattle.std.proofs.lemmas.List.{length-map}
 use Rattle.deny_text.specs.declared.span.Span.{Span}
 use Rattle.toml_subset.specs.TableFaults.{node_at, refused, new_key_fault}
 use Rattle.toml_subset.specs.declared.error.SyntaxReason.TheVariants.{DuplicateKey}
-use Rattle.toml_subset.specs.Tables.{by_header, implicit, dotted, Node, Branches, closed, growing, tables, unbranched, branch, same_key, has_key, added, changed, through_dotted, along, put_new, put}
+use Rattle.toml_subset.specs.Tables.{by_header, implicit, dotted, Node, Branches, closed, growing, tables, unbranched, branch, same_key, has_key, added, changed, through_dotted, put_new, put}
 use Rattle.toml_subset.specs.declared.string.Key.{Key}
-use Rattle.toml_subset.proofs.Law.Basics.{is_some as one_of, if_is, if_false}
+use Rattle.toml_subset.proofs.Law.Basics.{is_some as one_of, if_false}
 use Rattle.toml_subset.proofs.Law.Ways.{along_by, along_step, new_table}
 use Rattle.key_index.specs.KeyPlaces.{place_of}
 use Rattle.toml_value.specs.BranchViews.{joined, node_view, branches_view, parts_of_dotted}

@@ -1,5 +1,5 @@
 -- Tables of the program that may grow, level by level.
-use Rattle.std.proofs.Common.{◌≡◌, ℕ, zero, suc, ◌<◌, ◌≤◌, ⊎_elim, Bool, true, false, ◌&&◌, eqb, List, [], ◌∷◌, ◌++◌, map, length, length-append, length-set, get_or, set, Option, Some, None, option_map, IsTrue, refl, ap, sym, subst, ◌∙◌, arith, rules}
+use Rattle.std.proofs.Common.{◌≡◌, ℕ, zero, suc, ◌<◌, ⊎_elim, Bool, true, false, ◌&&◌, eqb, List, [], ◌∷◌, ◌++◌, map, length, length-append, length-set, get_or, set, Option, Some, None, option_map, IsTrue, refl, ap, sym, subst, ◌∙◌, arith, rules}
 use Rattle.std.proofs.lemmas.Bool.Decides.{nat_tests}
 use Rattle.std.proofs.lemmas.List.{length-map}
 use Rattle.std.specs.List.{list_all}
@@ -7,7 +7,7 @@ use Rattle.std.specs.Str.{bytes_eq}
 use Rattle.key_index.specs.KeyPlaces.{place_of}
 use Rattle.toml_subset.specs.TableFaults.{node_at}
 use Rattle.deny_text.specs.declared.span.Span.{Span}
-use Rattle.toml_subset.specs.Tables.{Node, Branches, growing, dotted, branch, same_key, has_key, added, changed}
+use Rattle.toml_subset.specs.Tables.{Node, growing, dotted, branch, same_key, has_key, added, changed}
 use Rattle.toml_subset.specs.declared.string.Key.{Key}
 use Rattle.toml_subset.proofs.Law.Basics.{map_some, is_some, if_is, if_true, if_false}
 use Rattle.toml_value.specs.BranchViews.{joined, node_view, branches_view, is_whole, is_whole_node}

@@ -4,7 +4,7 @@ use Rattle.toml_subset.specs.Data.{depth_limit, entries_depth}
 use Rattle.toml_subset.specs.Lines.{Document}
 use Rattle.toml_subset.specs.Answer.{Read}
 use Rattle.toml_subset.specs.Reading.{LineFound}
-use Rattle.toml_subset.specs.Tables.{Branches, entries_of}
+use Rattle.toml_subset.specs.Tables.{entries_of}
 use Rattle.toml_subset.specs.declared.error.SyntaxError.{SyntaxError}
 use Rattle.toml_subset.specs.declared.error.TomlError.{TomlError}
 use Rattle.toml_subset.specs.declared.error.TomlError.TheVariants.{Syntax, Memory}

@@ -1,6 +1,5 @@
-use Rattle.std.proofs.Common.{◌≡◌, ℕ, ◌+◌, ◌-◌, ◌≤◌, length, Ok, Err, subst, arith}
+use Rattle.std.proofs.Common.{◌≡◌, ℕ, ◌+◌, ◌-◌, length, Ok, Err, subst, arith}
 use Rattle.toml_subset.specs.Answer.{Answers}
-use Rattle.toml_subset.specs.Data.{depth_limit}
 use Rattle.toml_subset.specs.Reading.{value_at, pair_put}
 use Rattle.toml_value.specs.LevelViews.{cursor_view, pending_view}
 use Rattle.toml_value.specs.StackViews.{value_found}

@@ -1,8 +1,6 @@
 use Rattle.std.proofs.Common.{◌≡◌, ◌<◌, ◌≤◌, ℕ, length, Ok, Err, sym, ap, subst, ◌∙◌, arith}
-use Rattle.toml_subset.specs.Answer.{Answers}
 use Rattle.toml_subset.specs.Places.{after_blanks}
-use Rattle.toml_subset.specs.Reading.{line_from, read_text}
-use Rattle.toml_subset.specs.Text.{IsText}
+use Rattle.toml_subset.specs.Reading.{line_from}
 use Rattle.toml_subset.proofs.Law.Whole.{text_sound, line_forward}
 use Rattle.toml_frames.specs.LinesRead.{AreRead}
 use Rattle.toml_frames.proofs.LinesRead.{lines_begin, lines_end}

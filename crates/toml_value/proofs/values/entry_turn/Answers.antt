@@ -1,4 +1,4 @@
-use Rattle.std.proofs.Common.{◌≡◌, ◌+◌, ap, sym, subst, ◌∙◌}
+use Rattle.std.proofs.Common.{◌+◌, ap, sym, subst, ◌∙◌}
 use Rattle.toml_subset.specs.StringReading.{KeysFound}
 use Rattle.toml_subset.specs.TableFaults.{put_fault}
 use Rattle.toml_frames.proofs.Turns.{entry_turn_is}

@@ -1,14 +1,13 @@
-use Rattle.std.proofs.Common.{◌≡◌, ◌+◌, true, false, ap, sym, subst, ◌∙◌, arith}
+use Rattle.std.proofs.Common.{◌≡◌, ◌+◌, true, false, ap, sym, subst, ◌∙◌}
 use Rattle.toml_subset.specs.Bytes.{open_bracket}
 use Rattle.toml_subset.specs.Data.{Items}
 use Rattle.toml_subset.specs.Places.{stands}
 use Rattle.toml_subset.specs.Reading.{value_at}
-use Rattle.toml_subset.specs.Tables.{Branches, unbranched}
+use Rattle.toml_subset.specs.Tables.{Branches}
 use Rattle.toml_frames.proofs.Turns.{array_opens, table_opens}
 use Rattle.toml_frames.specs.Between.{place_of, entry_place}
 use Rattle.toml_frames.specs.Frames.{array_turn, table_on, IsTurn}
 use Rattle.toml_value.specs.TreeViews.{tree_view}
-use Rattle.toml_value.specs.Views.{values_view}
 use Rattle.toml_value.proofs.TurnLemmas.{takes_same}
 use Rattle.toml_value.proofs.values.opening_turn.Goals as goal
 

@@ -1,4 +1,4 @@
-use Rattle.std.proofs.Common.{◌≡◌, ◌+◌, List, map, Err, sym, subst}
+use Rattle.std.proofs.Common.{◌+◌, List, map, Err, sym, subst}
 use Rattle.toml_subset.specs.Reading.{value_at}
 use Rattle.toml_frames.proofs.Stacks.{IsReading, reading_begins, waits_shallow, waits_on, waits_refused, reads_shallow, reads_on, reads_refused}
 use Rattle.toml_frames.specs.Frames.{outside, inside, on_with, IsTurn}

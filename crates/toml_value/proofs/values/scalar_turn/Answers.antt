@@ -4,7 +4,6 @@ use Rattle.toml_frames.proofs.Turns.{scalar_turn}
 use Rattle.toml_frames.specs.Frames.{read, IsTurn}
 use Rattle.toml_frames.specs.Scalars.{scalar_content}
 use Rattle.toml_value.specs.StackViews.{value_found}
-use Rattle.toml_value.specs.Views.{value_view}
 use Rattle.toml_value.proofs.values.scalar_turn.Goals as goal
 
 pub returns-in-Ok : goal.returns-in-Ok

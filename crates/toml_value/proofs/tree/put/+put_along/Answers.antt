@@ -1,15 +1,14 @@
-use Rattle.std.proofs.Common.{◌≡◌, ◌∷◌, ◌<◌, List, length, length-set, Some, None, map, true, false, get_or, set, is_some, sym, ap, subst, ◌∙◌, arith}
-use Rattle.std.proofs.lemmas.List.{length-map}
+use Rattle.std.proofs.Common.{◌≡◌, ◌∷◌, ◌<◌, List, length, length-set, Some, None, map, true, false, set, is_some, sym, ap, subst, ◌∙◌, arith}
 use Rattle.std.proofs.lemmas.Result.{IfOk-weaker}
-use Rattle.toml_subset.specs.Tables.{Branches, unbranched, dotted, growing, has_key, added, put}
+use Rattle.toml_subset.specs.Tables.{Branches, dotted, growing, has_key, added, put}
 use Rattle.deny_text.specs.declared.span.Span.{Span}
 use Rattle.toml_subset.specs.declared.string.Key.{Key}
 use Rattle.toml_subset.proofs.Law.Basics.{is_some as one_of}
 use Rattle.key_index.specs.KeyPlaces.{place_of}
-use Rattle.toml_value.specs.BranchViews.{joined, node_view, branches_view, is_whole, is_whole_node, shut, parts_of_dotted}
+use Rattle.toml_value.specs.BranchViews.{joined, node_view, branches_view, is_whole_node, shut}
 use Rattle.toml_value.specs.declared.value.Value.{Value}
 use Rattle.toml_value.specs.declared.tree.Mark.TheVariants.{Dotted}
-use Rattle.toml_value.specs.declared.tree.Node.{Node as NodeOf, Closed, Growing}
+use Rattle.toml_value.specs.declared.tree.Node.{Closed, Growing}
 use Rattle.toml_value.specs.declared.tree.Branches.{Branches as BranchesOf}
 use Rattle.toml_value.proofs.TreeLemmas.{branches_view-is, opened_whole, AreWhole, whole_closed, is_missing, is_within, whole_at, are_whole-set, node_view-dotted, is_whole-dotted, set_twice, seen-set}
 use Rattle.toml_value.proofs.PutLemmas.{new_free, new_put, leads_into, put_into, not_some}

@@ -1,5 +1,4 @@
-use Rattle.std.proofs.Common.{◌≡◌, ◌+◌, ◌≤◌, length, None, ap, ◌∙◌, arith}
-use Rattle.toml_subset.specs.Data.{depth_limit}
+use Rattle.std.proofs.Common.{length, ap, ◌∙◌, arith}
 use Rattle.toml_subset.specs.TableFaults.{put_fault}
 use Rattle.toml_subset.proofs.Law.Ways.{put_room}
 use Rattle.toml_value.specs.TreeViews.{tree_view}

@@ -1,7 +1,7 @@
-use Rattle.std.proofs.Common.{◌≡◌, ℕ, ◌+◌, ◌<◌, ◌≤◌, length, Some, None, Ok, Err, option_map, refl, sym, ap, ◌∙◌, arith}
+use Rattle.std.proofs.Common.{◌≡◌, ℕ, Some, None, Ok, Err, option_map, refl, sym, ap, ◌∙◌, arith}
 use Rattle.toml_subset.specs.Tables.{Node, Branches}
 use Rattle.toml_subset.specs.declared.string.Key.{Key}
-use Rattle.toml_frames.specs.Levels.{found_at, opened, hole, replaced, size}
+use Rattle.toml_frames.specs.Levels.{found_at, hole, replaced, size}
 use Rattle.toml_frames.proofs.Levels.{old_room}
 use Rattle.toml_value.specs.AroundViews.{around_view, opened_view}
 use Rattle.toml_value.specs.BranchViews.{branches_view, node_view, is_whole_node}

@@ -1,4 +1,4 @@
-use Rattle.std.proofs.Common.{◌≡◌, ◌∷◌, sym, ap, subst, ◌∙◌, length, arith}
+use Rattle.std.proofs.Common.{◌∷◌, sym, ap, subst, ◌∙◌, length, arith}
 use Rattle.toml_frames.proofs.Levels.{part_low}
 use Rattle.toml_frames.specs.Levels.{at_root, into_parts}
 use Rattle.toml_frames.specs.declared.part.Part.TheVariants.{Through}
