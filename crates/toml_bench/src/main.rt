@@ -1,6 +1,6 @@
-//! Prints how many bytes six texts made in memory have, and whether each is read. With the argument `bench` it
-//! prints the bytes of each once, twice and four times as long, the least microseconds of five readings, and the
-//! bytes a microsecond. With the argument `text` it prints the first text, for other readers.
+//! Prints how many bytes six texts made in memory have, and whether each is read. With the argument `bench`
+//! it prints the bytes of each once, twice and four times as long, the least microseconds of five readings,
+//! and the bytes a microsecond. With the argument `text` it prints the first text, for other readers.
 #![tactic(auto)]
 
 mod texts;
