@@ -1,5 +1,5 @@
 -- The headline, from what a run answers.
-use Rattle.std.proofs.Common.{◌≡◌, ℕ, zero, suc, ◌+◌, IfErr, Bool, true, false, cond, nat_lt, List, [], ◌∷◌, count_by, Option, Result, Ok, Err, All, refl, sym, ap, subst, ◌∙◌, arith}
+use Rattle.std.proofs.Common.{◌≡◌, ℕ, zero, suc, ◌+◌, IfErr, Bool, true, false, cond, nat_lt, List, [], ◌∷◌, count_by, Option, All, refl, sym, ap, subst, ◌∙◌, arith}
 use Rattle.std.specs.Prelude.{is_none}
 use Rattle.std.specs.List.{AllByRecursion as ByRecursion}
 use Rattle.std.proofs.lemmas.Bool.Decides.{nat_tests}

@@ -1,5 +1,5 @@
 -- Crates in the order of their ids: where ids rise, one id has one crate, and a list of crates that have a property is one.
-use Rattle.std.proofs.Common.{◌≡◌, ℕ, zero, suc, ◌<◌, List, [], ◌∷◌, map, length, slice_index_or, All, Contains, Bool, true, false, cond, Some, None, unwrap_or, refl, sym, ◌∙◌, ap, subst, nat_cmp, arith}
+use Rattle.std.proofs.Common.{◌≡◌, ℕ, zero, suc, ◌<◌, List, [], ◌∷◌, map, length, slice_index_or, Contains, Bool, true, false, cond, Some, refl, sym, ◌∙◌, ap, subst, nat_cmp, arith}
 use Rattle.std.specs.Prelude.{find}
 use Rattle.std.specs.List.{AllByRecursion}
 use Rattle.std.specs.List.Sorted.{IsStrictlySortedBy}

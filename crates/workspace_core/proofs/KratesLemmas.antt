@@ -1,5 +1,5 @@
 -- The crates from what was heard of the metadata's file, by what each step answers.
-use Rattle.std.proofs.Common.{◌≡◌, ◌∙◌, refl, sym, ap, subst, ℕ, List, Option, Some, None, Result, Ok, Err, IfErr}
+use Rattle.std.proofs.Common.{◌≡◌, ◌∙◌, sym, ap, subst, ℕ, List, Option, Some, None, Result, Ok, Err, IfErr}
 use Rattle.graph_core.specs.Metadata.{Graph}
 use Rattle.records_core.specs.declared.fault.MetaError.{MetaError}
 use Rattle.records_core.specs.declared.fault.MetaError.TheVariants as records
@@ -15,7 +15,7 @@ use Rattle.workspace_core.specs.declared.error.ReadFault.TheVariants.{Failed, Ab
 use Rattle.workspace_core.specs.declared.error.KratesError.{KratesError}
 use Rattle.workspace_core.specs.declared.error.KratesError.TheVariants.{Memory, NotCarried, MetadataRead, MetadataSyntax, MetadataShape, NoRoots}
 use Rattle.workspace_core.specs.Cause.{heard_cause, ReadCounts}
-use Rattle.workspace_core.specs.Krates.{krates_cause, error_of_build, error_of_records, graph_in, graph_told, sparse_dir, AreFrom, AreOf, TellsGraph}
+use Rattle.workspace_core.specs.Krates.{krates_cause, error_of_build, error_of_records, graph_in, graph_told, sparse_dir, AreFrom, TellsGraph}
 
 -- ---- what is told
 

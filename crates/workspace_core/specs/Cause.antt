@@ -1,5 +1,5 @@
 -- Why an error comes.
-use Rattle.std.specs.Prelude.{◌≡◌, ℕ, List, Result, Ok, Err}
+use Rattle.std.specs.Prelude.{◌≡◌, ℕ, List, Result, Err}
 use Rattle.tree_core.specs.Faults.{Rose}
 use Rattle.workspace_core.specs.declared.error.ReadFault.{ReadFault}
 use Rattle.workspace_core.specs.declared.error.ReadFault.TheVariants.{Failed}

@@ -1,4 +1,4 @@
-use Rattle.std.proofs.Common.{map, sym, subst}
+use Rattle.std.proofs.Common.{map, subst}
 use Rattle.selection_core.specs.Listed.{record_behind}
 use Rattle.deny_run.specs.Steps.{AreJudged}
 use Rattle.deny_run.proofs.StepLemmas.{are_checked}

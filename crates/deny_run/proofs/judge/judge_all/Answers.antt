@@ -1,4 +1,3 @@
-use Rattle.std.proofs.Common.{arith}
 use Rattle.selection_core.specs.Listed.{record_behind}
 use Rattle.deny_run.proofs.JudgeLemmas.{all_judged}
 use Rattle.deny_run.proofs.judge.judge_all.Goals as goal

@@ -1,4 +1,3 @@
-use Rattle.std.proofs.Common.{sym}
 use Rattle.std.proofs.lemmas.Result.{err_from_is_err_and}
 use Rattle.selection_core.specs.Choice.{choice_of}
 use Rattle.workspace_core.proofs.KratesLemmas.{build_refused, graph_refused}
