@@ -1,0 +1,57 @@
+-- What a request asks for, and the crates that it looks at.
+use Rattle.std.specs.Prelude.{◌≡◌, ◌↔◌, ℕ, ◌==◌, ◌||◌, Bool, List, ◌++◌, Option, Some, None, is_none, Result, Err, if◌then◌else◌}
+use Rattle.std.specs.List.{filter_map, list_any}
+use Rattle.std.specs.Option.{option_to_list}
+use Rattle.tree_core.specs.Content.{Content}
+use Rattle.request_core.specs.declared.context.KrateContext.{KrateContext}
+use Rattle.selection_core.specs.Choice.{Choice, Spec, spec_read}
+use Rattle.selection_core.specs.Listed.{Chosen}
+use Rattle.workspace_core.specs.declared.error.KratesError.{KratesError}
+use Rattle.workspace_core.specs.declared.error.KratesError.TheVariants.{NotCarried}
+use Rattle.workspace_core.specs.declared.error.What.{What}
+use Rattle.workspace_core.specs.declared.error.What.TheVariants.{MetadataPath, ExcludeSpec}
+use Rattle.workspace_core.specs.Krates.{Gathers}
+
+-- ---- what is not carried
+
+-- a `/` or a `#`
+abbrev pub is_sign : ℕ → Bool
+is_sign byte = (byte == 47) || (byte == 35)
+
+-- a spec that holds one
+abbrev pub is_uncarried : List ℕ → Bool
+is_uncarried text = list_any is_sign text
+
+-- The first of the parts that are not carried: no path of metadata, a spec with such a sign, be it the request's or the
+-- policy's.
+abbrev pub uncarried : KrateContext → List (List ℕ) → Option What
+uncarried context cfg_excludes =
+    if is_none context.metadata_path then Some MetadataPath
+    else (if list_any is_uncarried context.exclude || list_any is_uncarried cfg_excludes then Some ExcludeSpec else None)
+
+-- ---- what it selects by
+
+abbrev pub read_one : List ℕ → List Spec
+read_one text = option_to_list (spec_read text)
+
+-- the readable specs, those of the policy behind those of the request
+abbrev pub choice_asked : KrateContext → List (List ℕ) → Choice
+choice_asked context cfg_excludes = record {
+  workspace = context.workspace;
+  exclude = filter_map spec_read context.exclude ++ filter_map spec_read cfg_excludes;
+  exclude_dev = context.exclude_dev;
+  exclude_unpublished = context.exclude_unpublished;
+}
+
+-- ---- what is answered
+
+-- a request is refused as not carried exactly for the first such part
+abbrev pub IsRefused : KrateContext → List (List ℕ) → Result Chosen KratesError → Type 0
+IsRefused context cfg_excludes result =
+    (what : What) → (result ≡ Err (NotCarried what)) ↔ (uncarried context cfg_excludes ≡ Some what)
+
+-- else the crates are those that are gathered from the file at its path, between two counts of faults
+abbrev pub IsAnswer : KrateContext → List (List ℕ) → Content → ℕ → ℕ → Result Chosen KratesError → Type 0
+IsAnswer context cfg_excludes content before after result =
+    (path : List ℕ) → context.metadata_path ≡ Some path → uncarried context cfg_excludes ≡ None
+    → Gathers (choice_asked context cfg_excludes) content before path before after result

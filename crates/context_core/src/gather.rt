@@ -1,0 +1,114 @@
+//! The crates that a request looks at, from its metadata's file.
+ghost use Rattle.std.specs.Prelude.{◌≡◌, ◌++◌, map, IfErr, IfOk, OnOk};
+ghost use Rattle.std.specs.List.{filter_map, list_any};
+ghost use Rattle.std.specs.Option.{ForSome};
+ghost use Rattle.tree_core.specs.Hearing.{KeepsTree};
+ghost use Rattle.selection_core.specs.Choice.{choice_of, spec_of, spec_read};
+ghost use Rattle.workspace_core.specs.Cause.{ReadCounts};
+ghost use Rattle.workspace_core.specs.Krates.{krates_cause};
+ghost use Rattle.context_core.specs.Asked as spec;
+ghost use Rattle.context_core.specs.Asked.{IsAnswer, choice_asked};
+
+use deny_text::{Text, Texts};
+use request_core::KrateContext;
+use std::alloc::{AllocError, Global};
+use tree_core::Tree;
+use workspace_core::{ExcludeSpec, ExcludeSpecs, Krates, KratesError, Selection, What, krates_at};
+
+/// Whether a spec holds a `/` or a `#`.
+fn is_uncarried(text: &Text) -> bool
+    ensures { result ≡ spec.is_uncarried text.now }
+{
+    text.as_str()
+        .as_bytes()
+        .iter()
+        .any(|byte| *byte == b'/' || *byte == b'#')
+}
+
+fn has_uncarried(texts: &Texts) -> bool
+    ensures { result ≡ list_any spec.is_uncarried texts.now }
+{
+    texts.items().iter().any(|text| is_uncarried(text))
+}
+
+/// The first part of a request that is not carried.
+fn uncarried(context: &KrateContext, cfg_excludes: &Texts) -> Option<What>
+    ensures { result ≡ spec.uncarried context.now cfg_excludes.now }
+{
+    if context.metadata_path.is_none() {
+        Some(What::MetadataPath)
+    } else if has_uncarried(&context.exclude) || has_uncarried(cfg_excludes) {
+        Some(What::ExcludeSpec)
+    } else {
+        None
+    }
+}
+
+/// Appends the specs that texts are read as. Unreadable ones are passed over.
+fn read_specs(alloc: Global, specs: &mut ExcludeSpecs, texts: &[Text]) -> Result<(), AllocError>
+    ensures { OnOk result (map spec_of specs.new ≡ map spec_of specs.old ++ filter_map spec_read texts.now) }
+{
+    'texts: for text in texts {
+        push_spec(alloc, specs, text)?;
+    }
+    Ok(())
+}
+
+fn push_spec(alloc: Global, specs: &mut ExcludeSpecs, text: &Text) -> Result<(), AllocError>
+    ensures { OnOk result (map spec_of specs.new ≡ map spec_of specs.old ++ spec.read_one text.now) }
+{
+    if let Some(read) = ExcludeSpec::read(alloc, text.as_str())? {
+        specs.push(read)?;
+    }
+    Ok(())
+}
+
+/// What a request selects by, with the policy's specs behind its own.
+fn selection_of(
+    alloc: Global,
+    context: &KrateContext,
+    cfg_excludes: &Texts,
+) -> Result<Selection, AllocError>
+    ensures { IfOk result (λ selection. choice_of selection ≡ choice_asked context.now cfg_excludes.now) }
+{
+    let mut exclude = ExcludeSpecs::new(alloc);
+    read_specs(alloc, &mut exclude, context.exclude.items())?;
+    read_specs(alloc, &mut exclude, cfg_excludes.items())?;
+    Ok(Selection {
+        workspace: context.workspace,
+        exclude,
+        exclude_dev: context.exclude_dev,
+        exclude_unpublished: context.exclude_unpublished,
+    })
+}
+
+/// The crates that a request looks at: those that its selection reaches in the metadata that it names.
+/// `cfg_excludes` are the policy's specs of crates to be left out, which are read as those of the request
+/// are: unreadable ones are passed over.
+///
+/// It is refused where no metadata is named, where a spec holds a `/` or a `#`, and then as `krates_at` is.
+/// A failed read carries the tree's counts of faults at the start of this call and after the read.
+pub fn gather_krates<T: Tree>(
+    context: KrateContext,
+    alloc: Global,
+    tree: &mut T,
+    cfg_excludes: &Texts,
+) -> Result<Krates, KratesError>
+    ensures answer { ForSome (T.content tree.old) (λ c. IsAnswer context cfg_excludes.now c
+        (T.fault_count tree.old) (T.fault_count tree.new) result) }
+    ensures refused { spec.IsRefused context cfg_excludes.now result }
+    ensures kept { KeepsTree (T.content tree.old) (T.content tree.new)
+        (T.fault_count tree.old) (T.fault_count tree.new) }
+    ensures counts { IfErr result (λ error. ReadCounts (T.fault_count tree.old)
+        (T.fault_count tree.old) (T.fault_count tree.new) (krates_cause error)) }
+{
+    if let Some(what) = uncarried(&context, cfg_excludes) {
+        return Err(KratesError::NotCarried(what));
+    }
+    let begun = tree.faults();
+    let selection = selection_of(alloc, &context, cfg_excludes)?;
+    match &context.metadata_path {
+        Some(path) => krates_at(alloc, tree, path.as_path(), &selection, begun),
+        None => Err(KratesError::NotCarried(What::MetadataPath)),
+    }
+}
