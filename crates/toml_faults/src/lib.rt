@@ -1,0 +1,4 @@
+//! The law of the first fault of a text of the subset.
+#![tactic(auto)]
+
+pub mod laws;
