@@ -17,9 +17,8 @@ use Rattle.toml_subset.proofs.Law.Depths.{depth}
 use Rattle.toml_subset.proofs.Law.Forward.{next_line_goes, lines_inside}
 use Rattle.toml_subset.proofs.Law.Fronts.{passes_inside}
 use Rattle.toml_subset.proofs.Law.Values.{run_stops}
-use Rattle.toml_subset.proofs.Law.Whole.{text_complete}
+use Rattle.toml_subset.proofs.Law.Whole.{statement_goes, line_read, lines_grow, text_complete}
 use Rattle.toml_faults.proofs.Front.{Ends, line_spells_on}
-use Rattle.toml_faults.proofs.LinesStand.{line_read, lines_grow, statement_goes}
 use Rattle.toml_faults.proofs.LineFaults.{Lines, lines_are, text_fault}
 
 module _ (text : List ℕ) (m : ℕ) (ends : Ends text m) where

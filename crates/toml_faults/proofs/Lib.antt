@@ -2,7 +2,6 @@ pub mod Borders
 pub mod FirstFault
 pub mod Front
 pub mod LineFaults
-pub mod LinesStand
 pub mod Parts
 pub mod Stuck
 pub mod ValueFaults

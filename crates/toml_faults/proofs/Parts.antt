@@ -56,7 +56,7 @@ module _ (text : List ℕ) (utf8 : IsUtf8 text) where
   end_border_of kind i [] close next is = closing_border text utf8 kind i next is.0
   end_border_of kind i (p ∷ ps) close next is = end_border_of kind is.0 ps close next is.2
 
-  string_span : (i : ℕ) (kind : Quoting) (key : Key) (next : ℕ) → IsString text i kind key.name key.span next → IsSpanFrom i key.span
+  pub string_span : (i : ℕ) (kind : Quoting) (key : Key) (next : ℕ) → IsString text i kind key.name key.span next → IsSpanFrom i key.span
   string_span i kind key next is =
       let order = pieces_order kind text is.first is.pieces is.close next is.body in
       let le = order.0 in
@@ -68,7 +68,7 @@ module _ (text : List ℕ) (utf8 : IsUtf8 text) where
         end_border = close_border kind is.first is.pieces is.close next is.body;
       })
 
-  key_span : (i : ℕ) (key : Key) (next : ℕ) → IsKey text i key next → IsSpanFrom i key.span
+  pub key_span : (i : ℕ) (key : Key) (next : ℕ) → IsKey text i key next → IsSpanFrom i key.span
   key_span i key next (inl bare) =
       let some = bare.some in
       let ends = bare.ends in

@@ -261,7 +261,7 @@ key_line text i keys next is =
     ⊎_elim (λ h. begins_line_bare text i h)
     (λ h. ⊎_elim (λ k. begins_line_byte quote refl refl refl refl text i k) (λ k. begins_line_byte apostrophe refl refl refl refl text i k) h) (keys_begin text i keys next is)
 
-statement_goes : (text : List ℕ) (i : ℕ) (s : Statement) (k : ℕ) → IsStatement text i s k → i ≤ k
+pub statement_goes : (text : List ℕ) (i : ℕ) (s : Statement) (k : ℕ) → IsStatement text i s k → i ≤ k
 statement_goes text i blank_line k is = omega (arith, is)
 statement_goes text i (pair keys span value) k is =
     let key = keys_go text i keys is.0 is.1 in
@@ -274,7 +274,7 @@ past_blank : (text : List ℕ) (j : ℕ) (document : Document) → BeginsLine te
 past_blank text j document begins = if_false (is_blank_line text j) (line_rest text j document) (statement_line text document j) (not_blank text j begins)
 
 -- what a line of one kind is read as
-line_read : (text : List ℕ) (j : ℕ) (document new : Document) (s : Statement) (k next : ℕ) → passes_at is_blank text j ≡ false → IsStatement text j s k → next_line text k ≡ Some next
+pub line_read : (text : List ℕ) (j : ℕ) (document new : Document) (s : Statement) (k next : ℕ) → passes_at is_blank text j ≡ false → IsStatement text j s k → next_line text k ≡ Some next
     → after_line s document ≡ Some new → depth new.root ≤ depth_limit → k ≤ length text → line_from text document j ≡ Ok (new, next)
 line_read text j document new blank_line k next blank is ends mean low inside =
     let here : next_line text j ≡ Some next = ap (next_line text) (sym is) ∙ ends in
@@ -360,7 +360,7 @@ line_grows (array_header span keys) document new e =
     let same = ap (λ (d : Document). depth d.root) edit.2 in
     omega arith
 
-lines_grow : (lines : List Statement) (document new : Document) → after_lines lines document ≡ Some new → depth document.root ≤ depth new.root
+pub lines_grow : (lines : List Statement) (document new : Document) → after_lines lines document ≡ Some new → depth document.root ≤ depth new.root
 lines_grow [] document new e = let same = ap (λ (d : Document). depth d.root) (is_some document new e) in omega arith
 lines_grow (s ∷ more) document new e =
     let first = then_some (after_lines more) (after_line s document) new e in

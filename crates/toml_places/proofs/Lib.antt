@@ -1,0 +1,4 @@
+pub mod Edits
+pub mod Texts
+pub mod Trees
+pub mod Written
