@@ -1,5 +1,5 @@
 -- Where the name of a key stands in a list of keys.
-use Rattle.std.specs.Prelude.{◌≡◌, ℕ, suc, if◌then◌else◌, List, [], ◌∷◌, Option, Some, None, option_map}
+use Rattle.std.specs.Prelude.{◌≡◌, ℕ, suc, ◌+◌, ◌<◌, length, if◌then◌else◌, List, [], ◌∷◌, Option, Some, None, option_map}
 use Rattle.std.specs.FinMap as finmap
 use Rattle.std.specs.Str.{bytes_eq}
 use Rattle.deny_text.specs.TextMap.{TextMapTo}
@@ -13,3 +13,14 @@ place_of name (key ∷ more) = if bytes_eq name key.name.text then Some 0 else o
 -- a map from names has the place of each
 abbrev pub HasPlaces : TextMapTo ℕ → List Key → Type 0
 HasPlaces places keys = (name : List ℕ) → finmap.get places name ≡ place_of name keys
+
+-- the same, counted from a first place on
+abbrev pub HasPlacesFrom : ℕ → TextMapTo ℕ → List Key → Type 0
+HasPlacesFrom first places keys = (name : List ℕ) → finmap.get places name ≡ option_map (λ i. first + i) (place_of name keys)
+
+-- Few keys need no map.
+abbrev pub few : ℕ
+few = 8
+
+abbrev pub IsIndex : TextMapTo ℕ → List Key → Type 0
+IsIndex places keys = few < length keys → HasPlaces places keys

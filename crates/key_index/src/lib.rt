@@ -5,17 +5,19 @@ ghost use Rattle.std.specs.Prelude.{◌≡◌, [], ◌∷◌, ◌++◌, length, 
 ghost use Rattle.key_index.specs.KeyPlaces.{place_of};
 
 mod parts;
+mod places;
 #[cfg(test)]
 mod tests;
 
-use deny_text::{Text, TextMap};
+use deny_text::TextMap;
 pub use parts::KeyParts;
+use places::{FEW, noted, scan};
 use std::alloc::{AllocError, Global};
 use std::marker::Model;
 use toml_subset::{Key, Keys};
 
 /// The keys of a table, no two of one name. A look-up and a further key among n keys take about log2 n
-/// comparisons.
+/// comparisons, and at most eight among eight keys or fewer, which need no memory but their own.
 #[derive(Drop)]
 pub struct KeyIndex<'de> {
     keys: Vec<Key<'de>>,
@@ -25,13 +27,13 @@ pub struct KeyIndex<'de> {
 impl<'de> Model for KeyIndex<'de> {
     ghost use Rattle.std.specs.Prelude.{List};
     ghost use Rattle.toml_subset.specs.declared.string.Key.{Key};
-    ghost use Rattle.key_index.specs.KeyPlaces.{HasPlaces};
+    ghost use Rattle.key_index.specs.KeyPlaces.{IsIndex};
 
     ghost Value = { List Key };
 
     ghost view = { λ index. index.keys.items };
 
-    ghost invariant = { λ index. HasPlaces index.places index.keys.items };
+    ghost invariant = { λ index. IsIndex index.places index.keys.items };
 }
 
 impl<'de> KeyIndex<'de> {
@@ -49,7 +51,11 @@ impl<'de> KeyIndex<'de> {
     pub fn find(&self, name: &str) -> Option<usize>
         ensures { result ≡ place_of name.now self.now }
     {
-        self.places.get(name).copied()
+        if self.keys.len() <= FEW {
+            scan(&self.keys, name)
+        } else {
+            self.places.get(name).copied()
+        }
     }
 
     /// The keys and a further one, whose name none of them has. Where memory ends, nothing is left.
@@ -57,12 +63,8 @@ impl<'de> KeyIndex<'de> {
         requires new { place_of key.name.text self ≡ None }
         ensures { IfOk result (λ index. index ≡ self.entry ++ key.entry ∷ []) }
     {
-        let KeyIndex {
-            mut keys,
-            mut places,
-        } = self;
-        let name = Text::copy(alloc, key.name.as_str())?;
-        places.insert(name, keys.len())?;
+        let KeyIndex { mut keys, places } = self;
+        let places = noted(alloc, &keys, places, &key)?;
         keys.push(key)?;
         Ok(KeyIndex { keys, places })
     }

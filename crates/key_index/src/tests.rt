@@ -27,3 +27,27 @@ fn finds_names(rt: HostRuntime) -> Result<(), Fail> {
     assert!(rt; keys.next().is_none());
     Ok(())
 }
+
+/// Past eight keys a map finds them.
+#[test]
+fn finds_names_among_many(rt: HostRuntime) -> Result<(), Fail> {
+    let span = Span { start: 0, end: 1 };
+    let names = ["l", "k", "j", "i", "h", "g", "f", "e", "d", "c", "b", "a"];
+    let mut index = KeyIndex::new(rt.alloc());
+    for (place, name) in names.iter().enumerate() {
+        let key = Key {
+            name: plain_string(name),
+            span,
+        };
+        assert!(rt; index.find(name).is_none());
+        if index.find(name).is_none() {
+            index = index.with(rt.alloc(), key)?;
+        }
+        assert_eq!(rt; index.find("l"), Some(0));
+        assert_eq!(rt; index.find(name), Some(place));
+    }
+    assert_eq!(rt; index.find("e"), Some(7));
+    assert_eq!(rt; index.find("d"), Some(8));
+    assert_eq!(rt; index.find("m"), None);
+    Ok(())
+}

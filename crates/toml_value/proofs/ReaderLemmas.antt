@@ -1,7 +1,9 @@
 -- Lines, as the program reads them.
 use Rattle.std.proofs.Common.{◌≡◌, ℕ, ◌+◌, ◌-◌, ◌<◌, ◌≤◌, Bool, true, false, cond, List, length, Option, Some, None, Result, Ok, Err, refl, ap, sym, subst, ◌∙◌, arith}
+use Rattle.std.specs.Str.{IsUtf8}
 use Rattle.toml_subset.specs.Answer.{Read, Answers, then_read, unless}
 use Rattle.toml_subset.specs.Data.{Toml, depth_of, depth_limit}
+use Rattle.toml_subset.specs.Faults.{IsFirstFault}
 use Rattle.toml_subset.specs.Lines.{Document}
 use Rattle.toml_subset.specs.Reading.{Found, LineFound, enough, value_at, section_of, line_rest, with_root as with_root_at, pair_put, pair_from, line_from, read_text}
 use Rattle.toml_subset.specs.Places.{after_blanks}
@@ -18,6 +20,7 @@ use Rattle.toml_subset.proofs.Law.Depths.{depth}
 use Rattle.toml_subset.proofs.Law.Headers.{section_inner}
 use Rattle.toml_subset.proofs.Law.Values.{value_sound}
 use Rattle.toml_subset.proofs.Law.Whole.{text_complete}
+use Rattle.toml_faults.proofs.FirstFault.{first_fault}
 use Rattle.toml_frames.specs.Levels.{Cursor, steps, all_plugged, at_root, IsWay, IsOpened}
 use Rattle.toml_frames.specs.LinesRead.{AreRead}
 use Rattle.toml_frames.proofs.LinesRead.{line_goes_on, line_refused}
@@ -160,3 +163,9 @@ pub outside_by : {B : Type 0} (view : B → Toml) (text : List ℕ) (error : Tom
     → OnSyntax {A = B} (Err error) (λ fault. (value : Toml) → IsText text value → ⊥)
 outside_by view text (Syntax fault) is = no_value text fault is
 outside_by view text Memory is = tt
+
+-- what a fault that is told is of the text
+pub first_by : {B : Type 0} (view : B → Toml) (text : List ℕ) → IsUtf8 text → (error : TomlError) → Answers {B = B} view (read_text text) (Err error)
+    → OnSyntax {A = B} (Err error) (λ fault. IsFirstFault text fault)
+first_by view text utf8 (Syntax fault) is = first_fault text fault utf8 is
+first_by view text utf8 Memory is = tt

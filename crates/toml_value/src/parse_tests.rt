@@ -282,7 +282,10 @@ static EVERY: &str = "\
     z = 0x1F\n\
     [licenses.more]\n\
     [\"q\\tr\".s]\n\
-    i = false\n";
+    i = false\n\
+    [many]\n\
+    a = 1\nb = 1\nc = 1\nd = 1\ne = 1\n\
+    f = 1\ng = 1\nh = 1\ni = 1\nj = \"ten\"\n";
 
 /// With each allocation failing in turn, this is out of memory and nothing else.
 #[test]
@@ -296,6 +299,7 @@ fn every_construct(rt: HostRuntime) -> Result<(), Fail> {
         ("/licenses/allow/1", "AA"),
         ("/licenses/k/m/e", "x\ny"),
         ("/t/1/w/x/y", "pq"),
+        ("/many/j", "ten"),
     ] {
         let found = value.pointer(path).ok_or("nothing at the path")?;
         assert_eq!(rt; found.as_str().ok_or("no string")?, wanted);

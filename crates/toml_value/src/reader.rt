@@ -3,6 +3,7 @@ ghost use Rattle.std.specs.Prelude.{◌≡◌, ◌+◌, ◌-◌, ◌<◌, ◌≤
 ghost use Rattle.toml_subset.specs.Answer.{Answers, Gives, then_read, unless};
 ghost use Rattle.toml_subset.specs.Bytes.{open_bracket};
 ghost use Rattle.toml_subset.specs.Data.{Toml};
+ghost use Rattle.toml_subset.specs.Faults.{IsFirstFault};
 ghost use Rattle.toml_subset.specs.Lines.{Document as DocumentOf};
 ghost use Rattle.toml_subset.specs.Places.{stands as stands_at};
 ghost use Rattle.toml_subset.specs.Reading.{is_blank_line as blank_line_at, line_rest as rest_of_line};
@@ -14,6 +15,7 @@ ghost use Rattle.toml_subset.specs.declared.error.SyntaxError.{SyntaxError as Sy
 ghost use Rattle.toml_subset.specs.Text.{IsText};
 ghost use Rattle.toml_frames.specs.Levels.{IsWay, IsOpened, at_root, into_header};
 ghost use Rattle.toml_frames.specs.LinesRead.{bracket_line};
+ghost use Rattle.toml_places.specs.Placed.{IsPlaced};
 ghost use Rattle.toml_value.specs.LevelViews.{cursor_view, pending_view, IsShallow, IsLineRead};
 ghost use Rattle.toml_value.specs.ReaderViews.{OnSyntax};
 ghost use Rattle.toml_value.specs.Views.{value_view};
@@ -273,7 +275,9 @@ fn whole<'de>(
 pub fn parse(alloc: Global, text: &str) -> Result<Value<'_>, TomlError>
     ensures answer { Answers (λ value. value_view value) (read_text text.now) result }
     ensures value { IfOk result (λ value. IsText text.now (value_view value)) }
+    ensures spans { IfOk result (λ value. IsPlaced text.now (value_view value)) }
     ensures outside { OnSyntax result (λ fault. (value : Toml) → IsText text.now value → ⊥) }
+    ensures place { OnSyntax result (λ fault. IsFirstFault text.now fault) }
 {
     let bytes = text.as_bytes();
     let mut document = Document::new(alloc);

@@ -4,9 +4,10 @@ use Rattle.toml_subset.specs.Reading.{line_from}
 use Rattle.toml_subset.proofs.Law.Whole.{text_sound, line_forward}
 use Rattle.toml_frames.specs.LinesRead.{AreRead}
 use Rattle.toml_frames.proofs.LinesRead.{lines_begin, lines_end}
+use Rattle.toml_places.proofs.Texts.{text_placed}
 use Rattle.toml_value.specs.LevelViews.{cursor_view, IsLineRead}
 use Rattle.toml_value.specs.Views.{value_view}
-use Rattle.toml_value.proofs.ReaderLemmas.{way_low, line_on, text_refused, outside_by}
+use Rattle.toml_value.proofs.ReaderLemmas.{way_low, line_on, text_refused, outside_by, first_by}
 use Rattle.toml_value.proofs.reader.parse.Goals as goal
 
 pub lines-init : goal.lines-init
@@ -62,4 +63,21 @@ returns-in-Err-clause-outside c =
     let place : c.after_blanks.result ≡ after_blanks text c.lines.place = c.after_blanks.ensures.end ∙ ap (λ b. after_blanks b c.lines.place) c.as_bytes-bytes.ensures.value in
     let read = subst (λ (i : ℕ). IsLineRead (line_from text are.document i) (Err c.in-Err.error)) place (c.in-Err.ensures.answer are.document are.way) in
     outside_by (λ value. value_view value) text c.in-Err.error
+    (text_refused (λ value. value_view value) text (cursor_view c.lines.document) c.lines.place c.in-Err.error are (omega (arith, c.lines-test.true)) read)
+
+pub returns-clause-spans : goal.returns-clause-spans
+returns-clause-spans c =
+    let text = c.args.text.now in
+    let are = c.lines.invariant in
+    text_placed text c.utf8.text (value_view c.in_ok-value.value)
+    (text_sound text (value_view c.in_ok-value.value)
+    (lines_end text (cursor_view c.lines.document) c.lines.place are (omega (arith, c.lines-test.false)) ∙ ap Ok (sym (c.in_ok-value.ensures are.document are.way))))
+
+pub returns-in-Err-clause-place : goal.returns-in-Err-clause-place
+returns-in-Err-clause-place c =
+    let text = c.args.text.now in
+    let are = c.lines.invariant in
+    let place : c.after_blanks.result ≡ after_blanks text c.lines.place = c.after_blanks.ensures.end ∙ ap (λ b. after_blanks b c.lines.place) c.as_bytes-bytes.ensures.value in
+    let read = subst (λ (i : ℕ). IsLineRead (line_from text are.document i) (Err c.in-Err.error)) place (c.in-Err.ensures.answer are.document are.way) in
+    first_by (λ value. value_view value) text c.utf8.text c.in-Err.error
     (text_refused (λ value. value_view value) text (cursor_view c.lines.document) c.lines.place c.in-Err.error are (omega (arith, c.lines-test.true)) read)
