@@ -4,7 +4,7 @@ ghost use Rattle.std.specs.List.{filter_map, list_any};
 ghost use Rattle.std.specs.Option.{ForSome};
 ghost use Rattle.tree_core.specs.Hearing.{KeepsTree};
 ghost use Rattle.selection_core.specs.Choice.{choice_of, spec_of, spec_read};
-ghost use Rattle.workspace_core.specs.Cause.{ReadCounts};
+ghost use Rattle.heard_core.specs.Cause.{ReadCounts};
 ghost use Rattle.workspace_core.specs.Krates.{krates_cause};
 ghost use Rattle.context_core.specs.Asked as spec;
 ghost use Rattle.context_core.specs.Asked.{IsAnswer, choice_asked};

@@ -15,12 +15,12 @@ use Rattle.records_core.specs.Told.{Told}
 use Rattle.selection_core.specs.Choice.{Choice}
 use Rattle.selection_core.specs.Listed.{Chosen}
 use Rattle.selection_core.specs.Roots.{HasRoot}
-use Rattle.workspace_core.specs.declared.error.ReadFault.{ReadFault}
-use Rattle.workspace_core.specs.declared.error.ReadFault.TheVariants.{Failed, Absent, Folder, NotUtf8}
+use Rattle.heard_core.specs.declared.fault.ReadFault.{ReadFault}
+use Rattle.heard_core.specs.declared.fault.ReadFault.TheVariants.{Failed, Absent, Folder, NotUtf8}
 use Rattle.workspace_core.specs.declared.error.KratesError.{KratesError}
 use Rattle.workspace_core.specs.declared.error.KratesError.TheVariants as krates
-use Rattle.workspace_core.specs.Cause.{Cause, no_memory, told, failed_read, refused_write, heard_cause, ReadCounts}
-use Rattle.workspace_core.specs.Heard.{hearing_of, text_heard, IsHeard}
+use Rattle.heard_core.specs.Cause.{Cause, no_memory, told, failed_read, refused_write, heard_cause, ReadCounts}
+use Rattle.heard_core.specs.Heard.{hearing_of, text_heard, IsHeard}
 use Rattle.workspace_core.specs.Krates.{graph_in, graph_told, sparse_dir, Gathers}
 use Rattle.deny_run.specs.declared.error.Part.TheVariants.{Words, Policy, Crate}
 use Rattle.deny_run.specs.declared.error.Error.{Error}

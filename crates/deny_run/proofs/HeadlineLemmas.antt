@@ -12,7 +12,7 @@ use Rattle.tree_core.proofs.HearingLemmas.{none_failed}
 use Rattle.graph_core.specs.Krate.{Record}
 use Rattle.records_core.proofs.RisingLemmas.{graph-rising}
 use Rattle.selection_core.specs.Walks.{Selected}
-use Rattle.workspace_core.specs.Cause.{Cause, no_memory, told, failed_read, refused_write}
+use Rattle.heard_core.specs.Cause.{Cause, no_memory, told, failed_read, refused_write}
 use Rattle.workspace_core.specs.Krates.{sparse_dir}
 use Rattle.deny_run.specs.declared.error.Part.TheVariants.{Words, Policy, Crate}
 use Rattle.deny_run.specs.declared.error.Error.{Error}

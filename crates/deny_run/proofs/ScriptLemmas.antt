@@ -9,7 +9,7 @@ use Rattle.tree_core.specs.TreeState.{root_alone}
 use Rattle.deny_run.specs.declared.error.Error.{Error}
 use Rattle.deny_run.specs.declared.report.Report.{Report}
 use Rattle.deny_run.specs.Counts.{summary_of}
-use Rattle.workspace_core.specs.Cause.{Cause, no_memory, told, failed_read, refused_write}
+use Rattle.heard_core.specs.Cause.{Cause, no_memory, told, failed_read, refused_write}
 use Rattle.deny_run.specs.Error.{cause_of, fault_line, ComesUnwritten}
 use Rattle.deny_run.specs.Given.{Given}
 use Rattle.deny_run.specs.Report.{IsReport}

@@ -2,8 +2,8 @@
 use Rattle.std.proofs.Common.{◌≡◌, ℕ, ◌⊎◌, ◌↔◌, List, Option, Some, None, Result, Ok, Err, refl, sym, ap, subst, ◌∙◌, inl, inr}
 use Rattle.catalog_core.specs.Catalog.{CatalogLists}
 use Rattle.term_core.specs.declared.term.LicenseReq.{LicenseReq}
-use Rattle.workspace_core.specs.declared.error.ReadFault.{ReadFault}
-use Rattle.workspace_core.specs.declared.error.ReadFault.TheVariants.{Failed, Absent, Folder, NotUtf8}
+use Rattle.heard_core.specs.declared.fault.ReadFault.{ReadFault}
+use Rattle.heard_core.specs.declared.fault.ReadFault.TheVariants.{Failed, Absent, Folder, NotUtf8}
 use Rattle.deny_run.specs.declared.error.Part.TheVariants.{Words, Policy}
 use Rattle.deny_run.specs.declared.error.Error.{Error}
 use Rattle.deny_run.specs.declared.error.Error.TheVariants.{Memory, ConfigRead, NotYet}
@@ -17,7 +17,7 @@ use Rattle.graph_core.specs.Metadata.{Graph}
 use Rattle.selection_core.specs.Choice.{Choice}
 use Rattle.selection_core.specs.Listed.{IsListOf}
 use Rattle.selection_core.specs.Walks.{Selected}
-use Rattle.workspace_core.specs.Cause.{heard_cause, ReadCounts}
+use Rattle.heard_core.specs.Cause.{heard_cause, ReadCounts}
 use Rattle.deny_run.specs.Error.{cause_of, error_of}
 use Rattle.deny_run.specs.Heard.{or_refused, config_in}
 use Rattle.deny_run.specs.Policy.{policy_of}

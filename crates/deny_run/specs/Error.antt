@@ -1,9 +1,9 @@
 -- The errors' words, and why they come.
 use Rattle.std.specs.Prelude.{ℕ, List, ◌++◌, codes}
-use Rattle.workspace_core.specs.declared.error.ReadFault.TheVariants.{Failed, Absent}
+use Rattle.heard_core.specs.declared.fault.ReadFault.TheVariants.{Failed, Absent}
 use Rattle.workspace_core.specs.declared.error.KratesError.{KratesError}
 use Rattle.workspace_core.specs.declared.error.KratesError.TheVariants as krates
-use Rattle.workspace_core.specs.Cause.{Cause, no_memory, told, failed_read, refused_write}
+use Rattle.heard_core.specs.Cause.{Cause, no_memory, told, failed_read, refused_write}
 use Rattle.deny_run.specs.declared.error.Part.TheVariants.{Words, Policy, Crate}
 use Rattle.deny_run.specs.declared.error.Error.{Error}
 use Rattle.deny_run.specs.declared.error.Error.TheVariants.{Memory, NotCarried, ConfigRead, MetadataRead, MetadataSyntax, MetadataShape, NoRoots, WriteFault, NotYet}

@@ -7,10 +7,10 @@ use Rattle.term_core.specs.declared.term.LicenseReq.{LicenseReq}
 use Rattle.spdx_core.specs.Reading.{ExpressionView, expression_of}
 use Rattle.graph_core.specs.Krate.{Record}
 use Rattle.graph_core.specs.Metadata.{Graph}
-use Rattle.workspace_core.specs.declared.error.ReadFault.{ReadFault}
-use Rattle.workspace_core.specs.declared.error.ReadFault.TheVariants.{Absent}
+use Rattle.heard_core.specs.declared.fault.ReadFault.{ReadFault}
+use Rattle.heard_core.specs.declared.fault.ReadFault.TheVariants.{Absent}
 use Rattle.workspace_core.specs.declared.error.KratesError.{KratesError}
-use Rattle.workspace_core.specs.Heard.{text_heard}
+use Rattle.heard_core.specs.Heard.{text_heard}
 use Rattle.workspace_core.specs.Krates.{graph_in}
 use Rattle.deny_run.specs.declared.error.Part.TheVariants.{Words, Policy}
 use Rattle.deny_run.specs.declared.error.Error.{Error}

@@ -12,7 +12,7 @@ use Rattle.graph_core.specs.Krate.{Record}
 use Rattle.graph_core.specs.Metadata.{Graph}
 use Rattle.records_core.specs.Records.{records_of}
 use Rattle.selection_core.specs.Roots.{HasRoot}
-use Rattle.workspace_core.specs.Heard.{text_heard}
+use Rattle.heard_core.specs.Heard.{text_heard}
 use Rattle.workspace_core.specs.Krates.{sparse_dir}
 use Rattle.deny_run.specs.declared.error.Error.{Error}
 use Rattle.deny_run.specs.declared.report.Verdict.{Verdict}

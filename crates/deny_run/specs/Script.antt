@@ -5,7 +5,7 @@ use Rattle.tree_core.specs.Content.{Content}
 use Rattle.tree_core.specs.Faults.{Rose, GainedPrefix}
 use Rattle.tree_core.specs.Hearing.{Hearing, IsHearing}
 use Rattle.tree_core.specs.Script.{to_out, to_err, Script, FaultCounts, Written, Gains, IsCut, IsLineOrFront}
-use Rattle.workspace_core.specs.Cause.{Cause, refused_write}
+use Rattle.heard_core.specs.Cause.{Cause, refused_write}
 use Rattle.deny_run.specs.declared.error.Error.{Error}
 use Rattle.deny_run.specs.declared.report.Report.{Report}
 use Rattle.deny_run.specs.Counts.{summary_of}

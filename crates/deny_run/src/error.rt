@@ -3,8 +3,9 @@ ghost use Rattle.std.specs.Prelude.{◌≡◌};
 ghost use Rattle.deny_run.specs.Error.{fault_line};
 
 use deny_text::Text;
+use heard_core::ReadFault;
 use std::alloc::AllocError;
-use workspace_core::{KratesError, MetaFault, ReadFault, What};
+use workspace_core::{KratesError, MetaFault, What};
 
 /// A part of the input, in the order in which they are looked at.
 #[derive(Debug, Drop)]

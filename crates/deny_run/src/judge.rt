@@ -13,11 +13,12 @@ use crate::error::Refusal;
 use crate::policy::allowed;
 use crate::report::{CrateReport, Verdict};
 use deny_text::{ListOf, Steps, Text};
+use heard_core::Heard;
 use spdx_core::{Catalog, ExprError, Expression, LicenseReq, Licensee, ParseMode};
 use std::alloc::{AllocError, Global};
 use std::marker::Brand;
 use std::sync::ledger::{Blank, Ledger};
-use workspace_core::{Heard, Include, Krate, Krates};
+use workspace_core::{Include, Krate, Krates};
 
 /// Crates that only dev dependencies lead to are not checked, those that only build dependencies lead to are.
 const INCLUDED: Include = Include {

@@ -5,8 +5,8 @@ ghost use Rattle.tree_core.specs.Faults.{Gained, GainedPrefix, IsCounted};
 ghost use Rattle.tree_core.specs.Hearing.{KeepsTree};
 ghost use Rattle.tree_core.specs.Script.{LineWritten};
 ghost use Rattle.deny_run.specs.declared.error.Part.{Part};
-ghost use Rattle.workspace_core.specs.declared.error.ReadFault.{ReadFault};
-ghost use Rattle.workspace_core.specs.Cause.{ReadCounts};
+ghost use Rattle.heard_core.specs.declared.fault.ReadFault.{ReadFault};
+ghost use Rattle.heard_core.specs.Cause.{ReadCounts};
 ghost use Rattle.selection_core.specs.Choice.{choice_of};
 ghost use Rattle.deny_run.specs.Counts.{counts_of, status_of, summary_of};
 ghost use Rattle.deny_run.specs.Error.{cause_of, error_of, fault_line};
@@ -23,10 +23,11 @@ use crate::judge::{check_all, config_of};
 use crate::report::{AllStats, CrateReport, Ended, Outcome, Report};
 use crate::words::Request;
 use deny_text::ListOf;
+use heard_core::load;
 use spdx_core::{Catalog, Identifier};
 use std::alloc::Global;
 use tree_core::{Sink, SinkFailed, Tree, write_all};
-use workspace_core::{ExcludeSpecs, Selection, krates_at, load};
+use workspace_core::{ExcludeSpecs, Selection, krates_at};
 
 /// The selection that the words ask for: nothing is left out.
 fn plain_selection(alloc: Global) -> Selection

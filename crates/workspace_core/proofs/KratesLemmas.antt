@@ -10,11 +10,11 @@ use Rattle.selection_core.specs.declared.selection.BuildError.TheVariants as bui
 use Rattle.selection_core.specs.Choice.{Choice}
 use Rattle.selection_core.specs.Listed.{Chosen}
 use Rattle.selection_core.specs.Roots as roots
-use Rattle.workspace_core.specs.declared.error.ReadFault.{ReadFault}
-use Rattle.workspace_core.specs.declared.error.ReadFault.TheVariants.{Failed, Absent, Folder, NotUtf8}
+use Rattle.heard_core.specs.declared.fault.ReadFault.{ReadFault}
+use Rattle.heard_core.specs.declared.fault.ReadFault.TheVariants.{Failed, Absent, Folder, NotUtf8}
 use Rattle.workspace_core.specs.declared.error.KratesError.{KratesError}
 use Rattle.workspace_core.specs.declared.error.KratesError.TheVariants.{Memory, NotCarried, MetadataRead, MetadataSyntax, MetadataShape, NoRoots}
-use Rattle.workspace_core.specs.Cause.{heard_cause, ReadCounts}
+use Rattle.heard_core.specs.Cause.{heard_cause, ReadCounts}
 use Rattle.workspace_core.specs.Krates.{krates_cause, error_of_build, error_of_records, graph_in, graph_told, sparse_dir, AreFrom, TellsGraph}
 
 -- ---- what is told

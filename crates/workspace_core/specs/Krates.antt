@@ -11,12 +11,12 @@ use Rattle.selection_core.specs.declared.selection.BuildError.TheVariants as bui
 use Rattle.selection_core.specs.Choice.{Choice}
 use Rattle.selection_core.specs.Listed.{Chosen, IsChosen}
 use Rattle.selection_core.specs.Roots.{HasRoot, LacksRoots}
-use Rattle.workspace_core.specs.declared.error.ReadFault.{ReadFault}
-use Rattle.workspace_core.specs.declared.error.ReadFault.TheVariants.{Failed}
+use Rattle.heard_core.specs.declared.fault.ReadFault.{ReadFault}
+use Rattle.heard_core.specs.declared.fault.ReadFault.TheVariants.{Failed}
 use Rattle.workspace_core.specs.declared.error.KratesError.{KratesError}
 use Rattle.workspace_core.specs.declared.error.KratesError.TheVariants.{Memory, NotCarried, MetadataRead, MetadataSyntax, MetadataShape, NoRoots}
-use Rattle.workspace_core.specs.Cause.{Cause, no_memory, told, failed_read, heard_cause, ReadCounts}
-use Rattle.workspace_core.specs.Heard.{IsHeard}
+use Rattle.heard_core.specs.Cause.{Cause, no_memory, told, failed_read, heard_cause, ReadCounts}
+use Rattle.heard_core.specs.Heard.{IsHeard}
 
 -- why a refusal comes
 abbrev pub krates_cause : KratesError → Cause

@@ -1,3 +1,1 @@
-pub mod Cause
-pub mod Heard
 pub mod Krates

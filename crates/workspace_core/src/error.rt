@@ -1,23 +1,12 @@
-//! Why a file was not read, and why there are no crates.
+//! Why there are no crates.
 ghost use Rattle.std.specs.Prelude.{◌≡◌};
 ghost use Rattle.workspace_core.specs.Krates.{error_of_records, error_of_build};
 ghost use Rattle.workspace_core.specs.declared.error.KratesError.TheVariants.{Memory};
 
+use heard_core::ReadFault;
 use records_core::{MetaError, MetaFault};
 use selection_core::BuildError;
 use std::alloc::AllocError;
-
-/// Why a file that is needed was not read.
-#[derive(Clone, Copy, Debug, PartialEq, Eq)]
-pub enum ReadFault {
-    /// The tree failed. The numbers are its counts of faults, at the start of the run and after it had
-    /// failed.
-    Failed { before: u64, after: u64 },
-    Absent,
-    Folder,
-    /// The place of the first byte that is not UTF-8.
-    NotUtf8 { at: usize },
-}
 
 /// What a request asks for that is not carried.
 #[derive(Clone, Copy, Debug, PartialEq, Eq)]

@@ -3,13 +3,13 @@ ghost use Rattle.std.specs.Prelude.{◌≡◌, ◌≤◌, IfErr};
 ghost use Rattle.std.specs.Option.{ForSome};
 ghost use Rattle.tree_core.specs.Hearing.{KeepsTree};
 ghost use Rattle.selection_core.specs.Choice.{choice_of};
-ghost use Rattle.workspace_core.specs.Cause.{ReadCounts};
+ghost use Rattle.heard_core.specs.Cause.{ReadCounts};
 ghost use Rattle.workspace_core.specs.Krates.{krates_cause, graph_in, sparse_dir, IsCarried};
 ghost use Rattle.workspace_core.specs.Krates.{Gathers, AreFrom, TellsGraph};
 
 use crate::error::KratesError;
-use crate::read::{Heard, load};
 use graph_core::Metadata;
+use heard_core::{Heard, load};
 use records_core::records;
 use selection_core::{Krates, Selection};
 use std::alloc::Global;

@@ -4,7 +4,7 @@ use Rattle.deny_run.specs.Counts.{counts_of}
 use Rattle.deny_run.specs.Given.{given_of}
 use Rattle.deny_run.specs.Selection.{plain_choice}
 use Rattle.deny_run.specs.Steps.{Checks}
-use Rattle.workspace_core.specs.Cause.{heard_cause}
+use Rattle.heard_core.specs.Cause.{heard_cause}
 use Rattle.deny_run.proofs.AnswerLemmas.{counts_at, gathers_at, heard_at, words_refused, config_refused, config_stands, graph_stands, krates_refused, check_refused, all_reported}
 use Rattle.deny_run.proofs.StepLemmas.{config_refusal_counts, config_words, crates_counts, crates_words}
 use Rattle.deny_run.proofs.run.report.Goals as goal

@@ -3,10 +3,10 @@ ghost use Rattle.std.specs.Prelude.{◌≡◌, ◌≤◌, Some, IfOk};
 ghost use Rattle.std.specs.Option.{ForSome};
 ghost use Rattle.tree_core.specs.Content.{file};
 ghost use Rattle.tree_core.specs.Hearing.{KeepsTree};
-ghost use Rattle.workspace_core.specs.Cause.{ReadCounts, heard_cause};
-ghost use Rattle.workspace_core.specs.Heard.{IsHeard, heard_of};
+ghost use Rattle.heard_core.specs.Cause.{ReadCounts, heard_cause};
+ghost use Rattle.heard_core.specs.Heard.{IsHeard, heard_of};
 
-use crate::error::ReadFault;
+use crate::fault::ReadFault;
 use deny_text::{Bytes, Text};
 use std::alloc::{AllocError, Global};
 use tree_core::{Tree, TreeError};

@@ -1,5 +1,5 @@
-use Rattle.workspace_core.proofs.HeardLemmas.{file_heard, file_counts, absent_heard, folder_heard, failure_heard}
-use Rattle.workspace_core.proofs.read.load.Goals as goal
+use Rattle.heard_core.proofs.HeardLemmas.{file_heard, file_counts, absent_heard, folder_heard, failure_heard}
+use Rattle.heard_core.proofs.read.load.Goals as goal
 
 pub returns-in-Ok-clause-answer : goal.returns-in-Ok-clause-answer
 returns-in-Ok-clause-answer g c = λ content told.

@@ -4,8 +4,8 @@ use Rattle.std.specs.Str.{is_utf8}
 use Rattle.std.specs.Str.Lossy.{utf8_valid_len}
 use Rattle.tree_core.specs.Content.{Content, Node, file, folder}
 use Rattle.tree_core.specs.Hearing.{Kind, FailedRead, Hearing, Heard, read_failed, stands, heard}
-use Rattle.workspace_core.specs.declared.error.ReadFault.{ReadFault}
-use Rattle.workspace_core.specs.declared.error.ReadFault.TheVariants.{Failed, Absent, Folder, NotUtf8}
+use Rattle.heard_core.specs.declared.fault.ReadFault.{ReadFault}
+use Rattle.heard_core.specs.declared.fault.ReadFault.TheVariants.{Failed, Absent, Folder, NotUtf8}
 
 -- A text, or why there is none: nothing is there, a folder is there, or the bytes are not UTF-8 from some place on.
 unfoldable pub heard_of : Option Node → Result (List ℕ) ReadFault

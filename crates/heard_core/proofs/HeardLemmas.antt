@@ -8,10 +8,10 @@ use Rattle.tree_core.specs.Answer.{ReadAnswers}
 use Rattle.tree_core.specs.declared.tree.TreeError.{TreeError}
 use Rattle.tree_core.specs.declared.tree.TreeError.TheVariants as tree
 use Rattle.tree_core.proofs.HearingLemmas.{heard-failed}
-use Rattle.workspace_core.specs.declared.error.ReadFault.{ReadFault}
-use Rattle.workspace_core.specs.declared.error.ReadFault.TheVariants.{Failed, Absent, Folder, NotUtf8}
-use Rattle.workspace_core.specs.Cause.{ReadCounts, heard_cause}
-use Rattle.workspace_core.specs.Heard.{IsHeard, heard_of, text_in}
+use Rattle.heard_core.specs.declared.fault.ReadFault.{ReadFault}
+use Rattle.heard_core.specs.declared.fault.ReadFault.TheVariants.{Failed, Absent, Folder, NotUtf8}
+use Rattle.heard_core.specs.Cause.{ReadCounts, heard_cause}
+use Rattle.heard_core.specs.Heard.{IsHeard, heard_of, text_in}
 
 pub heard_text : (bytes : List ℕ) → IsUtf8 bytes → heard_of (Some (file bytes)) ≡ Ok bytes
 unfolding heard_of

@@ -3,8 +3,8 @@ use Rattle.std.specs.Prelude.{string_bytes}
 use Rattle.std.specs.Str.{IsUtf8, valid_up_to}
 use Rattle.std.specs.Str.Lossy.{utf8_valid_len}
 use Rattle.std.proofs.lemmas.Str.{IsUtf8-string_bytes}
-use Rattle.workspace_core.proofs.HeardLemmas.{heard_text, heard_bad}
-use Rattle.workspace_core.proofs.read.text_of.Goals as goal
+use Rattle.heard_core.proofs.HeardLemmas.{heard_text, heard_bad}
+use Rattle.heard_core.proofs.read.text_of.Goals as goal
 
 pub returns-in-Ok : goal.returns-in-Ok
 returns-in-Ok c =

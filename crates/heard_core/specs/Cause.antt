@@ -1,8 +1,8 @@
 -- Why an error comes.
 use Rattle.std.specs.Prelude.{◌≡◌, ℕ, List, Result, Err}
 use Rattle.tree_core.specs.Faults.{Rose}
-use Rattle.workspace_core.specs.declared.error.ReadFault.{ReadFault}
-use Rattle.workspace_core.specs.declared.error.ReadFault.TheVariants.{Failed}
+use Rattle.heard_core.specs.declared.fault.ReadFault.{ReadFault}
+use Rattle.heard_core.specs.declared.fault.ReadFault.TheVariants.{Failed}
 
 -- Why an error comes: for want of memory, because the words or the files are so, or after a read or a write that
 -- failed, with the counts of faults of the tree or of the sink before and after it.

@@ -1,0 +1,8 @@
+//! Files that are read as texts.
+#![tactic(auto)]
+
+pub mod fault;
+pub mod read;
+
+pub use fault::ReadFault;
+pub use read::{Heard, load};
