@@ -1,0 +1,82 @@
+//! Where a request's policy and exceptions file are.
+ghost use Rattle.std.specs.Prelude.{◌≡◌, ◌≤◌, IfErr, IfOk};
+ghost use Rattle.std.specs.Option.{ForSome};
+ghost use Rattle.tree_core.specs.Hearing.{KeepsTree};
+ghost use Rattle.heard_core.specs.Cause.{ReadCounts};
+ghost use Rattle.search_core.specs.Search.{search_cause};
+ghost use Rattle.context_core.specs.Paths.{config_path_of, exceptions_path_of};
+
+use deny_text::PathBuf;
+use deny_text::path::join;
+use request_core::KrateContext;
+use search_core::{SearchError, Sought, find_upwards};
+use std::alloc::Global;
+use tree_core::Tree;
+
+/// The policy's path: the one that is given, joined to the folder of the call, at which nothing is looked for;
+/// else the one that is found. `begun` is the tree's count of faults when the run began.
+pub fn config_path_since<T: Tree>(
+    context: &KrateContext,
+    alloc: Global,
+    tree: &mut T,
+    begun: u64,
+) -> Result<Option<PathBuf>, SearchError>
+    requires { begun ≤ T.fault_count tree.old }
+    ensures answer { ForSome (T.content tree.old) (λ c.
+        IfOk result (λ path. path ≡ config_path_of context.now c)) }
+    ensures kept { KeepsTree (T.content tree.old) (T.content tree.new)
+        (T.fault_count tree.old) (T.fault_count tree.new) }
+    ensures counts { IfErr result (λ error.
+        ReadCounts begun (T.fault_count tree.old) (T.fault_count tree.new) (search_cause error)) }
+{
+    match &context.config_path {
+        Some(path) => Ok(Some(join(alloc, context.cwd.as_path(), path.as_path())?)),
+        None => find_upwards(
+            alloc,
+            tree,
+            context.manifest_path.as_path(),
+            Sought::Policy,
+            begun,
+        ),
+    }
+}
+
+/// The policy's path, as `config_path_since` has it from the start of this call on.
+pub fn get_config_path<T: Tree>(
+    context: &KrateContext,
+    alloc: Global,
+    tree: &mut T,
+) -> Result<Option<PathBuf>, SearchError>
+    ensures answer { ForSome (T.content tree.old) (λ c.
+        IfOk result (λ path. path ≡ config_path_of context.now c)) }
+    ensures kept { KeepsTree (T.content tree.old) (T.content tree.new)
+        (T.fault_count tree.old) (T.fault_count tree.new) }
+    ensures counts { IfErr result (λ error. ReadCounts (T.fault_count tree.old)
+        (T.fault_count tree.old) (T.fault_count tree.new) (search_cause error)) }
+{
+    let begun = tree.faults();
+    config_path_since(context, alloc, tree, begun)
+}
+
+/// The exceptions file's path, which is always looked for.
+pub fn get_local_exceptions_path<T: Tree>(
+    context: &KrateContext,
+    alloc: Global,
+    tree: &mut T,
+) -> Result<Option<PathBuf>, SearchError>
+    ensures answer { ForSome (T.content tree.old) (λ c.
+        IfOk result (λ path. path ≡ exceptions_path_of context.now c)) }
+    ensures kept { KeepsTree (T.content tree.old) (T.content tree.new)
+        (T.fault_count tree.old) (T.fault_count tree.new) }
+    ensures counts { IfErr result (λ error. ReadCounts (T.fault_count tree.old)
+        (T.fault_count tree.old) (T.fault_count tree.new) (search_cause error)) }
+{
+    let begun = tree.faults();
+    find_upwards(
+        alloc,
+        tree,
+        context.manifest_path.as_path(),
+        Sought::Exceptions,
+        begun,
+    )
+}

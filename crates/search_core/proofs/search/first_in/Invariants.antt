@@ -1,0 +1,15 @@
+-- nothing stands at the paths before this one
+use Rattle.std.proofs.Common.{◌≡◌, ◌≤◌, map, drop}
+use Rattle.std.specs.Option.{ForSome}
+use Rattle.deny_text.specs.Path.{join_of}
+use Rattle.tree_core.specs.Hearing.{KeepsTree}
+use Rattle.search_core.specs.Search.{names_of, paths_in, first_existing}
+use Rattle.search_core.proofs.search.first_in.Given as goal
+
+abbrev pub invariant-names : goal.invariant-names
+invariant-names g l =
+    (l.begun ≤ g.T.Tree.fault_count l.tree)
+    × KeepsTree (g.T.Tree.content l.initial.tree) (g.T.Tree.content l.tree) (g.T.Tree.fault_count l.initial.tree) (g.T.Tree.fault_count l.tree)
+    × ForSome (g.T.Tree.content l.initial.tree) (λ c.
+    first_existing c (paths_in (map (λ name. name.now) l.name-items) l.folder)
+    ≡ first_existing c (paths_in (map (λ name. name.now) (drop l.name-index l.name-items)) l.folder))

@@ -1,0 +1,40 @@
+-- Where a policy and an exceptions file are looked for.
+use Rattle.std.specs.Prelude.{ℕ, Bool, List, [], ◌∷◌, map, codes, Option, find, is_some}
+use Rattle.std.specs.List.{flat_map}
+use Rattle.deny_text.specs.Path.{parent_of, join_of, ancestors_from}
+use Rattle.tree_core.specs.Content.{Content, node_at}
+use Rattle.heard_core.specs.Cause.{Cause, no_memory, failed_read}
+use Rattle.search_core.specs.declared.search.Sought.{Sought}
+use Rattle.search_core.specs.declared.search.Sought.TheVariants.{Policy, Exceptions}
+use Rattle.search_core.specs.declared.search.SearchError.{SearchError}
+use Rattle.search_core.specs.declared.search.SearchError.TheVariants.{Failed, Memory}
+
+-- the names of the file that is looked for, in the order in which a folder is asked for them
+abbrev pub names_of : Sought → List (List ℕ)
+names_of Policy = codes "deny.toml" ∷ codes ".deny.toml" ∷ codes ".cargo/deny.toml" ∷ []
+names_of Exceptions = codes "deny.exceptions.toml" ∷ codes ".deny.exceptions.toml" ∷ codes ".cargo/deny.exceptions.toml" ∷ []
+
+-- the paths in a folder
+abbrev pub paths_in : List (List ℕ) → List ℕ → List (List ℕ)
+paths_in names folder = map (join_of folder) names
+
+-- the manifest's folder and each folder above
+abbrev pub folders_of : List ℕ → List (List ℕ)
+folders_of manifest = ancestors_from (parent_of manifest)
+
+-- the paths at which it is looked for: of each folder, from the manifest's upwards, each name
+abbrev pub candidates : Sought → List ℕ → List (List ℕ)
+candidates sought manifest = flat_map (paths_in (names_of sought)) (folders_of manifest)
+
+-- whether a file or a folder stands at a path
+abbrev pub exists_at : Content → List ℕ → Bool
+exists_at content path = is_some (node_at content path)
+
+-- the first of the paths at which something stands
+abbrev pub first_existing : Content → List (List ℕ) → Option (List ℕ)
+first_existing content paths = find (exists_at content) paths
+
+-- why a search is refused
+abbrev pub search_cause : SearchError → Cause
+search_cause (Failed before after) = failed_read before after
+search_cause Memory = no_memory

@@ -1,0 +1,129 @@
+//! The search for a file in a folder and those above it.
+ghost use Rattle.std.specs.Prelude.{◌≡◌, ◌≤◌, map, IfErr, IfOk};
+ghost use Rattle.std.specs.Option.{ForSome};
+ghost use Rattle.tree_core.specs.Hearing.{KeepsTree};
+ghost use Rattle.heard_core.specs.Cause.{ReadCounts};
+ghost use Rattle.search_core.specs.Search.{names_of, paths_in, candidates, exists_at, first_existing, search_cause};
+ghost use Rattle.search_core.specs.declared.search.SearchError.TheVariants.{Memory};
+
+use deny_text::PathBuf;
+use deny_text::path::{join, parent};
+use std::alloc::{AllocError, Global};
+use tree_core::{Tree, TreeError};
+
+/// What is looked for.
+#[derive(Clone, Copy, Debug, PartialEq, Eq)]
+pub enum Sought {
+    /// A policy: `deny.toml`, `.deny.toml` or `.cargo/deny.toml`.
+    Policy,
+    /// An exceptions file: `deny.exceptions.toml`, `.deny.exceptions.toml` or
+    /// `.cargo/deny.exceptions.toml`.
+    Exceptions,
+}
+
+/// Why a search was given up.
+#[derive(Clone, Copy, Debug, PartialEq, Eq)]
+pub enum SearchError {
+    /// The tree failed. The numbers are its counts of faults, at the start of the run and after it had
+    /// failed.
+    Failed { before: u64, after: u64 },
+    Memory,
+}
+
+impl From<AllocError> for SearchError {
+    ghost from_gives = { λ _ error. error ≡ Memory };
+
+    fn from(_: AllocError) -> SearchError {
+        SearchError::Memory
+    }
+}
+
+impl Sought {
+    /// The names that a folder is asked for, in order.
+    fn names(self) -> [&'static str; 3]
+        ensures { map (λ name. name.now) result ≡ names_of self }
+    {
+        match self {
+            Sought::Policy => ["deny.toml", ".deny.toml", ".cargo/deny.toml"],
+            Sought::Exceptions => [
+                "deny.exceptions.toml",
+                ".deny.exceptions.toml",
+                ".cargo/deny.exceptions.toml",
+            ],
+        }
+    }
+}
+
+/// Whether something stands at a path.
+fn look<T: Tree>(alloc: Global, tree: &mut T, path: &str, begun: u64) -> Result<bool, SearchError>
+    requires { begun ≤ T.fault_count tree.old }
+    ensures answer { ForSome (T.content tree.old) (λ c. IfOk result (λ there. there ≡ exists_at c path.now)) }
+    ensures kept { KeepsTree (T.content tree.old) (T.content tree.new)
+        (T.fault_count tree.old) (T.fault_count tree.new) }
+    ensures counts { IfErr result (λ error.
+        ReadCounts begun (T.fault_count tree.old) (T.fault_count tree.new) (search_cause error)) }
+{
+    match tree.exists(alloc, path) {
+        Ok(there) => Ok(there),
+        Err(TreeError::Memory) => Err(SearchError::Memory),
+        Err(_) => Err(SearchError::Failed {
+            before: begun,
+            after: tree.faults(),
+        }),
+    }
+}
+
+/// The first of the names in a folder at which something stands.
+fn first_in<T: Tree>(
+    alloc: Global,
+    tree: &mut T,
+    folder: &str,
+    sought: Sought,
+    begun: u64,
+) -> Result<Option<PathBuf>, SearchError>
+    requires { begun ≤ T.fault_count tree.old }
+    ensures answer { ForSome (T.content tree.old) (λ c.
+        IfOk result (λ found. found ≡ first_existing c (paths_in (names_of sought) folder.now))) }
+    ensures kept { KeepsTree (T.content tree.old) (T.content tree.new)
+        (T.fault_count tree.old) (T.fault_count tree.new) }
+    ensures counts { IfErr result (λ error.
+        ReadCounts begun (T.fault_count tree.old) (T.fault_count tree.new) (search_cause error)) }
+{
+    'names: for name in sought.names() {
+        let path = join(alloc, folder, name)?;
+        if look(alloc, tree, path.as_path(), begun)? {
+            return Ok(Some(path));
+        }
+    }
+    Ok(None)
+}
+
+/// The first of the paths at which a policy or an exceptions file is looked for, in the manifest's folder and
+/// each folder above, at which something stands. `begun` is the tree's count of faults when the run began.
+///
+/// It is refused where a look fails, and for want of memory.
+pub fn find_upwards<T: Tree>(
+    alloc: Global,
+    tree: &mut T,
+    manifest_path: &str,
+    sought: Sought,
+    begun: u64,
+) -> Result<Option<PathBuf>, SearchError>
+    requires { begun ≤ T.fault_count tree.old }
+    ensures answer { ForSome (T.content tree.old) (λ c.
+        IfOk result (λ found. found ≡ first_existing c (candidates sought manifest_path.now))) }
+    ensures kept { KeepsTree (T.content tree.old) (T.content tree.new)
+        (T.fault_count tree.old) (T.fault_count tree.new) }
+    ensures counts { IfErr result (λ error.
+        ReadCounts begun (T.fault_count tree.old) (T.fault_count tree.new) (search_cause error)) }
+{
+    let mut folder = parent(manifest_path);
+    'folders: while let Some(here) = folder {
+        let found = first_in(alloc, tree, here, sought, begun)?;
+        if found.is_some() {
+            return Ok(found);
+        }
+        folder = parent(here);
+    }
+    Ok(None)
+}
