@@ -1,5 +1,5 @@
 -- what is found in the folders is found in those that are left
-use Rattle.std.proofs.Common.{◌≡◌, ◌≤◌, ℕ, length}
+use Rattle.std.proofs.Common.{◌≡◌, ◌≤◌, length}
 use Rattle.std.specs.List.{flat_map}
 use Rattle.std.specs.Option.{ForSome, option_copied}
 use Rattle.deny_text.specs.Path.{ancestors_from}

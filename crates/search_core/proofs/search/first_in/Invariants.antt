@@ -1,9 +1,8 @@
 -- nothing stands at the paths before this one
 use Rattle.std.proofs.Common.{◌≡◌, ◌≤◌, map, drop}
 use Rattle.std.specs.Option.{ForSome}
-use Rattle.deny_text.specs.Path.{join_of}
 use Rattle.tree_core.specs.Hearing.{KeepsTree}
-use Rattle.search_core.specs.Search.{names_of, paths_in, first_existing}
+use Rattle.search_core.specs.Search.{paths_in, first_existing}
 use Rattle.search_core.proofs.search.first_in.Given as goal
 
 abbrev pub invariant-names : goal.invariant-names
