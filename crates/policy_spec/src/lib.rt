@@ -9,11 +9,7 @@ pub mod matching;
 mod order;
 pub mod package_spec;
 mod reading;
-#[cfg(test)]
-mod reading_tests;
 mod same;
-#[cfg(test)]
-mod tests;
 mod text;
 
 pub use extended::PackageSpecOrExtended;

@@ -20,6 +20,3 @@ pub use reads::{ReadAnswer, ReadKind, ReadRecord, Reads};
 pub use sink::{Sink, SinkFailed, write_all};
 pub use std_sink::StdSink;
 pub use tree::{Entries, Entry, Tree, TreeError};
-
-#[cfg(test)]
-mod tests;

@@ -1,6 +1,8 @@
-//! Tests of trees and sinks over real files, where no clause can say what a folder holds.
+//! Tests of trees and sinks: calls in memory, and real files, where no clause can say what a folder holds.
 #![tactic(auto)]
 
+#[cfg(test)]
+mod calls;
 #[cfg(test)]
 mod sinks;
 #[cfg(test)]

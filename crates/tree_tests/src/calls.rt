@@ -1,11 +1,11 @@
-use crate::{
-    Entries, FolderTree, MemSink, MemTree, PutError, Sink, SinkFailed, StdSink, Tree, TreeError,
-    write_all,
-};
 use std::io::Write;
 use std::process::Abort;
 use std::test::Fail;
 use std::{fs, io};
+use tree_core::{
+    Entries, FolderTree, MemSink, MemTree, PutError, Sink, SinkFailed, StdSink, Tree, TreeError,
+    write_all,
+};
 
 /// What a path of a tree is asked, and what it answers.
 #[derive(Clone, Copy)]

@@ -1,20 +1,18 @@
 //! Strings and values, the specs that are read of them, and what is left, worked out by hand from the rules.
-use crate::text::read_string;
-use crate::{PackageSpec, PackageSpecOrExtended};
 use deny_text::{Span, Spanned, Text};
-use policy_toml::{DeserError, Deserialize, Str, TableHelper, Value};
+use policy_spec::{PackageSpec, PackageSpecOrExtended};
+use policy_toml::{DeserError, Deserialize, TableHelper, Value};
 use std::alloc::{AllocError, Global};
 use std::test::Fail;
-use toml_subset::{escaped_string, plain_string};
 use toml_value::read_value;
 
-fn read_at(
-    alloc: Global,
-    string: &Str<'_>,
-    start: usize,
-    end: usize,
-) -> Result<PackageSpec, DeserError> {
-    read_string(alloc, string, Span { start, end })
+/// The spec of a string as it is written between its quotes, which begins at 10.
+fn read_string(alloc: Global, written: &str) -> Result<Result<PackageSpec, DeserError>, Fail> {
+    let text = format!(in alloc; "         \"{written}\"")?;
+    let (mut value, _) = read_value(alloc, text.as_str(), 0, 9)
+        .ok()
+        .ok_or("a string")?;
+    Ok(<PackageSpec as Deserialize<()>>::deserialize(alloc, &mut value, &()))
 }
 
 /// A spec with the place of its name, or its faults.
@@ -74,13 +72,11 @@ static STRINGS: [(&str, &str); 22] = [
 #[test]
 fn strings_are_read(rt: HostRuntime) -> Result<(), Fail> {
     for (text, want) in &STRINGS {
-        let string = plain_string(text);
-        let read = read_at(rt.alloc(), &string, 10, text.len().saturating_add(10));
+        let read = read_string(rt.alloc(), text)?;
         assert_eq!(rt; answer(rt.alloc(), read)?.as_str(), *want);
     }
-    // `"a@\u0031@2"` stands at 10..20 without its quotes
-    let escaped = escaped_string(Text::copy(rt.alloc(), "a@1@2")?);
-    let read = read_at(rt.alloc(), &escaped, 10, 20);
+    // An escape is written in it.
+    let read = read_string(rt.alloc(), "a@\\u0031@2")?;
     assert_eq!(rt;
         answer(rt.alloc(), read)?.as_str(),
         "10..20 invalid version requirement;"

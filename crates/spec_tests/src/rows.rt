@@ -1,7 +1,7 @@
 //! Specs in order, and crates that they match, worked out by hand from the rules.
-use crate::{PackageSpec, SpecIndex, match_krate};
 use deny_text::{PathBuf, Span, Spanned, Text, TextMap, Texts};
 use graph_core::Krate;
+use policy_spec::{PackageSpec, SpecIndex, match_krate};
 use semver::{Version, VersionReq};
 use std::alloc::{AllocError, Global};
 use std::cmp::Ordering;
