@@ -1,7 +1,8 @@
 //! The files that findings point into.
-ghost use Rattle.std.specs.Prelude.{◌≡◌, ◌<◌, ◌+◌, ◌⊎◌, ◌↔◌, [], ◌∷◌, ◌++◌, length, IfOk, IfErr, OnOk, OnErr};
+ghost use Rattle.std.specs.Prelude.{◌≡◌, ◌<◌, ◌+◌, ◌^◌, ◌⊎◌, ◌↔◌, [], ◌∷◌, ◌++◌, length, IfOk, IfErr, OnOk, OnErr};
 ghost use Rattle.std.specs.Prelude.{IsSome, Some, None, Ok, Err, true, false, slice_get};
 ghost use Rattle.std.specs.Option.{option_copied, option_and_then};
+ghost use Rattle.deny_text.specs.Path.{key_of};
 ghost use Rattle.diag_core.specs.File.{File, with_source_at, source_of, name_of, id_at, asked_of_text};
 ghost use Rattle.diag_core.specs.FileName.{name_text, is_path};
 ghost use Rattle.diag_core.specs.Position.{line_of, line_range_of, location_of};
@@ -99,10 +100,11 @@ impl Files {
             ⊎ (error ≡ AddError.Memory)) }
         ensures err { OnErr result (self.new ≡ self.old) }
     {
-        if self.id_for_path(path.as_path()).is_some() {
+        let (there, key) = self.looked_up(path.as_path());
+        if there.is_some() {
             return Err(AddError::PathTaken(path, source));
         }
-        let key = key(self.alloc, path.as_path())?;
+        let key = key?;
         let id = append(self.alloc, &mut self.files, FileName::Path(path), source)?;
         match self.ids.insert(key, id) {
             Ok(_) => Ok(id),
@@ -163,15 +165,23 @@ impl Files {
         Ok(self.file(id)?.name())
     }
 
+    /// The number of the file that is found by the path, and the path's key where there is memory for it.
+    fn looked_up(&self, path: &str) -> (Option<FileId>, Result<Text, AllocError>)
+        ensures number { result.0 ≡ id_at self.now path.now }
+        ensures key { IfOk result.1 (λ key. key ≡ key_of path.now) }
+    {
+        match key(self.alloc, path) {
+            Ok(key) => (self.ids.get(key.as_str()).copied(), Ok(key)),
+            // Where there is no memory for the key, each file is asked.
+            Err(error) => (first_at(&self.files, path), Err(error)),
+        }
+    }
+
     /// The number of the file that is found by the path.
     pub fn id_for_path(&self, path: &str) -> Option<FileId>
         ensures { result ≡ id_at self.now path.now }
     {
-        match key(self.alloc, path) {
-            Ok(key) => self.ids.get(key.as_str()).copied(),
-            // Where there is no memory for the key, each file is asked.
-            Err(_) => first_at(&self.files, path),
-        }
+        self.looked_up(path).0
     }
 
     /// The text of the file that is found by the path.
@@ -200,7 +210,10 @@ impl Files {
 
     /// The line and the column of a place.
     pub fn location(&self, id: FileId, byte_index: usize) -> Result<Location, FilesErr>
-        ensures { result ≡ asked_of_text (source_of self.now id) (location_of byte_index) }
+        ensures place { result ≡ asked_of_text (source_of self.now id) (location_of byte_index) }
+
+        // Both fit also where they are counted from 1.
+        ensures room { IfOk result (λ place. (place.line + 1 < 2 ^ 64) × (place.column + 1 < 2 ^ 64)) }
     {
         self.file(id)?.location(byte_index)
     }

@@ -1,5 +1,6 @@
 //! A file with the places of its lines.
-ghost use Rattle.std.specs.Prelude.{◌≡◌, ◌<◌, ◌≤◌, count_by, length, take, IfOk, OnOk, OnErr, true, false};
+ghost use Rattle.std.specs.Prelude.{◌≡◌, ◌<◌, ◌≤◌, ◌+◌, ◌^◌, count_by, length, take, IfOk, OnOk, OnErr};
+ghost use Rattle.std.specs.Prelude.{true, false};
 ghost use Rattle.diag_core.specs.File.{with_source, is_at};
 ghost use Rattle.diag_core.specs.FileName.{name_text, is_path};
 ghost use Rattle.diag_core.specs.Position.{line_of, line_start, line_end, line_range_of, location_of};
@@ -192,7 +193,10 @@ impl SourceFile {
 
     /// The line and the column of a place.
     pub(crate) fn location(&self, place: usize) -> Result<Location, FilesErr>
-        ensures { result ≡ location_of place self.now.source }
+        ensures place { result ≡ location_of place self.now.source }
+
+        // Both fit also where they are counted from 1.
+        ensures room { IfOk result (λ place. (place.line + 1 < 2 ^ 64) × (place.column + 1 < 2 ^ 64)) }
     {
         let text = self.source.as_str();
         if place > text.len() {

@@ -73,8 +73,6 @@ pub(crate) fn start(files: &Files, label: &Label) -> Place
     ensures line { result.line ≡ line_number files.now label.now }
     ensures column { result.column ≡ column_number files.now label.now }
 {
-    // The text in hand bounds its numbers of lines and of characters.
-    let _text = source(files, label);
     match files.location(label.file_id, label.range.start) {
         Ok(place) => Place {
             line: place.line + 1,

@@ -1,4 +1,4 @@
-use Rattle.std.proofs.Common.{◌≡◌, ◌++◌, [], ◌∷◌, length, is_some, true, false, sym, ap, ◌∙◌}
+use Rattle.std.proofs.Common.{◌≡◌, ◌++◌, [], ◌∷◌, length, is_some, true, false, sym, ap, subst, ◌∙◌, IfOk}
 use Rattle.std.specs.FinMap.{insert}
 use Rattle.deny_text.specs.Path.{key_of}
 use Rattle.diag_core.specs.File.{id_at}
@@ -11,9 +11,10 @@ invariant_of-self-in-Ok c =
     let ids = c.self.inside.ids in
     let files = c.self.inside.files.items in
     let path = c.args.path in
-    let asked = c.id_for_path.ensures ∙ ap (id_at c.args.self.now) c.as_path.ensures ∙ ap (λ held. id_at held path) (sym c.self.view_is) in
+    let asked = c.looked_up-there.ensures.number ∙ ap (id_at c.args.self.now) c.as_path.ensures ∙ ap (λ held. id_at held path) (sym c.self.view_is) in
     let unknown : false ≡ is_some (id_at files path) = c.if-is_some.ensures ∙ ap is_some asked in
-    let key : c.in_ok-key.key ≡ key_of path = c.in_ok-key.ensures ∙ ap key_of c.as_path-2.ensures in
+    let known : c.in_ok-key.key ≡ key_of c.as_path.result.now = subst (λ r. IfOk r (λ k. k ≡ key_of c.as_path.result.now)) c.in_ok-key.was c.looked_up-there.ensures.key in
+    let key : c.in_ok-key.key ≡ key_of path = known ∙ ap key_of c.as_path.ensures in
     let added : c.insert.new.self ≡ insert ids (key_of path) (length files) = c.in-Ok.ensures.ok ∙ ap (λ k. insert ids k c.in_ok-id.id) key ∙ ap (insert ids (key_of path)) c.in_ok-id.ensures.number in
     let pushed : c.append.new.files.items ≡ files ++ record { name = path; source = c.args.source; has_path = true } ∷ [] = c.in_ok-id.ensures.ok in
     rw (added, pushed) (finds_pushed ids files c.self.invariant path c.args.source (sym unknown))

@@ -13,8 +13,8 @@ overflow_sub-result c =
     let within : c.args.place ≤ length source = omega (arith, c.if-place-text.false, ap length c.as_str-text.ensures, ap (λ (file : File). length file.source) c.self.view_is) in
     omega (arith, c.characters_before.ensures, c.characters_before-2.ensures, count_split begins_character source start c.args.place ordered within)
 
-pub returns : goal.returns
-returns c =
+pub returns-clause-place : goal.returns-clause-place
+returns-clause-place c =
     let source = c.args.self.now.source in
     let start = c.line_start-start.result in
     let ordered : start ≤ c.args.place = omega (arith, c.line_start-start.ensures, c.line_index-line.ensures.start) in
