@@ -13,6 +13,3 @@ pub use context::{Color, Format, LogContext};
 pub use lines::push_printed;
 pub use place::{labels_are_inside, pack_labels_are_inside};
 pub use printer::{DiagPrinter, OutputLock, PrintError};
-
-#[cfg(test)]
-mod tests;

@@ -3,12 +3,12 @@ ghost use Rattle.tree_core.specs.Faults.{Gained};
 ghost use Rattle.print_core.specs.Places.{LabelsAreInside};
 ghost use Rattle.print_core.specs.Printed.{printed_at};
 
-use crate::{
-    Color, DiagPrinter, Format, LogContext, PrintError, labels_are_inside, pack_labels_are_inside,
-};
 use deny_text::{PathBuf, Span, Text};
 use diag_core::{
     AddError, Check, Diag, Diagnostic, FileId, Files, Label, LevelFilter, Pack, Severity,
+};
+use print_core::{
+    Color, DiagPrinter, Format, LogContext, PrintError, labels_are_inside, pack_labels_are_inside,
 };
 use std::alloc::{AllocError, Global};
 use std::test::Fail;
