@@ -7,12 +7,8 @@ mod nodes;
 mod order;
 mod package;
 mod reading;
-#[cfg(test)]
-mod record_tests;
 mod rows;
 mod shape;
-#[cfg(test)]
-mod tests;
 
 pub use fault::{MetaError, MetaFault, MetaReason};
 pub use floats::floats_are_found;

@@ -1,6 +1,6 @@
 //! Records of metadata that cargo printed, and the order of ids.
-use crate::{Edge, FeatureMap, Krate, Metadata, records};
 use deny_text::{Text, Texts};
+use records_core::{Edge, FeatureMap, Krate, Metadata, records};
 use std::alloc::{AllocError, Global};
 use std::test::Fail;
 

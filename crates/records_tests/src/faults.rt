@@ -1,11 +1,12 @@
-use crate::{MetaError, MetaReason, records};
+//! Each reason at each place where it can stand.
+use records_core::{MetaError, MetaReason, records};
 use std::alloc::{AllocError, Global};
 use std::test::Fail;
 
-const SPARSE_DIR: &str = "index.crates.io-1949cf8c6b5b557f";
+pub(crate) const SPARSE_DIR: &str = "index.crates.io-1949cf8c6b5b557f";
 
 /// The metadata of one crate, with one text in place of another.
-const BASE: &str = r#"
+pub(crate) const BASE: &str = r#"
 {"packages":[{"name":"a","version":"1.0.0","id":"a 1.0.0","license":"MIT","manifest_path":"/w/Cargo.toml"}],
 "workspace_members":["a 1.0.0"],"workspace_root":"/w",
 "resolve":{"nodes":[{"id":"a 1.0.0","deps":[]}],"root":"a 1.0.0"}}"#;
@@ -33,7 +34,7 @@ fn has_fault(
 }
 
 /// The first row whose fault is not told.
-fn first_unlike(
+pub(crate) fn first_unlike(
     alloc: Global,
     rows: &[(&'static str, &'static str, &'static str, MetaReason)],
 ) -> Result<Option<&'static str>, AllocError> {
@@ -371,63 +372,6 @@ fn tells_faults_of_nodes(rt: HostRuntime) -> Result<(), Fail> {
             r#""deps":[{"pkg":"a 1.0.0","dep_kinds":[{"kind":"normal"}]}]"#,
             "/resolve/nodes/0/deps/0/dep_kinds/0/kind",
             UnknownKind,
-        ),
-    ];
-    assert_eq!(rt; first_unlike(rt.alloc(), &rows)?, None);
-    Ok(())
-}
-
-#[test]
-fn tells_the_first_of_two_faults(rt: HostRuntime) -> Result<(), Fail> {
-    use MetaReason::{Float, Missing, UnknownId, UnknownKind, WrongKind};
-    let rows = [
-        (
-            r#"{"name":"a","#,
-            r#"{"m":{"b":1.5,"a":[1.5]},"#,
-            "/packages/0/m/a/0",
-            Float,
-        ),
-        (
-            r#"["a 1.0.0"],"workspace_root":"/w""#,
-            r#"["b"],"workspace_root":null"#,
-            "/workspace_members/0",
-            UnknownId,
-        ),
-        (
-            r#""name":"a","version":"1.0.0","id":"a 1.0.0""#,
-            r#""id":"a 1.0.0","license":1"#,
-            "/packages/0/name",
-            Missing,
-        ),
-        (
-            r#"{"nodes":[{"id":"a 1.0.0","deps":[]}],"root":"a 1.0.0"}"#,
-            r#"{"nodes":[null],"root":"b"}"#,
-            "/resolve/root",
-            UnknownId,
-        ),
-        (
-            r#"{"id":"a 1.0.0","deps":[]}"#,
-            r#"{"id":"a 1.0.0","deps":[null]},{"id":"b"}"#,
-            "/resolve/nodes/1/id",
-            UnknownId,
-        ),
-        (
-            r#""deps":[]"#,
-            r#""deps":[{"pkg":"a 1.0.0","dep_kinds":[{"kind":"x"}]},{"pkg":"b"}]"#,
-            "/resolve/nodes/0/deps/1/pkg",
-            UnknownId,
-        ),
-        (
-            r#""deps":[]"#,
-            r#""deps":[{"pkg":"a 1.0.0","dep_kinds":[{"kind":"x"},1]}]"#,
-            "/resolve/nodes/0/deps/0/dep_kinds/0/kind",
-            UnknownKind,
-        ),
-        (
-            r#"{"name":"a","#,
-            r#"{"authors":null,"license":1,"name":"a","#,
-            "/packages/0/authors",
-            WrongKind,
         ),
     ];
     assert_eq!(rt; first_unlike(rt.alloc(), &rows)?, None);

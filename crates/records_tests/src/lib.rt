@@ -1,0 +1,11 @@
+//! Rows of metadata texts: the records that they tell, or the one fault.
+#![tactic(auto)]
+
+#[cfg(test)]
+mod faults;
+#[cfg(test)]
+mod order;
+#[cfg(test)]
+mod reading;
+#[cfg(test)]
+mod told;
