@@ -5,6 +5,7 @@ mod FeatureLemmas
 mod FloatLemmas
 mod FloatWalks
 mod FoldLemmas
+mod KnownLemmas
 mod LeftLemmas
 mod OrderLemmas
 pub mod RisingLemmas

@@ -1,5 +1,6 @@
 pub mod AllRows
 pub mod Floats
+pub mod Known
 pub mod NodeRows
 pub mod Nodes
 pub mod Order

@@ -2,6 +2,7 @@
 ghost use Rattle.std.specs.Prelude.{◌≡◌, codes, option_map, option_copied, IfOk, OnOk};
 ghost use Rattle.std.specs.FinMap as finmap;
 ghost use Rattle.serde_json.specs.View.{view, items_view};
+ghost use Rattle.records_core.specs.Known.{given_back};
 ghost use Rattle.records_core.specs.Shape as spec;
 ghost use Rattle.records_core.specs.Told.{Tells, place_text, key_place, item_place};
 
@@ -193,7 +194,22 @@ fn id_of_item(value: &Value) -> Option<&str>
     }
 }
 
-/// Notes the id of a package, unless an earlier one has it.
+/// Gives an id the place again that it had before another was set, where it had one.
+fn give_back(
+    alloc: Global,
+    known: &mut Known,
+    id: &str,
+    first: Option<usize>,
+) -> Result<(), AllocError>
+    ensures { OnOk result (known.new ≡ given_back known.old id.now first) }
+{
+    if let Some(first) = first {
+        known.insert(Text::copy(alloc, id)?, first)?;
+    }
+    Ok(())
+}
+
+/// Notes the id of a package, unless an earlier one has it. A new id is looked up once.
 fn note_place(
     alloc: Global,
     known: &mut Known,
@@ -205,11 +221,8 @@ fn note_place(
     let Some(id) = id else {
         return Ok(());
     };
-    if known.get(id).is_some() {
-        return Ok(());
-    }
-    known.insert(Text::copy(alloc, id)?, index)?;
-    Ok(())
+    let first = known.insert(Text::copy(alloc, id)?, index)?;
+    give_back(alloc, known, id, first)
 }
 
 /// The ids of packages, with the place of the first that has each.
