@@ -1,6 +1,7 @@
 //! Prints how many bytes six texts made in memory have, and whether each is read. With the argument `bench`
 //! it prints the bytes of each once, twice and four times as long, the least microseconds of five readings,
-//! and the bytes a microsecond. With the argument `text` it prints the first text, for other readers.
+//! and the bytes a microsecond. With the argument `once` it reads each of these a single time, for tools that
+//! count instructions. With the argument `text` it prints the first text, for other readers.
 #![tactic(auto)]
 
 mod texts;
@@ -78,6 +79,18 @@ fn check<R: Print>(rt: &R, alloc: Global) -> io::Result<()> {
     Ok(())
 }
 
+/// Reads each text once, twice and four times as long, a single time.
+fn once<R: Print>(rt: &R, alloc: Global) -> io::Result<()> {
+    for (kind, parts) in TEXTS {
+        for times in [1u32, 2, 4] {
+            let text = kind.text(alloc, parts.saturating_mul(times))?;
+            let end = read_end(alloc, text.as_str());
+            println!(rt; "{}: {end} of {} bytes", kind.name(), text.len())?;
+        }
+    }
+    Ok(())
+}
+
 /// Prints the first text.
 fn print_first<R: Print>(rt: &R, alloc: Global) -> io::Result<()> {
     let text = Kind::InlineTables.text(alloc, 20_000)?;
@@ -89,6 +102,7 @@ fn main(rt: HostRuntime) -> io::Result<()> {
     for word in env::args(&rt)? {
         match word.as_str() {
             "bench" => return bench(&rt, alloc),
+            "once" => return once(&rt, alloc),
             "text" => return print_first(&rt, alloc),
             _ => {}
         }
