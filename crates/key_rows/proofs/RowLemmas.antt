@@ -5,16 +5,17 @@ use Rattle.std.specs.Cmp.{first_so, second_so}
 use Rattle.std.specs.Str.{bytes_eq}
 use Rattle.deny_text.specs.declared.span.Span.{Span}
 use Rattle.toml_subset.specs.Data.{Entries, Toml}
+use Rattle.toml_subset.specs.declared.string.Key.{Key}
 use Rattle.toml_shapes.specs.Shaped.{Shaped, Tells, shaped_map, shaped_then, answer_of}
 use Rattle.toml_shapes.specs.Shapes.{Fault, fault_alone, missing}
 use Rattle.toml_shapes.specs.declared.shape.DeserError.{DeserError}
 use Rattle.toml_shapes.specs.declared.shape.DeserError.TheVariants.{Faults, Memory}
 use Rattle.toml_value.specs.Lookup.{value_at}
-use Rattle.toml_value.specs.Removal.{entries_without, names_in}
+use Rattle.toml_value.specs.Removal.{entry_at, entries_without, names_in}
 use Rattle.toml_value.specs.Taken.{as_table, left_by, left_where, or_wanted}
 use Rattle.policy_toml.specs.HelperState.{HelperState, with_faults, without_key, opened_table, optional_of, required_of, needed_value, given_value, faults_at_end, unexpected_faults}
-use Rattle.key_rows.specs.Rows.{Row, names_of_rows, rows_faults, entries_besides, table_faults, in_table, left_of_table, needed, needed_at, given, is_besides, are_apart}
-use Rattle.key_rows.proofs.Keys.{value_at_without}
+use Rattle.key_rows.specs.Rows.{Row, passed_key, key_span, names_of_rows, rows_faults, entries_besides, table_faults, in_table, left_of_table, needed, needed_at, given, is_besides, are_apart}
+use Rattle.key_rows.proofs.Keys.{value_at_without, entry_at_without}
 
 -- a state behind one more row, and behind several
 abbrev pub after_row : Row → HelperState → HelperState
@@ -50,6 +51,25 @@ found_behind name [] entries apart = refl
 found_behind name (other ∷ more) entries apart =
     found_behind name more (entries_without other entries) (second_so (not (bytes_eq other name)) (none_is name more) apart)
     ∙ value_at_without name other entries (not_so (bytes_eq other name) (first_so (not (bytes_eq other name)) (none_is name more) apart))
+
+pub entry_behind : (name : List ℕ) (passed : List (List ℕ)) (entries : Entries) → none_is name passed ≡ true
+    → entry_at name (entries_besides passed entries) ≡ entry_at name entries
+entry_behind name [] entries apart = refl
+entry_behind name (other ∷ more) entries apart =
+    entry_behind name more (entries_without other entries) (second_so (not (bytes_eq other name)) (none_is name more) apart)
+    ∙ entry_at_without name other entries (not_so (bytes_eq other name) (first_so (not (bytes_eq other name)) (none_is name more) apart))
+
+-- ---- a key that is passed over
+
+-- the state behind it
+pub passed_row : (name : List ℕ) (state : HelperState) → without_key name state ≡ after_row (passed_key name) state
+passed_row name state = ap (λ (faults : List Fault). record { left = entries_without name state.left; span = state.span; faults = faults }) (sym (append-nil state.faults))
+
+-- its place, behind the keys that were read before it
+pub passed_span : (name : List ℕ) (passed : List (List ℕ)) (entries : Entries) (state : HelperState) → none_is name passed ≡ true
+    → state.left ≡ entries_besides passed entries → key_span name state.left ≡ key_span name entries
+passed_span name passed entries state apart left =
+    ap (option_map (λ (found : Key × Toml). found.0.span)) (ap (entry_at name) left ∙ entry_behind name passed entries apart)
 
 -- ---- a field behind the keys that were read before it
 

@@ -6,7 +6,7 @@ use Rattle.toml_subset.specs.Data.{Entries, Toml}
 use Rattle.toml_shapes.specs.Shaped.{Shaped, shaped_then, answer_of}
 use Rattle.toml_shapes.specs.Shapes.{Fault, fault_alone, missing}
 use Rattle.toml_value.specs.Lookup.{value_at}
-use Rattle.toml_value.specs.Removal.{entries_without, names_in}
+use Rattle.toml_value.specs.Removal.{entry_at, entries_without, names_in}
 use Rattle.toml_value.specs.Taken.{as_table, left_where, or_wanted}
 use Rattle.policy_toml.specs.HelperState.{given_value, faults_of, unexpected_faults}
 
@@ -31,6 +31,10 @@ names_of_rows rows = map (λ row. row.name) rows
 -- what the key of a table stands for, where it is there and its value can be read
 abbrev pub given : {A : Type 0} → List ℕ → (Toml → Shaped A) → Entries → Option A
 given name reads entries = given_value (option_map reads (value_at name entries))
+
+-- the place of a key, where it is there
+abbrev pub key_span : List ℕ → Entries → Option Span
+key_span name entries = option_map (λ found. found.0.span) (entry_at name entries)
 
 -- ---- the faults of a table
 

@@ -1,19 +1,22 @@
 //! Types that are tables of keys: how a table is opened, read row by row, and ended.
 #![tactic(auto)]
 
-ghost use Rattle.std.specs.Prelude.{◌≡◌, [], false, option_map, unwrap_or};
+ghost use Rattle.std.specs.Prelude.{◌≡◌, [], ◌++◌, false, option_map, option_to_list, unwrap_or, IfOk, OnOk};
 ghost use Rattle.deny_text.specs.declared.span.Span.{Span};
 ghost use Rattle.toml_subset.specs.Data as «data»;
 ghost use Rattle.toml_shapes.specs.Shaped.{Shaped, Gives, answer_of};
 ghost use Rattle.toml_value.specs.Lookup.{value_at};
 ghost use Rattle.toml_value.specs.Removal.{entries_without};
 ghost use Rattle.toml_value.specs.Views.{value_view, entries_view};
-ghost use Rattle.policy_toml.specs.HelperState.{state_of, faults_at_end};
-ghost use Rattle.key_rows.specs.Rows.{in_table, left_of_table};
+ghost use Rattle.policy_toml.specs.HelperState.{state_of, without_key, optional_of, faults_at_end};
+ghost use Rattle.key_rows.specs.Rows.{in_table, key_span, left_of_table};
 
-use deny_text::ListOf;
-use policy_toml::{DeserError, Entries, TableHelper, Value};
-use std::alloc::Global;
+use deny_text::{ListOf, Span};
+use policy_toml::{DeserError, Deserialize, Entries, TableHelper, Value};
+use std::alloc::{AllocError, Global};
+
+/// Places in order.
+pub type Spans = ListOf<Span>;
 
 /// A type that is read from the keys of a table, in a context.
 pub trait Keyed<X> {
@@ -51,6 +54,32 @@ pub fn take_value<'de>(entries: &mut Entries<'de>, name: &str) -> Option<Value<'
     match entries.remove(name) {
         Some((_, value)) => Some(value),
         None => None,
+    }
+}
+
+/// Takes a key that is no longer used, and appends its place. A value that is refused is passed over.
+pub fn deprecated<T: Deserialize<X>, X>(
+    alloc: Global,
+    table: &mut TableHelper<'_>,
+    name: &str,
+    spans: &mut Spans,
+    context: &X,
+) -> Result<Option<T>, AllocError>
+    ensures read { IfOk result (λ x. x ≡ optional_of name.now (T.reads context.now) (state_of table.old)) }
+    ensures after { OnOk result (state_of table.new ≡ without_key name.now (state_of table.old)) }
+    ensures spans { let place = key_span name.now (state_of table.old).left in
+        OnOk result (spans.new ≡ spans.old ++ option_to_list place) }
+{
+    match table.take(name) {
+        Some((key, mut value)) => {
+            spans.push(key.span)?;
+            match T::deserialize(alloc, &mut value, context) {
+                Ok(thing) => Ok(Some(thing)),
+                Err(DeserError::Faults(_)) => Ok(None),
+                Err(DeserError::Memory) => Err(AllocError),
+            }
+        }
+        None => Ok(None),
     }
 }
 
