@@ -3,8 +3,12 @@ use Rattle.std.specs.Prelude.{ℕ, List, [], ◌∷◌, codes}
 use Rattle.toml_subset.specs.Data.{Toml}
 use Rattle.toml_shapes.specs.Shaped.{Shaped}
 use Rattle.policy_toml.specs.Readings.{name_of}
+use Rattle.diag_core.specs.declared.severity.Severity.{Severity}
+use Rattle.diag_core.specs.declared.severity.Severity.TheVariants as severity
 use Rattle.policy_parts.specs.declared.names.BlanketAgreement.{BlanketAgreement}
 use Rattle.policy_parts.specs.declared.names.BlanketAgreement.TheVariants as agreement
+use Rattle.policy_parts.specs.declared.names.LintLevel.{LintLevel}
+use Rattle.policy_parts.specs.declared.names.LintLevel.TheVariants as lint
 use Rattle.policy_parts.specs.declared.names.Scope.{Scope}
 use Rattle.policy_parts.specs.declared.names.Scope.TheVariants as scope
 
@@ -28,3 +32,15 @@ agreement_names =
 
 abbrev pub agreement_of : Toml → Shaped BlanketAgreement
 agreement_of = name_of (codes "BlanketAgreement") agreement_names
+
+abbrev pub lint_names : List (List ℕ × LintLevel)
+lint_names = (codes "allow", lint.Allow) ∷ (codes "warn", lint.Warn) ∷ (codes "deny", lint.Deny) ∷ []
+
+abbrev pub lint_of : Toml → Shaped LintLevel
+lint_of = name_of (codes "LintLevel") lint_names
+
+-- what is allowed is a note, what is warned of a warning, and what is denied an error
+abbrev pub severity_of_lint : LintLevel → Severity
+severity_of_lint lint.Allow = severity.Note
+severity_of_lint lint.Warn = severity.Warning
+severity_of_lint lint.Deny = severity.Error

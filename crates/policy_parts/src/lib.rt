@@ -1,10 +1,18 @@
-//! The parts of a policy that know no licence: types of a table of names, and how findings are printed.
+//! The parts of a policy that know no licence.
 #![tactic(auto)]
 
+pub mod file_source;
+pub mod graph;
 pub mod names;
 pub mod output;
-#[cfg(test)]
-mod tests;
+pub mod private;
+pub mod reason;
+pub mod target;
 
-pub use names::{BlanketAgreement, Scope};
+pub use file_source::{FileSource, FileSources};
+pub use graph::GraphConfig;
+pub use names::{BlanketAgreement, LintLevel, Scope};
 pub use output::OutputConfig;
+pub use private::{Private, SpannedTexts};
+pub use reason::Reason;
+pub use target::{Target, Targets};

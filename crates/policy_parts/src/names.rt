@@ -1,8 +1,9 @@
 //! Types that are one of a table of names.
 ghost use Rattle.std.specs.Prelude.{◌≡◌};
 ghost use Rattle.toml_value.specs.Taken.{left_by};
-ghost use Rattle.policy_parts.specs.Names.{scope_of, scope_name, agreement_of};
+ghost use Rattle.policy_parts.specs.Names.{scope_of, scope_name, agreement_of, lint_of, severity_of_lint};
 
+use diag_core::Severity;
 use policy_toml::{DeserError, Deserialize, Value, deserialize_name};
 use std::alloc::Global;
 
@@ -28,6 +29,14 @@ pub enum BlanketAgreement {
     Neither,
 }
 
+/// What a policy asks for where a lint finds something.
+#[derive(Clone, Copy, Debug, PartialEq, Eq)]
+pub enum LintLevel {
+    Allow,
+    Warn,
+    Deny,
+}
+
 static SCOPES: [(&str, Scope); 4] = [
     ("all", Scope::All),
     ("workspace", Scope::Workspace),
@@ -43,6 +52,12 @@ static AGREEMENTS: [(&str, BlanketAgreement); 7] = [
     ("osi-only", BlanketAgreement::OsiOnly),
     ("fsf-only", BlanketAgreement::FsfOnly),
     ("neither", BlanketAgreement::Neither),
+];
+
+static LINTS: [(&str, LintLevel); 3] = [
+    ("allow", LintLevel::Allow),
+    ("warn", LintLevel::Warn),
+    ("deny", LintLevel::Deny),
 ];
 
 impl Scope {
@@ -66,6 +81,28 @@ impl Default for BlanketAgreement {
 
     fn default() -> BlanketAgreement {
         BlanketAgreement::Neither
+    }
+}
+
+impl Default for LintLevel {
+    ghost use Rattle.policy_parts.specs.declared.names.LintLevel.TheVariants.{Warn};
+
+    ghost is_default = { λ level. level ≡ Warn };
+
+    fn default() -> LintLevel {
+        LintLevel::Warn
+    }
+}
+
+impl From<LintLevel> for Severity {
+    ghost from_gives = { λ level severity. severity ≡ severity_of_lint level };
+
+    fn from(level: LintLevel) -> Severity {
+        match level {
+            LintLevel::Allow => Severity::Note,
+            LintLevel::Warn => Severity::Warning,
+            LintLevel::Deny => Severity::Error,
+        }
     }
 }
 
@@ -94,5 +131,19 @@ impl<X> Deserialize<X> for BlanketAgreement {
         _context: &X,
     ) -> Result<BlanketAgreement, DeserError> {
         deserialize_name(alloc, value, "BlanketAgreement", &AGREEMENTS)
+    }
+}
+
+impl<X> Deserialize<X> for LintLevel {
+    ghost reads = { λ _ value. lint_of value };
+
+    ghost leaves = { λ _ value. left_by (lint_of value) value };
+
+    fn deserialize(
+        alloc: Global,
+        value: &mut Value<'_>,
+        _context: &X,
+    ) -> Result<LintLevel, DeserError> {
+        deserialize_name(alloc, value, "LintLevel", &LINTS)
     }
 }
