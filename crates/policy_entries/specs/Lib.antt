@@ -1,0 +1,3 @@
+pub mod Exceptions
+pub mod Licensees
+pub mod WithSpec

@@ -1,0 +1,60 @@
+-- Licensees that a policy names: strings that are one licence or reference, perhaps with an exception.
+use Rattle.std.specs.Prelude.{ℕ, ◌^◌, ◌+◌, ◌-◌, min, Bool, true, false, if◌then◌else◌, List, [], codes, Option, Some, None, Ok, Err}
+use Rattle.catalog_core.specs.Catalog.{CatalogLists}
+use Rattle.deny_text.specs.declared.span.Span.{Span}
+use Rattle.term_core.specs.Faults.{licensee_fault, licensee_mode}
+use Rattle.term_core.specs.Items.{items_of}
+use Rattle.term_core.specs.Licensee.{part_of}
+use Rattle.term_core.specs.Reasons.{reason_text}
+use Rattle.term_core.specs.declared.error.ParseError.{ParseError}
+use Rattle.term_core.specs.declared.mode.ParseMode.{ParseMode}
+use Rattle.term_core.specs.declared.term.LicenseReq.{LicenseReq}
+use Rattle.toml_subset.specs.Data.{Toml}
+use Rattle.toml_subset.specs.Written.{Written}
+use Rattle.toml_shapes.specs.Shaped.{Shaped, shaped_then}
+use Rattle.toml_shapes.specs.Shapes.{fault_alone, custom}
+use Rattle.toml_value.specs.Taken.{string_of}
+use Rattle.policy_toml.specs.Readings.{list_of}
+use Rattle.policy_entries.specs.declared.licensee.Licensee.{Licensee}
+
+-- names that the catalogue calls deprecated are taken
+abbrev pub policy_mode : ParseMode
+policy_mode = record {
+  allow_deprecated = true;
+  allow_imprecise_license_names = false;
+  allow_postfix_plus_on_gpl = false;
+  allow_slash_as_or_operator = false;
+}
+
+-- a place that counts from another, cut to 64 bits: no place of a text lies there
+abbrev pub place_from : ℕ → ℕ → ℕ
+place_from start place = min (start + place) (2 ^ 64 - 1)
+
+abbrev pub moved : ℕ → Span → Span
+moved start span = record { start = place_from start span.start; end = place_from start span.end }
+
+-- A place in a string's text, in the text where the string stands. With escapes it is the whole string.
+abbrev pub place_in : Written → Span → Span → Span
+place_in string whole span = if string.escaped then whole else moved whole.start span
+
+-- The first fault, or else the one part that there is. A text has one of the two, so the last case never comes.
+abbrev pub licensee_by : Written → Span → Option ParseError → Option LicenseReq → Shaped Licensee
+licensee_by string whole (Some fault) part =
+    Err (fault_alone (custom (reason_text fault.reason)) (place_in string whole fault.span))
+licensee_by string whole None (Some req) = Ok (record { 0 = record { value = req; span = whole } })
+licensee_by string whole None None = Err []
+
+-- the term that a text names
+abbrev pub part_in : CatalogLists → List ℕ → Option LicenseReq
+part_in lists text = part_of (items_of (licensee_mode policy_mode) lists text)
+
+-- a string at a place
+abbrev pub licensee_in : CatalogLists → Written → Span → Shaped Licensee
+licensee_in lists string whole = licensee_by string whole (licensee_fault policy_mode lists string.text) (part_in lists string.text)
+
+abbrev pub licensee_of : CatalogLists → Toml → Shaped Licensee
+licensee_of lists value =
+    shaped_then (λ string. licensee_in lists string value.span) (string_of (codes "an SPDX licensee string") value)
+
+abbrev pub licensees_of : CatalogLists → Toml → Shaped (List Licensee)
+licensees_of lists = list_of (licensee_of lists)
