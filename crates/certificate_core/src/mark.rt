@@ -91,7 +91,7 @@ pub fn mark_nodes(
 {
     let mut marking = Marking {
         counts: Vec::new(alloc),
-        marks: Vec::new(alloc),
+        marks: Vec::with_capacity(alloc, nodes.len())?,
     };
     'nodes: for node in nodes {
         marking.mark(*node, kept)?;
