@@ -1,0 +1,50 @@
+use Rattle.std.proofs.Common.{◌∙◌, ◌≤◌, sym, ap, [], length, map, arith, List, Option, false}
+use Rattle.graph_core.specs.Krate.{record_of}
+use Rattle.spdx_core.specs.Reading.{postfix}
+use Rattle.certificate_core.specs.declared.verdict.Hit.{Hit}
+use Rattle.certificate_core.specs.Certificates.{has_hit}
+use Rattle.certificate_core.specs.Choices.{is_accepted}
+use Rattle.certificate_core.specs.Stack.{first_of}
+use Rattle.policy_spec.specs.Index.{names_of}
+use Rattle.valid_policy.specs.View.{policy_of}
+use Rattle.evaluate_core.specs.Answers.{answers_over}
+use Rattle.evaluate_core.specs.Evaluation.{Evaluation, kept_of}
+use Rattle.evaluate_core.proofs.AnswerLemmas.{answered_whole}
+use Rattle.evaluate_core.proofs.EvaluationLemmas.{specs_are, spec_of, kept_is, with_hits}
+use Rattle.evaluate_core.proofs.RoomLemmas.{few_terms}
+use Rattle.evaluate_core.proofs.evaluator.Evaluator.evaluate.Goals as goal
+
+pub first-exception-requires : goal.first-exception-requires
+first-exception-requires g c =
+    ap (λ es. names_of (map spec_of es)) c.items.ensures
+    ∙ ap names_of (specs_are c.args.policy.now.exceptions)
+    ∙ c.requires.exceptions
+    ∙ sym (ap (λ (e : Evaluation). e.names) c.self.view_is)
+
+pub keep_hits-requires : goal.keep_hits-requires
+keep_hits-requires g c =
+    let expression = c.args.expression.now in
+    let few : length expression.terms ≤ length (postfix expression.tree) = few_terms (length expression.terms) expression.tree c.requirements.ensures.facts.places in
+    let asked = ap length c.requirements.ensures.terms in
+    let nodes = ap (λ (e : Evaluation). e.nodes) c.self.view_is in
+    let room = c.self.invariant.0 in
+    omega (arith, c.requires.room)
+
+pub returns-clause-answer : goal.returns-clause-answer
+returns-clause-answer g c =
+    let expression = c.args.expression.now in
+    let kept = c.as_slice.result.now in
+    let is = kept_is c.args.policy.now (record_of c.args.krate.now) expression.terms c.requirements.result.now c.items.result.now c.first-exception.result kept
+    c.items.ensures c.requirements.ensures.terms c.first-exception.ensures (c.as_slice.ensures.value ∙ c.keep_hits.ensures.kept) in
+    c.is_accepted.ensures.answer
+    ∙ ap (λ nodes. first_of false (answers_over (has_hit kept) [] nodes)) c.nodes.ensures.nodes
+    ∙ answered_whole (has_hit kept) expression.tree
+    ∙ ap (λ (hits : List (Option Hit)). is_accepted (has_hit hits) expression.tree) is
+
+pub returns-clause-evaluator : goal.returns-clause-evaluator
+returns-clause-evaluator g c =
+    let expression = c.args.expression.now in
+    let is = kept_is c.args.policy.now (record_of c.args.krate.now) expression.terms c.requirements.result.now c.items.result.now c.first-exception.result
+    c.keep_hits.new.kept.items c.items.ensures c.requirements.ensures.terms c.first-exception.ensures c.keep_hits.ensures.kept in
+    ap (λ (hits : List (Option Hit)). with_hits (record { nodes = c.self.inside.nodes; names = c.self.inside.exceptions; hits = [] }) hits) is
+    ∙ ap (λ (e : Evaluation). with_hits e (kept_of (policy_of c.args.policy.now) (record_of c.args.krate.now) expression.terms)) c.self.view_is

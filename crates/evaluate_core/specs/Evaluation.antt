@@ -1,0 +1,29 @@
+-- What is found for the terms of a crate's expression under a policy, and whether they are enough.
+use Rattle.std.specs.Prelude.{ℕ, Bool, List, map, Option}
+use Rattle.term_core.specs.declared.term.ExpressionReq.{ExpressionReq}
+use Rattle.spdx_core.specs.Grammar.{Tree}
+use Rattle.graph_core.specs.Krate.{Record}
+use Rattle.certificate_core.specs.declared.verdict.Hit.{Hit}
+use Rattle.certificate_core.specs.Certificates.{has_hit}
+use Rattle.certificate_core.specs.Choices.{is_accepted}
+use Rattle.policy_spec.specs.Index.{names_of}
+use Rattle.valid_policy.specs.Policy.{Policy, hit_of}
+
+-- the hit of each term, or none, in text order
+abbrev pub kept_of : Policy → Record → List ExpressionReq → List (Option Hit)
+kept_of policy krate terms = map (λ term. hit_of policy krate term.req) terms
+
+-- some choice of the tree has a hit at each of its places
+abbrev pub is_allowed : Policy → Record → List ExpressionReq → Tree → Bool
+is_allowed policy krate terms tree = is_accepted (has_hit (kept_of policy krate terms)) tree
+
+-- An evaluator: for how many nodes it has room, the names of the exceptions that it was made for, place by place, and the
+-- hits that it keeps.
+pub record Evaluation : Type 0 where
+  pub nodes : ℕ
+  pub names : List (List ℕ)
+  pub hits : List (Option Hit)
+
+-- the names of a policy's exceptions, place by place
+abbrev pub exception_names : Policy → List (List ℕ)
+exception_names policy = names_of (map (λ grant. grant.spec) policy.exceptions)

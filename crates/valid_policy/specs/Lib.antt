@@ -1,0 +1,5 @@
+pub mod Laws
+pub mod Policy
+pub mod Rows
+pub mod Satisfied
+pub mod View
