@@ -1,1 +1,2 @@
 pub mod LicenseeLemmas
+pub mod TwoKeys

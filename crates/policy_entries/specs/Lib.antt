@@ -1,3 +1,4 @@
+pub mod Clarifications
 pub mod Exceptions
 pub mod Licensees
 pub mod WithSpec
