@@ -4,8 +4,6 @@
 pub mod deserialize;
 pub mod helper;
 pub mod hundredths;
-#[cfg(test)]
-mod typed_tests;
 
 pub use deserialize::{Deserialize, deserialize_name};
 pub use helper::TableHelper;
