@@ -2,19 +2,11 @@
 //! is taken out of them.
 #![tactic(auto)]
 
-#[cfg(test)]
-mod example_tests;
 mod kind;
-#[cfg(test)]
-mod parse_tests;
 pub mod reader;
-#[cfg(test)]
-mod tests;
 mod tree;
 pub mod value;
 mod values;
-#[cfg(test)]
-mod values_tests;
 
 pub use kind::{kind_fault, refuse_kind};
 pub use reader::parse;

@@ -13,8 +13,6 @@ mod finish;
 mod levels;
 mod put;
 mod tables;
-#[cfg(test)]
-mod tests;
 
 use crate::value::{Value, ValueInner};
 use deny_text::Span;

@@ -8,8 +8,6 @@ ghost use Rattle.toml_value.specs.Lookup.{steps_to, pointed_at, with_item, with_
 ghost use Rattle.toml_value.specs.Views.{value_view, content_view, values_view, entries_view};
 ghost use Rattle.toml_value.specs.Views.{items_from_list, entries_from_list};
 
-#[cfg(test)]
-pub(crate) mod printed;
 mod removal;
 
 use deny_text::Span;

@@ -1,7 +1,6 @@
 //! Rows of values and of faults, each answer derived by hand from the rules. The value begins at place 0.
 
-use crate::value::printed::printed;
-use crate::values::read_value;
+use crate::printed::printed;
 use std::alloc::{AllocError, Global};
 use std::test::Fail;
 use toml_subset::SyntaxReason::{
@@ -9,6 +8,7 @@ use toml_subset::SyntaxReason::{
     TooDeep, Unexpected, UnexpectedEnd, Unsupported,
 };
 use toml_subset::{SyntaxReason, TomlError};
+use toml_value::read_value;
 
 /// A text, its value level by level with all spans, and the place behind the value.
 static VALUES: [(&str, &str, usize); 48] = [
@@ -234,7 +234,7 @@ static FAULTS: [(&str, SyntaxReason, usize, usize); 60] = [
 fn reads_as(alloc: Global, text: &str, wanted: &str, end: usize) -> Result<bool, AllocError> {
     match read_value(alloc, text, 0, 0) {
         Ok((value, next)) => {
-            let shown = printed(alloc, &value)?;
+            let shown = printed(alloc, value)?;
             Ok(next == end && shown.as_str() == wanted)
         }
         Err(_) => Ok(false),

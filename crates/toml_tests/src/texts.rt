@@ -1,8 +1,7 @@
 //! Rows of whole texts, each answer derived by hand from the rules: values level by level with all spans, and
 //! faults.
 
-use crate::reader::parse;
-use crate::value::printed::printed;
+use crate::printed::printed;
 use std::alloc::{AllocError, Global};
 use std::test::Fail;
 use toml_subset::SyntaxReason::{
@@ -10,6 +9,7 @@ use toml_subset::SyntaxReason::{
     TooDeep, Unexpected, UnexpectedEnd, Unsupported,
 };
 use toml_subset::{SyntaxReason, TomlError};
+use toml_value::parse;
 
 /// A text, and its value.
 static VALUES: [(&str, &str); 18] = [
@@ -202,7 +202,7 @@ static FAULTS: [(&str, SyntaxReason, usize, usize); 88] = [
 /// Whether a text has the value.
 pub(crate) fn reads_as(alloc: Global, text: &str, wanted: &str) -> Result<bool, AllocError> {
     match parse(alloc, text) {
-        Ok(value) => Ok(printed(alloc, &value)?.as_str() == wanted),
+        Ok(value) => Ok(printed(alloc, value)?.as_str() == wanted),
         Err(_) => Ok(false),
     }
 }
@@ -340,6 +340,14 @@ fn depths(rt: HostRuntime) -> Result<(), Fail> {
     // a dotted key's table below a header of 127 parts and of 128
     assert!(rt; is_read(alloc, "[", "p.", 126, "p]\na.b=1")?);
     assert!(rt; is_too_deep(alloc, "[", "p.", 127, "p]\na.b=1", 258)?);
+    // what a table below a header of 128 parts has is asked for before its depth
+    let again = long_text(alloc, "[", "p.", 127, "p]\na=1\na=1")?;
+    assert!(rt; has_fault(alloc, again.as_str(), DuplicateKey, 262, 263));
+    let through = long_text(alloc, "[", "p.", 127, "p]\na=1\na.b.c=1")?;
+    assert!(rt; has_fault(alloc, through.as_str(), RedefinedTable, 262, 263));
+    // the part whose new table is the 129th: the second of three, also behind a table that is there
+    assert!(rt; is_too_deep(alloc, "[", "p.", 126, "p]\na.b.c=1", 258)?);
+    assert!(rt; is_too_deep(alloc, "[", "p.", 126, "p]\na.b=1\na.c.d=1", 264)?);
     // through an array of tables 127 parts, and the 128th
     assert!(rt; is_read(alloc, "[[p]]\n[", "p.", 126, "p]")?);
     assert!(rt; is_too_deep(alloc, "[[p]]\n[", "p.", 127, "p]", 261)?);

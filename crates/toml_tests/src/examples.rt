@@ -1,7 +1,7 @@
 //! The texts of the TOML 1.0 document that lie in the subset, with the values that Python's `tomllib` reads
 //! and spans counted from the rules, and those that lie outside of it, with their first faults.
 
-use crate::parse_tests::{has_fault, reads_as};
+use crate::texts::{has_fault, reads_as};
 use std::test::Fail;
 use toml_subset::SyntaxReason;
 use toml_subset::SyntaxReason::{
