@@ -1,0 +1,4 @@
+mod Examples
+pub mod FoundLemmas
+pub mod PackLemmas
+pub mod PathLemmas

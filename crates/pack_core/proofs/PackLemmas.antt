@@ -1,0 +1,412 @@
+-- A pack with a further file.
+use Rattle.std.proofs.lemmas.List.Elements.{filter_map-append}
+use Rattle.std.proofs.lemmas.List.{take_more}
+use Rattle.std.proofs.lemmas.List.Sums.{fold-append}
+use Rattle.std.proofs.lemmas.Map.Made.{lookup-map_values}
+use Rattle.std.proofs.Common.{◌≡◌, ℕ, ◌+◌, ◌<◌, ◌≤◌, get_or, length, take, Bool, true, false, ◌&&◌, ◌||◌, cond, List, [], ◌∷◌, ◌++◌, map, Option, None, Some, is_some, Result, refl, sym, ap, subst, ◌∙◌, arith}
+use Rattle.std.specs.BTreeMap.{is_at, insert_entry}
+use Rattle.std.specs.List.{fold, list_any}
+use Rattle.std.specs.Map.{lookup}
+use Rattle.std.specs.Option.{option_and_then, option_map, option_map_or}
+use Rattle.std.specs.Ordering.{is_eq, is_lt, match_ordering}
+use Rattle.std.specs.declared.cmp.Ordering.TheVariants.{Less, Equal, Greater}
+use Rattle.std.specs.Cmp.Lexicographic.{slice_cmp}
+use Rattle.deny_text.specs.Path.{components_of, part_cmp, path_order}
+use Rattle.tree_core.specs.Content.{Content, resolve}
+use Rattle.tree_core.specs.Faults.{Rose}
+use Rattle.tree_core.specs.declared.reads.ReadAnswer.{ReadAnswer}
+use Rattle.tree_core.specs.declared.reads.ReadKind.{ReadKind}
+use Rattle.tree_core.specs.declared.reads.ReadKind.TheVariants.{Listing, LicenseFile}
+use Rattle.tree_core.specs.declared.reads.ReadRecord.{ReadRecord}
+use Rattle.reads_core.specs.declared.bad_read.BadRead.{BadRead}
+use Rattle.reads_core.specs.declared.bad_read.BadRead.TheVariants as bad
+use Rattle.reads_core.specs.Heard.{Heard, failed, absent, wrong_kind, not_utf8, text, entries, answer_of, counts_in, or_counts, failed_counts, is_read, or_there, place_of, there_heard, record_of}
+use Rattle.reads_core.specs.Rising.{RiseInOrder}
+use Rattle.reads_core.specs.Told.{CarriesCounts, IsHeardOf}
+use Rattle.reads_core.specs.Views.{heard_bad, heard_file}
+use Rattle.reads_core.proofs.RisingLemmas.{rises_compose, rises_widen}
+use Rattle.pack_core.specs.Ears.{Ears, ears_of, has_hash, matches, holds, looked_of}
+use Rattle.pack_core.specs.NamedFile.{Named}
+use Rattle.pack_core.specs.Pack.{found_of, same_path, placed, in_path_order}
+use Rattle.pack_core.specs.Steps.{Advances, Agrees, Begins, IsHeardIn, file_record, records_by, with_file, with_path}
+use Rattle.pack_core.specs.View.{PackView, IsKept, counts_of, file_at, files_of, has_normal_hash, normal_heard, path_read, paths_of, paths_read}
+use Rattle.pack_core.proofs.PathLemmas.{parts_of_same, same_itself, list_any-in_path_order, in_path_order-push}
+
+by_test : {G : Type 0} (b : Bool) → (b ≡ true → G) → (b ≡ false → G) → G
+by_test true holds differs = holds refl
+by_test false holds differs = differs refl
+
+-- ---- insertions
+
+pub files_of-insert : (held : List (List ℕ × Result (List ℕ) BadRead)) (path : List ℕ) (kept : Result (List ℕ) BadRead)
+    → files_of (insert_entry path_order held path kept) ≡ insert_entry path_order (files_of held) path (heard_file kept)
+files_of-insert [] path kept = refl
+files_of-insert (one ∷ held) path kept =
+    elim (path_order path one.0) as (λ r. files_of (match_ordering r ((path, kept) ∷ one ∷ held) ((one.0, kept) ∷ held) (one ∷ insert_entry path_order held path kept))
+    ≡ match_ordering r ((path, heard_file kept) ∷ (one.0, heard_file one.1) ∷ files_of held) ((one.0, heard_file kept) ∷ files_of held) ((one.0, heard_file one.1) ∷ insert_entry path_order (files_of held) path (heard_file kept))) [
+      | Less ↦ refl
+      | Equal ↦ refl
+      | Greater ↦ ap (λ rest. (one.0, heard_file one.1) ∷ rest) (files_of-insert held path kept)
+    ]
+
+-- where none of the same parts is there, the path is placed among the others
+pub paths_of-insert : (files : List (List ℕ × Heard)) (path : List ℕ) (heard : Heard) → file_at files path ≡ None → paths_of (insert_entry path_order files path heard) ≡ placed path (paths_of files)
+paths_of-insert [] path heard none = refl
+paths_of-insert (file ∷ files) path heard none =
+    elim (path_order path file.0) as (λ r. cond (is_eq r) (Some file.1) (file_at files path) ≡ None
+    → paths_of (match_ordering r ((path, heard) ∷ file ∷ files) ((file.0, heard) ∷ files) (file ∷ insert_entry path_order files path heard))
+    ≡ cond (is_lt r) (path ∷ file.0 ∷ paths_of files) (file.0 ∷ placed path (paths_of files))) [
+      | Less ↦ λ rest. refl
+      | Equal ↦ λ rest. cc
+      | Greater ↦ λ rest. ap (λ paths. file.0 ∷ paths) (paths_of-insert files path heard rest)
+    ] none
+
+-- a look-up asks for the parts alone
+pub file_at-parts : (files : List (List ℕ × Heard)) (x y : List ℕ) → components_of x ≡ components_of y → file_at files x ≡ file_at files y
+file_at-parts files x y same = ap (λ parts. lookup (λ path. is_eq (slice_cmp part_cmp parts (components_of path))) files) same
+
+same_of_parts : (x y : List ℕ) → components_of x ≡ components_of y → same_path x y ≡ true
+same_of_parts x y same = ap (λ parts. is_eq (slice_cmp part_cmp parts (components_of y))) same ∙ same_itself y
+
+is_some-cond : {A : Type 0} (b : Bool) (x : A) (o : Option A) → is_some (cond b (Some x) o) ≡ (b || is_some o)
+is_some-cond true x o = refl
+is_some-cond false x o = refl
+
+pub has_path : (files : List (List ℕ × Heard)) (path : List ℕ) → is_some (file_at files path) ≡ list_any (same_path path) (paths_of files)
+has_path [] path = refl
+has_path (file ∷ files) path =
+    is_some-cond (same_path path file.0) file.1 (file_at files path) ∙ ap (λ more. same_path path file.0 || more) (has_path files path)
+
+apart : {A : Type 0} (a b : Bool) (x y o : A) → (a ≡ true → b ≡ true → ⊥) → cond a x (cond b y o) ≡ cond b y (cond a x o)
+apart true true x y o both = absurd (both refl refl)
+apart true false x y o both = refl
+apart false true x y o both = refl
+apart false false x y o both = refl
+
+-- what a look-up finds behind an insertion
+pub file_at-insert : (files : List (List ℕ × Heard)) (path : List ℕ) (heard : Heard) (at : List ℕ) → file_at files path ≡ None
+    → file_at (insert_entry path_order files path heard) at ≡ cond (same_path at path) (Some heard) (file_at files at)
+file_at-insert [] path heard at none = refl
+file_at-insert (file ∷ files) path heard at none =
+    elim (path_order path file.0) as (λ r. path_order path file.0 ≡ r → cond (is_eq r) (Some file.1) (file_at files path) ≡ None
+    → file_at (match_ordering r ((path, heard) ∷ file ∷ files) ((file.0, heard) ∷ files) (file ∷ insert_entry path_order files path heard)) at
+    ≡ cond (same_path at path) (Some heard) (cond (same_path at file.0) (Some file.1) (file_at files at))) [
+      | Less ↦ λ is rest. refl
+      | Equal ↦ λ is rest. cc
+      | Greater ↦ λ is rest.
+          ap (λ o. cond (same_path at file.0) (Some file.1) o) (file_at-insert files path heard at rest)
+          ∙ apart (same_path at file.0) (same_path at path) (Some file.1) (Some heard) (file_at files at)
+          (λ first second.
+          let parts : components_of path ≡ components_of file.0 = sym (parts_of_same at path second) ∙ parts_of_same at file.0 first in
+          let same : is_eq (path_order path file.0) ≡ true = same_of_parts path file.0 parts in
+          let greater : is_eq (path_order path file.0) ≡ false = ap is_eq is in cc)
+    ] refl none
+
+-- ---- records
+
+or_counts-assoc : (a b c : Option (ℕ × ℕ)) → or_counts a (or_counts b c) ≡ or_counts (or_counts a b) c
+or_counts-assoc None b c = refl
+or_counts-assoc (Some x) b c = refl
+
+or_counts-none : (a : Option (ℕ × ℕ)) → or_counts a None ≡ a
+or_counts-none None = refl
+or_counts-none (Some x) = refl
+
+pub failed_counts-push : (kind : ReadKind) (parts : List (List ℕ)) (reads : List ReadRecord) (read : ReadRecord)
+    → failed_counts kind parts (reads ++ read ∷ []) ≡ or_counts (failed_counts kind parts reads) (failed_counts kind parts (read ∷ []))
+failed_counts-push kind parts [] read = refl
+failed_counts-push kind parts (first ∷ reads) read =
+    elim (is_read kind parts first) as (λ b.
+    cond b (or_counts (counts_in first.answer) (failed_counts kind parts (reads ++ read ∷ []))) (failed_counts kind parts (reads ++ read ∷ []))
+    ≡ or_counts (cond b (or_counts (counts_in first.answer) (failed_counts kind parts reads)) (failed_counts kind parts reads)) (failed_counts kind parts (read ∷ []))) [
+      | true ↦ ap (or_counts (counts_in first.answer)) (failed_counts-push kind parts reads read) ∙ or_counts-assoc (counts_in first.answer) (failed_counts kind parts reads) (failed_counts kind parts (read ∷ []))
+      | false ↦ failed_counts-push kind parts reads read
+    ]
+
+-- one more file
+pub paths_read-push : (reads : List ReadRecord) (path : List ℕ) (heard : Heard) → paths_read (reads ++ record_of LicenseFile path heard ∷ []) ≡ paths_read reads ++ path ∷ []
+paths_read-push reads path heard = filter_map-append path_read reads (record_of LicenseFile path heard ∷ [])
+
+-- ---- what was heard, and its normal form
+
+pub answer_of-normal : (heard : Heard) → answer_of (normal_heard heard) ≡ answer_of heard
+answer_of-normal (failed before after) = refl
+answer_of-normal absent = refl
+answer_of-normal wrong_kind = refl
+answer_of-normal not_utf8 = refl
+answer_of-normal (text bytes) = refl
+answer_of-normal (entries listed) = refl
+
+pub normal_of_heard : (there heard : Heard) → IsHeardOf there heard → IsHeardOf (normal_heard there) (normal_heard heard)
+normal_of_heard there (failed before after) is = tt
+normal_of_heard there absent is = ap normal_heard is
+normal_of_heard there wrong_kind is = ap normal_heard is
+normal_of_heard there not_utf8 is = ap normal_heard is
+normal_of_heard there (text bytes) is = ap normal_heard is
+normal_of_heard there (entries listed) is = ap normal_heard is
+
+-- ---- the further file keeps the pack's form
+
+alone : (b : Bool) (counts : Option (ℕ × ℕ)) → cond b (or_counts counts None) None ≡ cond b counts None
+alone true counts = or_counts-none counts
+alone false counts = refl
+
+pub kept-with_file : (pack : PackView) (path : List ℕ) (heard : Heard) → IsKept pack → file_at pack.files path ≡ None → IsKept (with_file pack path heard)
+kept-with_file pack path heard kept none = record {
+  paths =
+      paths_of-insert pack.files path (normal_heard heard) none
+      ∙ ap (placed path) kept.paths
+      ∙ sym (in_path_order-push (paths_read pack.reads) path)
+      ∙ ap in_path_order (sym (paths_read-push pack.reads path heard));
+  files_failed = λ at.
+      let counts = counts_in (answer_of heard) in
+      let old = file_at pack.files at in
+      failed_counts-push LicenseFile (components_of at) pack.reads (record_of LicenseFile path heard)
+      ∙ ap (or_counts (failed_counts LicenseFile (components_of at) pack.reads)) (alone (same_path at path) counts)
+      ∙ ap (λ o. or_counts o (cond (same_path at path) counts None)) (kept.files_failed at)
+      ∙ by_test (same_path at path)
+      (λ same.
+      let gone : old ≡ None = file_at-parts pack.files at path (parts_of_same at path same) ∙ none in
+      ap (λ b. or_counts (option_and_then counts_of old) (cond b counts None)) same
+      ∙ ap (λ o. or_counts (option_and_then counts_of o) counts) gone
+      ∙ ap counts_in (sym (answer_of-normal heard))
+      ∙ sym (ap (λ b. option_and_then counts_of (cond b (Some (normal_heard heard)) old)) same))
+      (λ differs.
+      ap (λ b. or_counts (option_and_then counts_of old) (cond b counts None)) differs
+      ∙ or_counts-none (option_and_then counts_of old)
+      ∙ sym (ap (λ b. option_and_then counts_of (cond b (Some (normal_heard heard)) old)) differs))
+      ∙ ap (option_and_then counts_of) (sym (file_at-insert pack.files path (normal_heard heard) at none));
+  listing_failed =
+      failed_counts-push Listing (components_of pack.folder) pack.reads (record_of LicenseFile path heard)
+      ∙ or_counts-none (failed_counts Listing (components_of pack.folder) pack.reads)
+      ∙ kept.listing_failed;
+}
+
+-- ---- and goes on from it
+
+one_rises : (kind : ReadKind) (before after : ℕ) (path : List ℕ) (heard : Heard) → before ≤ after → CarriesCounts before after heard → RiseInOrder before (record_of kind path heard ∷ []) after
+one_rises kind before after path (failed low high) later counts =
+    let first = counts.0 in
+    let last = counts.1 in
+    (omega arith, record { later = omega arith; rose = subst (λ n. Rose n high) (sym first) (subst (λ n. Rose before n) (sym last) counts.2) }, omega arith)
+one_rises kind before after path absent later counts = later
+one_rises kind before after path wrong_kind later counts = later
+one_rises kind before after path not_utf8 later counts = later
+one_rises kind before after path (text bytes) later counts = later
+one_rises kind before after path (entries listed) later counts = later
+
+map-push : {A B : Type 0} (f : A → B) (xs : List A) (y : A) → map f (xs ++ y ∷ []) ≡ map f xs ++ f y ∷ []
+map-push f [] y = refl
+map-push f (x ∷ xs) y = ap (λ l. f x ∷ l) (map-push f xs y)
+
+from_cond : (P : Heard → Type 0) (b : Bool) (x : Heard) (o : Option Heard) (heard : Heard) → (b ≡ true → P x) → (b ≡ false → o ≡ Some heard → P heard) → cond b (Some x) o ≡ Some heard → P heard
+from_cond P true x o heard here else e = let same : x ≡ heard = cc in subst P same (here refl)
+from_cond P false x o heard here else e = else refl e
+
+pub advances-with_file : (told : Option Content) (before after : ℕ) (pack : PackView) (path : List ℕ) (heard : Heard)
+    → file_at pack.files path ≡ None → before ≤ after → CarriesCounts before after heard
+    → ((content : Content) → told ≡ Some content → IsHeardOf (there_heard LicenseFile content (place_of LicenseFile (resolve pack.folder) (components_of path))) heard)
+    → Advances told before after pack (with_file pack path heard)
+advances-with_file told before after pack path heard none later counts tells = record {
+  folder = refl;
+  listing = refl;
+  stays = λ at found is.
+      file_at-insert pack.files path (normal_heard heard) at none
+      ∙ by_test (same_path at path)
+      (λ same. let gone : file_at pack.files at ≡ None = file_at-parts pack.files at path (parts_of_same at path same) ∙ none in cc)
+      (λ differs. ap (λ b. cond b (Some (normal_heard heard)) (file_at pack.files at)) differs ∙ is);
+  heard = λ content is old. record {
+    listing = old.listing;
+    files = λ at found there.
+        from_cond (λ found. IsHeardOf (normal_heard (there_heard LicenseFile content (place_of LicenseFile (resolve pack.folder) (components_of at)))) found)
+        (same_path at path) (normal_heard heard) (file_at pack.files at) found
+        (λ same. subst (λ parts. IsHeardOf (normal_heard (there_heard LicenseFile content (place_of LicenseFile (resolve pack.folder) parts))) (normal_heard heard))
+        (sym (parts_of_same at path same)) (normal_of_heard _ heard (tells content is)))
+        (λ differs was. old.files at found was)
+        (sym (file_at-insert pack.files path (normal_heard heard) at none) ∙ there);
+  };
+  rises = λ low old. rises_compose low before after pack.reads (record_of LicenseFile path heard ∷ []) old (one_rises LicenseFile before after path heard later counts);
+  records = λ ears agrees old.
+      let here : file_at (with_file pack path heard).files path ≡ Some (normal_heard heard) =
+      file_at-insert pack.files path (normal_heard heard) path none ∙ ap (λ b. cond b (Some (normal_heard heard)) (file_at pack.files path)) (same_itself path) in
+      let answer : answer_of heard ≡ answer_of (ears.file (components_of path)) =
+      sym (sym (answer_of-normal (ears.file (components_of path))) ∙ ap answer_of (agrees.files path (normal_heard heard) here) ∙ answer_of-normal heard) in
+      let one : record_of LicenseFile path heard ≡ file_record ears path =
+      ap (λ (a : ReadAnswer). let r : ReadRecord = record { path = path; kind = LicenseFile; answer = a } in r) answer in
+      ap (λ reads. reads ++ record_of LicenseFile path heard ∷ []) old
+      ∙ ap (λ read. records_by ears pack.folder (paths_read pack.reads) ++ read ∷ []) one
+      ∙ ap (λ rest. record_of Listing pack.folder ears.listing ∷ rest) (sym (map-push (file_record ears) (paths_read pack.reads) path))
+      ∙ ap (records_by ears pack.folder) (sym (paths_read-push pack.reads path heard));
+}
+
+-- ---- steps compose
+
+pub agrees_earlier : (told : Option Content) (before after : ℕ) (old new : PackView) (ears : Ears) → Advances told before after old new → Agrees ears new → Agrees ears old
+agrees_earlier told before after old new ears goes agrees = record {
+  listing = agrees.listing ∙ goes.listing;
+  files = λ path heard is. agrees.files path heard (goes.stays path heard is);
+}
+
+pub advances_itself : (told : Option Content) (before after : ℕ) (pack : PackView) → before ≤ after → Advances told before after pack pack
+advances_itself told before after pack later = record {
+  folder = refl;
+  listing = refl;
+  stays = λ path heard is. is;
+  heard = λ content is heard. heard;
+  rises = λ low rises. rises_widen low low before after pack.reads (omega arith) rises later;
+  records = λ ears agrees is. is;
+}
+
+pub advances_then : (told : Option Content) (first middle last : ℕ) (old mid new : PackView) → Advances told first middle old mid → Advances told middle last mid new → Advances told first last old new
+advances_then told first middle last old mid new one two = record {
+  folder = two.folder ∙ one.folder;
+  listing = two.listing ∙ one.listing;
+  stays = λ path heard is. two.stays path heard (one.stays path heard is);
+  heard = λ content is heard. two.heard content is (one.heard content is heard);
+  rises = λ low rises. two.rises low (one.rises low rises);
+  records = λ ears agrees is. two.records ears agrees (one.records ears (agrees_earlier told middle last mid new ears two agrees) is);
+}
+
+-- ---- packs of equal parts
+
+pub same_pack : {f g : List ℕ} {l m : Heard} {xs ys : List (List ℕ × Heard)} {rs qs : List ReadRecord} → f ≡ g → l ≡ m → xs ≡ ys → rs ≡ qs
+    → ◌≡◌ {A = PackView} (record { folder = f; listing = l; files = xs; reads = rs }) (record { folder = g; listing = m; files = ys; reads = qs })
+same_pack {f} {g} {l} {m} {xs} {ys} {rs} {qs} folder listing files reads =
+    ap (λ (a : List ℕ). let p : PackView = record { folder = a; listing = l; files = xs; reads = rs } in p) folder
+    ∙ ap (λ (a : Heard). let p : PackView = record { folder = g; listing = a; files = xs; reads = rs } in p) listing
+    ∙ ap (λ (a : List (List ℕ × Heard)). let p : PackView = record { folder = g; listing = m; files = a; reads = rs } in p) files
+    ∙ ap (λ (a : List ReadRecord). let p : PackView = record { folder = g; listing = m; files = ys; reads = a } in p) reads
+
+pub kept_of_listing : (folder : List ℕ) (heard : Heard) → IsKept (record { folder = folder; listing = heard; files = []; reads = record_of Listing folder heard ∷ [] })
+kept_of_listing folder heard = record {
+  paths = refl;
+  files_failed = λ at. refl;
+  listing_failed = ap (λ b. cond b (or_counts (counts_of heard) None) None) (same_itself folder) ∙ or_counts-none (counts_of heard);
+}
+
+-- ---- look-ups in what is kept
+
+is_some-map : {A B : Type 0} (f : A → B) (o : Option A) → is_some (option_map f o) ≡ is_some o
+is_some-map f None = refl
+is_some-map f (Some x) = refl
+
+pub has_file : (held : List (List ℕ × Result (List ℕ) BadRead)) (path : List ℕ) → is_some (lookup (is_at (path_order path)) held) ≡ is_some (file_at (files_of held) path)
+has_file held path = sym (ap is_some (lookup-map_values heard_file (is_at (path_order path)) held) ∙ is_some-map heard_file (lookup (is_at (path_order path)) held))
+
+-- what is in the pack was read
+pub read_before : (pack : PackView) (path : List ℕ) → IsKept pack → is_some (file_at pack.files path) ≡ list_any (same_path path) (paths_read pack.reads)
+read_before pack path kept =
+    has_path pack.files path ∙ ap (list_any (same_path path)) kept.paths ∙ list_any-in_path_order (same_path path) (paths_read pack.reads)
+
+pub none_of : {A : Type 0} (o : Option A) → is_some o ≡ false → o ≡ None
+none_of None e = refl
+none_of (Some x) e = cc
+
+pub there-with_file : (pack : PackView) (path : List ℕ) (heard : Heard) → file_at pack.files path ≡ None → file_at (with_file pack path heard).files path ≡ Some (normal_heard heard)
+there-with_file pack path heard none =
+    file_at-insert pack.files path (normal_heard heard) path none ∙ ap (λ b. cond b (Some (normal_heard heard)) (file_at pack.files path)) (same_itself path)
+
+-- ---- hashes
+
+pub no_hash : (hash : ℕ) (error : BadRead) → has_normal_hash hash (heard_bad error) ≡ false
+no_hash hash bad.Absent = refl
+no_hash hash bad.WrongKind = refl
+no_hash hash bad.NotUtf8 = refl
+no_hash hash (bad.Failed before after) = refl
+
+pub has_hash-normal : (hash : ℕ) (heard : Heard) → has_normal_hash hash (normal_heard heard) ≡ has_hash hash heard
+has_hash-normal hash (failed before after) = refl
+has_hash-normal hash absent = refl
+has_hash-normal hash wrong_kind = refl
+has_hash-normal hash not_utf8 = refl
+has_hash-normal hash (text bytes) = refl
+has_hash-normal hash (entries listed) = refl
+
+map_or : {A B : Type 0} (test : B → Bool) (f : A → B) (o : Option A) → option_map_or test (option_map f o) false ≡ option_map_or (λ x. test (f x)) o false
+map_or test f None = refl
+map_or test f (Some x) = refl
+
+-- whether what is kept at a path has a hash
+pub found_hash : (hash : ℕ) (held : List (List ℕ × Result (List ℕ) BadRead)) (path : List ℕ) (found : Option (Result (List ℕ) BadRead)) → found ≡ lookup (is_at (path_order path)) held
+    → option_map_or (has_normal_hash hash) (file_at (files_of held) path) false ≡ option_map_or (λ kept. has_normal_hash hash (heard_file kept)) found false
+found_hash hash held path found is =
+    ap (λ o. option_map_or (has_normal_hash hash) o false) (lookup-map_values heard_file (is_at (path_order path)) held)
+    ∙ map_or (has_normal_hash hash) heard_file (lookup (is_at (path_order path)) held)
+    ∙ ap (λ o. option_map_or (λ kept. has_normal_hash hash (heard_file kept)) o false) (sym is)
+
+matched_by : (hash : ℕ) (there : Option Heard) (heard : Heard) → ((found : Heard) → there ≡ Some found → normal_heard heard ≡ found) → is_some there ≡ true
+    → option_map_or (has_normal_hash hash) there false ≡ has_hash hash heard
+matched_by hash None heard agrees some = cc
+matched_by hash (Some found) heard agrees some = ap (has_normal_hash hash) (sym (agrees found refl)) ∙ has_hash-normal hash heard
+
+-- a file of the pack matches by its hash exactly where it does by ears that agree with the pack
+pub matched : (ears : Ears) (pack : PackView) (path : List ℕ) (hash : ℕ) → Agrees ears pack → is_some (file_at pack.files path) ≡ true
+    → option_map_or (has_normal_hash hash) (file_at pack.files path) false ≡ has_hash hash (ears.file (components_of path))
+matched ears pack path hash agrees there = matched_by hash (file_at pack.files path) (ears.file (components_of path)) (agrees.files path) there
+
+-- ---- a pack that begins
+
+pub begins_with : (told : Option Content) (before middle after : ℕ) (folder : List ℕ) (license_file : Option (List ℕ)) (heard : Heard) (new : PackView)
+    → before ≤ middle → CarriesCounts before middle heard
+    → ((content : Content) → told ≡ Some content → IsHeardOf (there_heard Listing content (resolve folder)) heard)
+    → Advances told middle after (record { folder = folder; listing = heard; files = []; reads = record_of Listing folder heard ∷ [] }) new
+    → paths_read new.reads ≡ fold with_path [] (found_of heard license_file)
+    → Begins told before after folder license_file new
+begins_with told before middle after folder license_file heard new later counts tells goes paths = record {
+  folder_is = goes.folder;
+  heard = λ content is. goes.heard content is (record { listing = tells content is; files = λ path found there. let bad : None ≡ Some found = there in cc });
+  rises = goes.rises before (one_rises Listing before middle folder heard later counts);
+  records = λ ears agrees.
+      let first : PackView = record { folder = folder; listing = heard; files = []; reads = record_of Listing folder heard ∷ [] } in
+      goes.records ears agrees (sym (ap (λ one. record_of Listing folder one ∷ []) (agrees_earlier told middle after first new ears goes agrees).listing));
+  paths = paths ∙ ap (λ listing. fold with_path [] (found_of listing license_file)) (sym goes.listing);
+}
+
+-- ---- a clarification, file by file
+
+pub holds_on : (ears : Ears) (named : Named) (rest : List Named) (here : Bool) → here ≡ matches ears named → here ≡ true → holds ears (named ∷ rest) ≡ holds ears rest
+holds_on ears named rest here is passed = ap (λ b. b && holds ears rest) (sym is ∙ passed)
+
+pub holds_not : (ears : Ears) (named : Named) (rest : List Named) (here : Bool) → here ≡ matches ears named → here ≡ false → holds ears (named ∷ rest) ≡ false
+holds_not ears named rest here is differs = ap (λ b. b && holds ears rest) (sym is ∙ differs)
+
+pub looks_on : (ears : Ears) (paths : List (List ℕ)) (named : Named) (rest : List Named) (here : Bool) → here ≡ matches ears named → here ≡ true
+    → fold with_path paths (looked_of ears (named ∷ rest)) ≡ fold with_path (with_path paths named.path) (looked_of ears rest)
+looks_on ears paths named rest here is passed = ap (λ b. fold with_path paths (named.path ∷ cond b (looked_of ears rest) [])) (sym is ∙ passed)
+
+pub looks_not : (ears : Ears) (paths : List (List ℕ)) (named : Named) (rest : List Named) (here : Bool) → here ≡ matches ears named → here ≡ false
+    → fold with_path paths (looked_of ears (named ∷ rest)) ≡ with_path paths named.path
+looks_not ears paths named rest here is differs = ap (λ b. fold with_path paths (named.path ∷ cond b (looked_of ears rest) [])) (sym is ∙ differs)
+
+-- one more path
+pub fold_more : (start paths : List (List ℕ)) (place : ℕ) (path : List ℕ) → place < length paths → path ≡ get_or paths place path
+    → fold with_path start (take (place + 1) paths) ≡ with_path (fold with_path start (take place paths)) path
+fold_more start paths place path inside is =
+    ap (fold with_path start) (take_more paths place path inside)
+    ∙ fold-append with_path start (take place paths) (get_or paths place path ∷ [])
+    ∙ ap (with_path (fold with_path start (take place paths))) (sym is)
+
+-- ---- by a crate's own reads
+
+settled : (there heard : Heard) (counts : Option (ℕ × ℕ)) → counts ≡ counts_of heard → IsHeardOf there heard → or_there counts there ≡ heard
+settled there (failed before after) counts is heard = ap (λ c. or_there c there) is
+settled there absent counts is heard = ap (λ c. or_there c there) is ∙ heard
+settled there wrong_kind counts is heard = ap (λ c. or_there c there) is ∙ heard
+settled there not_utf8 counts is heard = ap (λ c. or_there c there) is ∙ heard
+settled there (text bytes) counts is heard = ap (λ c. or_there c there) is ∙ heard
+settled there (entries listed) counts is heard = ap (λ c. or_there c there) is ∙ heard
+
+normal-or_there : (counts : Option (ℕ × ℕ)) (there : Heard) → normal_heard (or_there counts there) ≡ or_there counts (normal_heard there)
+normal-or_there None there = refl
+normal-or_there (Some counts) there = refl
+
+-- what was heard of a content is what the content and the pack's records let hear
+pub agrees_by_reads : (content : Content) (pack : PackView) → IsKept pack → IsHeardIn content pack → Agrees (ears_of content pack.folder pack.reads) pack
+agrees_by_reads content pack kept heard = record {
+  listing = settled (there_heard Listing content (resolve pack.folder)) pack.listing (failed_counts Listing (components_of pack.folder) pack.reads) kept.listing_failed heard.listing;
+  files = λ path found is.
+      let there = there_heard LicenseFile content (place_of LicenseFile (resolve pack.folder) (components_of path)) in
+      let counts = failed_counts LicenseFile (components_of path) pack.reads in
+      normal-or_there counts there
+      ∙ settled (normal_heard there) found counts (kept.files_failed path ∙ ap (option_and_then counts_of) is) (heard.files path found is);
+}

@@ -1,0 +1,13 @@
+use Rattle.std.proofs.Common.{ℕ, List, ap, ◌∙◌}
+use Rattle.deny_text.specs.Path.{components_of}
+use Rattle.pack_core.specs.Ears.{has_hash}
+use Rattle.pack_core.proofs.PackLemmas.{matched}
+use Rattle.pack_core.proofs.pack.Pack.matches.Goals as goal
+
+pub returns-clause-holds : goal.returns-clause-holds
+returns-clause-holds g c = λ ears agrees.
+    let named = g.F.NamedFile.named c.args.file.now in
+    c.has_hash-holds.ensures
+    ∙ matched ears c.in_ok-pack.pack c.path-named.result.now c.hash.result agrees c.in_ok-pack.ensures.there
+    ∙ ap (λ (hash : ℕ). has_hash hash (ears.file (components_of c.path-named.result.now))) c.hash.ensures
+    ∙ ap (λ (path : List ℕ). has_hash named.hash (ears.file (components_of path))) c.path-named.ensures

@@ -1,0 +1,50 @@
+-- What is heard of a crate's files, whatever they are heard by, and which clarification holds by it.
+use Rattle.std.specs.Prelude.{ℕ, ◌==◌, Bool, false, List, [], ◌∷◌, if◌then◌else◌}
+use Rattle.std.specs.List.{list_all}
+use Rattle.deny_text.specs.Hash.{xxh32_of}
+use Rattle.deny_text.specs.Normal.{normal_of}
+use Rattle.deny_text.specs.Path.{components_of}
+use Rattle.tree_core.specs.Content.{Content, resolve}
+use Rattle.tree_core.specs.declared.reads.ReadKind.TheVariants.{Listing, LicenseFile}
+use Rattle.tree_core.specs.declared.reads.ReadRecord.{ReadRecord}
+use Rattle.reads_core.specs.Heard.{Heard, failed, absent, wrong_kind, not_utf8, text, entries, heard}
+use Rattle.pack_core.specs.NamedFile.{Named}
+
+-- what is heard of the listing of a crate's folder, and of the file at a path of some parts
+pub record Ears : Type 0 where
+  pub listing : Heard
+  pub file : List (List ℕ) → Heard
+
+-- what a content and a crate's reads let hear, in a folder
+abbrev pub ears_of : Content → List ℕ → List ReadRecord → Ears
+ears_of content folder reads = record {
+  listing = heard content (resolve folder) reads Listing (components_of folder);
+  file = λ parts. heard content (resolve folder) reads LicenseFile parts;
+}
+
+-- a text whose normal form has the hash
+abbrev pub has_hash : ℕ → Heard → Bool
+has_hash hash (failed before after) = false
+has_hash hash absent = false
+has_hash hash wrong_kind = false
+has_hash hash not_utf8 = false
+has_hash hash (text bytes) = xxh32_of (normal_of bytes) == hash
+has_hash hash (entries listed) = false
+
+-- the file is heard as a text whose normal form has the stated hash
+abbrev pub matches : Ears → Named → Bool
+matches ears named = has_hash named.hash (ears.file (components_of named.path))
+
+-- a clarification holds where each of its files matches
+abbrev pub holds : Ears → List Named → Bool
+holds ears files = list_all (matches ears) files
+
+-- the files of a clarification that are looked up: up to and with the first that does not match
+abbrev pub looked_of : Ears → List Named → List (List ℕ)
+looked_of ears [] = []
+looked_of ears (named ∷ files) = named.path ∷ (if matches ears named then looked_of ears files else [])
+
+-- the clarifications that are tried: up to and with the first that holds, or all
+abbrev pub tried_of : Ears → List (List Named) → List (List Named)
+tried_of ears [] = []
+tried_of ears (files ∷ more) = files ∷ (if holds ears files then [] else tried_of ears more)

@@ -1,0 +1,5 @@
+pub mod Ears
+pub mod NamedFile
+pub mod Pack
+pub mod Steps
+pub mod View

@@ -1,0 +1,7 @@
+-- Files that clarifications name.
+use Rattle.std.specs.Prelude.{ℕ, List}
+
+-- a file that a clarification names: its path, from the crate's folder, and the hash of its normal form
+pub record Named : Type 0 where
+  pub path : List ℕ
+  pub hash : ℕ

@@ -1,0 +1,69 @@
+-- A pack, as contracts see it.
+use Rattle.std.specs.Prelude.{◌≡◌, ℕ, ◌==◌, Bool, false, List, map, Option, Some, None, Result, if◌then◌else◌}
+use Rattle.std.specs.BTreeMap.{is_at}
+use Rattle.std.specs.List.{filter_map}
+use Rattle.std.specs.Map.{lookup}
+use Rattle.std.specs.Option.{option_and_then}
+use Rattle.deny_text.specs.Hash.{xxh32_of}
+use Rattle.deny_text.specs.Normal.{normal_of}
+use Rattle.deny_text.specs.Path.{components_of, path_order}
+use Rattle.tree_core.specs.declared.reads.ReadKind.TheVariants.{Listing, LicenseFile}
+use Rattle.tree_core.specs.declared.reads.ReadRecord.{ReadRecord}
+use Rattle.reads_core.specs.declared.bad_read.BadRead.{BadRead}
+use Rattle.reads_core.specs.Heard.{Heard, failed, absent, wrong_kind, not_utf8, text, entries, is_kind, answer_of, counts_in, failed_counts}
+use Rattle.reads_core.specs.Views.{heard_file}
+use Rattle.pack_core.specs.Pack.{in_path_order}
+
+-- A crate's folder; what was heard of its listing; the files in path order, each with what was heard of it, a text in its
+-- normal form; and the records of the reads.
+pub record PackView : Type 0 where
+  pub folder : List ℕ
+  pub listing : Heard
+  pub files : List (List ℕ × Heard)
+  pub reads : List ReadRecord
+
+-- a text in its normal form; anything else as it was heard
+abbrev pub normal_heard : Heard → Heard
+normal_heard (failed before after) = failed before after
+normal_heard absent = absent
+normal_heard wrong_kind = wrong_kind
+normal_heard not_utf8 = not_utf8
+normal_heard (text bytes) = text (normal_of bytes)
+normal_heard (entries listed) = entries listed
+
+-- files as they are kept
+abbrev pub files_of : List (List ℕ × Result (List ℕ) BadRead) → List (List ℕ × Heard)
+files_of held = map (λ file. (file.0, heard_file file.1)) held
+
+abbrev pub paths_of : List (List ℕ × Heard) → List (List ℕ)
+paths_of files = map (λ file. file.0) files
+
+-- what was heard of the file at a path
+abbrev pub file_at : List (List ℕ × Heard) → List ℕ → Option Heard
+file_at files path = lookup (is_at (path_order path)) files
+
+-- the licence files that were read, in order
+abbrev pub path_read : ReadRecord → Option (List ℕ)
+path_read read = if is_kind LicenseFile read.kind then Some read.path else None
+
+abbrev pub paths_read : List ReadRecord → List (List ℕ)
+paths_read reads = filter_map path_read reads
+
+-- the counts of a read that failed
+abbrev pub counts_of : Heard → Option (ℕ × ℕ)
+counts_of heard = counts_in (answer_of heard)
+
+-- The files are those that were read, in path order; and by the records those reads failed that are heard to have failed.
+pub record IsKept (pack : PackView) : Type 0 where
+  pub paths : paths_of pack.files ≡ in_path_order (paths_read pack.reads)
+  pub files_failed : (path : List ℕ) → failed_counts LicenseFile (components_of path) pack.reads ≡ option_and_then counts_of (file_at pack.files path)
+  pub listing_failed : failed_counts Listing (components_of pack.folder) pack.reads ≡ counts_of pack.listing
+
+-- a text in its normal form that has the hash
+abbrev pub has_normal_hash : ℕ → Heard → Bool
+has_normal_hash hash (failed before after) = false
+has_normal_hash hash absent = false
+has_normal_hash hash wrong_kind = false
+has_normal_hash hash not_utf8 = false
+has_normal_hash hash (text normal) = xxh32_of normal == hash
+has_normal_hash hash (entries listed) = false

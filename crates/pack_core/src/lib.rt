@@ -1,0 +1,12 @@
+//! The licence files of a crate, each read once, and the clarifications that hold by their hashes.
+#![tactic(auto)]
+
+mod found;
+pub mod laws;
+pub mod license_text;
+pub mod named_file;
+pub mod pack;
+
+pub use license_text::LicenseText;
+pub use named_file::NamedFile;
+pub use pack::{Pack, PackData, PackIter, Tried};

@@ -1,0 +1,318 @@
+//! The pack of a crate.
+ghost use Rattle.std.specs.Prelude.{◌≡◌, [], ◌∷◌, IfOk, true, false, is_some, None, Some, map, option_copied};
+ghost use Rattle.std.specs.List.{fold, list_any};
+ghost use Rattle.std.specs.Iterator.{YieldsFirstBy, item_count};
+ghost use Rattle.std.specs.Option.{option_map_or};
+ghost use Rattle.tree_core.specs.Content.{Content};
+ghost use Rattle.tree_core.specs.Hearing.{KeepsTree};
+ghost use Rattle.tree_core.specs.declared.reads.ReadKind.TheVariants.{Listing};
+ghost use Rattle.reads_core.specs.Heard.{record_of};
+ghost use Rattle.reads_core.specs.Views.{heard_file, heard_folder};
+ghost use Rattle.pack_core.specs.Ears as spec;
+ghost use Rattle.pack_core.specs.Ears.{Ears, ears_of, looked_of};
+ghost use Rattle.pack_core.specs.Pack.{in_path_order, same_path};
+ghost use Rattle.pack_core.specs.Steps.{Advances, Agrees, Begins, IsHeardIn, with_file, with_path};
+ghost use Rattle.pack_core.specs.View.{file_at, has_normal_hash, normal_heard, paths_of, paths_read};
+
+use crate::found::found;
+use crate::license_text::LicenseText;
+use crate::named_file::NamedFile;
+use deny_text::PathBuf;
+use reads_core::{
+    BadRead, FileHeard, FolderHeard, file_record, list_folder, listing_record, read_file,
+};
+use std::alloc::{AllocError, Global};
+use std::collections::{BTreeMap, btree_map};
+use std::marker::Model;
+use tree_core::{Reads, Tree};
+
+/// A licence text in its normal form, or why there is none.
+pub type PackData = Result<LicenseText, BadRead>;
+
+/// The licence files of a crate, each read once, with the records of the reads. A look-up among n files takes
+/// about log2 n comparisons of paths.
+#[derive(Drop)]
+pub struct Pack {
+    folder: PathBuf,
+    listing: FolderHeard,
+    files: BTreeMap<PathBuf, PackData>,
+    reads: Reads,
+}
+
+impl Model for Pack {
+    ghost use Rattle.pack_core.specs.View.{PackView, IsKept, files_of};
+    ghost use Rattle.reads_core.specs.Views.{heard_folder};
+
+    ghost Value = { PackView };
+
+    ghost view = { λ p. record {
+      folder = p.folder;
+      listing = heard_folder p.listing;
+      files = files_of p.files.entries;
+      reads = p.reads;
+    } };
+
+    ghost invariant = { λ p. IsKept (record {
+      folder = p.folder;
+      listing = heard_folder p.listing;
+      files = files_of p.files.entries;
+      reads = p.reads;
+    }) };
+}
+
+/// A pack, and whether a clarification holds by its files.
+#[derive(Drop)]
+pub struct Tried {
+    pub pack: Pack,
+    pub holds: bool,
+}
+
+/// A text in its normal form; the text as it was read is let go.
+fn kept_of(alloc: Global, heard: FileHeard) -> Result<PackData, AllocError>
+    ensures { IfOk result (λ kept. heard_file kept ≡ normal_heard (heard_file heard)) }
+{
+    match heard {
+        Ok(text) => {
+            let licence = LicenseText::of(alloc, text.as_str())?;
+            Ok(Ok(licence))
+        }
+        Err(error) => Ok(Err(error)),
+    }
+}
+
+/// Whether what is kept of a file is a text with a hash.
+#[tactic(auto, using(crate::proofs::PackLemmas::no_hash))]
+fn kept_has_hash(kept: &PackData, hash: u32) -> bool
+    ensures { result ≡ has_normal_hash hash (heard_file kept.now) }
+{
+    match kept {
+        Ok(text) => text.hash() == hash,
+        Err(_) => false,
+    }
+}
+
+impl Pack {
+    /// A pack without files, by what was heard of the listing of the folder.
+    fn of_listing(alloc: Global, folder: &str, listing: FolderHeard) -> Result<Pack, AllocError>
+        ensures { IfOk result (λ pack. pack ≡ record {
+          folder = folder.now;
+          listing = heard_folder listing;
+          files = [];
+          reads = record_of Listing folder.now (heard_folder listing) ∷ [];
+        }) }
+    {
+        let record = listing_record(alloc, folder, &listing)?;
+        let mut reads = Reads::new(alloc);
+        reads.push(record)?;
+        let folder = PathBuf::copy(alloc, folder)?;
+        Ok(Pack {
+            folder,
+            listing,
+            files: BTreeMap::new(alloc),
+            reads,
+        })
+    }
+
+    /// The pack and a further file, which was just read.
+    fn with_file(self, alloc: Global, path: &PathBuf, heard: FileHeard) -> Result<Pack, AllocError>
+        requires { file_at self.files path.now ≡ None }
+        ensures { IfOk result (λ pack. pack ≡ with_file self path.now (heard_file heard)) }
+    {
+        let Pack {
+            folder,
+            listing,
+            mut files,
+            mut reads,
+        } = self;
+        let record = file_record(alloc, path, &heard)?;
+        reads.push(record)?;
+        let kept = kept_of(alloc, heard)?;
+        let key = PathBuf::copy(alloc, path.as_path())?;
+        files.insert(key, kept)?;
+        Ok(Pack {
+            folder,
+            listing,
+            files,
+            reads,
+        })
+    }
+
+    /// Whether a file at a path of the same parts was read.
+    fn has(&self, path: &PathBuf) -> bool
+        ensures has { result ≡ is_some (file_at self.now.files path.now) }
+        ensures read { result ≡ list_any (same_path path.now) (paths_read self.now.reads) }
+    {
+        self.files.contains_key(path)
+    }
+
+    /// The pack with the file at a path, which is read where none of the same parts was.
+    fn look_up<T: Tree>(
+        self,
+        alloc: Global,
+        tree: &mut T,
+        path: &PathBuf,
+    ) -> Result<Pack, AllocError>
+        ensures kept { KeepsTree (T.content tree.old) (T.content tree.new)
+            (T.fault_count tree.old) (T.fault_count tree.new) }
+        ensures advances { IfOk result (λ pack.
+            Advances (T.content tree.old) (T.fault_count tree.old) (T.fault_count tree.new) self pack) }
+        ensures paths { IfOk result (λ pack.
+            paths_read pack.reads ≡ with_path (paths_read self.reads) path.now) }
+        ensures there { IfOk result (λ pack. is_some (file_at pack.files path.now) ≡ true) }
+    {
+        if self.has(path) {
+            return Ok(self);
+        }
+        let heard = read_file(alloc, tree, self.folder.as_path(), path.as_path())?;
+        self.with_file(alloc, path, heard)
+    }
+
+    /// Whether the file at a path is a text with a hash.
+    fn has_hash(&self, path: &PathBuf, hash: u32) -> bool
+        ensures { result ≡ option_map_or (has_normal_hash hash) (file_at self.now.files path.now) false }
+    {
+        match self.files.get(path) {
+            Some(kept) => kept_has_hash(kept, hash),
+            None => false,
+        }
+    }
+
+    /// Whether a file that a clarification names has its hash; it is read where it was not.
+    fn matches<T: Tree, F: NamedFile>(
+        self,
+        alloc: Global,
+        tree: &mut T,
+        file: &F,
+    ) -> Result<Tried, AllocError>
+        ensures kept { KeepsTree (T.content tree.old) (T.content tree.new)
+            (T.fault_count tree.old) (T.fault_count tree.new) }
+        ensures advances { IfOk result (λ tried.
+            Advances (T.content tree.old) (T.fault_count tree.old) (T.fault_count tree.new) self tried.pack) }
+        ensures paths { IfOk result (λ tried.
+            paths_read tried.pack.reads ≡ with_path (paths_read self.reads) (F.named file.now).path) }
+        ensures holds { IfOk result (λ tried. (ears : Ears) → Agrees ears tried.pack
+            → tried.holds ≡ spec.matches ears (F.named file.now)) }
+    {
+        let named = file.path();
+        let pack = self.look_up(alloc, tree, named)?;
+        let holds = pack.has_hash(named, file.hash());
+        Ok(Tried { pack, holds })
+    }
+
+    /// Tries a clarification by its files: each is looked up in order, up to the first that does not match.
+    pub fn tries<T: Tree, F: NamedFile>(
+        self,
+        alloc: Global,
+        tree: &mut T,
+        files: &[F],
+    ) -> Result<Tried, AllocError>
+        ensures kept { KeepsTree (T.content tree.old) (T.content tree.new)
+            (T.fault_count tree.old) (T.fault_count tree.new) }
+        ensures advances { IfOk result (λ tried.
+            Advances (T.content tree.old) (T.fault_count tree.old) (T.fault_count tree.new) self tried.pack) }
+        // by whatever ears that agree with the pack that is left, so by those of the crate's own reads
+        ensures paths { IfOk result (λ tried. (ears : Ears) → Agrees ears tried.pack
+            → paths_read tried.pack.reads
+            ≡ fold with_path (paths_read self.reads) (looked_of ears (map F.named files.now))) }
+        ensures holds { IfOk result (λ tried. (ears : Ears) → Agrees ears tried.pack
+            → tried.holds ≡ spec.holds ears (map F.named files.now)) }
+    {
+        let mut pack = self;
+        'files: for file in files {
+            let tried = pack.matches(alloc, tree, file)?;
+            pack = tried.pack;
+            if !tried.holds {
+                return Ok(Tried { pack, holds: false });
+            }
+        }
+        Ok(Tried { pack, holds: true })
+    }
+
+    /// The pack with the files at some paths, in order.
+    fn look_up_all<T: Tree>(
+        self,
+        alloc: Global,
+        tree: &mut T,
+        paths: &[PathBuf],
+    ) -> Result<Pack, AllocError>
+        ensures kept { KeepsTree (T.content tree.old) (T.content tree.new)
+            (T.fault_count tree.old) (T.fault_count tree.new) }
+        ensures advances { IfOk result (λ pack.
+            Advances (T.content tree.old) (T.fault_count tree.old) (T.fault_count tree.new) self pack) }
+        ensures paths { IfOk result (λ pack.
+            paths_read pack.reads ≡ fold with_path (paths_read self.reads) paths.now) }
+    {
+        let mut pack = self;
+        'paths: for path in paths {
+            pack = pack.look_up(alloc, tree, path)?;
+        }
+        Ok(pack)
+    }
+
+    /// Lists a crate's folder, and reads the licence files that are found.
+    pub fn read<T: Tree>(
+        alloc: Global,
+        tree: &mut T,
+        folder: &str,
+        license_file: Option<&PathBuf>,
+    ) -> Result<Pack, AllocError>
+        ensures kept { KeepsTree (T.content tree.old) (T.content tree.new)
+            (T.fault_count tree.old) (T.fault_count tree.new) }
+        ensures begins { IfOk result (λ pack. Begins (T.content tree.old) (T.fault_count tree.old)
+            (T.fault_count tree.new) folder.now (option_copied license_file.entry) pack) }
+    {
+        let listing = list_folder(alloc, tree, folder)?;
+        let names = found(alloc, &listing, license_file)?;
+        let listed = Pack::of_listing(alloc, folder, listing)?;
+        let pack = listed.look_up_all(alloc, tree, names.items())?;
+        Ok(pack)
+    }
+
+    /// The files in path order, each by the spelling that it was first read by.
+    pub fn iter(&self) -> PackIter<'_>
+        ensures files { result ≡ self.now.files }
+        ensures sorted { paths_of self.now.files ≡ in_path_order (paths_read self.now.reads) }
+    {
+        PackIter {
+            held: self.files.iter(),
+        }
+    }
+
+    /// The records of the reads in the order of the calls. What was heard in them is what the content and
+    /// these records let hear.
+    pub fn into_reads(self) -> Reads
+        ensures reads { result ≡ self.reads }
+        ensures agrees { (content : Content) → IsHeardIn content self
+            → Agrees (ears_of content self.folder result) self }
+    {
+        self.reads
+    }
+}
+
+/// The files of a pack that are still to come, in path order.
+#[derive(Drop)]
+pub struct PackIter<'a> {
+    held: btree_map::Iter<'a, PathBuf, PackData>,
+}
+
+impl<'a> Model for PackIter<'a> {
+    ghost use Rattle.std.specs.Prelude.{ℕ, List};
+    ghost use Rattle.reads_core.specs.Heard.{Heard};
+    ghost use Rattle.pack_core.specs.View.{files_of};
+
+    ghost Value = { List (List ℕ × Heard) };
+
+    ghost view = { λ files. files_of files.held };
+}
+
+impl<'a> Iterator for PackIter<'a> {
+    type Item = (&'a PathBuf, &'a PackData);
+
+    ghost next_gives = { YieldsFirstBy (λ file. (file.0.now, heard_file file.1.now)) (λ files. files) };
+
+    ghost remaining = { item_count (λ files. files) };
+
+    fn next(&mut self) -> Option<(&'a PathBuf, &'a PackData)> {
+        self.held.next()
+    }
+}

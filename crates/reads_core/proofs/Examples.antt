@@ -1,0 +1,95 @@
+-- What is heard, worked out by hand from the rules.
+use Rattle.std.proofs.Common.{◌≡◌, ap, ◌∙◌, ℕ, List, [], ◌∷◌, true, false, codes, refl}
+use Rattle.std.specs.FinMap as map
+use Rattle.std.specs.List.{filter_map}
+use Rattle.std.specs.Path.{path_components, path_names}
+use Rattle.std.specs.Str.{is_utf8, chars}
+use lib.Utf8.{encode}
+use Rattle.tree_core.specs.Content.{Content, Place, Node, file, folder, resolve, place_cmp, entry_in}
+use Rattle.tree_core.specs.declared.reads.ReadAnswer.TheVariants.{Failed}
+use Rattle.tree_core.specs.declared.reads.ReadKind.TheVariants.{Listing, LicenseFile}
+use Rattle.tree_core.specs.declared.reads.ReadRecord.{ReadRecord}
+use Rattle.deny_text.specs.Path.{components_of}
+use Rattle.reads_core.specs.Heard.{Heard, failed, absent, wrong_kind, not_utf8, text, entries, heard, file_heard, listing_by, listing_heard, failed_counts, or_there, place_of}
+
+-- `/w` holds the file `LICENSE` of one LF, the file `COPYING` of the byte FF, and the folder `LICENSES`; `/T` is a file
+abbrev stored : List (Place × Node)
+stored =
+    ([], folder)
+    ∷ (codes "T" ∷ [], file (codes "t"))
+    ∷ (codes "w" ∷ [], folder)
+    ∷ (codes "w" ∷ codes "COPYING" ∷ [], file (255 ∷ []))
+    ∷ (codes "w" ∷ codes "LICENSE" ∷ [], file (10 ∷ []))
+    ∷ (codes "w" ∷ codes "LICENSES" ∷ [], folder)
+    ∷ []
+
+abbrev tree : Content
+tree = map.from_sorted stored
+
+abbrev hears : List ReadRecord → List ℕ → Heard
+hears reads path = heard tree (resolve (codes "/w")) reads LicenseFile (components_of path)
+
+-- what stands there is what is stored
+looks : (reads : List ReadRecord) (path : List ℕ)
+    → hears reads path ≡ or_there (failed_counts LicenseFile (components_of path) reads) (file_heard (map.find place_cmp (place_of LicenseFile (resolve (codes "/w")) (components_of path)) stored))
+looks reads path =
+    ap (λ there. or_there (failed_counts LicenseFile (components_of path) reads) (file_heard there))
+    (map.get-from_sorted place_cmp stored (place_of LicenseFile (resolve (codes "/w")) (components_of path)) tt)
+
+-- a file is a text
+a_text : hears [] (codes "LICENSE") ≡ text (10 ∷ [])
+unfolding path_components path_names is_utf8 chars encode file_heard
+a_text = looks [] (codes "LICENSE")
+
+-- FF stands in no UTF-8
+no_utf8 : hears [] (codes "COPYING") ≡ not_utf8
+unfolding path_components path_names is_utf8 chars encode file_heard
+no_utf8 = looks [] (codes "COPYING")
+
+a_folder : hears [] (codes "LICENSES") ≡ wrong_kind
+unfolding path_components path_names is_utf8 chars encode file_heard
+a_folder = looks [] (codes "LICENSES")
+
+nothing : hears [] (codes "NOTICE") ≡ absent
+unfolding path_components path_names is_utf8 chars encode file_heard
+nothing = looks [] (codes "NOTICE")
+
+-- the empty path is the crate's folder
+empty_path : hears [] [] ≡ wrong_kind
+unfolding path_components path_names is_utf8 chars encode file_heard
+empty_path = looks [] []
+
+-- a path may leave the folder, or begin at the root
+above : hears [] (codes "../T") ≡ text (codes "t")
+unfolding path_components path_names is_utf8 chars encode file_heard
+above = looks [] (codes "../T")
+
+at_root : hears [] (codes "/T") ≡ text (codes "t")
+unfolding path_components path_names is_utf8 chars encode file_heard
+at_root = looks [] (codes "/T")
+
+abbrev failed_read : ReadRecord
+failed_read = record { path = codes "./LICENSE"; kind = LicenseFile; answer = Failed 4 5 }
+
+-- `./LICENSE` has a further part, so another path failed
+another_path : hears (failed_read ∷ []) (codes "LICENSE") ≡ text (10 ∷ [])
+unfolding path_components path_names is_utf8 chars encode file_heard
+another_path = looks (failed_read ∷ []) (codes "LICENSE")
+
+-- `.//LICENSE` has the same parts
+same_path_failed : hears (failed_read ∷ []) (codes ".//LICENSE") ≡ failed 4 5
+unfolding path_components path_names is_utf8 chars encode file_heard
+same_path_failed = refl
+
+-- a listing of the same path is another kind of read
+another_kind : hears (record { path = codes "LICENSE"; kind = Listing; answer = Failed 4 5 } ∷ []) (codes "LICENSE") ≡ text (10 ∷ [])
+unfolding path_components path_names is_utf8 chars encode file_heard
+another_kind = looks (record { path = codes "LICENSE"; kind = Listing; answer = Failed 4 5 } ∷ []) (codes "LICENSE")
+
+-- a listing is found by the root, whatever folder the crate is in
+a_listing : heard tree (resolve (codes "/w")) [] Listing (components_of (codes "/w"))
+    ≡ entries ((codes "COPYING", true) ∷ (codes "LICENSE", true) ∷ (codes "LICENSES", false) ∷ [])
+unfolding path_components path_names listing_heard
+a_listing =
+    ap (listing_by tree (codes "w" ∷ [])) (map.get-from_sorted place_cmp stored (codes "w" ∷ []) tt)
+    ∙ ap (λ all. entries (filter_map (λ (e : Place × Node). entry_in (codes "w" ∷ []) e.0 e.1) all)) (map.entries-from_sorted place_cmp stored tt)

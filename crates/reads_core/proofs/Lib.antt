@@ -1,0 +1,3 @@
+mod Examples
+pub mod RisingLemmas
+pub mod ToldLemmas

@@ -1,0 +1,120 @@
+-- What is heard of a crate's files: what the tree holds, but for the reads that failed.
+use Rattle.std.specs.Prelude.{ℕ, Bool, true, false, ◌&&◌, List, [], ◌∷◌, Option, Some, None, if◌then◌else◌}
+use Rattle.std.specs.FinMap as map
+use Rattle.std.specs.List.{fold}
+use Rattle.std.specs.Ordering.{eq_by_cmp}
+use Rattle.std.specs.Cmp.Lexicographic.{slice_cmp}
+use Rattle.std.specs.Str.{is_utf8}
+use Rattle.deny_text.specs.Path.{components_of, part_cmp}
+use Rattle.tree_core.specs.Content.{Content, Node, file, folder, Place, step, entries_in, Listed}
+use Rattle.tree_core.specs.declared.reads.ReadAnswer.{ReadAnswer}
+use Rattle.tree_core.specs.declared.reads.ReadAnswer.TheVariants as answer
+use Rattle.tree_core.specs.declared.reads.ReadKind.{ReadKind}
+use Rattle.tree_core.specs.declared.reads.ReadKind.TheVariants.{Manifest, Listing, LicenseFile}
+use Rattle.tree_core.specs.declared.reads.ReadRecord.{ReadRecord}
+
+-- What is heard by a read: that it failed, with the tree's counts of faults right before and right after it; that nothing
+-- is there, or a folder in place of a file and the other way round; that the bytes are no UTF-8; a text; or, of a listing,
+-- the entries in byte order of their names.
+pub data Heard : Type 0 where
+  failed : ℕ → ℕ → Heard
+  absent : Heard
+  wrong_kind : Heard
+  not_utf8 : Heard
+  text : List ℕ → Heard
+  entries : List Listed → Heard
+
+-- ---- what stands in a tree
+
+-- bytes as a text
+abbrev pub text_heard : List ℕ → Heard
+text_heard bytes = if is_utf8 bytes then text bytes else not_utf8
+
+-- of what stands there, read as a text
+unfoldable pub file_heard : Option Node → Heard
+file_heard None = absent
+file_heard (Some folder) = wrong_kind
+file_heard (Some (file bytes)) = text_heard bytes
+
+-- of what stands at a place, listed
+abbrev pub listing_by : Content → Place → Option Node → Heard
+listing_by content place None = absent
+listing_by content place (Some folder) = entries (entries_in content place)
+listing_by content place (Some (file bytes)) = wrong_kind
+
+unfoldable pub listing_heard : Content → Place → Heard
+listing_heard content place = listing_by content place (map.get content place)
+
+-- ---- which of the reads failed
+
+abbrev pub is_kind : ReadKind → ReadKind → Bool
+is_kind Manifest Manifest = true
+is_kind Listing Listing = true
+is_kind LicenseFile LicenseFile = true
+is_kind _ _ = false
+
+-- whether the parts of a path are the same
+abbrev pub same_parts : List (List ℕ) → List (List ℕ) → Bool
+same_parts = eq_by_cmp (slice_cmp part_cmp)
+
+-- whether a read is of this kind, at a path of these parts
+abbrev pub is_read : ReadKind → List (List ℕ) → ReadRecord → Bool
+is_read kind parts read = is_kind kind read.kind && same_parts parts (components_of read.path)
+
+-- the counts of a read that failed
+abbrev pub counts_in : ReadAnswer → Option (ℕ × ℕ)
+counts_in answer.Got = None
+counts_in answer.Absent = None
+counts_in answer.WrongKind = None
+counts_in answer.NotUtf8 = None
+counts_in (answer.Failed before after) = Some (before, after)
+
+abbrev pub or_counts : Option (ℕ × ℕ) → Option (ℕ × ℕ) → Option (ℕ × ℕ)
+or_counts None more = more
+or_counts (Some counts) more = Some counts
+
+-- the counts of the first read of this kind, at a path of these parts, that failed
+abbrev pub failed_counts : ReadKind → List (List ℕ) → List ReadRecord → Option (ℕ × ℕ)
+failed_counts kind parts [] = None
+failed_counts kind parts (read ∷ reads) =
+    if is_read kind parts read then or_counts (counts_in read.answer) (failed_counts kind parts reads)
+    else failed_counts kind parts reads
+
+-- ---- what is heard
+
+-- where a read looks: a licence file stands by the crate's folder, a manifest and a listing by the root
+abbrev pub place_of : ReadKind → Place → List (List ℕ) → Place
+place_of Manifest base parts = fold step [] parts
+place_of Listing base parts = fold step [] parts
+place_of LicenseFile base parts = fold step base parts
+
+-- what the content says there
+abbrev pub there_heard : ReadKind → Content → Place → Heard
+there_heard Manifest content place = file_heard (map.get content place)
+there_heard Listing content place = listing_heard content place
+there_heard LicenseFile content place = file_heard (map.get content place)
+
+abbrev pub or_there : Option (ℕ × ℕ) → Heard → Heard
+or_there None there = there
+or_there (Some counts) there = failed counts.0 counts.1
+
+-- What is heard of a kind at a path of these parts, for a crate in this folder: that the read failed where it is among the
+-- crate's reads as one that did, else what the content says.
+abbrev pub heard : Content → Place → List ReadRecord → ReadKind → List (List ℕ) → Heard
+heard content base reads kind parts =
+    or_there (failed_counts kind parts reads) (there_heard kind content (place_of kind base parts))
+
+-- ---- what a record tells of it
+
+-- a text and entries were got
+abbrev pub answer_of : Heard → ReadAnswer
+answer_of (failed before after) = answer.Failed before after
+answer_of absent = answer.Absent
+answer_of wrong_kind = answer.WrongKind
+answer_of not_utf8 = answer.NotUtf8
+answer_of (text bytes) = answer.Got
+answer_of (entries listed) = answer.Got
+
+-- the record of a read
+abbrev pub record_of : ReadKind → List ℕ → Heard → ReadRecord
+record_of kind path heard = record { path = path; kind = kind; answer = answer_of heard }

@@ -1,0 +1,4 @@
+pub mod Heard
+pub mod Rising
+pub mod Told
+pub mod Views

@@ -1,0 +1,12 @@
+//! Laws of the reads that failed.
+ghost use Rattle.reads_core.specs.Rising.{RisesCompose, RisesWiden};
+
+/// Reads that rise up to a count and reads that rise from it rise together.
+pub fn rises_compose()
+    ensures { RisesCompose }
+{}
+
+/// Reads rise as well from an earlier count, and up to a later one.
+pub fn rises_widen()
+    ensures { RisesWiden }
+{}

@@ -1,0 +1,141 @@
+//! Reading a file, and listing a folder.
+ghost use Rattle.std.specs.Prelude.{◌≡◌, IfOk, Some};
+ghost use Rattle.std.specs.Option.{ForSome};
+ghost use Rattle.deny_text.specs.Path.{components_of};
+ghost use Rattle.tree_core.specs.Content.{file, node_at, resolve};
+ghost use Rattle.tree_core.specs.Hearing.{KeepsTree};
+ghost use Rattle.tree_core.specs.declared.reads.ReadKind.TheVariants.{Listing, LicenseFile};
+ghost use Rattle.reads_core.specs.Heard.{file_heard, place_of, record_of, there_heard};
+ghost use Rattle.reads_core.specs.Told.{CarriesCounts, IsHeardOf};
+ghost use Rattle.reads_core.specs.Views.{heard_file, heard_folder};
+
+use crate::bad_read::BadRead;
+use deny_text::path::join;
+use deny_text::{Bytes, PathBuf, Text};
+use std::alloc::{AllocError, Global};
+use tree_core::laws::join_goes_on;
+use tree_core::{Entries, ReadAnswer, ReadKind, ReadRecord, Tree, TreeError};
+
+/// A file's text, or why there is none.
+pub type FileHeard = Result<Text, BadRead>;
+
+/// A folder's entries in byte order of their names, or why there are none.
+pub type FolderHeard = Result<Entries, BadRead>;
+
+/// A file's bytes as a text, which is made of them without a copy.
+fn text_of(bytes: Bytes) -> FileHeard
+    ensures { heard_file result ≡ file_heard (Some (file bytes)) }
+{
+    match String::from_utf8(bytes.into_vec()) {
+        Ok(text) => Ok(Text::from(text)),
+        Err(_) => Err(BadRead::NotUtf8),
+    }
+}
+
+/// What is heard of the file at a path.
+fn read_at<T: Tree>(alloc: Global, tree: &mut T, path: &str) -> Result<FileHeard, AllocError>
+    ensures told { ForSome (T.content tree.old) (λ c. IfOk result (λ heard.
+        IsHeardOf (file_heard (node_at c path.now)) (heard_file heard))) }
+    ensures kept { KeepsTree (T.content tree.old) (T.content tree.new)
+        (T.fault_count tree.old) (T.fault_count tree.new) }
+    ensures counts { IfOk result (λ heard.
+        CarriesCounts (T.fault_count tree.old) (T.fault_count tree.new) (heard_file heard)) }
+{
+    let before = tree.faults();
+    match tree.read(alloc, path) {
+        Ok(bytes) => Ok(text_of(bytes)),
+        Err(TreeError::Absent) => Ok(Err(BadRead::Absent)),
+        Err(TreeError::WrongKind) => Ok(Err(BadRead::WrongKind)),
+        Err(TreeError::Failed) => Ok(Err(BadRead::Failed {
+            before,
+            after: tree.faults(),
+        })),
+        Err(TreeError::Memory) => Err(AllocError),
+    }
+}
+
+/// What is heard of a file of a crate, by its path from the crate's folder.
+pub fn read_file<T: Tree>(
+    alloc: Global,
+    tree: &mut T,
+    folder: &str,
+    path: &str,
+) -> Result<FileHeard, AllocError>
+    ensures told { ForSome (T.content tree.old) (λ c. IfOk result (λ heard.
+        let place = place_of LicenseFile (resolve folder.now) (components_of path.now) in
+        IsHeardOf (there_heard LicenseFile c place) (heard_file heard))) }
+    ensures kept { KeepsTree (T.content tree.old) (T.content tree.new)
+        (T.fault_count tree.old) (T.fault_count tree.new) }
+    ensures counts { IfOk result (λ heard.
+        CarriesCounts (T.fault_count tree.old) (T.fault_count tree.new) (heard_file heard)) }
+{
+    join_goes_on();
+    let joined = join(alloc, folder, path)?;
+    read_at(alloc, tree, joined.as_path())
+}
+
+/// What is heard of the listing of a folder.
+pub fn list_folder<T: Tree>(
+    alloc: Global,
+    tree: &mut T,
+    folder: &str,
+) -> Result<FolderHeard, AllocError>
+    ensures told { ForSome (T.content tree.old) (λ c. IfOk result (λ heard.
+        IsHeardOf (there_heard Listing c (resolve folder.now)) (heard_folder heard))) }
+    ensures kept { KeepsTree (T.content tree.old) (T.content tree.new)
+        (T.fault_count tree.old) (T.fault_count tree.new) }
+    ensures counts { IfOk result (λ heard.
+        CarriesCounts (T.fault_count tree.old) (T.fault_count tree.new) (heard_folder heard)) }
+{
+    let before = tree.faults();
+    match tree.list(alloc, folder) {
+        Ok(entries) => Ok(Ok(entries)),
+        Err(TreeError::Absent) => Ok(Err(BadRead::Absent)),
+        Err(TreeError::WrongKind) => Ok(Err(BadRead::WrongKind)),
+        Err(TreeError::Failed) => Ok(Err(BadRead::Failed {
+            before,
+            after: tree.faults(),
+        })),
+        Err(TreeError::Memory) => Err(AllocError),
+    }
+}
+
+/// The record of a read of a file.
+pub fn file_record(
+    alloc: Global,
+    path: &PathBuf,
+    heard: &FileHeard,
+) -> Result<ReadRecord, AllocError>
+    ensures { IfOk result (λ read. read ≡ record_of LicenseFile path.now (heard_file heard.now)) }
+{
+    let path = PathBuf::copy(alloc, path.as_path())?;
+    let answer = match heard {
+        Ok(_) => ReadAnswer::Got,
+        Err(error) => ReadAnswer::from(*error),
+    };
+    Ok(ReadRecord {
+        path,
+        kind: ReadKind::LicenseFile,
+        answer,
+    })
+}
+
+/// The record of a listing.
+pub fn listing_record(
+    alloc: Global,
+    folder: &str,
+    heard: &FolderHeard,
+) -> Result<ReadRecord, AllocError>
+    ensures { IfOk result (λ read. read ≡ record_of Listing folder.now (heard_folder heard.now)) }
+{
+    let path = PathBuf::copy(alloc, folder)?;
+    let answer = match heard {
+        Ok(_) => ReadAnswer::Got,
+        Err(error) => ReadAnswer::from(*error),
+    };
+    Ok(ReadRecord {
+        path,
+        kind: ReadKind::Listing,
+        answer,
+    })
+}
