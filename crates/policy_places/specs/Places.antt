@@ -1,0 +1,31 @@
+-- What is read from a value that stands in a text: each place that it keeps or tells lies in that text, between
+-- characters.
+use Rattle.std.specs.Prelude.{ℕ, List, Ok, Err, ⊤}
+use Rattle.std.specs.List.{AllByRecursion}
+use Rattle.deny_text.specs.declared.span.Spanned.{Spanned}
+use Rattle.toml_places.specs.Placed.{LiesBetween, IsPlaced}
+use Rattle.toml_shapes.specs.Shaped.{Shaped}
+use Rattle.toml_shapes.specs.Shapes.{Fault}
+use Rattle.toml_subset.specs.Data.{Toml}
+
+abbrev pub IsToldIn : List ℕ → Fault → Type 0
+IsToldIn text fault = LiesBetween text fault.span
+
+-- the places that a thing keeps are in the text, or those at which its faults are told
+abbrev pub StaysIn : {A : Type 0} → (List ℕ → A → Type 0) → List ℕ → Shaped A → Type 0
+StaysIn keeps text (Ok x) = keeps text x
+StaysIn keeps text (Err faults) = AllByRecursion (IsToldIn text) faults
+
+abbrev pub KeepsPlaces : {A : Type 0} → (List ℕ → A → Type 0) → (Toml → Shaped A) → Type 0
+KeepsPlaces keeps reads = (text : List ℕ) (value : Toml) → IsPlaced text value → StaysIn keeps text (reads value)
+
+-- ---- what things keep
+
+abbrev pub keeps_nothing : {A : Type 0} → List ℕ → A → Type 0
+keeps_nothing text x = ⊤
+
+abbrev pub keeps_its_span : {A : Type 0} → List ℕ → Spanned A → Type 0
+keeps_its_span text x = LiesBetween text x.span
+
+abbrev pub keeps_each : {A : Type 0} → (List ℕ → A → Type 0) → List ℕ → List A → Type 0
+keeps_each keeps text xs = AllByRecursion (keeps text) xs
