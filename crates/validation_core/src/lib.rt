@@ -1,0 +1,6 @@
+//! What validating a policy tells.
+#![tactic(auto)]
+
+pub mod context;
+
+pub use context::{Diagnostics, SpannedList, ValidationContext};

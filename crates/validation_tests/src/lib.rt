@@ -1,0 +1,5 @@
+//! Tests of lists with equal items.
+#![tactic(auto)]
+
+#[cfg(test)]
+mod tests;
