@@ -1,4 +1,4 @@
-//! Rows of metadata texts: the records that they tell, or the one fault.
+//! Rows of sources and addresses, and of metadata texts: the records that they tell, or the one fault.
 #![tactic(auto)]
 
 #[cfg(test)]
@@ -7,5 +7,7 @@ mod faults;
 mod order;
 #[cfg(test)]
 mod reading;
+#[cfg(test)]
+mod sources;
 #[cfg(test)]
 mod told;

@@ -1,6 +1,5 @@
-//! Texts that are no JSON, numbers, equal keys, and the two spellings of crates.io.
+//! Texts that are no JSON, numbers and equal keys.
 use crate::faults::{BASE, SPARSE_DIR};
-use graph_core::Source;
 use records_core::{MetaError, MetaReason, records};
 use std::alloc::{AllocError, Global};
 use std::test::Fail;
@@ -72,30 +71,6 @@ fn refuses_what_is_no_json(rt: HostRuntime) -> Result<(), Fail> {
         (BASE, Read),
     ] {
         assert!(rt; is_wanted(rt.alloc(), text, wanted), "{text}");
-    }
-    Ok(())
-}
-
-/// The spelling with `sparse` is flagged whatever the folder, the other one by the folder.
-#[test]
-fn flags_both_spellings_of_crates_io(rt: HostRuntime) -> Result<(), Fail> {
-    let sparse = "sparse+https://index.crates.io/";
-    let registry = "registry+https://github.com/rust-lang/crates.io-index";
-    let within = "/h/src/index.crates.io-1949cf8c6b5b557f/a-1.0.0/Cargo.toml";
-    let without = "/h/src/github.com-1ecc6299db9ec823/a-1.0.0/Cargo.toml";
-    for (text, manifest, wanted) in [
-        (sparse, Some(within), true),
-        (sparse, Some(without), true),
-        (sparse, None, true),
-        (registry, Some(within), true),
-        (registry, Some(without), false),
-        (registry, None, true),
-    ] {
-        let found = Source::from_metadata(rt.alloc(), text, manifest, SPARSE_DIR);
-        assert!(rt;
-            matches!(found, Ok(Source::CratesIo(flag)) if flag == wanted),
-            "{text}"
-        );
     }
     Ok(())
 }

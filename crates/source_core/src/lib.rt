@@ -7,8 +7,6 @@ pub mod order;
 mod query;
 pub mod reading;
 pub mod source;
-#[cfg(test)]
-mod tests;
 
 pub use git::normalize_git_url;
 pub use matching::matches_address;

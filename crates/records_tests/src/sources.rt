@@ -1,10 +1,10 @@
-use crate::{GitSpec, Source, SourceError, matches_address, normalize_git_url};
+//! Sources, the normal form of git addresses, and which addresses a source matches.
+use crate::faults::SPARSE_DIR;
 use deny_text::Text;
+use source_core::{GitSpec, Source, SourceError, matches_address, normalize_git_url};
 use std::alloc::Global;
 use std::test::Fail;
 use url::Url;
-
-const SPARSE_DIR: &str = "index.crates.io-1949cf8c6b5b557f";
 
 /// What a text is to give: a source that prints as this, with what it names, or a refusal.
 #[derive(Clone, Copy)]
@@ -349,5 +349,29 @@ fn matches_sources_of_advisories(rt: HostRuntime) -> Result<(), Fail> {
     assert!(rt; !registry.matches_rustsec(Some(&sparse)) && !git.matches_rustsec(Some(&git)));
     assert!(rt; !crates_io.matches_rustsec(Some(&crates_io)));
     assert!(rt; git.git_spec() == Some(GitSpec::Rev) && registry.git_spec().is_none());
+    Ok(())
+}
+
+/// The spelling with `sparse` is flagged whatever the folder, the other one by the folder.
+#[test]
+fn flags_both_spellings_of_crates_io(rt: HostRuntime) -> Result<(), Fail> {
+    let sparse = "sparse+https://index.crates.io/";
+    let registry = "registry+https://github.com/rust-lang/crates.io-index";
+    let within = "/h/src/index.crates.io-1949cf8c6b5b557f/a-1.0.0/Cargo.toml";
+    let without = "/h/src/github.com-1ecc6299db9ec823/a-1.0.0/Cargo.toml";
+    for (text, manifest, wanted) in [
+        (sparse, Some(within), true),
+        (sparse, Some(without), true),
+        (sparse, None, true),
+        (registry, Some(within), true),
+        (registry, Some(without), false),
+        (registry, None, true),
+    ] {
+        let found = Source::from_metadata(rt.alloc(), text, manifest, SPARSE_DIR);
+        assert!(rt;
+            matches!(found, Ok(Source::CratesIo(flag)) if flag == wanted),
+            "{text}"
+        );
+    }
     Ok(())
 }
