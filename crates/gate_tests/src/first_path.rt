@@ -168,6 +168,18 @@ fn absent_files_and_folders_are_refused(rt: HostRuntime) -> Result<(), Fail> {
 }
 
 #[test]
+fn metadata_that_is_a_folder_is_refused(rt: HostRuntime) -> Result<(), Fail> {
+    let alloc = rt.alloc();
+    let mut tree = lone_file(alloc, "/w/p.toml", POLICY.as_bytes())?;
+    tree.put("/w/m.json/x", b"")?;
+    let want = refused(
+        "metadata: Folder",
+        "error: the metadata could not be read\n",
+    );
+    expect(&rt, alloc, &WORDS, &mut tree, 1000, &want)
+}
+
+#[test]
 fn faults_of_files_and_sinks_are_counted(rt: HostRuntime) -> Result<(), Fail> {
     let alloc = rt.alloc();
     for (call, want) in [
