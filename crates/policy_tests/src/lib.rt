@@ -2,4 +2,8 @@
 #![tactic(auto)]
 
 #[cfg(test)]
+mod entries;
+#[cfg(test)]
+mod licenses;
+#[cfg(test)]
 mod parts;
