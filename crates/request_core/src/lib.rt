@@ -17,8 +17,6 @@ pub mod output;
 pub mod read;
 pub mod request;
 mod rows;
-#[cfg(test)]
-mod tests;
 mod words;
 
 pub use context::KrateContext;

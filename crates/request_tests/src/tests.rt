@@ -1,11 +1,13 @@
-use crate::from_word::FromWord;
-use crate::options::{OptionRow, Values, check_rows, list_rows, main_rows};
-use crate::read::{Given, read};
-use crate::request::{Request, Subcommand};
-use crate::{ArgsError, CodeOrLevel, CodeOrLevels, Layout, OutputFormat, WhichCheck, check, list};
 use deny_text::{PathBuf, Texts};
 use diag_core::LevelFilter;
 use print_core::{Color, Format};
+use request_core::from_word::FromWord;
+use request_core::options::{OptionRow, Values, check_rows, list_rows, main_rows};
+use request_core::read::{Given, read};
+use request_core::{
+    ArgsError, CodeOrLevel, CodeOrLevels, Layout, OutputFormat, Request, Subcommand, WhichCheck,
+    check, list,
+};
 use std::alloc::{AllocError, Global};
 use std::test::Fail;
 
