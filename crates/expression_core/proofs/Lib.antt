@@ -1,0 +1,2 @@
+pub mod ScannedLemmas
+pub mod TakenLemmas

@@ -1,0 +1,8 @@
+//! The licence expression of a crate's field, and what its licence files are identified as.
+#![tactic(auto)]
+
+pub mod files;
+pub mod taken;
+
+pub use files::{Name, Scanned, ScannedFile, scan_pack};
+pub use taken::{field, joined};
