@@ -1,0 +1,9 @@
+//! Crates, terms and expressions under policies that were made by hand.
+#![tactic(auto)]
+
+#[cfg(test)]
+mod expressions;
+#[cfg(test)]
+mod policies;
+#[cfg(test)]
+mod private;
