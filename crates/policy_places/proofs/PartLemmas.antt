@@ -1,24 +1,19 @@
 -- The parts of a policy keep places.
-use Rattle.std.proofs.Common.{ℕ, List, [], ◌∷◌, Option}
-use Rattle.std.specs.Prelude.{codes, unwrap_or, option_map}
+use Rattle.std.proofs.Common.{ℕ, List, [], ◌∷◌}
+use Rattle.std.specs.Prelude.{codes, unwrap_or}
 use Rattle.deny_text.specs.declared.span.Span.{Span}
 use Rattle.deny_text.specs.declared.span.Spanned.{Spanned}
-use Rattle.toml_places.specs.Placed.{LiesBetween, IsContentPlaced, AreEntriesPlaced}
-use Rattle.toml_shapes.specs.Shaped.{shaped_map, shaped_then}
-use Rattle.toml_subset.specs.Data.{Content, Entries, string, integer, decimal, boolean, array, table}
-use Rattle.toml_subset.specs.Written.{Written}
+use Rattle.toml_places.specs.Placed.{LiesBetween, IsContentPlaced}
+use Rattle.toml_subset.specs.Data.{Content, string, integer, decimal, boolean, array, table}
 use Rattle.toml_value.specs.Lookup.{value_at}
 use Rattle.policy_toml.specs.Readings.{text_of, boolean_of, u32_of, list_of, spanned_of}
-use Rattle.key_rows.specs.Rows.{Row, key, given, needed, shaped_by}
+use Rattle.key_rows.specs.Rows.{key, given, needed, shaped_by}
 use Rattle.policy_parts.specs.Names.{scope_of, scope_names, agreement_of, agreement_names, lint_of, lint_names}
 use Rattle.policy_parts.specs.Tables.{private_rows, private_in, private_of, output_rows, output_in, output_of, graph_rows, graph_in, graph_of}
 use Rattle.policy_parts.specs.Values.{file_source_at, file_source_of, target_at, target_of, reason_by, reason_of}
-use Rattle.policy_parts.specs.declared.file_source.FileSource.{FileSource}
-use Rattle.policy_parts.specs.declared.reason.Reason.{Reason}
-use Rattle.policy_parts.specs.declared.target.Target.{Target}
 use Rattle.policy_places.specs.Places.{StaysIn, KeepsPlaces, keeps_nothing, keeps_its_span, keeps_each}
 use Rattle.policy_places.specs.Parts.{private_keeps, target_keeps, graph_keeps, file_source_keeps, reason_keeps}
-use Rattle.policy_places.proofs.PlaceLemmas.{KeepsInTable, TellsPlaces, map_stays, then_stays, boolean_stays, text_stays, u32_stays, name_stays, spanned_stays, list_stays, table_stays, needed_stays, needed_by, found_placed, given_kept, list_kept, key_tells, rows_stay}
+use Rattle.policy_places.proofs.PlaceLemmas.{KeepsInTable, TellsPlaces, map_stays, then_stays, boolean_stays, text_stays, u32_stays, name_stays, spanned_stays, list_stays, table_stays, needed_stays, given_kept, list_kept, key_tells, rows_stay}
 
 pub scope_stays : KeepsPlaces keeps_nothing scope_of
 scope_stays = name_stays (codes "Scope") scope_names

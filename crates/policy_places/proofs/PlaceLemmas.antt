@@ -1,5 +1,5 @@
 -- Readings that keep places.
-use Rattle.std.proofs.Common.{◌≡◌, ℕ, Bool, true, false, cond, List, [], ◌∷◌, ◌++◌, Option, Some, None, Ok, Err, refl}
+use Rattle.std.proofs.Common.{ℕ, true, false, cond, List, [], ◌∷◌, ◌++◌, Option, Some, None, Ok, Err}
 use Rattle.std.specs.Prelude.{ℤ, ⊤, codes, map, option_map, unwrap_or}
 use Rattle.std.specs.List.{AllByRecursion, filter_map, flat_map, cons_option}
 use Rattle.std.specs.Result.{result_ok}
@@ -14,7 +14,7 @@ use Rattle.toml_subset.specs.Data.{Content, Items, Entries, Toml, string, intege
 use Rattle.toml_subset.specs.Written.{Written}
 use Rattle.toml_value.specs.Lookup.{value_at}
 use Rattle.toml_value.specs.Removal.{entries_without, names_in}
-use Rattle.toml_value.specs.Taken.{as_array, as_table, or_wanted, string_of, values_of}
+use Rattle.toml_value.specs.Taken.{or_wanted, string_of, values_of}
 use Rattle.policy_toml.specs.HelperState.{given_value, faults_of, unexpected_faults}
 use Rattle.policy_toml.specs.Readings.{text_of, boolean_of, i64_of, u32_of, in_32_bits, or_out_of_range, spanned_of, array_of, list_of, name_of, or_unexpected, thing_of_name}
 use Rattle.key_rows.specs.Rows.{Row, key, passed_key, given, rows_faults, shaped_by, in_table, needed, needed_at, entries_besides, names_of_rows}
