@@ -13,8 +13,8 @@ use search_core::{SearchError, Sought, find_upwards};
 use std::alloc::Global;
 use tree_core::Tree;
 
-/// The policy's path: the one that is given, joined to the folder of the call, at which nothing is looked for;
-/// else the one that is found. `begun` is the tree's count of faults when the run began.
+/// The policy's path: the one that is given, joined to the folder of the call, at which nothing is looked
+/// for; else the one that is found. `begun` is the tree's count of faults when the run began.
 pub fn config_path_since<T: Tree>(
     context: &KrateContext,
     alloc: Global,

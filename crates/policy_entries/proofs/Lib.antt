@@ -1,2 +1,2 @@
-pub mod LicenseeLemmas
+pub mod Licensees
 pub mod TwoKeys

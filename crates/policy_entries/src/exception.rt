@@ -1,6 +1,7 @@
 //! Exceptions: licensees that are allowed for some crates alone.
 ghost use Rattle.key_rows.specs.Rows.{left_of_table};
-ghost use Rattle.policy_entries.specs.Exceptions.{allowed_at, exception_of, exceptions_at, exceptions_file_of};
+ghost use Rattle.policy_entries.specs.Exceptions.{allowed_at, exception_of};
+ghost use Rattle.policy_entries.specs.Exceptions.{exceptions_at, exceptions_file_of};
 ghost use Rattle.policy_entries.specs.WithSpec.{left_of_entry};
 
 use crate::licensee::Licensees;

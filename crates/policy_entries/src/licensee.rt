@@ -49,7 +49,7 @@ impl<C: Catalog> Deserialize<C> for Licensee {
     }
 }
 
-#[tactic(auto, using(crate::proofs::LicenseeLemmas::licensee_read, crate::proofs::LicenseeLemmas::licensee_refused))]
+#[tactic(auto, using(crate::proofs::Licensees::licensee_read, crate::proofs::Licensees::licensee_refused))]
 fn read_licensee<C: Catalog>(
     alloc: Global,
     string: &Str<'_>,

@@ -3,10 +3,11 @@ ghost use Rattle.policy_parts.specs.Names.{scope_of, agreement_of, lint_of};
 ghost use Rattle.policy_parts.specs.Tables.{private_of, output_of, graph_of};
 ghost use Rattle.policy_parts.specs.Values.{file_source_of, target_of, reason_of};
 ghost use Rattle.policy_places.specs.Places.{KeepsPlaces, keeps_nothing};
-ghost use Rattle.policy_places.specs.Parts.{private_keeps, graph_keeps, target_keeps, file_source_keeps, reason_keeps};
+ghost use Rattle.policy_places.specs.Parts.{private_keeps, graph_keeps, target_keeps};
+ghost use Rattle.policy_places.specs.Parts.{file_source_keeps, reason_keeps};
 
-/// What was read from a text keeps places of that text alone, between characters, and so does what is told of a
-/// value that was refused.
+/// What was read from a text keeps places of that text alone, between characters, and so does what is told of
+/// a value that was refused.
 pub fn parts_keep_places()
     ensures private { KeepsPlaces private_keeps private_of }
     ensures graph { KeepsPlaces graph_keeps graph_of }

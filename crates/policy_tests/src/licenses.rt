@@ -1,4 +1,5 @@
-//! Texts of the table `licenses` and their faults, worked out by hand from the table of keys, each with its reason.
+//! Texts of the table `licenses` and their faults, worked out by hand from the table of keys, each with its
+//! reason.
 use catalog_core::Table;
 use deny_text::{Span, Texts};
 use policy_config::Config;

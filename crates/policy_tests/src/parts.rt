@@ -201,8 +201,8 @@ fn reasons(rt: HostRuntime) -> Result<(), Fail> {
     Ok(())
 }
 
-/// What a key `old` that holds a flag and is no longer used gives, the places of such keys, and what is told at the
-/// end of the table.
+/// What a key `old` that holds a flag and is no longer used gives, the places of such keys, and what is told
+/// at the end of the table.
 fn old_key(alloc: Global, text: &'static str) -> Result<String, Fail> {
     let mut value = value_of(alloc, text)?;
     let mut table = TableHelper::new(alloc, &mut value).ok().ok_or("a table")?;

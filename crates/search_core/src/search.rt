@@ -3,7 +3,8 @@ ghost use Rattle.std.specs.Prelude.{◌≡◌, ◌≤◌, map, IfErr, IfOk};
 ghost use Rattle.std.specs.Option.{ForSome};
 ghost use Rattle.tree_core.specs.Hearing.{KeepsTree};
 ghost use Rattle.heard_core.specs.Cause.{ReadCounts};
-ghost use Rattle.search_core.specs.Search.{names_of, paths_in, candidates, exists_at, first_existing, search_cause};
+ghost use Rattle.search_core.specs.Search.{names_of, paths_in, candidates, exists_at};
+ghost use Rattle.search_core.specs.Search.{first_existing, search_cause};
 ghost use Rattle.search_core.specs.declared.search.SearchError.TheVariants.{Memory};
 
 use deny_text::PathBuf;

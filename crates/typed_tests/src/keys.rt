@@ -1,6 +1,7 @@
-//! Types that are read from whole texts. Each answer is derived by hand from the rules: a value stands from its
-//! first to behind its last byte, a string without its quotes, the root where the text does, an inline table at
-//! its braces, a table at its header, and one that a longer header or key implies at its part of that.
+//! Types that are read from whole texts. Each answer is derived by hand from the rules: a value stands from
+//! its first to behind its last byte, a string without its quotes, the root where the text does, an inline
+//! table at its braces, a table at its header, and one that a longer header or key implies at its part of
+//! that.
 use deny_text::{Span, Spanned, Text, Texts};
 use policy_toml::{Deserialize, Hundredths, TableHelper, deserialize_name};
 use std::alloc::{AllocError, Global};

@@ -1,7 +1,8 @@
 //! Where the findings of a validation go.
 ghost use Rattle.std.specs.Prelude.{◌≡◌, ◌∷◌, [], ◌++◌, if◌then◌else◌, IfOk, OnOk, OnErr, take};
 ghost use Rattle.std.specs.List.Sorted.{IsStable};
-ghost use Rattle.validation_core.specs.Dedup.{Sorts, Dedups, GainsFront, by_value, duplicates, warnings_of, warning_where};
+ghost use Rattle.validation_core.specs.Dedup.{Sorts, Dedups, GainsFront, by_value};
+ghost use Rattle.validation_core.specs.Dedup.{duplicates, warnings_of, warning_where};
 
 use deny_text::{ListOf, Span, Spanned};
 use diag_core::{Diagnostic, FileId, Files, Label, Severity};
@@ -26,7 +27,8 @@ impl<'c> ValidationContext<'c> {
     /// Adds a finding, behind the others.
     pub fn push(&mut self, diag: Diagnostic) -> Result<(), AllocError>
         ensures file { self.new.cfg_id ≡ self.old.cfg_id }
-        ensures files { (self.new.files.ghost_name ≡ self.old.files.ghost_name) × (self.new.files.now ≡ self.old.files.now) }
+        ensures files { (self.new.files.ghost_name ≡ self.old.files.ghost_name)
+            × (self.new.files.now ≡ self.old.files.now) }
         ensures place { self.new.diagnostics.ghost_name ≡ self.old.diagnostics.ghost_name }
         ensures ok { OnOk result (self.new.diagnostics.now ≡ self.old.diagnostics.now ++ diag ∷ []) }
         ensures err { OnErr result (self.new.diagnostics.now ≡ self.old.diagnostics.now) }
@@ -34,17 +36,19 @@ impl<'c> ValidationContext<'c> {
         self.diagnostics.push(diag)
     }
 
-    /// Sorts a list, warns for each pair of equal neighbours and takes all but the first of equals out. A list of
-    /// which not all is told stays sorted and whole.
+    /// Sorts a list, warns for each pair of equal neighbours and takes all but the first of equals out. A
+    /// list of which not all is told stays sorted and whole.
     pub fn dedup<T: Ord + Drop>(
         &mut self,
         alloc: Global,
         list: &mut SpannedList<T>,
     ) -> Result<(), AllocError>
         ensures file { self.new.cfg_id ≡ self.old.cfg_id }
-        ensures files { (self.new.files.ghost_name ≡ self.old.files.ghost_name) × (self.new.files.now ≡ self.old.files.now) }
+        ensures files { (self.new.files.ghost_name ≡ self.old.files.ghost_name)
+            × (self.new.files.now ≡ self.old.files.now) }
         ensures place { self.new.diagnostics.ghost_name ≡ self.old.diagnostics.ghost_name }
-        ensures told { Dedups T.cmp T.eq self.old.cfg_id list.old list.new self.old.diagnostics.now self.new.diagnostics.now result }
+        ensures told { Dedups T.cmp T.eq self.old.cfg_id list.old list.new
+            self.old.diagnostics.now self.new.diagnostics.now result }
     {
         let mut items = mem::replace(list, SpannedList::new(alloc)).into_vec();
         let told = dedup_items(alloc, self.cfg_id, &mut items, self.diagnostics);
@@ -81,7 +85,8 @@ fn sort_and_warn<T: Ord>(
     ensures sorts { Sorts T.cmp items.old.items items.new.items }
     ensures stable { OnOk result (IsStable (by_value T.cmp) items.old.items items.new.items) }
     ensures ok { OnOk result (diagnostics.new ≡ diagnostics.old ++ warnings_of T.eq file items.new.items) }
-    ensures err { OnErr result (GainsFront diagnostics.old diagnostics.new (warnings_of T.eq file items.new.items)) }
+    ensures err { OnErr result
+        (GainsFront diagnostics.old diagnostics.new (warnings_of T.eq file items.new.items)) }
 {
     if items.sort().is_err() {
         items.sort_unstable();
@@ -98,7 +103,8 @@ fn warn<T: Ord>(
     diagnostics: &mut Diagnostics,
 ) -> Result<(), AllocError>
     ensures ok { OnOk result (diagnostics.new ≡ diagnostics.old ++ warnings_of T.eq file items.now) }
-    ensures err { OnErr result (GainsFront diagnostics.old diagnostics.new (warnings_of T.eq file items.now)) }
+    ensures err { OnErr result
+        (GainsFront diagnostics.old diagnostics.new (warnings_of T.eq file items.now)) }
 {
     'pairs: for place in 1..items.len() {
         warn_of(alloc, file, &items[place - 1], &items[place], diagnostics)?;
@@ -114,7 +120,8 @@ fn warn_of<T: Ord>(
     other: &Spanned<T>,
     diagnostics: &mut Diagnostics,
 ) -> Result<(), AllocError>
-    ensures ok { OnOk result (diagnostics.new ≡ diagnostics.old ++ warning_where T.eq file one.now other.now) }
+    ensures ok { OnOk result
+        (diagnostics.new ≡ diagnostics.old ++ warning_where T.eq file one.now other.now) }
     ensures err { OnErr result (diagnostics.new ≡ diagnostics.old) }
 {
     if one == other {
