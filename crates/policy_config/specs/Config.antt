@@ -1,5 +1,5 @@
 -- The table `licenses` of a policy: the rows of its keys, and what these stand for.
-use Rattle.std.specs.Prelude.{ℕ, pos, Bool, true, false, List, [], ◌∷◌, codes, unwrap_or}
+use Rattle.std.specs.Prelude.{ℕ, pos, true, false, List, [], ◌∷◌, codes, unwrap_or}
 use Rattle.catalog_core.specs.Catalog.{CatalogLists}
 use Rattle.deny_text.specs.declared.span.Span.{Span}
 use Rattle.toml_subset.specs.Data.{Entries, Toml}
@@ -9,7 +9,6 @@ use Rattle.policy_toml.specs.declared.hundredths.Hundredths.{Hundredths}
 use Rattle.key_rows.specs.Rows.{Row, key, passed_key, given, shaped_by, in_table}
 use Rattle.policy_parts.specs.Names.{lint_of}
 use Rattle.policy_parts.specs.Tables.{private_of}
-use Rattle.policy_parts.specs.declared.names.LintLevel.{LintLevel}
 use Rattle.policy_parts.specs.declared.names.LintLevel.TheVariants.{Warn}
 use Rattle.policy_parts.specs.declared.private.Private.{Private}
 use Rattle.policy_entries.specs.Clarifications.{clarification_of}

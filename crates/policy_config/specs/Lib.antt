@@ -1,2 +1,4 @@
 pub mod Config
+pub mod OpenTable
 pub mod Places
+pub mod Root

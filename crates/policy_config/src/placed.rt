@@ -33,7 +33,7 @@ pub(crate) fn places_of(alloc: Global, places: &[Option<Span>]) -> Result<Spans,
 }
 
 /// Appends a place that is there.
-fn push_place(spans: &mut Spans, place: Option<Span>) -> Result<(), AllocError>
+pub(crate) fn push_place(spans: &mut Spans, place: Option<Span>) -> Result<(), AllocError>
     ensures { OnOk result (spans.new ≡ spans.old ++ option_to_list place) }
 {
     match place {

@@ -8,3 +8,5 @@ mod entries;
 mod licenses;
 #[cfg(test)]
 mod parts;
+#[cfg(test)]
+mod root;

@@ -315,7 +315,7 @@ fn faults_are_told(rt: HostRuntime) -> Result<(), Fail> {
 }
 
 /// The texts that places cut out.
-fn cut(alloc: Global, text: &str, places: &[Span]) -> Result<String, AllocError> {
+pub(crate) fn cut(alloc: Global, text: &str, places: &[Span]) -> Result<String, AllocError> {
     let mut said = String::new(alloc);
     for place in places {
         let part = text.get(place.start..place.end).unwrap_or("?");
@@ -324,7 +324,7 @@ fn cut(alloc: Global, text: &str, places: &[Span]) -> Result<String, AllocError>
     Ok(said)
 }
 
-fn joined(alloc: Global, texts: &Texts) -> Result<String, AllocError> {
+pub(crate) fn joined(alloc: Global, texts: &Texts) -> Result<String, AllocError> {
     let mut said = String::new(alloc);
     for text in texts.items() {
         write!(said, "{text};")?;
