@@ -161,7 +161,7 @@ fn answered<L: Ledger>(
     let (text, allowed, grants, _) = *row;
     let policy = policy(alloc, allowed, grants, false)?;
     let expression = expression(alloc, text)?;
-    let krate = krate(alloc, &["any"], "")?;
+    let krate = krate(alloc, None, "")?;
     let nodes = expression.nodes().len();
     let mut evaluator = Evaluator::with_room(alloc, nodes, &policy)?;
     let _first = evaluator.evaluate(&expression, &krate, &policy, steps);
