@@ -1,14 +1,19 @@
 //! Expressions of a crate `a` under policies, with their verdicts and certificates, worked out by hand.
-ghost use Rattle.std.specs.Prelude.{◌≡◌, ◌<◌};
+ghost use Rattle.std.specs.Prelude.{◌≡◌, ◌<◌, ◌≤◌, length, IfOk};
+ghost use Rattle.spdx_core.specs.Reading.{postfix};
+ghost use Rattle.valid_policy.specs.View.{policy_of};
+ghost use Rattle.evaluate_core.specs.Evaluation.{exception_names};
 
 use crate::policies::{Grant, krate, policy};
 use deny_text::Steps;
 use evaluate_core::{Evaluator, Hit, Hits, Places, Verdict};
+use graph_core::Krate;
 use spdx_core::{Expression, ParseMode, Table};
 use std::alloc::{AllocError, Global};
 use std::marker::Brand;
 use std::sync::ledger::{Blank, Ledger};
 use std::test::Fail;
+use valid_policy::ValidConfig;
 
 /// An expression, the allowed licences by their bytes, the exceptions, and the verdict with its certificate.
 type Row = (
@@ -152,7 +157,48 @@ fn expression(alloc: Global, text: &str) -> Result<Expression, Fail> {
     Ok(read.ok().ok_or("an expression")?)
 }
 
-/// What an evaluator answers that was asked twice.
+/// An evaluator with room for an expression under a policy.
+fn evaluator(
+    alloc: Global,
+    expression: &Expression,
+    policy: &ValidConfig,
+) -> Result<Evaluator, AllocError>
+    ensures room { IfOk result (λ e. length (postfix expression.now.tree) ≤ e.nodes) }
+    ensures exceptions { IfOk result (λ e. exception_names (policy_of policy.now) ≡ e.names) }
+{
+    let nodes = expression.nodes().len();
+    Evaluator::with_room(alloc, nodes, policy)
+}
+
+/// What an evaluator answers the second time that it is asked.
+fn asked_twice<L: Ledger>(
+    evaluator: &mut Evaluator,
+    expression: &Expression,
+    krate: &Krate,
+    policy: &ValidConfig,
+    steps: &mut Steps<L>,
+) -> bool
+    requires room { length (postfix expression.now.tree) ≤ evaluator.old.nodes }
+    requires exceptions { exception_names (policy_of policy.now) ≡ evaluator.old.names }
+{
+    let _first = evaluator.evaluate(expression, krate, policy, steps);
+    evaluator.evaluate(expression, krate, policy, steps)
+}
+
+/// Whether an evaluator accepts an expression under a policy, and its verdict.
+fn verdict<L: Ledger>(
+    alloc: Global,
+    expression: &Expression,
+    policy: &ValidConfig,
+    steps: &mut Steps<L>,
+) -> Result<(bool, String), Fail> {
+    let krate = krate(alloc, None, "")?;
+    let mut evaluator = evaluator(alloc, expression, policy)?;
+    let accepts = asked_twice(&mut evaluator, expression, &krate, policy, steps);
+    let verdict = evaluator.certificate(alloc, expression)?;
+    Ok((accepts, shown(alloc, &verdict)?))
+}
+
 fn answered<L: Ledger>(
     alloc: Global,
     row: &Row,
@@ -161,13 +207,7 @@ fn answered<L: Ledger>(
     let (text, allowed, grants, _) = *row;
     let policy = policy(alloc, allowed, grants, false)?;
     let expression = expression(alloc, text)?;
-    let krate = krate(alloc, None, "")?;
-    let nodes = expression.nodes().len();
-    let mut evaluator = Evaluator::with_room(alloc, nodes, &policy)?;
-    let _first = evaluator.evaluate(&expression, &krate, &policy, steps);
-    let accepts = evaluator.evaluate(&expression, &krate, &policy, steps);
-    let verdict = evaluator.certificate(alloc, &expression)?;
-    Ok((accepts, shown(alloc, &verdict)?))
+    verdict(alloc, &expression, &policy, steps)
 }
 
 /// The text of the first row with another answer, and that answer.
