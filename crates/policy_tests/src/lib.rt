@@ -3,10 +3,4 @@
 #![tactic(auto)]
 
 #[cfg(test)]
-mod entries;
-#[cfg(test)]
-mod licenses;
-#[cfg(test)]
 mod parts;
-#[cfg(test)]
-mod root;

@@ -1,8 +1,6 @@
-//! Crates, terms and expressions under policies that were made by hand.
+//! Crates and terms under policies that were made by hand.
 #![tactic(auto)]
 
-#[cfg(test)]
-mod expressions;
 #[cfg(test)]
 mod policies;
 #[cfg(test)]
