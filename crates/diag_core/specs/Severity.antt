@@ -1,17 +1,9 @@
--- What the levels of lints and of printing say of findings.
+-- What the levels of printing say of findings.
 use Rattle.std.specs.Prelude.{ℕ, ◌==◌, Bool, Option, Some, None}
 use Rattle.diag_core.specs.declared.severity.Severity.{Severity}
 use Rattle.diag_core.specs.declared.severity.Severity.TheVariants as severity
-use Rattle.diag_core.specs.declared.severity.LintLevel.{LintLevel}
-use Rattle.diag_core.specs.declared.severity.LintLevel.TheVariants.{Allow, Warn, Deny}
 use Rattle.diag_core.specs.declared.severity.LevelFilter.{LevelFilter}
 use Rattle.diag_core.specs.declared.severity.LevelFilter.TheVariants as filter
-
--- what is allowed is a note, what is warned of a warning, and what is denied an error
-abbrev pub severity_of_lint : LintLevel → Severity
-severity_of_lint Allow = severity.Note
-severity_of_lint Warn = severity.Warning
-severity_of_lint Deny = severity.Error
 
 -- the least severity that is printed; none at off
 abbrev pub severity_of_filter : LevelFilter → Option Severity

@@ -25,4 +25,4 @@ pub use label::{CfgCoord, Coord, KrateCoord, Label, LabelStyle, Labels};
 pub use overrides::{CodeMap, DiagnosticOverrides, ErrorSink, LevelPair, LevelPairs, Packs};
 pub use pack::{Check, Diag, GraphNode, GraphNodes, Pack, PackIntoIter, PackIter};
 pub use position::{FileId, FilesErr, Location};
-pub use severity::{LevelFilter, LintLevel, Severity, log_level_to_severity};
+pub use severity::{LevelFilter, Severity, log_level_to_severity};

@@ -6,8 +6,6 @@ mod between;
 pub mod laws;
 mod part;
 mod scalar;
-#[cfg(test)]
-mod tests;
 
 pub use between::{Next, behind_entry, behind_item, entry_place, item_place};
 pub use part::Part;

@@ -9,8 +9,6 @@ mod number;
 mod scan;
 mod string;
 mod strings;
-#[cfg(test)]
-mod tests;
 
 pub use error::{SyntaxError, SyntaxReason, TomlError};
 pub use fault::{control_character, fault_at, stuck};

@@ -4,11 +4,15 @@
 #[cfg(test)]
 mod examples;
 #[cfg(test)]
+mod frames;
+#[cfg(test)]
 mod keys;
 #[cfg(test)]
 mod paths;
 #[cfg(test)]
 mod printed;
+#[cfg(test)]
+mod scanners;
 #[cfg(test)]
 mod texts;
 #[cfg(test)]

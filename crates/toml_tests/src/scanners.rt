@@ -1,12 +1,12 @@
-use crate::error::{SyntaxError, SyntaxReason, TomlError};
-use crate::keys::{read_keys, read_left};
-use crate::number::{Number, classify, read_number};
-use crate::scan::{
-    after_blanks, after_comment, after_white, char_end, line_end, next_line, space_from,
-};
-use crate::strings::read_string;
+//! Numbers, places, strings and keys.
+
 use deny_text::Span;
 use std::test::Fail;
+use toml_subset::{
+    Number, SyntaxError, SyntaxReason, TomlError, after_blanks, after_comment, after_white,
+    char_end, classify, line_end, next_line, read_keys, read_left, read_number, read_string,
+    space_from,
+};
 
 #[test]
 fn classes(rt: HostRuntime) -> Result<(), Fail> {

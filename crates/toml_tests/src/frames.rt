@@ -1,8 +1,9 @@
-use crate::between::{Next, behind_entry, behind_item, entry_place, item_place};
-use crate::scalar::{Scalar, read_scalar};
+//! Values that hold no other, and where arrays and inline tables go on.
+
 use deny_text::Span;
 use std::alloc::Global;
 use std::test::Fail;
+use toml_frames::{Next, Scalar, behind_entry, behind_item, entry_place, item_place, read_scalar};
 use toml_subset::{Number, SyntaxError, SyntaxReason, TomlError};
 
 fn fault(reason: SyntaxReason, start: usize, end: usize) -> SyntaxError {
