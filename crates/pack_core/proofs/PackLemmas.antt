@@ -11,6 +11,7 @@ use Rattle.std.specs.Option.{option_and_then, option_map, option_map_or}
 use Rattle.std.specs.Ordering.{is_eq, is_lt, match_ordering}
 use Rattle.std.specs.declared.cmp.Ordering.TheVariants.{Less, Equal, Greater}
 use Rattle.std.specs.Cmp.Lexicographic.{slice_cmp}
+use Rattle.deny_text.proofs.NormalLemmas.{normal_is_normal}
 use Rattle.deny_text.specs.Path.{components_of, part_cmp, path_order}
 use Rattle.tree_core.specs.Content.{Content, resolve}
 use Rattle.tree_core.specs.Faults.{Rose}
@@ -137,6 +138,14 @@ answer_of-normal not_utf8 = refl
 answer_of-normal (text bytes) = refl
 answer_of-normal (entries listed) = refl
 
+pub normal_twice : (heard : Heard) → normal_heard (normal_heard heard) ≡ normal_heard heard
+normal_twice (failed before after) = refl
+normal_twice absent = refl
+normal_twice wrong_kind = refl
+normal_twice not_utf8 = refl
+normal_twice (text bytes) = ap text (normal_is_normal bytes)
+normal_twice (entries listed) = refl
+
 pub normal_of_heard : (there heard : Heard) → IsHeardOf there heard → IsHeardOf (normal_heard there) (normal_heard heard)
 normal_of_heard there (failed before after) is = tt
 normal_of_heard there absent is = ap normal_heard is
@@ -225,6 +234,10 @@ advances-with_file told before after pack path heard none later counts tells = r
         (λ differs was. old.files at found was)
         (sym (file_at-insert pack.files path (normal_heard heard) at none) ∙ there);
   };
+  normal = λ old at found is.
+      from_cond (λ found. normal_heard found ≡ found) (same_path at path) (normal_heard heard) (file_at pack.files at) found
+      (λ same. normal_twice heard) (λ differs was. old at found was)
+      (sym (file_at-insert pack.files path (normal_heard heard) at none) ∙ is);
   rises = λ low old. rises_compose low before after pack.reads (record_of LicenseFile path heard ∷ []) old (one_rises LicenseFile before after path heard later counts);
   records = λ ears agrees old.
       let here : file_at (with_file pack path heard).files path ≡ Some (normal_heard heard) =
@@ -253,6 +266,7 @@ advances_itself told before after pack later = record {
   listing = refl;
   stays = λ path heard is. is;
   heard = λ content is heard. heard;
+  normal = λ old. old;
   rises = λ low rises. rises_widen low low before after pack.reads (omega arith) rises later;
   records = λ ears agrees is. is;
 }
@@ -263,6 +277,7 @@ advances_then told first middle last old mid new one two = record {
   listing = two.listing ∙ one.listing;
   stays = λ path heard is. two.stays path heard (one.stays path heard is);
   heard = λ content is heard. two.heard content is (one.heard content is heard);
+  normal = λ old. two.normal (one.normal old);
   rises = λ low rises. two.rises low (one.rises low rises);
   records = λ ears agrees is. two.records ears agrees (one.records ears (agrees_earlier told middle last mid new ears two agrees) is);
 }
@@ -355,6 +370,7 @@ pub begins_with : (told : Option Content) (before middle after : ℕ) (folder : 
 begins_with told before middle after folder license_file heard new later counts tells goes paths = record {
   folder_is = goes.folder;
   heard = λ content is. goes.heard content is (record { listing = tells content is; files = λ path found there. let bad : None ≡ Some found = there in cc });
+  normal = goes.normal (λ path found there. let bad : None ≡ Some found = there in cc);
   rises = goes.rises before (one_rises Listing before middle folder heard later counts);
   records = λ ears agrees.
       let first : PackView = record { folder = folder; listing = heard; files = []; reads = record_of Listing folder heard ∷ [] } in

@@ -11,7 +11,7 @@ use Rattle.reads_core.specs.Rising.{RiseInOrder}
 use Rattle.reads_core.specs.Told.{IsHeardOf}
 use Rattle.pack_core.specs.Ears.{Ears}
 use Rattle.pack_core.specs.Pack.{first_spellings, found_of, same_path}
-use Rattle.pack_core.specs.View.{PackView, file_at, normal_heard, paths_read}
+use Rattle.pack_core.specs.View.{AreNormal, PackView, file_at, normal_heard, paths_read}
 
 -- what the pack has was heard by these ears
 pub record Agrees (ears : Ears) (pack : PackView) : Type 0 where
@@ -42,6 +42,7 @@ pub record Advances (told : Option Content) (before after : ℕ) (old new : Pack
   pub listing : new.listing ≡ old.listing
   pub stays : (path : List ℕ) (heard : Heard) → file_at old.files path ≡ Some heard → file_at new.files path ≡ Some heard
   pub heard : (content : Content) → told ≡ Some content → IsHeardIn content old → IsHeardIn content new
+  pub normal : AreNormal old.files → AreNormal new.files
   pub rises : (low : ℕ) → RiseInOrder low old.reads before → RiseInOrder low new.reads after
   pub records : (ears : Ears) → Agrees ears new → old.reads ≡ records_by ears old.folder (paths_read old.reads) → new.reads ≡ records_by ears new.folder (paths_read new.reads)
 
@@ -58,6 +59,7 @@ with_file pack path heard = record {
 pub record Begins (told : Option Content) (before after : ℕ) (folder : List ℕ) (license_file : Option (List ℕ)) (pack : PackView) : Type 0 where
   pub folder_is : pack.folder ≡ folder
   pub heard : (content : Content) → told ≡ Some content → IsHeardIn content pack
+  pub normal : AreNormal pack.files
   pub rises : RiseInOrder before pack.reads after
   pub records : (ears : Ears) → Agrees ears pack → pack.reads ≡ records_by ears pack.folder (paths_read pack.reads)
   pub paths : paths_read pack.reads ≡ fold with_path [] (found_of pack.listing license_file)

@@ -1,5 +1,5 @@
 -- A pack, as contracts see it.
-use Rattle.std.specs.Prelude.{◌≡◌, ℕ, ◌==◌, Bool, false, List, map, Option, Some, None, Result, if◌then◌else◌}
+use Rattle.std.specs.Prelude.{◌≡◌, ℕ, ◌==◌, Bool, true, false, List, map, Option, Some, None, Result, if◌then◌else◌}
 use Rattle.std.specs.BTreeMap.{is_at}
 use Rattle.std.specs.List.{filter_map}
 use Rattle.std.specs.Map.{lookup}
@@ -48,6 +48,19 @@ path_read read = if is_kind LicenseFile read.kind then Some read.path else None
 
 abbrev pub paths_read : List ReadRecord → List (List ℕ)
 paths_read reads = filter_map path_read reads
+
+-- every text among them is a normal form
+abbrev pub AreNormal : List (List ℕ × Heard) → Type 0
+AreNormal files = (path : List ℕ) (heard : Heard) → file_at files path ≡ Some heard → normal_heard heard ≡ heard
+
+-- whether a listing is heard as entries
+abbrev pub is_listed : Heard → Bool
+is_listed (failed before after) = false
+is_listed absent = false
+is_listed wrong_kind = false
+is_listed not_utf8 = false
+is_listed (text bytes) = false
+is_listed (entries listed) = true
 
 -- the counts of a read that failed
 abbrev pub counts_of : Heard → Option (ℕ × ℕ)

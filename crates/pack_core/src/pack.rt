@@ -12,7 +12,8 @@ ghost use Rattle.pack_core.specs.Ears as spec;
 ghost use Rattle.pack_core.specs.Ears.{Ears, ears_of, looked_of};
 ghost use Rattle.pack_core.specs.Pack.{in_path_order, same_path};
 ghost use Rattle.pack_core.specs.Steps.{Advances, Agrees, Begins, IsHeardIn, with_file, with_path};
-ghost use Rattle.pack_core.specs.View.{file_at, has_normal_hash, normal_heard, paths_of, paths_read};
+ghost use Rattle.pack_core.specs.View.{file_at, has_normal_hash, is_listed, normal_heard, paths_of};
+ghost use Rattle.pack_core.specs.View.{paths_read};
 
 use crate::found::found;
 use crate::license_text::LicenseText;
@@ -268,6 +269,13 @@ impl Pack {
         Ok(pack)
     }
 
+    /// Whether the folder was listed.
+    pub fn is_listed(&self) -> bool
+        ensures { result ≡ is_listed self.now.listing }
+    {
+        self.listing.is_ok()
+    }
+
     /// The files in path order, each by the spelling that it was first read by.
     pub fn iter(&self) -> PackIter<'_>
         ensures files { result ≡ self.now.files }
@@ -282,6 +290,7 @@ impl Pack {
     /// these records let hear.
     pub fn into_reads(self) -> Reads
         ensures reads { result ≡ self.reads }
+        ensures sorted { paths_of self.files ≡ in_path_order (paths_read result) }
         ensures agrees { (content : Content) → IsHeardIn content self
             → Agrees (ears_of content self.folder result) self }
     {

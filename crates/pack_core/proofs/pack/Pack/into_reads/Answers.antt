@@ -1,8 +1,9 @@
-use Rattle.std.proofs.Common.{sym, subst}
+use Rattle.std.proofs.Common.{sym, subst, ap, ◌∙◌}
 use Rattle.reads_core.specs.Views.{heard_folder}
 use Rattle.pack_core.specs.Ears.{ears_of}
+use Rattle.pack_core.specs.Pack.{in_path_order}
 use Rattle.pack_core.specs.Steps.{Agrees, IsHeardIn}
-use Rattle.pack_core.specs.View.{PackView, files_of}
+use Rattle.pack_core.specs.View.{PackView, files_of, paths_of, paths_read}
 use Rattle.pack_core.proofs.PackLemmas.{agrees_by_reads}
 use Rattle.pack_core.proofs.pack.Pack.into_reads.Goals as goal
 
@@ -12,3 +13,7 @@ returns-clause-agrees c = λ content heard.
     let old : PackView = record { folder = inside.folder; listing = heard_folder inside.listing; files = files_of inside.files.entries; reads = inside.reads } in
     subst (λ (p : PackView). Agrees (ears_of content p.folder inside.reads) p) c.self.view_is
     (agrees_by_reads content old c.self.invariant (subst (IsHeardIn content) (sym c.self.view_is) heard))
+
+pub returns-clause-sorted : goal.returns-clause-sorted
+returns-clause-sorted c =
+    ap (λ (p : PackView). paths_of p.files) (sym c.self.view_is) ∙ c.self.invariant.paths
