@@ -1,9 +1,8 @@
 use Rattle.std.proofs.Common.{sym, subst, ap, ◌∙◌}
 use Rattle.reads_core.specs.Views.{heard_folder}
 use Rattle.pack_core.specs.Ears.{ears_of}
-use Rattle.pack_core.specs.Pack.{in_path_order}
 use Rattle.pack_core.specs.Steps.{Agrees, IsHeardIn}
-use Rattle.pack_core.specs.View.{PackView, files_of, paths_of, paths_read}
+use Rattle.pack_core.specs.View.{PackView, files_of, paths_of}
 use Rattle.pack_core.proofs.PackLemmas.{agrees_by_reads}
 use Rattle.pack_core.proofs.pack.Pack.into_reads.Goals as goal
 
