@@ -16,8 +16,12 @@ abbrev pub StaysIn : {A : Type 0} → (List ℕ → A → Type 0) → List ℕ �
 StaysIn keeps text (Ok x) = keeps text x
 StaysIn keeps text (Err faults) = AllByRecursion (IsToldIn text) faults
 
+-- so it is with all values of one text
+abbrev pub KeepsPlacesIn : {A : Type 0} → List ℕ → (List ℕ → A → Type 0) → (Toml → Shaped A) → Type 0
+KeepsPlacesIn text keeps reads = (value : Toml) → IsPlaced text value → StaysIn keeps text (reads value)
+
 abbrev pub KeepsPlaces : {A : Type 0} → (List ℕ → A → Type 0) → (Toml → Shaped A) → Type 0
-KeepsPlaces keeps reads = (text : List ℕ) (value : Toml) → IsPlaced text value → StaysIn keeps text (reads value)
+KeepsPlaces keeps reads = (text : List ℕ) → KeepsPlacesIn text keeps reads
 
 -- ---- what things keep
 
