@@ -18,7 +18,7 @@ use Rattle.toml_value.specs.Taken.{or_wanted, string_of, values_of}
 use Rattle.policy_toml.specs.HelperState.{given_value, faults_of, unexpected_faults}
 use Rattle.policy_toml.specs.Readings.{text_of, boolean_of, i64_of, u32_of, in_32_bits, or_out_of_range, spanned_of, array_of, list_of, name_of, or_unexpected, thing_of_name}
 use Rattle.key_rows.specs.Rows.{Row, key, passed_key, given, rows_faults, shaped_by, in_table, needed, needed_at, entries_besides, names_of_rows}
-use Rattle.policy_places.specs.Places.{IsToldIn, StaysIn, KeepsPlacesIn, KeepsPlaces, keeps_nothing, keeps_its_span, keeps_each}
+use Rattle.policy_places.specs.Places.{IsToldIn, StaysIn, KeepsPlacesIn, KeepsPlaces, keeps_nothing, keeps_its_span, keeps_each, keeps_where}
 
 -- what a thing keeps, by the text
 abbrev pub Keeping : Type 0 → Type 1
@@ -190,24 +190,20 @@ module _ (text : List ℕ) where
   pub needed_stays : {A : Type 0} (keeps : Keeping A) (name : List ℕ) (reads : Toml → Shaped A) → KeepsPlacesIn text keeps reads → KeepsInTable keeps (needed name reads)
   needed_stays keeps name reads law entries span lies placed = needed_by keeps reads law name span (value_at name entries) lies (found_placed name entries placed)
 
-  abbrev pub keeps_where : {A : Type 0} → Keeping A → Option A → Type 0
-  keeps_where keeps None = ⊤
-  keeps_where keeps (Some x) = keeps text x
-
-  read_where : {A : Type 0} (keeps : Keeping A) (read : Shaped A) → StaysIn keeps text read → keeps_where keeps (given_value (Some read))
+  read_where : {A : Type 0} (keeps : Keeping A) (read : Shaped A) → StaysIn keeps text read → keeps_where keeps text (given_value (Some read))
   read_where keeps (Ok x) stays = stays
   read_where keeps (Err faults) stays = tt
 
   given_by : {A : Type 0} (keeps : Keeping A) (reads : Toml → Shaped A) → KeepsPlacesIn text keeps reads → (value : Option Toml)
-      → IsPlacedWhere value → keeps_where keeps (given_value (option_map reads value))
+      → IsPlacedWhere value → keeps_where keeps text (given_value (option_map reads value))
   given_by keeps reads law None placed = tt
   given_by keeps reads law (Some value) placed = read_where keeps (reads value) (law value placed)
 
   pub given_kept : {A : Type 0} (keeps : Keeping A) (name : List ℕ) (reads : Toml → Shaped A) → KeepsPlacesIn text keeps reads → (entries : Entries)
-      → AreEntriesPlaced text entries → keeps_where keeps (given name reads entries)
+      → AreEntriesPlaced text entries → keeps_where keeps text (given name reads entries)
   given_kept keeps name reads law entries placed = given_by keeps reads law (value_at name entries) (found_placed name entries placed)
 
-  pub list_kept : {A : Type 0} (keeps : Keeping A) (list : Option (List A)) → keeps_where (keeps_each keeps) list → keeps_each keeps text (unwrap_or list [])
+  pub list_kept : {A : Type 0} (keeps : Keeping A) (list : Option (List A)) → keeps_where (keeps_each keeps) text list → keeps_each keeps text (unwrap_or list [])
   list_kept keeps None kept = tt
   list_kept keeps (Some xs) kept = kept
 

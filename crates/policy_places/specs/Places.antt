@@ -1,6 +1,6 @@
 -- What is read from a value that stands in a text: each place that it keeps or tells lies in that text, between
 -- characters.
-use Rattle.std.specs.Prelude.{ℕ, List, Ok, Err, ⊤}
+use Rattle.std.specs.Prelude.{ℕ, List, Option, Some, None, Ok, Err, ⊤}
 use Rattle.std.specs.List.{AllByRecursion}
 use Rattle.deny_text.specs.declared.span.Spanned.{Spanned}
 use Rattle.toml_places.specs.Placed.{LiesBetween, IsPlaced}
@@ -33,3 +33,8 @@ keeps_its_span text x = LiesBetween text x.span
 
 abbrev pub keeps_each : {A : Type 0} → (List ℕ → A → Type 0) → List ℕ → List A → Type 0
 keeps_each keeps text xs = AllByRecursion (keeps text) xs
+
+-- a thing that may be there
+abbrev pub keeps_where : {A : Type 0} → (List ℕ → A → Type 0) → List ℕ → Option A → Type 0
+keeps_where keeps text None = ⊤
+keeps_where keeps text (Some x) = keeps text x
