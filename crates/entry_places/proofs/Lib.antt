@@ -1,0 +1,4 @@
+pub mod Borders
+pub mod SpecPlaces
+pub mod EntryPlaces
+pub mod PolicyPlaces
