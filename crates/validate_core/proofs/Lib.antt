@@ -1,0 +1,6 @@
+mod AddressLemmas
+mod Clarified
+mod Examples
+mod JudgedLemmas
+mod OrderLemmas
+mod SortLemmas

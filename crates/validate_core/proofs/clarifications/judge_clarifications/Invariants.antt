@@ -1,0 +1,12 @@
+-- the clarifications that are kept so far, and what was told
+use Rattle.std.proofs.Common.{◌≡◌, ◌++◌}
+use Rattle.std.specs.List.{AllZip}
+use Rattle.validate_core.specs.Order.{PutsFilesInOrder}
+use Rattle.validate_core.specs.Valid.{clarification_judged, kept_by, told_by}
+use Rattle.validate_core.proofs.clarifications.judge_clarifications.Given as goal
+
+abbrev pub invariant-clarifications : goal.invariant-clarifications
+invariant-clarifications g l = record {
+  kept : AllZip PutsFilesInOrder (kept_by (clarification_judged (g.C.Catalog.lists l.catalog) l.file) l.yielded) l.kept;
+  told : l.found ≡ l.fn.found ++ told_by (clarification_judged (g.C.Catalog.lists l.catalog) l.file) l.yielded;
+}
