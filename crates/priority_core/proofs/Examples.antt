@@ -1,0 +1,104 @@
+-- Crates and where their licences come from, worked out by hand from the rules.
+use Rattle.std.proofs.Common.{◌≡◌, ℕ, true, false, cond, List, [], ◌∷◌, ◌++◌, Option, Some, None, codes, refl, option_map}
+use Rattle.std.specs.Path.{path_components, path_names, path_parent, rsplit_once, split_last_component, trim_trailing}
+use Rattle.std.specs.Str.{bytes_eq}
+use Rattle.std.specs.Cmp.Lexicographic.{pointwise}
+use Rattle.deny_text.specs.Hash.{xxh32_of, mixed, of_groups, with_word, with_byte}
+use Rattle.deny_text.specs.Normal.{normal_of}
+use Rattle.deny_text.specs.Path.{components_of}
+use Rattle.tree_core.specs.declared.reads.ReadAnswer.{ReadAnswer}
+use Rattle.tree_core.specs.declared.reads.ReadAnswer.TheVariants as answer
+use Rattle.tree_core.specs.declared.reads.ReadKind.TheVariants.{Listing, LicenseFile}
+use Rattle.tree_core.specs.declared.reads.ReadRecord.{ReadRecord}
+use Rattle.catalog_core.specs.Catalog.{CatalogLists}
+use Rattle.spdx_core.specs.Grammar.{leaf}
+use Rattle.spdx_core.specs.Reading.{ExpressionView}
+use Rattle.graph_core.specs.Krate.{Record}
+use Rattle.reads_core.specs.Heard.{Heard, failed, absent, not_utf8, text, entries}
+use Rattle.pack_core.specs.Ears.{Ears}
+use Rattle.pack_core.specs.NamedFile.{Named}
+use Rattle.expression_core.specs.Scanned.{Scanner}
+use Rattle.priority_core.specs.Clarification.{Clarification}
+use Rattle.priority_core.specs.Priority.{Answer, user_override, priority_of, records_of}
+
+-- no text is identified
+abbrev scanner : Scanner
+scanner = record {
+  lists = record { licences = []; exceptions = []; imprecise = [] };
+  match_of = λ normal. record { name = None; score = 0 };
+  threshold = 80;
+}
+
+-- a crate in the folder `/w`, without a field
+abbrev krate : Option (List ℕ) → Record
+krate license_file = record {
+  name = codes "a";
+  id = codes "a";
+  version = (1, 0, 0, [], []);
+  source = None;
+  authors = [];
+  repository = None;
+  description = None;
+  manifest_path = codes "/w/Cargo.toml";
+  license = None;
+  license_file = license_file;
+  features = [];
+  publish = None;
+  rust_version = None;
+}
+
+-- what is heard of one file; of any other, nothing is there
+abbrev ears : Heard → List ℕ → Heard → Ears
+ears listing path heard = record { listing = listing; file = λ parts. cond (pointwise bytes_eq (components_of path) parts) heard absent }
+
+abbrev listed : Heard
+listed = entries ((codes "LICENSE", true) ∷ [])
+
+abbrev isc : ExpressionView
+isc = record { text = codes "ISC"; terms = []; tree = leaf 0 }
+
+-- a clarification of a file that is to have the hash of one LF, as `xxhsum -H0` has it
+abbrev clarified : List ℕ → List Clarification
+clarified path = record { expression = isc; files = record { path = path; hash = 0x81c9d352 } ∷ [] } ∷ []
+
+abbrev by_policy : Option Answer
+by_policy = Some (record { expression = isc; source = user_override; notes = [] })
+
+abbrev listing_read : ReadAnswer → ReadRecord
+listing_read came = record { path = codes "/w"; kind = Listing; answer = came }
+
+abbrev license_read : ReadAnswer → ReadRecord
+license_read came = record { path = codes "LICENSE"; kind = LicenseFile; answer = came }
+
+-- the file has the hash
+holds : priority_of scanner (clarified (codes "LICENSE")) (krate None) (ears listed (codes "LICENSE") (text (10 ∷ []))) ≡ by_policy
+unfolding path_components path_names xxh32_of mixed of_groups with_word with_byte normal_of
+holds = refl
+
+reads_of_holds : records_of scanner (clarified (codes "LICENSE")) (krate None) (ears listed (codes "LICENSE") (text (10 ∷ [])))
+    ≡ listing_read answer.Got ∷ license_read answer.Got ∷ []
+unfolding path_components path_names path_parent split_last_component trim_trailing rsplit_once xxh32_of mixed of_groups with_word with_byte normal_of
+reads_of_holds = refl
+
+-- it has it, and the listing failed
+holds_unlisted : priority_of scanner (clarified (codes "LICENSE")) (krate (Some (codes "COPYING"))) (ears (failed 0 1) (codes "LICENSE") (text (10 ∷ []))) ≡ by_policy
+unfolding path_components path_names xxh32_of mixed of_groups with_word with_byte normal_of
+holds_unlisted = refl
+
+reads_unlisted : records_of scanner (clarified (codes "LICENSE")) (krate (Some (codes "COPYING"))) (ears (failed 0 1) (codes "LICENSE") (text (10 ∷ [])))
+    ≡ listing_read (answer.Failed 0 1) ∷ license_read answer.Got ∷ []
+unfolding path_components path_names path_parent split_last_component trim_trailing rsplit_once xxh32_of mixed of_groups with_word with_byte normal_of
+reads_unlisted = refl
+
+-- a file that is no text; and where the listing failed nothing else is read
+not_a_text : priority_of scanner [] (krate None) (ears listed (codes "LICENSE") not_utf8) ≡ None
+unfolding path_components path_names xxh32_of mixed of_groups with_word with_byte normal_of
+not_a_text = refl
+
+reads_not_a_text : records_of scanner [] (krate None) (ears listed (codes "LICENSE") not_utf8) ≡ listing_read answer.Got ∷ license_read answer.NotUtf8 ∷ []
+unfolding path_components path_names path_parent split_last_component trim_trailing rsplit_once
+reads_not_a_text = refl
+
+reads_no_listing : records_of scanner [] (krate (Some (codes "LICENSE"))) (ears (failed 0 1) (codes "LICENSE") (text [])) ≡ listing_read (answer.Failed 0 1) ∷ []
+unfolding path_components path_names path_parent split_last_component trim_trailing rsplit_once
+reads_no_listing = refl

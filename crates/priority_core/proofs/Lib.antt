@@ -1,0 +1,5 @@
+pub mod ApartLemmas
+mod Examples
+pub mod LookedLemmas
+pub mod NotesLemmas
+pub mod TriedLemmas

@@ -1,0 +1,42 @@
+use Rattle.std.proofs.Common.{◌∙◌, sym, ap, subst, map}
+use Rattle.graph_core.specs.Krate.{record_of}
+use Rattle.reads_core.specs.Rising.{RiseInOrder}
+use Rattle.pack_core.specs.Ears.{ears_of}
+use Rattle.pack_core.specs.Steps.{Agrees}
+use Rattle.priority_core.specs.declared.settle.Settled.{Settled}
+use Rattle.priority_core.specs.Priority.{folder_of}
+use Rattle.priority_core.specs.Clarification.{behind}
+use Rattle.priority_core.specs.Settled.{scanner_with}
+use Rattle.priority_core.specs.Steps.{ears_in}
+use Rattle.priority_core.proofs.LookedLemmas.{agrees_itself, ordered}
+use Rattle.priority_core.proofs.settle.settle_by_files.Goals as goal
+
+pub returns-clause-rises : goal.returns-clause-rises
+returns-clause-rises g c =
+    subst (λ reads. RiseInOrder (g.T.Tree.fault_count c.args.tree.now) reads (g.T.Tree.fault_count c.look.new.tree))
+    (sym c.into_reads-reads.ensures.reads) c.in_ok-clarified.ensures.looked.rises
+
+pub returns-clause-told : goal.returns-clause-told
+returns-clause-told g c = λ content is.
+    let krate = record_of c.args.krate.now in
+    let pack = c.in_ok-clarified.clarified.pack in
+    let looked = c.in_ok-clarified.ensures.looked in
+    let reads = c.into_reads-reads.result in
+    let settled : Settled = record { info = c.in_ok-told.told.info; notes = c.in_ok-told.told.notes; reads = reads } in
+    ordered (scanner_with g.C.Catalog.lists g.I.Identifier.match_of c.args.scan.now) _ _ _ krate (map behind c.args.clarifications.now) pack
+    c.in_ok-clarified.clarified.expression c.args.field settled (ears_of content (folder_of krate) reads) looked
+    c.into_reads-reads.ensures.sorted c.requires c.in_ok-told.ensures c.into_reads-reads.ensures.reads
+    (subst (λ folder. Agrees (ears_of content folder reads) pack) looked.folder (c.into_reads-reads.ensures.agrees content (looked.heard content is)))
+
+pub returns-clause-some : goal.returns-clause-some
+returns-clause-some g c =
+    let krate = record_of c.args.krate.now in
+    let pack = c.in_ok-clarified.clarified.pack in
+    let looked = c.in_ok-clarified.ensures.looked in
+    let reads = c.into_reads-reads.result in
+    let settled : Settled = record { info = c.in_ok-told.told.info; notes = c.in_ok-told.told.notes; reads = reads } in
+    (ears_in pack,
+    ordered (scanner_with g.C.Catalog.lists g.I.Identifier.match_of c.args.scan.now) _ _ _ krate (map behind c.args.clarifications.now) pack
+    c.in_ok-clarified.clarified.expression c.args.field settled (ears_in pack) looked
+    c.into_reads-reads.ensures.sorted c.requires c.in_ok-told.ensures c.into_reads-reads.ensures.reads
+    (agrees_itself pack looked.normal))

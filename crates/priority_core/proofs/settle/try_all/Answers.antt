@@ -1,0 +1,81 @@
+use Rattle.std.proofs.Common.{◌≡◌, ◌≤◌, ◌+◌, ◌∷◌, true, false, Some, map, drop, sym, ap, subst, ◌∙◌, arith, rules}
+use Rattle.std.proofs.lemmas.List.{at_drop_more}
+use Rattle.std.specs.List.{fold}
+use Rattle.spdx_core.specs.Reading.{ExpressionView}
+use Rattle.pack_core.specs.Ears.{holds, looked_of}
+use Rattle.pack_core.specs.Steps.{Advances, with_path}
+use Rattle.pack_core.specs.View.{paths_read}
+use Rattle.pack_core.proofs.PackLemmas.{advances_then, agrees_earlier}
+use Rattle.priority_core.specs.Priority.{clarified_of}
+use Rattle.priority_core.specs.Clarification.{behind}
+use Rattle.priority_core.proofs.TriedLemmas.{clarified_here, clarified_on, looks, looks_last, looks_on, map_itself}
+use Rattle.priority_core.proofs.settle.try_all.Goals as goal
+
+pub all-preserved : goal.all-preserved
+all-preserved g c =
+    let so_far = c.all.invariant in
+    let first = g.T.Tree.fault_count c.args.tree.now in
+    let middle = g.T.Tree.fault_count c.all.tree in
+    let last = g.T.Tree.fault_count c.tries.new.tree in
+    let before : first ≤ middle = so_far.kept.later in
+    let after : middle ≤ last = c.tries.ensures.kept.later in
+    let place = c.all.clarification-index in
+    let item = c.clarification-item.result in
+    let rest = drop (place + 1) c.args.clarifications.now in
+    let new = c.in_ok-tried.tried.pack in
+    let files_are = map_itself c.files.result.now ∙ c.files.ensures in
+    let differs : c.in_ok-tried.tried.holds ≡ false = search rules in
+    record {
+      kept = record { content = c.tries.ensures.kept.content ∙ so_far.kept.content; later = omega arith };
+      goes = advances_then (g.T.Tree.content c.args.tree.now) first middle last c.args.pack c.all.pack new so_far.goes
+          (subst (λ told. Advances told middle last c.all.pack new) so_far.kept.content c.in_ok-tried.ensures.advances);
+      looks_rest = λ ears agrees.
+          so_far.looks_rest ears (agrees_earlier _ _ _ _ _ ears c.in_ok-tried.ensures.advances agrees)
+          ∙ at_drop_more (λ all. looks ears (paths_read c.all.pack.reads) (map behind all)) c.args.clarifications.now place item c.all-test.true
+          ∙ ap (λ one. looks ears (paths_read c.all.pack.reads) (map behind (one ∷ rest))) (sym c.clarification-item.is)
+          ∙ looks_on ears (paths_read c.all.pack.reads) (behind item) (map behind rest) c.in_ok-tried.tried.holds
+          (c.in_ok-tried.ensures.holds ears agrees ∙ ap (holds ears) files_are) differs
+          ∙ ap (λ paths. looks ears paths (map behind rest))
+          (ap (λ files. fold with_path (paths_read c.all.pack.reads) (looked_of ears files)) (sym files_are) ∙ sym (c.in_ok-tried.ensures.paths ears agrees));
+      clarified_rest = λ ears agrees.
+          so_far.clarified_rest ears (agrees_earlier _ _ _ _ _ ears c.in_ok-tried.ensures.advances agrees)
+          ∙ at_drop_more (λ all. clarified_of ears (map behind all)) c.args.clarifications.now place item c.all-test.true
+          ∙ ap (λ one. clarified_of ears (map behind (one ∷ rest))) (sym c.clarification-item.is)
+          ∙ clarified_on ears (behind item) (map behind rest) c.in_ok-tried.tried.holds
+          (c.in_ok-tried.ensures.holds ears agrees ∙ ap (holds ears) files_are) differs;
+    }
+
+pub returns-then-tried-clause-advances : goal.returns-then-tried-clause-advances
+returns-then-tried-clause-advances g c =
+    advances_then _ _ _ _ c.args.pack c.all.pack c.in_ok-tried.tried.pack c.all.invariant.goes
+    (subst (λ told. Advances told (g.T.Tree.fault_count c.all.tree) (g.T.Tree.fault_count c.tries.new.tree) c.all.pack c.in_ok-tried.tried.pack)
+    c.all.invariant.kept.content c.in_ok-tried.ensures.advances)
+
+pub returns-then-tried-clause-paths : goal.returns-then-tried-clause-paths
+returns-then-tried-clause-paths g c = λ ears agrees.
+    let place = c.all.clarification-index in
+    let item = c.clarification-item.result in
+    let rest = drop (place + 1) c.args.clarifications.now in
+    let files_are = map_itself c.files.result.now ∙ c.files.ensures in
+    let passed : c.in_ok-tried.tried.holds ≡ true = search rules in
+    c.in_ok-tried.ensures.paths ears agrees
+    ∙ ap (λ files. fold with_path (paths_read c.all.pack.reads) (looked_of ears files)) files_are
+    ∙ sym (c.all.invariant.looks_rest ears (agrees_earlier _ _ _ _ _ ears c.in_ok-tried.ensures.advances agrees)
+    ∙ at_drop_more (λ all. looks ears (paths_read c.all.pack.reads) (map behind all)) c.args.clarifications.now place item c.all-test.true
+    ∙ ap (λ one. looks ears (paths_read c.all.pack.reads) (map behind (one ∷ rest))) (sym c.clarification-item.is)
+    ∙ looks_last ears (paths_read c.all.pack.reads) (behind item) (map behind rest) c.in_ok-tried.tried.holds
+    (c.in_ok-tried.ensures.holds ears agrees ∙ ap (holds ears) files_are) passed)
+
+pub returns-then-tried-clause-expression : goal.returns-then-tried-clause-expression
+returns-then-tried-clause-expression g c = λ ears agrees.
+    let place = c.all.clarification-index in
+    let item = c.clarification-item.result in
+    let rest = drop (place + 1) c.args.clarifications.now in
+    let files_are = map_itself c.files.result.now ∙ c.files.ensures in
+    let passed : c.in_ok-tried.tried.holds ≡ true = search rules in
+    ap (λ (one : ExpressionView). Some one) (c.in_ok-expression.ensures ∙ c.expression.ensures)
+    ∙ sym (c.all.invariant.clarified_rest ears (agrees_earlier _ _ _ _ _ ears c.in_ok-tried.ensures.advances agrees)
+    ∙ at_drop_more (λ all. clarified_of ears (map behind all)) c.args.clarifications.now place item c.all-test.true
+    ∙ ap (λ one. clarified_of ears (map behind (one ∷ rest))) (sym c.clarification-item.is)
+    ∙ clarified_here ears (behind item) (map behind rest) c.in_ok-tried.tried.holds
+    (c.in_ok-tried.ensures.holds ears agrees ∙ ap (holds ears) files_are) passed)

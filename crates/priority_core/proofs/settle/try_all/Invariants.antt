@@ -1,0 +1,21 @@
+-- All the clarifications are tried as the rest of them, with the pack that is there.
+use Rattle.std.proofs.Common.{◌≡◌, map, drop}
+use Rattle.tree_core.specs.Hearing.{KeepsTree}
+use Rattle.pack_core.specs.Ears.{Ears}
+use Rattle.pack_core.specs.Steps.{Advances, Agrees}
+use Rattle.pack_core.specs.View.{paths_read}
+use Rattle.priority_core.specs.Priority.{clarified_of}
+use Rattle.priority_core.specs.Clarification.{behind}
+use Rattle.priority_core.proofs.TriedLemmas.{looks}
+use Rattle.priority_core.proofs.settle.try_all.Given as goal
+
+abbrev pub invariant-all : goal.invariant-all
+invariant-all g l =
+    let all = map behind l.clarifications in
+    let rest = map behind (drop l.clarification-index l.clarifications) in
+    record {
+      kept : KeepsTree (g.T.Tree.content l.fn.tree) (g.T.Tree.content l.tree) (g.T.Tree.fault_count l.fn.tree) (g.T.Tree.fault_count l.tree);
+      goes : Advances (g.T.Tree.content l.fn.tree) (g.T.Tree.fault_count l.fn.tree) (g.T.Tree.fault_count l.tree) l.fn.pack l.pack;
+      looks_rest : (ears : Ears) → Agrees ears l.pack → looks ears (paths_read l.fn.pack.reads) all ≡ looks ears (paths_read l.pack.reads) rest;
+      clarified_rest : (ears : Ears) → Agrees ears l.pack → clarified_of ears all ≡ clarified_of ears rest;
+    }

@@ -1,0 +1,4 @@
+pub mod Clarification
+pub mod Priority
+pub mod Settled
+pub mod Steps
