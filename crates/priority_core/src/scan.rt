@@ -1,6 +1,7 @@
 //! What licence texts are identified by.
 
 /// What licence texts are identified by, and read by.
+#[derive(Drop)]
 pub struct Scan<'a, I, C> {
     /// Without an identifier no text is identified.
     pub identifier: Option<&'a I>,

@@ -169,36 +169,6 @@ fn is_nothing(clarifications: &[&ClarificationRef<'_>]) -> bool
     clarifications.is_empty()
 }
 
-/// With the clarifications that are for the crate, and the expression of its field.
-fn settle_with<T: Tree, I: Identifier, C: Catalog>(
-    alloc: Global,
-    tree: &mut T,
-    scan: &Scan<'_, I, C>,
-    krate: &Krate,
-    clarifications: &[&ClarificationRef<'_>],
-    field: Option<Expression>,
-) -> Result<Settled, AllocError>
-    requires { field ≡ spec.field_of (C.lists scan.now.catalog.now) (record_of krate.now) }
-    ensures kept { KeepsTree (T.content tree.old) (T.content tree.new)
-        (T.fault_count tree.old) (T.fault_count tree.new) }
-    ensures rises { IfOk result (λ settled.
-        RiseInOrder (T.fault_count tree.old) settled.reads (T.fault_count tree.new)) }
-    ensures told { let krate = record_of krate.now in ForSome (T.content tree.old) (λ c. IfOk result (λ settled.
-        IsSettledBy (scanner_with C.lists I.match_of scan.now) (map behind clarifications.now) krate
-        (ears_of c (folder_of krate) settled.reads) settled.info settled.notes settled.reads)) }
-    ensures some { IfOk result (λ settled. (ears : Ears)
-        × IsSettledBy (scanner_with C.lists I.match_of scan.now) (map behind clarifications.now)
-        (record_of krate.now) ears settled.info settled.notes settled.reads) }
-{
-    if !is_nothing(clarifications) {
-        return settle_by_files(alloc, tree, scan, krate, clarifications, field);
-    }
-    match field {
-        Some(expr) => Ok(settle_by_field(alloc, expr)),
-        None => settle_by_files(alloc, tree, scan, krate, clarifications, None),
-    }
-}
-
 /// The licence of a crate, which is settled by the first that holds: a clarification that is for it, with the
 /// expression as it stands there; its field, read strictly with the slash on, or else laxly; the names of its
 /// licence files, joined; else nothing. Its folder is listed, and licence files are read, where a clarification
@@ -220,9 +190,14 @@ pub fn settle_licence<T: Tree, I: Identifier, C: Catalog>(
     // over any tree, by some ears
     ensures some { IfOk result (λ settled. (ears : Ears)
         × IsSettledBy (scanner_with C.lists I.match_of scan.now) (map behind clarifications.now)
-        (record_of krate.now) ears
-        settled.info settled.notes settled.reads) }
+        (record_of krate.now) ears settled.info settled.notes settled.reads) }
 {
     let field = field_of(alloc, krate, scan.catalog)?;
-    settle_with(alloc, tree, scan, krate, clarifications, field)
+    if !is_nothing(clarifications) {
+        return settle_by_files(alloc, tree, scan, krate, clarifications, field);
+    }
+    match field {
+        Some(expr) => Ok(settle_by_field(alloc, expr)),
+        None => settle_by_files(alloc, tree, scan, krate, clarifications, None),
+    }
 }
