@@ -99,9 +99,10 @@ new_to_none (path ∷ paths) = (refl, new_to_none paths)
 
 new_to_placed : (path : List ℕ) (sorted paths : List (List ℕ)) → list_any (same_path path) paths ≡ false → AreNew sorted paths → AreNew (placed path sorted) paths
 new_to_placed path sorted [] none new = tt
-new_to_placed path sorted (next ∷ paths) none new =
-    (in_placed next path sorted (symmetric next path ∙ first_false (same_path path next) (list_any (same_path path) paths) none) new.0,
-    new_to_placed path sorted paths (second_false (same_path path next) (list_any (same_path path) paths) none) new.1)
+new_to_placed path sorted (next ∷ paths) none new = (
+  in_placed next path sorted (symmetric next path ∙ first_false (same_path path next) (list_any (same_path path) paths) none) new.0,
+  new_to_placed path sorted paths (second_false (same_path path next) (list_any (same_path path) paths) none) new.1,
+)
 
 apart_sorting : (sorted paths : List (List ℕ)) → AreApart sorted → AreApart paths → AreNew sorted paths → AreApart (fold (λ so_far path. placed path so_far) sorted paths)
 apart_sorting sorted [] apart others new = apart

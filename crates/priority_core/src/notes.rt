@@ -58,7 +58,9 @@ fn note_file(alloc: Global, notes: &mut Notes, file: &ScannedFile) -> Result<(),
         Scanned::Low { name, .. } => note_renamed(alloc, notes, &file.path, name),
         Scanned::Unknown { name, .. } => note_renamed(alloc, notes, &file.path, name),
         Scanned::Joined {
-            name, deprecated, ..
+            name,
+            deprecated,
+            ..
         } => {
             note_renamed(alloc, notes, &file.path, name)?;
             note_deprecated(alloc, notes, &file.path, name, *deprecated)

@@ -49,11 +49,7 @@ fn told_by_files<C: Catalog>(
         Some(expr) => {
             let paths = paths_given(alloc, files)?;
             let notes = notes_of(alloc, files)?;
-            Ok(told_from(
-                expr,
-                LicenseExprSource::LicenseFiles(paths),
-                notes,
-            ))
+            Ok(told_from(expr, LicenseExprSource::LicenseFiles(paths), notes))
         }
         None => Ok(Told {
             info: LicenseInfo::Unlicensed,
@@ -99,11 +95,7 @@ pub(crate) fn told_by_cases<I: Identifier, C: Catalog>(
         (answer_by scanner.lists (map (file_scanned scanner) (files_in pack.now))))) }
 {
     match clarified {
-        Some(expr) => Ok(told_from(
-            expr,
-            LicenseExprSource::UserOverride,
-            Notes::new(alloc),
-        )),
+        Some(expr) => Ok(told_from(expr, LicenseExprSource::UserOverride, Notes::new(alloc))),
         None => match field {
             Some(expr) => Ok(told_by_field(alloc, expr)),
             None => told_by_pack(alloc, scan, pack),

@@ -34,9 +34,10 @@ returns-clause-some g c =
     let pack = c.in_ok-clarified.clarified.pack in
     let looked = c.in_ok-clarified.ensures.looked in
     let reads = c.into_reads-reads.result in
-    let settled : Settled = record { info = c.in_ok-told.told.info; notes = c.in_ok-told.told.notes; reads = reads } in
-    (ears_in pack,
-    ordered (scanner_with g.C.Catalog.lists g.I.Identifier.match_of c.args.scan.now) _ _ _ krate (map behind c.args.clarifications.now) pack
-    c.in_ok-clarified.clarified.expression c.args.field settled (ears_in pack) looked
-    c.into_reads-reads.ensures.sorted c.requires c.in_ok-told.ensures c.into_reads-reads.ensures.reads
-    (agrees_itself pack looked.normal))
+    let settled : Settled = record { info = c.in_ok-told.told.info; notes = c.in_ok-told.told.notes; reads = reads } in (
+      ears_in pack,
+      ordered (scanner_with g.C.Catalog.lists g.I.Identifier.match_of c.args.scan.now) _ _ _ krate (map behind c.args.clarifications.now) pack
+          c.in_ok-clarified.clarified.expression c.args.field settled (ears_in pack) looked
+          c.into_reads-reads.ensures.sorted c.requires c.in_ok-told.ensures c.into_reads-reads.ensures.reads
+          (agrees_itself pack looked.normal),
+    )

@@ -64,8 +64,9 @@ pub returns-in-Some-clause-some : goal.returns-in-Some-clause-some
 returns-in-Some-clause-some g c =
     let krate = record_of c.args.krate.now in
     let ears : Ears = record { listing = absent; file = λ parts. absent } in
-    let on : c.is_nothing.result ≡ true = search rules in
-    (ears,
-    settled_by_field (scanner_with g.C.Catalog.lists g.I.Identifier.match_of c.args.scan.now) (map behind c.args.clarifications.now) krate
-    ears c.settle_by_field.result c.in-Some.expr (sym c.is_nothing.ensures ∙ on) (sym c.in-Some.is ∙ c.in_ok-field.ensures)
-    c.settle_by_field.ensures.info c.settle_by_field.ensures.notes c.settle_by_field.ensures.reads)
+    let on : c.is_nothing.result ≡ true = search rules in (
+      ears,
+      settled_by_field (scanner_with g.C.Catalog.lists g.I.Identifier.match_of c.args.scan.now) (map behind c.args.clarifications.now) krate
+          ears c.settle_by_field.result c.in-Some.expr (sym c.is_nothing.ensures ∙ on) (sym c.in-Some.is ∙ c.in_ok-field.ensures)
+          c.settle_by_field.ensures.info c.settle_by_field.ensures.notes c.settle_by_field.ensures.reads,
+    )
