@@ -145,7 +145,8 @@ fn settle_by_files<T: Tree, I: Identifier, C: Catalog>(
         (T.fault_count tree.old) (T.fault_count tree.new) }
     ensures rises { IfOk result (λ settled.
         RiseInOrder (T.fault_count tree.old) settled.reads (T.fault_count tree.new)) }
-    ensures told { let krate = record_of krate.now in ForSome (T.content tree.old) (λ c. IfOk result (λ settled.
+    ensures told { let krate = record_of krate.now in
+        ForSome (T.content tree.old) (λ c. IfOk result (λ settled.
         IsOrderedBy (scanner_with C.lists I.match_of scan.now) (map behind clarifications.now) krate
         (ears_of c (folder_of krate) settled.reads) settled)) }
     ensures some { IfOk result (λ settled. (ears : Ears)
@@ -171,8 +172,8 @@ fn is_nothing(clarifications: &[&ClarificationRef<'_>]) -> bool
 
 /// The licence of a crate, which is settled by the first that holds: a clarification that is for it, with the
 /// expression as it stands there; its field, read strictly with the slash on, or else laxly; the names of its
-/// licence files, joined; else nothing. Its folder is listed, and licence files are read, where a clarification
-/// is for it, and where its field gives no expression.
+/// licence files, joined; else nothing. Its folder is listed, and licence files are read, where a
+/// clarification is for it, and where its field gives no expression.
 pub fn settle_licence<T: Tree, I: Identifier, C: Catalog>(
     alloc: Global,
     tree: &mut T,
@@ -184,7 +185,8 @@ pub fn settle_licence<T: Tree, I: Identifier, C: Catalog>(
         (T.fault_count tree.old) (T.fault_count tree.new) }
     ensures rises { IfOk result (λ settled.
         RiseInOrder (T.fault_count tree.old) settled.reads (T.fault_count tree.new)) }
-    ensures told { let krate = record_of krate.now in ForSome (T.content tree.old) (λ c. IfOk result (λ settled.
+    ensures told { let krate = record_of krate.now in
+        ForSome (T.content tree.old) (λ c. IfOk result (λ settled.
         IsSettledBy (scanner_with C.lists I.match_of scan.now) (map behind clarifications.now) krate
         (ears_of c (folder_of krate) settled.reads) settled.info settled.notes settled.reads)) }
     // over any tree, by some ears
