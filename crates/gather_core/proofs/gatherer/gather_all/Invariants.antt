@@ -1,0 +1,20 @@
+-- The crates so far.
+use Rattle.std.proofs.Common.{◌≡◌, map, take, Some}
+use Rattle.tree_core.specs.Content.{Content}
+use Rattle.tree_core.specs.Hearing.{KeepsTree}
+use Rattle.reads_core.specs.Rising.{RiseInOrder}
+use Rattle.priority_core.specs.Settled.{scanner_with}
+use Rattle.selection_core.specs.Listed.{record_behind}
+use Rattle.gather_core.specs.Gathered.{AreByOwn, AreBySome, all_reads, krate_of}
+use Rattle.gather_core.proofs.gatherer.gather_all.Given as goal
+
+abbrev pub invariant-krates : goal.invariant-krates
+invariant-krates g l =
+    let scanner = scanner_with g.C.Catalog.lists g.I.Identifier.match_of l.scan in
+    record {
+      kept : KeepsTree (g.T.Tree.content l.fn.tree) (g.T.Tree.content l.tree) (g.T.Tree.fault_count l.fn.tree) (g.T.Tree.fault_count l.tree);
+      krates : map krate_of l.licenses ≡ map record_behind (take l.krate-index l.krates);
+      rises : RiseInOrder (g.T.Tree.fault_count l.fn.tree) (all_reads l.licenses) (g.T.Tree.fault_count l.tree);
+      told : (content : Content) → g.T.Tree.content l.fn.tree ≡ Some content → AreByOwn scanner l.clarifications content l.licenses;
+      some : AreBySome scanner l.clarifications l.licenses;
+    }

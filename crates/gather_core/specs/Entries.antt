@@ -1,0 +1,42 @@
+-- The clarifications of a policy, and those that are for a crate.
+use Rattle.std.specs.Prelude.{ℕ, List, map, filter, slice_get, Option, option_map}
+use Rattle.std.specs.List.{filter_map}
+use Rattle.graph_core.specs.Krate.{Record}
+use Rattle.policy_parts.specs.declared.file_source.FileSource.{FileSource}
+use Rattle.policy_spec.specs.Matching.{spec_matches}
+use Rattle.policy_spec.specs.Spec.{Spec}
+use Rattle.valid_policy.specs.declared.policy.ValidClarification.{ValidClarification}
+use Rattle.valid_policy.specs.declared.policy.ValidConfig.{ValidConfig}
+use Rattle.pack_core.specs.NamedFile.{Named}
+use Rattle.priority_core.specs.Clarification.{Clarification}
+
+-- a clarification, and the crates that it is for
+pub record Entry : Type 0 where
+  pub spec : Spec
+  pub clarification : Clarification
+
+abbrev pub named_of : FileSource → Named
+named_of file = record { path = file.path.value; hash = file.hash }
+
+abbrev pub entry_of : ValidClarification → Entry
+entry_of entry = record { spec = entry.spec; clarification = record { expression = entry.expression; files = map named_of entry.license_files } }
+
+-- all clarifications of a policy, in its order
+abbrev pub entries_of : ValidConfig → List Entry
+entries_of policy = map entry_of policy.clarifications
+
+-- the clarifications whose spec matches a crate, in the policy's order
+abbrev pub clarifications_of : Record → List Entry → List Clarification
+clarifications_of krate entries = map (λ entry. entry.clarification) (filter (λ entry. spec_matches entry.spec krate) entries)
+
+-- ---- found by places
+
+abbrev pub specs_of : List Entry → List Spec
+specs_of entries = map (λ entry. entry.spec) entries
+
+-- the clarification at a place, if there is one
+abbrev pub item_at : List Entry → ℕ → Option Clarification
+item_at entries place = option_map (λ entry. entry.clarification) (slice_get entries place)
+
+abbrev pub items_at : List Entry → List ℕ → List Clarification
+items_at entries places = filter_map (item_at entries) places

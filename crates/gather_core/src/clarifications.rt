@@ -1,0 +1,171 @@
+//! The clarifications of a policy, found by the crates that they are for.
+ghost use Rattle.std.specs.Prelude.{◌≡◌, ◌++◌, map, option_map, IfOk, OnOk};
+ghost use Rattle.std.specs.Option.{option_to_list};
+ghost use Rattle.graph_core.specs.Krate.{record_of};
+ghost use Rattle.priority_core.specs.Clarification.{behind};
+ghost use Rattle.gather_core.specs.Entries.{clarifications_of, entry_of, item_at, items_at, named_of};
+
+use graph_core::Krate;
+use policy_parts::FileSource;
+use policy_spec::{HasSpec, PackageSpec, SpecIndex};
+use priority_core::{ClarificationRef, FileRef};
+use std::alloc::{AllocError, Global};
+use std::marker::Model;
+use valid_policy::ValidClarification;
+
+/// A clarification of a policy, and the crates that it is for.
+#[derive(Drop)]
+struct EntryRef<'p> {
+    spec: &'p PackageSpec,
+    clarification: ClarificationRef<'p>,
+}
+
+impl<'p> Model for EntryRef<'p> {
+    ghost use Rattle.std.specs.Coded.{codes};
+    ghost use Rattle.priority_core.specs.Clarification.{clarification_code};
+    ghost use Rattle.gather_core.specs.Entries.{Entry};
+
+    ghost Value = { Entry };
+
+    ghost coded = { Prim.hlevel (codes, clarification_code) };
+
+    ghost view = { λ e. record { spec = e.spec.now; clarification = e.clarification } };
+}
+
+impl<'p> HasSpec for EntryRef<'p> {
+    ghost spec_of = { λ entry. entry.spec };
+
+    fn spec(&self) -> &PackageSpec {
+        self.spec
+    }
+}
+
+/// Some clarifications of a policy, in its order.
+pub(crate) type ClarificationRefs<'a, 'p> = Vec<&'a ClarificationRef<'p>>;
+
+/// All clarifications of a policy, found by the names of crates.
+#[derive(Drop)]
+pub(crate) struct Clarifications<'p> {
+    entries: Vec<EntryRef<'p>>,
+    index: SpecIndex,
+}
+
+impl<'p> Model for Clarifications<'p> {
+    ghost use Rattle.std.specs.Prelude.{◌≡◌, List};
+    ghost use Rattle.std.specs.Coded.{codes};
+    ghost use Rattle.policy_spec.specs.Index.{names_of};
+    ghost use Rattle.priority_core.specs.Clarification.{clarification_code};
+    ghost use Rattle.gather_core.specs.Entries.{Entry, specs_of};
+
+    ghost Value = { List Entry };
+
+    ghost coded = { Prim.hlevel (codes, clarification_code) };
+
+    ghost view = { λ c. c.entries.items };
+
+    ghost invariant = { λ c. names_of (specs_of c.entries.items) ≡ c.index };
+}
+
+fn file_refs(alloc: Global, files: &[FileSource]) -> Result<Vec<FileRef<'_>>, AllocError>
+    ensures { IfOk result (λ refs. refs.items ≡ map named_of files.now) }
+{
+    let mut refs = Vec::new(alloc);
+    'files: for file in files {
+        let named = FileRef::new(&file.path.value, file.hash);
+        refs.push(named)?;
+    }
+    Ok(refs)
+}
+
+fn entry_ref(alloc: Global, entry: &ValidClarification) -> Result<EntryRef<'_>, AllocError>
+    ensures { IfOk result (λ found. found ≡ entry_of entry.now) }
+{
+    let files = file_refs(alloc, entry.license_files.items())?;
+    Ok(EntryRef {
+        spec: &entry.spec,
+        clarification: ClarificationRef::new(&entry.expression, files),
+    })
+}
+
+fn entry_refs(
+    alloc: Global,
+    entries: &[ValidClarification],
+) -> Result<Vec<EntryRef<'_>>, AllocError>
+    ensures { IfOk result (λ refs. refs.items ≡ map entry_of entries.now) }
+{
+    let mut refs = Vec::new(alloc);
+    'entries: for entry in entries {
+        let found = entry_ref(alloc, entry)?;
+        refs.push(found)?;
+    }
+    Ok(refs)
+}
+
+/// Appends an item, where there is one.
+fn put_some<T: Drop>(list: &mut Vec<T>, item: Option<T>) -> Result<(), AllocError>
+    ensures { OnOk result (list.new.items ≡ list.old.items ++ option_to_list item) }
+{
+    match item {
+        Some(item) => {
+            list.push(item)?;
+            Ok(())
+        }
+        None => Ok(()),
+    }
+}
+
+/// The clarification at a place, if there is one.
+fn clarification_at<'a, 'p>(
+    entries: &'a [EntryRef<'p>],
+    place: usize,
+) -> Option<&'a ClarificationRef<'p>>
+    ensures { option_map behind result ≡ item_at entries.entry.now place }
+{
+    match entries.get(place) {
+        Some(entry) => Some(&entry.clarification),
+        None => None,
+    }
+}
+
+/// The clarifications at some places.
+fn at_places<'a, 'p>(
+    alloc: Global,
+    entries: &'a [EntryRef<'p>],
+    places: &[usize],
+) -> Result<ClarificationRefs<'a, 'p>, AllocError>
+    ensures { IfOk result (λ found. map behind found.items ≡ items_at entries.entry.now places.now) }
+{
+    let mut found = Vec::new(alloc);
+    'places: for place in places {
+        let item = clarification_at(entries, *place);
+        put_some(&mut found, item)?;
+    }
+    Ok(found)
+}
+
+impl<'p> Clarifications<'p> {
+    /// The clarifications of a policy, in its order.
+    pub(crate) fn of(
+        alloc: Global,
+        entries: &'p [ValidClarification],
+    ) -> Result<Clarifications<'p>, AllocError>
+        ensures { IfOk result (λ all. all ≡ map entry_of entries.entry.now) }
+    {
+        let entries = entry_refs(alloc, entries)?;
+        let index = SpecIndex::of(alloc, &entries)?;
+        Ok(Clarifications { entries, index })
+    }
+
+    /// Those that are for a crate, in order. It looks at those of the crate's name alone.
+    pub(crate) fn matching<'a>(
+        &'a self,
+        alloc: Global,
+        krate: &Krate,
+    ) -> Result<ClarificationRefs<'a, 'p>, AllocError>
+        ensures { IfOk result (λ found.
+            map behind found.items ≡ clarifications_of (record_of krate.now) self.entry.now) }
+    {
+        let places = self.index.matches(alloc, &self.entries, krate)?;
+        at_places(alloc, &self.entries, places.items())
+    }
+}
