@@ -56,7 +56,8 @@ fn license_of<'k, T: Tree, I: Identifier, C: Catalog>(
     ensures rises { IfOk result (λ license.
         RiseInOrder (T.fault_count tree.old) license.reads (T.fault_count tree.new)) }
     ensures told { ForSome (T.content tree.old) (λ c. IfOk result (λ license.
-        IsByEars (scanner_with C.lists I.match_of scan.now) clarifications.now (own_ears c license) license)) }
+        IsByEars (scanner_with C.lists I.match_of scan.now) clarifications.now
+        (own_ears c license) license)) }
     ensures some { IfOk result (λ license. (ears : Ears)
         × IsByEars (scanner_with C.lists I.match_of scan.now) clarifications.now ears license) }
 {
@@ -120,8 +121,8 @@ impl<'i, I> Gatherer<'i, I> {
 }
 
 impl<'i, I: Identifier> Gatherer<'i, I> {
-    /// The licences of the crates that the policy's flags select, in the order of their ids. Each is settled by
-    /// the first that holds: a clarification, the crate's field, its licence files, nothing.
+    /// The licences of the crates that the policy's flags select, in the order of their ids. Each is settled
+    /// by the first that holds: a clarification, the crate's field, its licence files, nothing.
     pub fn gather<'k, T: Tree, C: Catalog>(
         self,
         alloc: Global,
