@@ -1,0 +1,13 @@
+-- The text of a policy.
+use Rattle.std.specs.Prelude.{ℕ, true, false, List, [], Result, Ok, Err}
+use Rattle.heard_core.specs.declared.fault.ReadFault.{ReadFault}
+use Rattle.heard_core.specs.declared.fault.ReadFault.TheVariants.{Absent}
+use Rattle.policy_text.specs.declared.error.ConfigError.{ConfigError}
+use Rattle.policy_text.specs.declared.error.ConfigError.TheVariants.{ConfigRead}
+use Rattle.policy_text.specs.declared.text.ConfigText.{ConfigText}
+
+-- The text, from what was heard of the policy's file: an absent policy is the empty text.
+abbrev pub text_told : Result (List ℕ) ReadFault → Result ConfigText ConfigError
+text_told (Ok text) = Ok (record { text = text; is_there = true })
+text_told (Err Absent) = Ok (record { text = []; is_there = false })
+text_told (Err fault) = Err (ConfigRead fault)

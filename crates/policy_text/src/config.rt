@@ -1,0 +1,82 @@
+//! The policy as it is written, from its text.
+ghost use Rattle.std.specs.Prelude.{◌≡◌, IfErr};
+ghost use Rattle.std.specs.List.{list_any};
+ghost use Rattle.context_core.specs.Asked as asked;
+ghost use Rattle.toml_value.specs.Views.{value_view};
+ghost use Rattle.policy_text.specs.Config.{HasAFault, IsOfText, IsTold, IsToldOf};
+ghost use Rattle.policy_text.specs.Config.{config_told, shape_told, value_told};
+
+use crate::error::ConfigError;
+use catalog_core::Catalog;
+use deny_text::{Text, Texts};
+use policy_config::RootConfig;
+use policy_toml::{Deserialize, Value, parse};
+use std::alloc::Global;
+
+/// Whether a spec holds a `/` or a `#`.
+fn is_uncarried(text: &Text) -> bool
+    ensures { result ≡ asked.is_uncarried text.now }
+{
+    text.as_str()
+        .as_bytes()
+        .iter()
+        .any(|byte| *byte == b'/' || *byte == b'#')
+}
+
+fn has_uncarried(texts: &Texts) -> bool
+    ensures { result ≡ list_any asked.is_uncarried texts.now }
+{
+    texts.items().iter().any(|text| is_uncarried(text))
+}
+
+/// The value that a text stands for.
+fn value_of(alloc: Global, text: &str) -> Result<Value<'_>, ConfigError>
+    ensures told { IsToldOf (λ value. value_view value) (value_told text.now) result }
+    ensures fault { IfErr result HasAFault }
+    ensures of_text { IfErr result IsOfText }
+{
+    match parse(alloc, text) {
+        Ok(value) => Ok(value),
+        Err(refused) => Err(ConfigError::from(refused)),
+    }
+}
+
+/// What a value says, where it has the shape of a policy.
+fn config_of<C: Catalog>(
+    alloc: Global,
+    mut value: Value<'_>,
+    catalog: &C,
+) -> Result<RootConfig, ConfigError>
+    ensures told { IsTold (shape_told (C.lists catalog.now) (value_view value.entry)) result }
+    ensures fault { IfErr result HasAFault }
+    ensures of_text { IfErr result IsOfText }
+{
+    match RootConfig::deserialize(alloc, &mut value, catalog) {
+        Ok(config) => Ok(config),
+        Err(refused) => Err(ConfigError::from(refused)),
+    }
+}
+
+/// The policy that a text is, as it is written.
+///
+/// It is refused where the text stands for no value, where the value has not the shape of a policy, and where
+/// one of its specs of crates to be left out holds a `/` or a `#`.
+pub fn read_config<C: Catalog>(
+    alloc: Global,
+    text: &str,
+    catalog: &C,
+) -> Result<RootConfig, ConfigError>
+    ensures told { IsTold (config_told (C.lists catalog.now) text.now) result }
+    ensures fault { IfErr result HasAFault }
+    ensures of_text { IfErr result IsOfText }
+{
+    let value = match value_of(alloc, text) {
+        Ok(value) => value,
+        Err(error) => return Err(error),
+    };
+    let config = config_of(alloc, value, catalog)?;
+    if has_uncarried(&config.graph.exclude) {
+        return Err(ConfigError::NotCarried);
+    }
+    Ok(config)
+}

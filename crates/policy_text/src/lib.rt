@@ -1,0 +1,13 @@
+//! The file of a policy: its text, and the policy as it is written.
+#![tactic(auto)]
+
+pub mod config;
+pub mod error;
+pub mod text;
+
+pub use config::read_config;
+pub use error::ConfigError;
+pub use heard_core::{Heard, ReadFault};
+pub use policy_config::{Config, RootConfig};
+pub use policy_toml::{ErrorKind, ShapeError, ShapeErrors, SyntaxError, SyntaxReason};
+pub use text::ConfigText;
