@@ -41,20 +41,3 @@ pub fn log_level_to_severity(level: LevelFilter) -> Option<Severity>
 pub fn severities_rise()
     ensures { SeveritiesRise }
 {}
-
-#[cfg(test)]
-mod tests {
-    use super::*;
-
-    #[test]
-    fn turns_levels(rt: HostRuntime) {
-        for (level, want) in [
-            (LevelFilter::Off, None),
-            (LevelFilter::Info, Some(Severity::Note)),
-            (LevelFilter::Trace, Some(Severity::Help)),
-        ] {
-            assert_eq!(rt; log_level_to_severity(level), want);
-        }
-        assert!(rt; Severity::Warning < Severity::Error);
-    }
-}
