@@ -6,8 +6,6 @@ pub mod catalog;
 pub mod identifier;
 pub mod store;
 pub mod table;
-#[cfg(test)]
-mod tests;
 mod text_words;
 
 pub use catalog::{Catalog, Imprecise, LicenseEntry};

@@ -6,8 +6,6 @@ pub mod certificates;
 pub mod laws;
 mod mark;
 mod stack;
-#[cfg(test)]
-mod tests;
 pub mod verdict;
 mod walk;
 

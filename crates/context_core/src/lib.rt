@@ -3,8 +3,6 @@
 
 pub mod gather;
 pub mod paths;
-#[cfg(test)]
-mod tests;
 
 pub use gather::gather_krates;
 pub use paths::{config_path_since, get_config_path, get_local_exceptions_path};

@@ -2,7 +2,5 @@
 #![tactic(auto)]
 
 pub mod search;
-#[cfg(test)]
-mod tests;
 
 pub use search::{SearchError, Sought, find_upwards};

@@ -7,8 +7,6 @@ pub mod node;
 mod read;
 mod reader;
 mod stack;
-#[cfg(test)]
-mod tests;
 
 pub use catalog_core::{Catalog, Identifier, Imprecise, LicenseEntry, LicenseStore, Match, Table};
 pub use expression::Expression;

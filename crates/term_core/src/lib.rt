@@ -9,8 +9,6 @@ pub mod laws;
 pub mod licensee;
 pub mod mode;
 pub mod term;
-#[cfg(test)]
-mod tests;
 mod words;
 
 pub use error::{ExprError, ParseError, ParseReason};

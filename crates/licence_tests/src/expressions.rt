@@ -5,12 +5,10 @@ ghost use Rattle.term_core.specs.Faults.{first_fault};
 ghost use Rattle.spdx_core.specs.Reading.{expression_of};
 ghost use Rattle.spdx_core.specs.ExpressionRows.{two_terms, operator_is_used_up};
 
-use super::*;
+use spdx_core::*;
 use std::alloc::{AllocError, Global};
 use std::process::Abort;
 use std::test::Fail;
-
-mod hostile;
 
 const STRICT_ROWS: [(&str, &str); 48] = [
     (
@@ -147,7 +145,7 @@ const SLASHED: ParseMode = ParseMode {
 };
 
 /// The reason and the place of a fault.
-fn fault_shown(alloc: Global, fault: &ParseError) -> Result<String, AllocError> {
+pub fn fault_shown(alloc: Global, fault: &ParseError) -> Result<String, AllocError> {
     let reason = fault.reason;
     let start = fault.span.start;
     let end = fault.span.end;

@@ -1,4 +1,4 @@
-use crate::{SearchError, Sought, find_upwards};
+use search_core::{SearchError, Sought, find_upwards};
 use std::alloc::Global;
 use std::test::Fail;
 use tree_core::{MemTree, Tree};

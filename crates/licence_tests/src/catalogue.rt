@@ -2,13 +2,12 @@
 ghost use Rattle.std.specs.Prelude.{◌≡◌, [], ◌∷◌, true, false, codes, refl};
 ghost use Rattle.catalog_core.specs.Words.{is_name, is_imprecise, ends_word};
 
-use super::*;
-use crate::built_in::BUILT_IN;
+use catalog_core::{
+    Catalog, Identifier, Imprecise, LicenseEntry, LicenseStore, Match, StoreText, StoreTexts, Table,
+};
 use deny_text::Text;
 use std::alloc::{AllocError, Global};
 use std::test::Fail;
-
-mod listing;
 
 /// The names that are each a family of their own, in the order of their numbers.
 const SINGLE: &str =
@@ -53,15 +52,15 @@ const BEGINNINGS: [(&str, usize, &str); 13] = [
     ("lgpl v3 or later", 7, "LGPL-3.0-only"),
 ];
 
-fn known<C: Catalog>(catalog: &C, name: &str) -> Option<LicenseEntry> {
+pub fn known<C: Catalog>(catalog: &C, name: &str) -> Option<LicenseEntry> {
     catalog.license(name)
 }
 
-fn is_exception<C: Catalog>(catalog: &C, name: &str) -> bool {
+pub fn is_exception<C: Catalog>(catalog: &C, name: &str) -> bool {
     catalog.exception(name)
 }
 
-fn beginning<'c, C: Catalog>(catalog: &'c C, text: &str) -> Option<Imprecise<'c>> {
+pub fn beginning<'c, C: Catalog>(catalog: &'c C, text: &str) -> Option<Imprecise<'c>> {
     catalog.imprecise(text)
 }
 
@@ -168,20 +167,43 @@ enum Made {
     Nothing,
 }
 
-fn mit() -> &'static str {
-    BUILT_IN[0].body
-}
+/// The MIT licence in lines as it is published, without its title and the holder of the copyright.
+const MIT: &str = "\
+Permission is hereby granted, free of charge, to any person obtaining a copy\n\
+of this software and associated documentation files (the \"Software\"), to deal\n\
+in the Software without restriction, including without limitation the rights\n\
+to use, copy, modify, merge, publish, distribute, sublicense, and/or sell\n\
+copies of the Software, and to permit persons to whom the Software is\n\
+furnished to do so, subject to the following conditions:\n\n\
+The above copyright notice and this permission notice shall be included in all\n\
+copies or substantial portions of the Software.\n\n\
+THE SOFTWARE IS PROVIDED \"AS IS\", WITHOUT WARRANTY OF ANY KIND, EXPRESS OR\n\
+IMPLIED, INCLUDING BUT NOT LIMITED TO THE WARRANTIES OF MERCHANTABILITY,\n\
+FITNESS FOR A PARTICULAR PURPOSE AND NONINFRINGEMENT. IN NO EVENT SHALL THE\n\
+AUTHORS OR COPYRIGHT HOLDERS BE LIABLE FOR ANY CLAIM, DAMAGES OR OTHER\n\
+LIABILITY, WHETHER IN AN ACTION OF CONTRACT, TORT OR OTHERWISE, ARISING FROM,\n\
+OUT OF OR IN CONNECTION WITH THE SOFTWARE OR THE USE OR OTHER DEALINGS IN THE\n\
+SOFTWARE.\n";
 
-fn isc() -> &'static str {
-    BUILT_IN[4].body
-}
+/// The ISC licence in lines as it is published, without its title and the holder of the copyright.
+const ISC: &str = "\
+Permission to use, copy, modify, and/or distribute this software for any\n\
+purpose with or without fee is hereby granted, provided that the above\n\
+copyright notice and this permission notice appear in all copies.\n\n\
+THE SOFTWARE IS PROVIDED \"AS IS\" AND THE AUTHOR DISCLAIMS ALL WARRANTIES\n\
+WITH REGARD TO THIS SOFTWARE INCLUDING ALL IMPLIED WARRANTIES OF\n\
+MERCHANTABILITY AND FITNESS. IN NO EVENT SHALL THE AUTHOR BE LIABLE FOR ANY\n\
+SPECIAL, DIRECT, INDIRECT, OR CONSEQUENTIAL DAMAGES OR ANY DAMAGES WHATSOEVER\n\
+RESULTING FROM LOSS OF USE, DATA OR PROFITS, WHETHER IN AN ACTION OF CONTRACT,\n\
+NEGLIGENCE OR OTHER TORTIOUS ACTION, ARISING OUT OF OR IN CONNECTION WITH THE\n\
+USE OR PERFORMANCE OF THIS SOFTWARE.\n";
 
 fn body(alloc: Global, made: Made) -> Result<String, AllocError> {
     match made {
-        Made::Mit => String::from_str(alloc, mit()),
-        Made::Capitals => capitals(alloc, mit()),
-        Made::Broken => broken(alloc, mit()),
-        Made::Isc => String::from_str(alloc, isc()),
+        Made::Mit => String::from_str(alloc, MIT),
+        Made::Capitals => capitals(alloc, MIT),
+        Made::Broken => broken(alloc, MIT),
+        Made::Isc => String::from_str(alloc, ISC),
         Made::Nothing => Ok(String::new(alloc)),
     }
 }
@@ -226,7 +248,7 @@ fn knows_the_built_in_texts(rt: HostRuntime) -> Result<(), Fail> {
 #[test]
 fn default_finds_nothing(rt: HostRuntime) -> Result<(), Fail> {
     let store = LicenseStore::default(rt.alloc());
-    assert!(rt; is_found(&store, rt.alloc(), mit(), "")?);
+    assert!(rt; is_found(&store, rt.alloc(), MIT, "")?);
     Ok(())
 }
 

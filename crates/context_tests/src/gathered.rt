@@ -1,4 +1,4 @@
-use crate::{KrateContext, KratesError, What, gather_krates};
+use context_core::{KrateContext, KratesError, What, gather_krates};
 use deny_text::{PathBuf, Text, Texts};
 use std::alloc::{AllocError, Global};
 use std::test::Fail;

@@ -1,5 +1,6 @@
 //! Long and deep texts.
-use crate::*;
+use crate::expressions::fault_shown;
+use spdx_core::*;
 use std::alloc::{AllocError, Global};
 use std::process::Abort;
 use std::test::Fail;
@@ -29,7 +30,7 @@ fn counted(alloc: Global, parts: &[(&str, usize)]) -> Result<String, Fail> {
             let end = last.span.end;
             Ok(format!(in alloc; "{terms} {nodes} {start} {end}")?)
         }
-        Err(ExprError::Parse(fault)) => Ok(super::fault_shown(alloc, &fault)?),
+        Err(ExprError::Parse(fault)) => Ok(fault_shown(alloc, &fault)?),
         Err(ExprError::Memory) => Err(Fail::from("memory")),
     }
 }

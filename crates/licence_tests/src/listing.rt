@@ -2,8 +2,11 @@
 ghost use Rattle.std.specs.Prelude.{◌≡◌, [], ◌∷◌, IfOk, Contains, map, codes, true, false};
 ghost use Rattle.catalog_core.specs.Catalog.{IsCatalog, entry_of};
 
-use super::*;
+use crate::catalogue::{beginning, is_exception, known};
+use catalog_core::{Catalog, Imprecise, LicenseEntry};
 use deny_text::{ListOf, Text};
+use std::alloc::{AllocError, Global};
+use std::test::Fail;
 
 /// A licence name with what is known of it.
 #[derive(Drop)]

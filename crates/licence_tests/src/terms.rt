@@ -1,7 +1,6 @@
 //! Rows of outside values.
 ghost use Rattle.std.specs.Prelude.{◌≡◌, ◌<◌};
 
-use super::*;
 use catalog_core::Table;
 use deny_text::{Span, Steps};
 use std::alloc::Global;
@@ -9,8 +8,7 @@ use std::cmp::Ordering;
 use std::marker::Brand;
 use std::sync::ledger::{Blank, Ledger};
 use std::test::Fail;
-
-mod rows;
+use term_core::*;
 
 const NAMED: ParseMode = ParseMode {
     allow_deprecated: true,
@@ -131,7 +129,13 @@ fn term_of(alloc: Global, text: &str) -> Result<LicenseReq, Fail> {
     let mut parts = items::item_vec(alloc, text, NAMED, &Table)?.into_iter();
     let item = named(parts.next()).ok_or("no term")?;
     let _with = parts.next();
-    let exception = licensee::exception_name(parts.next());
+    let exception = match parts.next() {
+        Some(Item {
+            what: What::Exception(name),
+            ..
+        }) => Some(name),
+        _ => None,
+    };
     Ok(LicenseReq { item, exception })
 }
 

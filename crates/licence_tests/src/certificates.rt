@@ -2,7 +2,7 @@
 ghost use Rattle.std.specs.Prelude.{◌≡◌, map};
 ghost use Rattle.certificate_core.specs.Rows.{rows, computed};
 
-use super::*;
+use certificate_core::*;
 use spdx_core::{Expression, ParseMode, Table};
 use std::alloc::{AllocError, Global};
 use std::process::Abort;
