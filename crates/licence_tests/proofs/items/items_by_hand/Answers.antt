@@ -1,5 +1,5 @@
 use Rattle.std.proofs.Common.{refl}
-use Rattle.term_core.proofs.tests.rows.items_by_hand.Goals as goal
+use Rattle.licence_tests.proofs.items.items_by_hand.Goals as goal
 
 pub returns-clause-lawful : goal.returns-clause-lawful
 returns-clause-lawful c = record {
