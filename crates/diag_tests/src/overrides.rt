@@ -1,6 +1,7 @@
 use deny_text::Text;
 use diag_core::{
-    Check, CodeMap, Diag, Diagnostic, DiagnosticOverrides, ErrorSink, LevelPair, LevelPairs, Pack, Severity,
+    Check, CodeMap, Diag, Diagnostic, DiagnosticOverrides, ErrorSink, LevelPair, LevelPairs, Pack,
+    Severity,
 };
 use std::alloc::{AllocError, Global};
 use std::test::Fail;

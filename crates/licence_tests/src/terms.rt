@@ -130,10 +130,12 @@ fn term_of(alloc: Global, text: &str) -> Result<LicenseReq, Fail> {
     let item = named(parts.next()).ok_or("no term")?;
     let _with = parts.next();
     let exception = match parts.next() {
-        Some(Item {
-            what: What::Exception(name),
-            ..
-        }) => Some(name),
+        Some(
+            Item {
+                what: What::Exception(name),
+                ..
+            },
+        ) => Some(name),
         _ => None,
     };
     Ok(LicenseReq { item, exception })
