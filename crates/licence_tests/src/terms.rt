@@ -2,7 +2,7 @@
 ghost use Rattle.std.specs.Prelude.{◌≡◌, ◌<◌};
 
 use catalog_core::Table;
-use deny_text::{Span, Steps};
+use deny_text::{Span, Steps, Text};
 use std::alloc::Global;
 use std::cmp::Ordering;
 use std::marker::Brand;
@@ -124,20 +124,20 @@ fn named(item: Option<Item>) -> Option<LicenseItem> {
     }
 }
 
+/// The name of an exception.
+fn exception_of(item: Option<Item>) -> Option<Text> {
+    match item?.what {
+        What::Exception(name) => Some(name),
+        _ => None,
+    }
+}
+
 /// The term that a text of one part is.
 fn term_of(alloc: Global, text: &str) -> Result<LicenseReq, Fail> {
     let mut parts = items::item_vec(alloc, text, NAMED, &Table)?.into_iter();
     let item = named(parts.next()).ok_or("no term")?;
     let _with = parts.next();
-    let exception = match parts.next() {
-        Some(
-            Item {
-                what: What::Exception(name),
-                ..
-            },
-        ) => Some(name),
-        _ => None,
-    };
+    let exception = exception_of(parts.next());
     Ok(LicenseReq { item, exception })
 }
 
