@@ -1,10 +1,12 @@
 //! Prints how many values are read from command lines with 20 values of `--exclude` and with 20 checks. With
 //! the argument `bench` it prints the times for 2,500 values, and for twice, four and eight times as many.
+//! With `exclude` or `check` and a number it reads one such command line, for tools that count instructions.
 #![tactic(auto)]
 
 use request_core::read::{Given, read};
 use request_core::{Request, Subcommand};
 use std::alloc::{AllocError, Global};
+use std::io::Print;
 use std::time::{Clock, Instant};
 use std::{env, io};
 
@@ -13,6 +15,15 @@ use std::{env, io};
 enum Many {
     Excludes,
     Checks,
+}
+
+impl Many {
+    fn name(self) -> &'static str {
+        match self {
+            Many::Excludes => "exclude",
+            Many::Checks => "check",
+        }
+    }
 }
 
 /// The words of a command line with so many values.
@@ -63,24 +74,43 @@ fn timed<R: Clock>(rt: &R, alloc: Global, many: Many, count: usize) -> io::Resul
     Ok(start.elapsed(rt)?.as_micros())
 }
 
-fn main(rt: HostRuntime) -> io::Result<()> {
-    let mut is_bench = false;
-    for word in env::args(&rt)? {
-        is_bench = is_bench || word.as_str() == "bench";
-    }
-    let alloc = rt.alloc();
-    for (name, many) in [("exclude", Many::Excludes), ("check", Many::Checks)] {
-        if is_bench {
-            for count in [2_500, 5_000, 10_000, 20_000] {
-                println!(rt;
-                    "{name} {count} values {} us",
-                    timed(&rt, alloc, many, count)?
-                )?;
-            }
-        } else {
-            let words = words(alloc, many, 20)?;
-            println!(rt; "{name} {} values", count_read(alloc, words.as_slice())?)?;
+/// Prints how long command lines of thousands of values take.
+fn bench<R: Clock + Print>(rt: &R, alloc: Global) -> io::Result<()> {
+    for many in [Many::Excludes, Many::Checks] {
+        for count in [2_500, 5_000, 10_000, 20_000] {
+            let took = timed(rt, alloc, many, count)?;
+            println!(rt; "{} {count} values {took} us", many.name())?;
         }
     }
     Ok(())
+}
+
+/// Prints how many values are read from a command line with so many.
+fn show<R: Print>(rt: &R, alloc: Global, many: Many, count: usize) -> io::Result<()> {
+    let words = words(alloc, many, count)?;
+    let read = count_read(alloc, words.as_slice())?;
+    println!(rt; "{} {read} values", many.name())
+}
+
+fn main(rt: HostRuntime) -> io::Result<()> {
+    let mut is_bench = false;
+    let mut asked = None;
+    let mut count = 20;
+    for word in env::args(&rt)? {
+        match word.as_str() {
+            "bench" => is_bench = true,
+            "exclude" => asked = Some(Many::Excludes),
+            "check" => asked = Some(Many::Checks),
+            other => count = other.parse::<usize>().unwrap_or(count),
+        }
+    }
+    let alloc = rt.alloc();
+    match asked {
+        Some(many) => show(&rt, alloc, many, count),
+        None if is_bench => bench(&rt, alloc),
+        None => {
+            show(&rt, alloc, Many::Excludes, count)?;
+            show(&rt, alloc, Many::Checks, count)
+        }
+    }
 }

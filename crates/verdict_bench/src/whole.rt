@@ -1,5 +1,5 @@
 //! The definitions, written out: whole lists of choices, for small expressions.
-use certificate_core::{Hit, Verdict, certificate};
+use evaluate_core::{Hit, Verdict};
 use spdx_core::{ExprNode, Expression};
 use std::alloc::{AllocError, Global};
 
@@ -170,24 +170,29 @@ fn are_hits_of(kept: &[Option<Hit>], places: &[usize], hits: &[Hit]) -> bool {
     agree
 }
 
-/// Whether the certificate of an expression is the one of the definitions.
+/// Whether the verdict on an expression is the one of the definitions, where `accepts` says whether the
+/// expression was accepted.
 pub fn agrees(
     alloc: Global,
     expression: &Expression,
     kept: &[Option<Hit>],
+    accepts: bool,
+    verdict: &Verdict,
 ) -> Result<bool, AllocError> {
     let Some(whole) = whole_of(alloc, expression.nodes(), kept)? else {
         return Ok(false);
     };
     let first = first_choice(kept, &whole.choices);
-    Ok(match certificate(alloc, expression, kept)? {
+    Ok(match verdict {
         Verdict::Skipped | Verdict::Unlicensed => false,
         Verdict::Accepted { choice, hits } => {
-            is_choice(&whole, first, choice.items())
+            accepts
+                && is_choice(&whole, first, choice.items())
                 && are_hits_of(kept, choice.items(), hits.items())
         }
         Verdict::Rejected { least, blocks } => {
-            first.is_none()
+            !accepts
+                && first.is_none()
                 && is_choice(&whole, least_choice(kept, &whole.choices), least.items())
                 && whole.blocks.as_slice() == blocks.items()
         }
