@@ -1,0 +1,7 @@
+//! Where the licence field of a crate stands in its manifest.
+#![tactic(auto)]
+
+pub mod location;
+mod search;
+
+pub use location::{Located, locate};

@@ -1,0 +1,185 @@
+//! The location of a field, by the file table or by reading the manifest.
+ghost use Rattle.std.specs.Prelude.{◌≡◌, ℕ, List, [], length, IfOk, IfSome, OnOk, OnErr};
+ghost use Rattle.std.specs.Option.{ForSome, option_and_then, option_map, option_to_list};
+ghost use Rattle.deny_text.specs.Path.{components_of};
+ghost use Rattle.tree_core.specs.Hearing.{KeepsTree};
+ghost use Rattle.tree_core.specs.declared.reads.ReadKind.TheVariants.{Manifest};
+ghost use Rattle.reads_core.specs.Heard.{Heard, place_of, there_heard};
+ghost use Rattle.reads_core.specs.Rising.{RiseInOrder};
+ghost use Rattle.reads_core.specs.Told.{CarriesCounts, IsHeardOf};
+ghost use Rattle.reads_core.specs.Views.{heard_file};
+ghost use Rattle.diag_core.specs.File.{source_of};
+ghost use Rattle.location_core.specs.Location as spec;
+ghost use Rattle.location_core.specs.Location.{CutsOut, IsLocated, PointsAt, coord_at, files_heard};
+ghost use Rattle.location_core.specs.Location.{in_heard, in_table, joined_by, manifest_heard};
+
+use crate::search::span_in;
+use deny_text::{PathBuf, Span, Text};
+use diag_core::{Coord, FileId, Files};
+use reads_core::{FileHeard, read_file};
+use std::alloc::{AllocError, Global};
+use tree_core::{ReadAnswer, ReadKind, ReadRecord, Tree};
+
+/// Where a field stands, and the record of the read of its manifest, where that was read.
+#[derive(Drop)]
+pub struct Located {
+    /// None where the manifest does not write the field.
+    pub location: Option<Coord>,
+    pub read: Option<ReadRecord>,
+}
+
+/// The place of a field in a file of the table.
+fn span_of(files: &Files, id: FileId, field: &str) -> Option<Span>
+    ensures value { result ≡ option_and_then (spec.span_in field.now) (source_of files.now id) }
+    ensures points { IfSome result (λ span. PointsAt files.now (coord_at id span) field.now) }
+{
+    match files.source(id) {
+        Ok(text) => span_in(text, field),
+        Err(_) => None,
+    }
+}
+
+/// By a file of the table: nothing is read.
+fn locate_in(files: &Files, id: FileId, field: &str) -> Located
+    ensures located { result ≡ in_table field.now files.now id }
+    ensures points { IfSome result.location (λ at. PointsAt files.now at field.now) }
+{
+    match span_of(files, id, field) {
+        Some(span) => Located {
+            location: Some(Coord { file: id, span }),
+            read: None,
+        },
+        None => Located {
+            location: None,
+            read: None,
+        },
+    }
+}
+
+/// What is heard of a manifest. Its path stands by the root, and not by a folder of its own.
+fn read_manifest<T: Tree>(
+    alloc: Global,
+    tree: &mut T,
+    path: &PathBuf,
+) -> Result<FileHeard, AllocError>
+    ensures told { ForSome (T.content tree.old) (λ c. IfOk result (λ heard.
+        let place = place_of Manifest [] (components_of path.now) in
+        IsHeardOf (there_heard Manifest c place) (heard_file heard))) }
+    ensures kept { KeepsTree (T.content tree.old) (T.content tree.new)
+        (T.fault_count tree.old) (T.fault_count tree.new) }
+    ensures counts { IfOk result (λ heard.
+        CarriesCounts (T.fault_count tree.old) (T.fault_count tree.new) (heard_file heard)) }
+{
+    read_file(alloc, tree, "", path.as_path())
+}
+
+/// The record of the read of a manifest.
+fn manifest_record(
+    alloc: Global,
+    path: &PathBuf,
+    heard: &FileHeard,
+) -> Result<ReadRecord, AllocError>
+    ensures { IfOk result (λ read. read ≡ spec.manifest_record path.now (heard_file heard.now)) }
+{
+    let path = PathBuf::copy(alloc, path.as_path())?;
+    let answer = match heard {
+        Ok(_) => ReadAnswer::Got,
+        Err(error) => ReadAnswer::from(*error),
+    };
+    Ok(ReadRecord {
+        path,
+        kind: ReadKind::Manifest,
+        answer,
+    })
+}
+
+/// Puts a manifest into the table where the place of the field counts, and tells the location.
+fn join_where_counted(
+    files: &mut Files,
+    path: PathBuf,
+    text: Text,
+    span: Option<Span>,
+) -> Result<Option<Coord>, AllocError>
+    ensures location { IfOk result (λ location. location ≡ option_map (coord_at (length files.old)) span) }
+    ensures files { OnOk result (files.new ≡ joined_by path files.old text span) }
+    ensures points { (field : List ℕ) → IfSome span (λ place. CutsOut text place field)
+        → IfOk result (λ location. IfSome location (λ at. PointsAt files.new at field)) }
+    ensures err { OnErr result (files.new ≡ files.old) }
+{
+    let Some(span) = span else {
+        return Ok(None);
+    };
+    match files.add(path, text) {
+        Ok(file) => Ok(Some(Coord { file, span })),
+        // The callers ask first whether a file has the path.
+        Err(_) => Err(AllocError),
+    }
+}
+
+/// By what was heard of the manifest.
+fn locate_heard(
+    alloc: Global,
+    files: &mut Files,
+    path: &PathBuf,
+    field: &str,
+    heard: FileHeard,
+) -> Result<Located, AllocError>
+    ensures located { IfOk result (λ located.
+        located ≡ in_heard path.now field.now files.old (heard_file heard)) }
+    ensures files { OnOk result (
+        files.new ≡ files_heard path.now field.now files.old (heard_file heard)) }
+    ensures points { IfOk result (λ located. IfSome located.location (λ at.
+        PointsAt files.new at field.now)) }
+    ensures err { OnErr result (files.new ≡ files.old) }
+{
+    let record = manifest_record(alloc, path, &heard)?;
+    match heard {
+        Ok(text) => {
+            let span = span_in(text.as_str(), field);
+            let name = PathBuf::copy(alloc, path.as_path())?;
+            let location = join_where_counted(files, name, text, span)?;
+            Ok(Located {
+                location,
+                read: Some(record),
+            })
+        }
+        Err(_) => Ok(Located {
+            location: None,
+            read: Some(record),
+        }),
+    }
+}
+
+/// The location of a crate's field: the first licence field that its manifest writes, where the text there is
+/// the field. The manifest is a file of the table, where one has its path by parts, and else it is read; a
+/// manifest that was read joins the table exactly where the location counts.
+pub fn locate<T: Tree>(
+    alloc: Global,
+    tree: &mut T,
+    files: &mut Files,
+    path: &PathBuf,
+    field: &str,
+) -> Result<Located, AllocError>
+    ensures kept { KeepsTree (T.content tree.old) (T.content tree.new)
+        (T.fault_count tree.old) (T.fault_count tree.new) }
+    ensures rises { IfOk result (λ located.
+        RiseInOrder (T.fault_count tree.old) (option_to_list located.read) (T.fault_count tree.new)) }
+    ensures told { ForSome (T.content tree.old) (λ c. IfOk result (λ located.
+        IsLocated path.now field.now files.old
+        (manifest_heard c path.now (option_to_list located.read)) located files.new)) }
+    // over any tree, by something that is heard of the manifest
+    ensures some { IfOk result (λ located. (manifest : Heard)
+        × IsLocated path.now field.now files.old manifest located files.new) }
+    ensures points { IfOk result (λ located. IfSome located.location (λ at.
+        PointsAt files.new at field.now)) }
+    ensures err { OnErr result (files.new ≡ files.old) }
+{
+    match files.id_for_path(path.as_path()) {
+        Some(id) => Ok(locate_in(files, id, field)),
+        None => {
+            let heard = read_manifest(alloc, tree, path)?;
+            let located = locate_heard(alloc, files, path, field, heard)?;
+            Ok(located)
+        }
+    }
+}
