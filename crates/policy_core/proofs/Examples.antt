@@ -1,0 +1,70 @@
+-- All that is told of a policy, in its order, worked out by hand from the rules.
+use Rattle.std.proofs.Common.{◌≡◌, ℕ, false, List, [], ◌∷◌, Some, None, Ok, Err, codes, pos, refl}
+use Rattle.catalog_core.specs.Catalog.{CatalogLists}
+use Rattle.deny_text.specs.declared.span.Span.{Span}
+use Rattle.toml_subset.specs.Data.{Content, Entries, Toml, string, integer, table, array, no_item, item, no_entry, entry}
+use Rattle.toml_subset.specs.Reading.{read_text}
+use Rattle.toml_shapes.specs.Shapes.{fault_alone, wanted}
+use Rattle.toml_shapes.specs.Shaped.{shaped_map}
+use Rattle.validate_core.specs.Valid.{error_at, removed_key}
+use Rattle.policy_core.specs.Exceptions.{exceptions_told, itself_told, no_file, no_text, no_value, policy_itself, unread_told, value}
+use Rattle.policy_core.specs.Findings.{absent_told, moved_told, target_told}
+use Rattle.policy_core.specs.Policy.{FileNumbers, empty_table, policy_of}
+
+abbrev lists : CatalogLists
+lists = record { licences = []; exceptions = []; imprecise = [] }
+
+abbrev numbers : FileNumbers
+numbers = record { policy = 0; exceptions = 1 }
+
+abbrev at : ℕ → ℕ → Span
+at from to = record { start = from; end = to }
+
+abbrev text : List ℕ → Content
+text bytes = string (record { text = bytes; escaped = false })
+
+abbrev row : List ℕ → Span → Span → Content → Entries → Entries
+row name key span content more = entry (record { name = record { text = name; escaped = false }; span = key }) span content more
+
+abbrev root : Entries → Toml
+root entries = record { content = table entries; span = at 0 99 }
+
+-- the empty text stands for the empty table
+empty_text : read_text [] ≡ Ok empty_table
+empty_text = refl
+
+-- a removed key, two targets at the root, a moved key of `output`, and an exceptions file that is no text
+abbrev policy : Toml
+policy =
+    root (row (codes "feature-depth") (at 0 1) (at 2 3) (integer (pos 3))
+    (row (codes "licenses") (at 4 5) (at 6 20) (table (row (codes "copyleft") (at 7 15) (at 16 20) (text (codes "warn")) no_entry))
+    (row (codes "targets") (at 21 28) (at 30 40) (array (item (at 31 32) (text (codes "t")) (item (at 33 34) (text (codes "u")) no_item))) no_entry)))
+
+all_in_order : shaped_map (λ found. found.findings) (policy_of lists numbers (record { path = Some (codes "p"); value = Some policy }) (no_text (codes "e") (codes "not found")))
+    ≡ Ok (removed_key 0 (at 7 15)
+    ∷ unread_told (codes "e") (codes "not found")
+    ∷ target_told 0 (record { filter = record { value = codes "t"; span = at 31 32 }; features = [] })
+    ∷ target_told 0 (record { filter = record { value = codes "u"; span = at 33 34 }; features = [] })
+    ∷ moved_told (codes "graph") 0 (at 21 28)
+    ∷ moved_told (codes "output") 0 (at 0 1) ∷ [])
+all_in_order = refl
+
+-- an absent policy is told first, by its path if there is one
+absent : shaped_map (λ found. found.findings) (policy_of lists numbers (record { path = Some (codes "p"); value = None }) (policy_itself (codes "p")))
+    ≡ Ok (absent_told (Some (codes "p")) ∷ itself_told (codes "p") ∷ [])
+absent = refl
+
+nowhere : shaped_map (λ found. found.findings) (policy_of lists numbers (record { path = None; value = None }) no_file) ≡ Ok (absent_told None ∷ [])
+nowhere = refl
+
+-- what is wrong with an exceptions file has its number
+faulty : (exceptions_told lists 1 (no_value (at 15 15)) ≡ error_at 1 (codes "syntax error") (at 15 15) [] ∷ [])
+    × (exceptions_told lists 1 (value empty_table) ≡ error_at 1 (codes "missing field 'exceptions'") (at 0 0) [] ∷ [])
+    × (exceptions_told lists 1 (value (root (row (codes "exceptions") (at 0 1) (at 2 3) (array no_item) (row (codes "b") (at 4 5) (at 6 7) (integer (pos 1)) no_entry))))
+    ≡ error_at 1 (codes "unexpected keys: b") (at 0 99) [] ∷ [])
+faulty = (refl, refl, refl)
+
+-- a policy of another shape is none
+no_policy : policy_of lists numbers (record { path = None; value = Some (record { content = integer (pos 1); span = at 0 1 }) }) no_file
+    ≡ Err (fault_alone (wanted (codes "a table") (codes "an integer")) (at 0 1))
+no_policy = refl

@@ -1,0 +1,130 @@
+-- What an exceptions file leaves, by what was heard and read of it.
+use Rattle.std.proofs.Common.{◌≡◌, ◌∙◌, refl, sym, ap, subst, ℕ, true, false, List, [], ◌∷◌, ◌++◌, append-nil, length, map, Option, Some, None, Ok, Err, Result}
+use Rattle.std.specs.Prelude.{is_some}
+use Rattle.std.specs.Option.{ForSome}
+use Rattle.catalog_core.specs.Catalog.{CatalogLists}
+use Rattle.deny_text.specs.declared.span.Span.{Span}
+use Rattle.diag_core.specs.File.{File, id_at}
+use Rattle.diag_core.specs.declared.diagnostic.Diagnostic.{Diagnostic}
+use Rattle.heard_core.specs.Cause.{ReadCounts, heard_cause}
+use Rattle.heard_core.specs.Heard.{IsHeard}
+use Rattle.heard_core.specs.declared.fault.ReadFault.{ReadFault}
+use Rattle.toml_subset.specs.Answer.{Read}
+use Rattle.toml_subset.specs.Data.{Toml}
+use Rattle.toml_subset.specs.Reading.{read_text}
+use Rattle.toml_shapes.specs.Shaped.{faults_in}
+use Rattle.tree_core.specs.Content.{Content}
+use Rattle.valid_policy.specs.declared.policy.ValidConfig.{ValidConfig}
+use Rattle.valid_policy.specs.declared.policy.ValidException.{ValidException}
+use Rattle.policy_core.specs.Exceptions.{exceptions_in, exceptions_kept, exceptions_told, with_exceptions, shape_told, syntax_told, itself_told, unread_told}
+use Rattle.policy_core.specs.ExceptionsText.{Answer, IsAnswered, ReadsBy, kept_of, told_of}
+use Rattle.policy_core.specs.Heard.{IsFileText, IsHeardAt, LoadState, LoadsExceptions, after_exceptions, fault_words, heard, the_policy, value_or_fault}
+use Rattle.policy_core.specs.declared.exceptions_text.NoExceptions.TheVariants.{Syntax, Shape, Memory}
+
+-- what is kept of a text is what is kept of the answer
+pub kept_is : (lists : CatalogLists) (file : ℕ) (read : Read Toml) (answer : Answer) → ReadsBy lists read answer → IsAnswered answer
+    → exceptions_kept lists file (value_or_fault read) ≡ kept_of file answer
+kept_is lists file (Ok toml) (Ok held) reads is = ap (exceptions_in file) reads
+kept_is lists file (Ok toml) (Err (Syntax place)) reads is = absurd reads
+kept_is lists file (Ok toml) (Err (Shape faults)) reads is = ap (exceptions_in file) reads
+kept_is lists file (Ok toml) (Err Memory) reads is = absurd is
+kept_is lists file (Err fault) (Ok held) reads is = absurd reads
+kept_is lists file (Err fault) (Err (Syntax place)) reads is = refl
+kept_is lists file (Err fault) (Err (Shape faults)) reads is = absurd reads
+kept_is lists file (Err fault) (Err Memory) reads is = absurd is
+
+-- and so is what is told
+pub told_is : (lists : CatalogLists) (file : ℕ) (read : Read Toml) (answer : Answer) → ReadsBy lists read answer → IsAnswered answer
+    → exceptions_told lists file (value_or_fault read) ≡ told_of file answer
+told_is lists file (Ok toml) (Ok held) reads is = ap (λ shaped. map (shape_told file) (faults_in shaped)) reads
+told_is lists file (Ok toml) (Err (Syntax place)) reads is = absurd reads
+told_is lists file (Ok toml) (Err (Shape faults)) reads is = ap (λ shaped. map (shape_told file) (faults_in shaped)) reads
+told_is lists file (Ok toml) (Err Memory) reads is = absurd is
+told_is lists file (Err fault) (Ok held) reads is = absurd reads
+told_is lists file (Err fault) (Err (Syntax place)) reads is = ap (λ (at : Span). syntax_told file at ∷ []) (sym reads)
+told_is lists file (Err fault) (Err (Shape faults)) reads is = absurd reads
+told_is lists file (Err fault) (Err Memory) reads is = absurd is
+
+-- a state by its parts
+state_is : (policy other : ValidConfig) (files more : List File) (found further : List Diagnostic) → policy ≡ other → files ≡ more → found ≡ further
+    → (let one : LoadState = record { policy = policy; files = files; found = found } in one) ≡ record { policy = other; files = more; found = further }
+state_is policy other files more found further p f d = λ i. record { policy = p i; files = f i; found = d i }
+
+-- the state behind a text that was heard and read
+pub text_taken : (lists : CatalogLists) (path text : List ℕ) (file : ℕ) (answer : Answer) (policy : ValidConfig) (files : List File) (found : List Diagnostic)
+    (exceptions : List ValidException) (more : List File) (further : List Diagnostic)
+    → ReadsBy lists (read_text text) answer → IsAnswered answer → file ≡ length files
+    → exceptions ≡ policy.exceptions ++ kept_of file answer
+    → more ≡ files ++ record { name = path; source = text; has_path = true } ∷ []
+    → further ≡ found ++ told_of file answer
+    → (let new : LoadState = record { policy = record policy { exceptions = exceptions }; files = more; found = further } in new)
+    ≡ after_exceptions lists (heard path (Ok text)) (record { policy = policy; files = files; found = found })
+text_taken lists path text file answer policy files found exceptions more further reads is number kept added told =
+    let read = read_text text in
+    let keeps : kept_of file answer ≡ exceptions_kept lists (length files) (value_or_fault read) =
+    sym (kept_is lists file read answer reads is) ∙ ap (λ n. exceptions_kept lists n (value_or_fault read)) number in
+    let tells : told_of file answer ≡ exceptions_told lists (length files) (value_or_fault read) =
+    sym (told_is lists file read answer reads is) ∙ ap (λ n. exceptions_told lists n (value_or_fault read)) number in
+    state_is (record policy { exceptions = exceptions }) (with_exceptions (exceptions_kept lists (length files) (value_or_fault read)) policy)
+    more (files ++ record { name = path; source = text; has_path = true } ∷ [])
+    further (found ++ exceptions_told lists (length files) (value_or_fault read))
+    (ap (λ es. record policy { exceptions = es }) (kept ∙ ap (λ k. policy.exceptions ++ k) keeps)) added (told ∙ ap (λ t. found ++ t) tells)
+
+same_policy : (policy : ValidConfig) → policy ≡ with_exceptions [] policy
+same_policy policy = ap (λ es. record policy { exceptions = es }) (sym (append-nil policy.exceptions))
+
+itself_heard : (told : Option Content) (count : ℕ) (at : Option ℕ) (path : List ℕ) → is_some at ≡ true → IsHeardAt told count count at path (the_policy path)
+itself_heard told count None path is = cc
+itself_heard told count (Some file) path is = (refl, refl)
+
+-- the file is the policy
+pub loads_itself : (lists : CatalogLists) (told : Option Content) (count : ℕ) (path : List ℕ) (policy : ValidConfig) (files : List File) (found further : List Diagnostic)
+    → is_some (id_at files path) ≡ true → further ≡ found ++ itself_told path ∷ []
+    → LoadsExceptions lists told count count (Some path) (record { policy = policy; files = files; found = found }) (record { policy = policy; files = files; found = further })
+loads_itself lists told count path policy files found further is tells = record {
+  hearing = the_policy path;
+  is = itself_heard told count (id_at files path) path is;
+  text = tt;
+  loads =
+      state_is policy (with_exceptions [] policy) files (files ++ []) further (found ++ itself_told path ∷ [])
+      (same_policy policy) (sym (append-nil files)) tells;
+}
+
+other_heard : (told : Option Content) (before after begun : ℕ) (at : Option ℕ) (path : List ℕ) (text : Result (List ℕ) ReadFault) → is_some at ≡ false → begun ≡ before
+    → ForSome told (λ content. IsHeard content begun path before after text) → ReadCounts begun before after (heard_cause text)
+    → IsHeardAt told before after at path (heard path text)
+other_heard told before after begun None path text is same answer counts = (
+  text,
+  refl,
+  subst (λ n. ForSome told (λ content. IsHeard content n path before after text)) same answer,
+  subst (λ n. ReadCounts n before after (heard_cause text)) same counts,
+)
+other_heard told before after begun (Some file) path text is same answer counts = cc
+
+-- a text was heard
+pub loads_text : (lists : CatalogLists) (told : Option Content) (before after begun : ℕ) (path text : List ℕ) (old new : LoadState)
+    → IsFileText text → is_some (id_at old.files path) ≡ false → begun ≡ before
+    → ForSome told (λ content. IsHeard content begun path before after (Ok text))
+    → new ≡ after_exceptions lists (heard path (Ok text)) old
+    → LoadsExceptions lists told before after (Some path) old new
+loads_text lists told before after begun path text old new is_text is same answer loads = record {
+  hearing = heard path (Ok text);
+  is = other_heard told before after begun (id_at old.files path) path (Ok text) is same answer tt;
+  text = is_text;
+  loads = loads;
+}
+
+-- no text was heard
+pub loads_fault : (lists : CatalogLists) (told : Option Content) (before after begun : ℕ) (path : List ℕ) (fault : ReadFault) (policy : ValidConfig) (files : List File) (found further : List Diagnostic)
+    → is_some (id_at files path) ≡ false → begun ≡ before
+    → ForSome told (λ content. IsHeard content begun path before after (Err fault)) → ReadCounts begun before after (heard_cause (Err fault))
+    → further ≡ found ++ unread_told path (fault_words fault) ∷ []
+    → LoadsExceptions lists told before after (Some path) (record { policy = policy; files = files; found = found }) (record { policy = policy; files = files; found = further })
+loads_fault lists told before after begun path fault policy files found further is same answer counts tells = record {
+  hearing = heard path (Err fault);
+  is = other_heard told before after begun (id_at files path) path (Err fault) is same answer counts;
+  text = tt;
+  loads =
+      state_is policy (with_exceptions [] policy) files (files ++ []) further (found ++ unread_told path (fault_words fault) ∷ [])
+      (same_policy policy) (sym (append-nil files)) tells;
+}

@@ -1,0 +1,7 @@
+mod AnswerLemmas
+mod ExceptionLemmas
+mod Examples
+mod LoadLemmas
+mod MapLemmas
+mod PlaceLemmas
+mod KeptLemmas

@@ -1,0 +1,71 @@
+-- A policy is loaded step by step.
+use Rattle.std.proofs.Common.{◌≡◌, ◌∙◌, refl, sym, ap, subst, ℕ, List, ◌++◌, append_assoc, length, Option}
+use Rattle.catalog_core.specs.Catalog.{CatalogLists}
+use Rattle.diag_core.specs.File.{File}
+use Rattle.diag_core.specs.declared.diagnostic.Diagnostic.{Diagnostic}
+use Rattle.tree_core.specs.Content.{Content}
+use Rattle.policy_config.specs.declared.config.Config.{Config}
+use Rattle.policy_config.specs.declared.root.RootConfig.{RootConfig}
+use Rattle.validate_core.specs.Order.{PutsPolicyInOrder}
+use Rattle.validate_core.specs.Valid.{valid_part, validation_findings, address_findings, clarification_findings, removed_findings}
+use Rattle.valid_policy.specs.declared.policy.ValidConfig.{ValidConfig}
+use Rattle.valid_policy.specs.declared.policy.ValidException.{ValidException}
+use Rattle.policy_core.specs.Exceptions.{exceptions_kept, exceptions_told, with_exceptions}
+use Rattle.policy_core.specs.Findings.{targets_told, graph_keys_told, output_key_told}
+use Rattle.policy_core.specs.Heard.{LoadState, LoadsExceptions, read_of}
+use Rattle.policy_core.specs.Load.{LoadsPolicy}
+use Rattle.policy_core.specs.Policy.{licences_in}
+
+-- further exceptions change nothing of what is put in order
+more_exceptions : (more : List ValidException) (written sorted : ValidConfig) → PutsPolicyInOrder written sorted
+    → PutsPolicyInOrder (with_exceptions more written) (with_exceptions more sorted)
+more_exceptions more written sorted puts = record {
+  rest =
+      ap (λ (one : ValidConfig). with_exceptions more one) puts.rest;
+  allowed = puts.allowed;
+  clarifications = puts.clarifications;
+}
+
+-- all that is told, in one list
+one_list : (first absence a c r e t g o : List Diagnostic) → ((((((first ++ absence) ++ ((a ++ c) ++ r)) ++ e) ++ t) ++ g) ++ o)
+    ≡ first ++ (((((((absence ++ a) ++ c) ++ r) ++ e) ++ t) ++ g) ++ o)
+one_list first absence a c r e t g o = simp append_assoc refl
+
+pub loads_policy : (lists : CatalogLists) (told : Option Content) (before after file : ℕ) (absence : List Diagnostic) (root : RootConfig) (path : Option (List ℕ))
+    (config : Config) (valid licenses : ValidConfig) (files more : List File) (found with_absence checked heard all : List Diagnostic)
+    → config ≡ licences_in root
+    → with_absence ≡ found ++ absence
+    → PutsPolicyInOrder (valid_part lists file config) valid → checked ≡ with_absence ++ validation_findings lists file config
+    → LoadsExceptions lists told before after path (record { policy = valid; files = files; found = checked }) (record { policy = licenses; files = more; found = heard })
+    → all ≡ heard ++ targets_told file root ++ graph_keys_told file root ++ output_key_told file root
+    → LoadsPolicy lists told before after file absence root path (record { files = files; found = found }) (record { files = more; found = all })
+    (record { licenses = licenses; graph = root.graph; output = root.output })
+loads_policy lists told before after file absence root path config valid licenses files more found with_absence checked heard all is_config absent puts checks loads settles =
+    let hearing = loads.hearing in
+    let n = length files in
+    let kept = exceptions_kept lists n (read_of hearing) in
+    let tells = exceptions_told lists n (read_of hearing) in
+    let targets = targets_told file root in
+    let keys = graph_keys_told file root in
+    let key = output_key_told file root in
+    record {
+      hearing = hearing;
+      is = loads.is;
+      text = loads.text;
+      keeps = record {
+        licenses =
+            subst (λ (one : ValidConfig). PutsPolicyInOrder (with_exceptions kept (valid_part lists file (licences_in root))) one) (sym (ap (λ (s : LoadState). s.policy) loads.loads))
+            (more_exceptions kept (valid_part lists file (licences_in root)) valid
+            (subst (λ (one : Config). PutsPolicyInOrder (valid_part lists file one) valid) is_config puts));
+        graph = refl;
+        output = refl;
+        files = ap (λ (s : LoadState). s.files) loads.loads;
+        found =
+            settles
+            ∙ ap (λ ds. ((ds ++ targets) ++ keys) ++ key) (ap (λ (s : LoadState). s.found) loads.loads)
+            ∙ ap (λ ds. (((ds ++ tells) ++ targets) ++ keys) ++ key) (checks ∙ ap (λ ds. ds ++ validation_findings lists file config) absent
+            ∙ ap (λ (one : Config). (found ++ absence) ++ validation_findings lists file one) is_config)
+            ∙ one_list found absence (address_findings file (licences_in root)) (clarification_findings lists file (licences_in root)) (removed_findings file (licences_in root))
+            tells targets keys key;
+      };
+    }

@@ -1,0 +1,14 @@
+use Rattle.std.proofs.Common.{subst}
+use Rattle.policy_core.specs.ExceptionsText.{ReadsExceptions}
+use Rattle.policy_core.proofs.AnswerLemmas.{taken}
+use Rattle.policy_core.proofs.exceptions.take_text.Goals as goal
+
+pub returns-in-Ok-clause-taken : goal.returns-in-Ok-clause-taken
+returns-in-Ok-clause-taken g c =
+    let lists = g.C.Catalog.lists c.args.catalog.now in
+    let read = c.read_exceptions-read.result in
+    taken c.keep_or_tell.result lists c.args.path c.args.text c.in-Ok.file read c.args.cfg.now c.args.files.now c.args.diags.now
+    c.keep_or_tell.new.exceptions c.add.new.self c.keep_or_tell.new.diags
+    c.keep_or_tell.ensures.answered c.keep_or_tell.ensures.kept c.keep_or_tell.ensures.told
+    (subst (λ text. ReadsExceptions lists text read) c.as_str.ensures c.read_exceptions-read.ensures.reads)
+    c.in-Ok.ensures.number c.in-Ok.ensures.ok

@@ -1,0 +1,75 @@
+-- What was read of an exceptions file, and what comes of it.
+use Rattle.std.specs.Prelude.{ℕ, List, [], ◌∷◌, ◌++◌, map, codes, Ok, Err}
+use Rattle.catalog_core.specs.Catalog.{CatalogLists}
+use Rattle.deny_text.specs.declared.span.Span.{Span}
+use Rattle.diag_core.specs.Diagnostic.{plain}
+use Rattle.diag_core.specs.declared.diagnostic.Diagnostic.{Diagnostic}
+use Rattle.diag_core.specs.declared.severity.Severity.TheVariants.{Error}
+use Rattle.toml_subset.specs.Data.{Toml}
+use Rattle.toml_shapes.specs.Shaped.{Shaped, faults_in}
+use Rattle.toml_shapes.specs.Shapes.{Fault, reason_text}
+use Rattle.policy_entries.specs.Exceptions.{exceptions_file_of}
+use Rattle.policy_entries.specs.declared.exception.ExceptionsFile.{ExceptionsFile}
+use Rattle.validate_core.specs.Valid.{error_at, exception_in}
+use Rattle.valid_policy.specs.declared.policy.ValidConfig.{ValidConfig}
+use Rattle.valid_policy.specs.declared.policy.ValidException.{ValidException}
+
+pub data ExceptionsRead : Type 0 where
+  -- there is none
+  no_file : ExceptionsRead
+  -- the file at this path is the policy, and is not read for a second time
+  policy_itself : List ℕ → ExceptionsRead
+  -- no text was heard at this path, and why, in words
+  no_text : List ℕ → List ℕ → ExceptionsRead
+  -- its text has a syntax fault, at this place
+  no_value : Span → ExceptionsRead
+  -- the value that its text stands for
+  value : Toml → ExceptionsRead
+
+-- ---- what is kept
+
+abbrev pub exceptions_in : ℕ → Shaped ExceptionsFile → List ValidException
+exceptions_in file (Ok held) = map (exception_in file) held.exceptions
+exceptions_in file (Err faults) = []
+
+-- the exceptions of a file, as they stand there
+abbrev pub exceptions_kept : CatalogLists → ℕ → ExceptionsRead → List ValidException
+exceptions_kept lists file no_file = []
+exceptions_kept lists file (policy_itself path) = []
+exceptions_kept lists file (no_text path words) = []
+exceptions_kept lists file (no_value place) = []
+exceptions_kept lists file (value toml) = exceptions_in file (exceptions_file_of lists toml)
+
+-- a policy with further exceptions behind its own
+abbrev pub with_exceptions : List ValidException → ValidConfig → ValidConfig
+with_exceptions more policy = record policy { exceptions = policy.exceptions ++ more }
+
+-- ---- what is told
+
+abbrev pub path_note : List ℕ → List ℕ
+path_note path = codes "path = '" ++ path ++ codes "'"
+
+abbrev pub itself_told : List ℕ → Diagnostic
+itself_told path =
+    record (plain Error) { message = codes "exceptions file is the policy itself"; notes = path_note path ∷ [] }
+
+abbrev pub unread_told : List ℕ → List ℕ → Diagnostic
+unread_told path words =
+    record (plain Error) {
+      message = codes "failed to read exceptions override";
+      notes = path_note path ∷ (codes "error = " ++ words) ∷ [];
+    }
+
+abbrev pub syntax_told : ℕ → Span → Diagnostic
+syntax_told file place = error_at file (codes "syntax error") place []
+
+abbrev pub shape_told : ℕ → Fault → Diagnostic
+shape_told file fault = error_at file (reason_text fault.reason) fault.span []
+
+-- what is wrong with an exceptions file of this number
+abbrev pub exceptions_told : CatalogLists → ℕ → ExceptionsRead → List Diagnostic
+exceptions_told lists file no_file = []
+exceptions_told lists file (policy_itself path) = itself_told path ∷ []
+exceptions_told lists file (no_text path words) = unread_told path words ∷ []
+exceptions_told lists file (no_value place) = syntax_told file place ∷ []
+exceptions_told lists file (value toml) = map (shape_told file) (faults_in (exceptions_file_of lists toml))

@@ -1,0 +1,47 @@
+-- What is told of a policy that loads all the same.
+use Rattle.std.specs.Prelude.{ℕ, List, [], ◌∷◌, ◌++◌, map, codes, Option, Some, None}
+use Rattle.std.specs.Option.{option_to_list}
+use Rattle.deny_text.specs.declared.span.Span.{Span}
+use Rattle.diag_core.specs.Diagnostic.{plain}
+use Rattle.diag_core.specs.GeneralCode.{general_code_name}
+use Rattle.diag_core.specs.Label.{label_at}
+use Rattle.diag_core.specs.declared.diagnostic.Diagnostic.{Diagnostic}
+use Rattle.diag_core.specs.declared.general.Code.TheVariants.{Deprecated}
+use Rattle.diag_core.specs.declared.label.LabelStyle.TheVariants.{Primary}
+use Rattle.diag_core.specs.declared.severity.Severity.TheVariants.{Warning}
+use Rattle.policy_parts.specs.declared.target.Target.{Target}
+use Rattle.policy_config.specs.declared.root.RootConfig.{RootConfig}
+
+-- a policy that is absent, by the path where it was to be
+abbrev pub absent_told : Option (List ℕ) → Diagnostic
+absent_told (Some path) =
+    record (plain Warning) { message = codes "config path '" ++ path ++ codes "' doesn't exist, falling back to default config" }
+absent_told None = record (plain Warning) { message = codes "unable to find a config path, falling back to default config" }
+
+-- a target, which has no effect
+abbrev pub target_told : ℕ → Target → Diagnostic
+target_told file target =
+    record (plain Warning) {
+      message = codes "no platform filter is applied";
+      labels = label_at Primary file target.filter.span [] ∷ [];
+    }
+
+-- a key that stands in a table now
+abbrev pub moved_told : List ℕ → ℕ → Span → Diagnostic
+moved_told table file key =
+    record (plain Warning) {
+      code = Some (general_code_name Deprecated);
+      message = codes "this key has been moved to [" ++ table ++ codes "]";
+      labels = label_at Primary file key [] ∷ [];
+    }
+
+-- one for each target, in order
+abbrev pub targets_told : ℕ → RootConfig → List Diagnostic
+targets_told file root = map (target_told file) root.graph.targets
+
+-- one for each key, in the order of the table of keys
+abbrev pub graph_keys_told : ℕ → RootConfig → List Diagnostic
+graph_keys_told file root = map (moved_told (codes "graph") file) root.graph_deprecated
+
+abbrev pub output_key_told : ℕ → RootConfig → List Diagnostic
+output_key_told file root = map (moved_told (codes "output") file) (option_to_list root.output_deprecated)

@@ -1,0 +1,97 @@
+-- What is heard of an exceptions file, and what a call that loads it leaves.
+use Rattle.std.specs.Prelude.{◌≡◌, ℕ, ◌<◌, ◌^◌, true, List, [], ◌∷◌, ◌++◌, codes, length, Option, Some, None, Result, Ok, Err, ⊤}
+use Rattle.std.specs.Option.{ForSome}
+use Rattle.std.specs.Str.{IsUtf8}
+use Rattle.catalog_core.specs.Catalog.{CatalogLists}
+use Rattle.diag_core.specs.File.{File, id_at}
+use Rattle.diag_core.specs.declared.diagnostic.Diagnostic.{Diagnostic}
+use Rattle.heard_core.specs.Cause.{ReadCounts, heard_cause}
+use Rattle.heard_core.specs.Heard.{IsHeard}
+use Rattle.heard_core.specs.declared.fault.ReadFault.{ReadFault}
+use Rattle.heard_core.specs.declared.fault.ReadFault.TheVariants.{Failed, Absent, Folder, NotUtf8}
+use Rattle.toml_subset.specs.Answer.{Read}
+use Rattle.toml_subset.specs.Data.{Toml}
+use Rattle.toml_subset.specs.Reading.{read_text}
+use Rattle.tree_core.specs.Content.{Content}
+use Rattle.valid_policy.specs.declared.policy.ValidConfig.{ValidConfig}
+use Rattle.policy_core.specs.Exceptions.{ExceptionsRead, no_file, policy_itself, no_text, no_value, value, exceptions_kept, exceptions_told, with_exceptions}
+
+pub data ExceptionsHeard : Type 0 where
+  -- there is no path
+  no_path : ExceptionsHeard
+  -- the file at this path is the policy, of which nothing is heard for a second time
+  the_policy : List ℕ → ExceptionsHeard
+  -- the text of the file at this path, or why there is none
+  heard : List ℕ → Result (List ℕ) ReadFault → ExceptionsHeard
+
+-- why no text was heard
+abbrev pub fault_words : ReadFault → List ℕ
+fault_words (Failed before after) = codes "read failed"
+fault_words Absent = codes "not found"
+fault_words Folder = codes "is of the wrong kind"
+fault_words (NotUtf8 at) = codes "not UTF-8"
+
+abbrev pub value_or_fault : Read Toml → ExceptionsRead
+value_or_fault (Ok toml) = value toml
+value_or_fault (Err fault) = no_value fault.span
+
+-- what is read of what is heard
+abbrev pub read_of : ExceptionsHeard → ExceptionsRead
+read_of no_path = no_file
+read_of (the_policy path) = policy_itself path
+read_of (heard path (Ok text)) = value_or_fault (read_text text)
+read_of (heard path (Err fault)) = no_text path (fault_words fault)
+
+-- a text that is heard goes behind the other files, under its path
+abbrev pub file_heard : ExceptionsHeard → List File
+file_heard no_path = []
+file_heard (the_policy path) = []
+file_heard (heard path (Ok text)) = record { name = path; source = text; has_path = true } ∷ []
+file_heard (heard path (Err fault)) = []
+
+-- characters, whose bytes a number of 64 bits counts
+pub record IsFileText (text : List ℕ) : Type 0 where
+  pub utf8 : IsUtf8 text
+  pub fits : length text < 2 ^ 64
+
+-- what is heard as a text is one, whatever the tree tells
+abbrev pub IsTextHeard : ExceptionsHeard → Type 0
+IsTextHeard no_path = ⊤
+IsTextHeard (the_policy path) = ⊤
+IsTextHeard (heard path (Ok text)) = IsFileText text
+IsTextHeard (heard path (Err fault)) = ⊤
+
+-- Where a file is found by the path, it is the policy, and the tree's count of faults stays. Else what is heard is what the
+-- content, where it is told, has there, or that the read failed, and then the count rose.
+abbrev pub IsHeardAt : Option Content → ℕ → ℕ → Option ℕ → List ℕ → ExceptionsHeard → Type 0
+IsHeardAt told before after (Some policy) path hearing = (hearing ≡ the_policy path) × (after ≡ before)
+IsHeardAt told before after None path hearing =
+    (text : Result (List ℕ) ReadFault) × (hearing ≡ heard path text)
+    × ForSome told (λ content. IsHeard content before path before after text) × ReadCounts before before after (heard_cause text)
+
+-- the same where there may be no path
+abbrev pub IsHeardOf : Option Content → ℕ → ℕ → List File → Option (List ℕ) → ExceptionsHeard → Type 0
+IsHeardOf told before after files None hearing = (hearing ≡ no_path) × (after ≡ before)
+IsHeardOf told before after files (Some path) hearing = IsHeardAt told before after (id_at files path) path hearing
+
+-- a policy, the files that are known, and the findings so far
+pub record LoadState : Type 0 where
+  pub policy : ValidConfig
+  pub files : List File
+  pub found : List Diagnostic
+
+-- The exceptions of a file, which gets the next number, go behind those of the policy, or what is wrong with it behind the
+-- findings so far.
+abbrev pub after_exceptions : CatalogLists → ExceptionsHeard → LoadState → LoadState
+after_exceptions lists hearing state = record {
+  policy = with_exceptions (exceptions_kept lists (length state.files) (read_of hearing)) state.policy;
+  files = state.files ++ file_heard hearing;
+  found = state.found ++ exceptions_told lists (length state.files) (read_of hearing);
+}
+
+-- the exceptions file at a path was loaded, out of a tree with this content, between two counts of faults
+pub record LoadsExceptions (lists : CatalogLists) (told : Option Content) (before after : ℕ) (path : Option (List ℕ)) (old new : LoadState) : Type 0 where
+  pub hearing : ExceptionsHeard
+  pub is : IsHeardOf told before after old.files path hearing
+  pub text : IsTextHeard hearing
+  pub loads : new ≡ after_exceptions lists hearing old

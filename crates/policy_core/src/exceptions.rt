@@ -1,0 +1,124 @@
+//! The exceptions file.
+ghost use Rattle.std.specs.Prelude.{◌≡◌, ◌++◌, is_some, false, Ok, Some, OnOk};
+ghost use Rattle.std.specs.Option.{ForSome};
+ghost use Rattle.diag_core.specs.File.{id_at};
+ghost use Rattle.tree_core.specs.Hearing.{KeepsTree};
+ghost use Rattle.policy_core.specs.ExceptionsText.{IsAnswered, kept_of, told_of};
+ghost use Rattle.policy_core.specs.Heard.{LoadState, LoadsExceptions, after_exceptions, heard as heard_at};
+ghost use Rattle.policy_core.specs.Heard.{IsFileText};
+ghost use Rattle.policy_core.specs.Places.{PointInto, PolicyStands};
+
+use crate::exceptions_text::{NoExceptions, read_exceptions};
+use crate::findings::{syntax, tell_itself, tell_shape, tell_unread};
+use deny_text::{PathBuf, Text};
+use diag_core::{FileId, Files};
+use heard_core::load;
+use policy_entries::ExceptionsFile;
+use spdx_core::Catalog;
+use std::alloc::{AllocError, Global};
+use tree_core::Tree;
+use valid_policy::{ValidConfig, ValidExceptions};
+use validate_core::add_exceptions;
+use validation_core::Diagnostics;
+
+/// Puts the exceptions that were read behind the others, or what is wrong with them behind the findings so
+/// far.
+fn keep_or_tell(
+    alloc: Global,
+    file: FileId,
+    read: Result<ExceptionsFile, NoExceptions>,
+    exceptions: &mut ValidExceptions,
+    diags: &mut Diagnostics,
+) -> Result<(), AllocError>
+    ensures answered { OnOk result (IsAnswered read) }
+    ensures kept { OnOk result (exceptions.new ≡ exceptions.old ++ kept_of file read) }
+    ensures told { OnOk result (diags.new ≡ diags.old ++ told_of file read) }
+{
+    match read {
+        Ok(held) => add_exceptions(file, held.exceptions, exceptions),
+        Err(NoExceptions::Syntax(place)) => {
+            let diag = syntax(alloc, file, place)?;
+            diags.push(diag)
+        }
+        Err(NoExceptions::Shape(faults)) => tell_shape(alloc, file, &faults, diags),
+        Err(NoExceptions::Memory) => Err(AllocError),
+    }
+}
+
+/// The exceptions of a text that was heard, or what is wrong with it; the text goes behind the other files.
+fn take_text<C: Catalog>(
+    alloc: Global,
+    cfg: &mut ValidConfig,
+    path: PathBuf,
+    text: Text,
+    files: &mut Files,
+    diags: &mut Diagnostics,
+    catalog: &C,
+) -> Result<(), AllocError>
+    ensures text { IsFileText text }
+    ensures taken { let old : LoadState = record { policy = cfg.old; files = files.old; found = diags.old } in
+        let new : LoadState = record { policy = cfg.new; files = files.new; found = diags.new } in
+        OnOk result (new ≡ after_exceptions (C.lists catalog.now) (heard_at path (Ok text)) old) }
+{
+    let read = read_exceptions(alloc, text.as_str(), catalog);
+    match files.add(path, text) {
+        Ok(file) => keep_or_tell(alloc, file, read, &mut cfg.exceptions, diags),
+        Err(_) => Err(AllocError),
+    }
+}
+
+/// Loads an exceptions file that is not the policy.
+fn load_other<T: Tree, C: Catalog>(
+    alloc: Global,
+    cfg: &mut ValidConfig,
+    path: PathBuf,
+    tree: &mut T,
+    files: &mut Files,
+    diags: &mut Diagnostics,
+    catalog: &C,
+) -> Result<(), AllocError>
+    requires { is_some (id_at files.old path) ≡ false }
+    ensures loads { OnOk result (LoadsExceptions (C.lists catalog.now) (T.content tree.old)
+        (T.fault_count tree.old) (T.fault_count tree.new) (Some path)
+        (record { policy = cfg.old; files = files.old; found = diags.old })
+        (record { policy = cfg.new; files = files.new; found = diags.new })) }
+    ensures kept { KeepsTree (T.content tree.old) (T.content tree.new)
+        (T.fault_count tree.old) (T.fault_count tree.new) }
+{
+    let begun = tree.faults();
+    match load(alloc, tree, path.as_path(), begun)? {
+        Ok(text) => take_text(alloc, cfg, path, text, files, diags, catalog),
+        Err(fault) => tell_unread(alloc, path.as_path(), fault, diags),
+    }
+}
+
+/// Loads an exceptions file: its exceptions go behind those of the policy, and its text, which gets the next
+/// number, behind the other files; what is wrong with it goes behind the findings so far. A file that is the
+/// policy is not read again.
+///
+/// The path of the policy's file, and no other one, may be equal to that of the exceptions file, part by
+/// part. It is refused for want of memory alone; the three may have grown then.
+pub fn load_exceptions<T: Tree, C: Catalog>(
+    alloc: Global,
+    cfg: &mut ValidConfig,
+    path: PathBuf,
+    tree: &mut T,
+    files: &mut Files,
+    diags: &mut Diagnostics,
+    catalog: &C,
+) -> Result<(), AllocError>
+    requires { ForSome (id_at files.old path) (λ id. id ≡ cfg.old.file_id) }
+    ensures loads { OnOk result (LoadsExceptions (C.lists catalog.now) (T.content tree.old)
+        (T.fault_count tree.old) (T.fault_count tree.new) (Some path)
+        (record { policy = cfg.old; files = files.old; found = diags.old })
+        (record { policy = cfg.new; files = files.new; found = diags.new })) }
+    ensures labels { OnOk result (PointInto files.old diags.old → PointInto files.new diags.new) }
+    ensures places { OnOk result (PolicyStands files.old cfg.old → PolicyStands files.new cfg.new) }
+    ensures kept { KeepsTree (T.content tree.old) (T.content tree.new)
+        (T.fault_count tree.old) (T.fault_count tree.new) }
+{
+    if files.id_for_path(path.as_path()).is_some() {
+        return tell_itself(alloc, path.as_path(), diags);
+    }
+    load_other(alloc, cfg, path, tree, files, diags, catalog)
+}

@@ -1,0 +1,26 @@
+//! Policies: what of a policy that was read is valid, its exceptions file, and all that is told of the two.
+#![tactic(auto)]
+
+pub mod exceptions;
+mod exceptions_text;
+pub mod findings;
+pub mod laws;
+pub mod load;
+
+pub use exceptions::load_exceptions;
+pub use findings::tell_shape;
+pub use load::{LoadedPolicy, PolicySource, load_policy};
+pub use policy_config::{Config, RootConfig};
+pub use policy_entries::{
+    Clarification, Clarifications, Exception, Exceptions, ExceptionsFile, Licensee, Licensees,
+};
+pub use policy_parts::{
+    BlanketAgreement, FileSource, FileSources, GraphConfig, LintLevel, OutputConfig, Private,
+    Reason, Scope, SpannedTexts, Target, Targets,
+};
+pub use policy_spec::{PackageSpec, PackageSpecOrExtended, match_krate, match_req};
+pub use valid_policy::{
+    Urls, ValidClarification, ValidClarifications, ValidConfig, ValidException, ValidExceptions,
+};
+pub use validate_core::UnvalidatedConfig;
+pub use validation_core::{Diagnostics, SpannedList, ValidationContext};

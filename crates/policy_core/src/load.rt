@@ -1,0 +1,202 @@
+//! Policies that were read, and have their shape.
+ghost use Rattle.std.specs.Prelude.{◌≡◌, ◌++◌, map, unwrap_or, IfOk, OnOk, codes};
+ghost use Rattle.std.specs.Option.{ForSome, option_copied, option_to_list, option_and_then};
+ghost use Rattle.diag_core.specs.File.{id_at};
+ghost use Rattle.tree_core.specs.Hearing.{KeepsTree};
+ghost use Rattle.policy_config.specs.Config.{no_config};
+ghost use Rattle.validate_core.specs.Order.{PutsPolicyInOrder};
+ghost use Rattle.validate_core.specs.Valid.{valid_part, validation_findings};
+ghost use Rattle.policy_core.specs.Findings.{moved_told};
+ghost use Rattle.policy_core.specs.Findings.{targets_told, graph_keys_told, output_key_told};
+ghost use Rattle.policy_core.specs.Heard.{LoadsExceptions};
+ghost use Rattle.policy_core.specs.Load.{LoadsPolicy};
+ghost use Rattle.policy_core.specs.Places.{IsPlacedIn, PointInto, PolicyStands};
+ghost use Rattle.policy_core.specs.Policy.{absence_told};
+
+use crate::exceptions::load_exceptions;
+use crate::findings::{absent, moved, tell_moved, tell_targets};
+use deny_text::{PathBuf, Span};
+use diag_core::{FileId, Files};
+use policy_config::{Config, RootConfig};
+use policy_parts::{GraphConfig, OutputConfig};
+use spdx_core::Catalog;
+use std::alloc::{AllocError, Global};
+use tree_core::Tree;
+use valid_policy::ValidConfig;
+use validate_core::UnvalidatedConfig;
+use validation_core::{Diagnostics, ValidationContext};
+
+/// What a policy asks for.
+#[derive(Drop)]
+pub struct LoadedPolicy {
+    pub licenses: ValidConfig,
+    pub graph: GraphConfig,
+    pub output: OutputConfig,
+}
+
+/// The file of a policy.
+#[derive(Clone, Copy)]
+pub struct PolicySource<'p> {
+    /// Its number.
+    pub file_id: FileId,
+    /// Where it was to be; none where no path was given and none was found.
+    pub path: Option<&'p str>,
+    /// Whether it was there. Otherwise it counts as empty.
+    pub is_there: bool,
+}
+
+/// Tells of a policy that is absent.
+fn tell_absence(
+    alloc: Global,
+    source: &PolicySource<'_>,
+    found: &mut Diagnostics,
+) -> Result<(), AllocError>
+    ensures { OnOk result (found.new
+        ≡ found.old ++ absence_told source.now.is_there (option_copied source.now.path)) }
+{
+    if source.is_there {
+        return Ok(());
+    }
+    let diag = absent(alloc, source.path)?;
+    found.push(diag)
+}
+
+/// What a policy says of licences.
+fn licences_or_default(alloc: Global, licenses: Option<Config>) -> Config
+    ensures { result ≡ unwrap_or licenses no_config }
+{
+    match licenses {
+        Some(config) => config,
+        None => Config::default(alloc),
+    }
+}
+
+/// What is valid of what a policy says of licences.
+fn validated<C: Catalog>(
+    alloc: Global,
+    config: Config,
+    file: FileId,
+    files: &mut Files,
+    found: &mut Diagnostics,
+    catalog: &C,
+) -> Result<ValidConfig, AllocError>
+    ensures valid { IfOk result (PutsPolicyInOrder (valid_part (C.lists catalog.now) file config)) }
+    ensures told { OnOk result (found.new
+        ≡ found.old ++ validation_findings (C.lists catalog.now) file config) }
+    ensures files { files.new ≡ files.old }
+{
+    let context = ValidationContext {
+        cfg_id: file,
+        files,
+        diagnostics: found,
+    };
+    config.validate(alloc, context, catalog)
+}
+
+/// Loads the exceptions file, where there is a path.
+fn load_further<T: Tree, C: Catalog>(
+    alloc: Global,
+    cfg: &mut ValidConfig,
+    path: Option<PathBuf>,
+    tree: &mut T,
+    files: &mut Files,
+    diags: &mut Diagnostics,
+    catalog: &C,
+) -> Result<(), AllocError>
+    requires { ForSome (option_and_then (id_at files.old) path) (λ id. id ≡ cfg.old.file_id) }
+    ensures loads { OnOk result (LoadsExceptions (C.lists catalog.now) (T.content tree.old)
+        (T.fault_count tree.old) (T.fault_count tree.new) path
+        (record { policy = cfg.old; files = files.old; found = diags.old })
+        (record { policy = cfg.new; files = files.new; found = diags.new })) }
+    ensures kept { KeepsTree (T.content tree.old) (T.content tree.new)
+        (T.fault_count tree.old) (T.fault_count tree.new) }
+{
+    match path {
+        Some(path) => load_exceptions(alloc, cfg, path, tree, files, diags, catalog),
+        None => Ok(()),
+    }
+}
+
+/// Tells of the key that was moved to the table `output`, where it is there.
+fn tell_output_key(
+    alloc: Global,
+    file: FileId,
+    key: Option<Span>,
+    found: &mut Diagnostics,
+) -> Result<(), AllocError>
+    ensures { OnOk result (found.new
+        ≡ found.old ++ map (moved_told (codes "output") file) (option_to_list key)) }
+{
+    match key {
+        Some(key) => {
+            let diag = moved(alloc, "output", file, key)?;
+            found.push(diag)
+        }
+        None => Ok(()),
+    }
+}
+
+/// Tells of what has no effect in a policy, or stands in another table now.
+fn tell_settings(
+    alloc: Global,
+    file: FileId,
+    root: &RootConfig,
+    found: &mut Diagnostics,
+) -> Result<(), AllocError>
+    ensures { OnOk result (found.new ≡ found.old
+        ++ targets_told file root.now ++ graph_keys_told file root.now ++ output_key_told file root.now) }
+{
+    tell_targets(alloc, file, root.graph.targets.items(), found)?;
+    tell_moved(alloc, file, root.graph_deprecated.items(), found)?;
+    tell_output_key(alloc, file, root.output_deprecated, found)
+}
+
+/// The policy that a file's text was read as, with the exceptions of its exceptions file; all that is told of
+/// the two goes behind the findings so far. An absent policy is that of the empty text.
+///
+/// The path of the policy's file, and no other one, may be equal to that of the exceptions file, part by
+/// part. Where the policy was read from the text of its file, each label points into its file, and so does each
+/// place that is kept. It is refused for want of memory alone; files and findings may have grown then.
+pub fn load_policy<T: Tree, C: Catalog>(
+    alloc: Global,
+    source: &PolicySource<'_>,
+    root: RootConfig,
+    exceptions_path: Option<PathBuf>,
+    tree: &mut T,
+    files: &mut Files,
+    found: &mut Diagnostics,
+    catalog: &C,
+) -> Result<LoadedPolicy, AllocError>
+    requires { ForSome (option_and_then (id_at files.old) exceptions_path) (λ id. id ≡ source.now.file_id) }
+    ensures loads { IfOk result (LoadsPolicy (C.lists catalog.now) (T.content tree.old)
+        (T.fault_count tree.old) (T.fault_count tree.new) source.now.file_id
+        (absence_told source.now.is_there (option_copied source.now.path)) root exceptions_path
+        (record { files = files.old; found = found.old }) (record { files = files.new; found = found.new })) }
+    ensures labels { OnOk result (IsPlacedIn files.old source.now.file_id root
+        → PointInto files.old found.old → PointInto files.new found.new) }
+    ensures places { IfOk result (λ loaded. IsPlacedIn files.old source.now.file_id root
+        → PolicyStands files.new loaded.licenses) }
+    ensures kept { KeepsTree (T.content tree.old) (T.content tree.new)
+        (T.fault_count tree.old) (T.fault_count tree.new) }
+{
+    let file = source.file_id;
+    tell_absence(alloc, source, found)?;
+    let mut root = root;
+    let config = licences_or_default(alloc, root.licenses.take());
+    let mut licenses = validated(alloc, config, file, files, found, catalog)?;
+    load_further(
+        alloc,
+        &mut licenses,
+        exceptions_path,
+        tree,
+        files,
+        found,
+        catalog,
+    )?;
+    tell_settings(alloc, file, &root, found)?;
+    Ok(LoadedPolicy {
+        licenses,
+        graph: root.graph,
+        output: root.output,
+    })
+}
