@@ -1,0 +1,5 @@
+mod HeardLemmas
+mod LoadLemmas
+mod PlaceLemmas
+mod PrintLemmas
+mod StageLemmas

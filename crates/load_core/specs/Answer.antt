@@ -1,0 +1,134 @@
+-- What a call that loads a policy answers and leaves.
+use Rattle.std.specs.Prelude.{◌≡◌, ℕ, true, false, List, [], ◌++◌, Option, Result, Ok, Err, ⊤}
+use Rattle.std.specs.List.{list_any}
+use Rattle.std.specs.Option.{ForSome}
+use Rattle.catalog_core.specs.Catalog.{CatalogLists}
+use Rattle.diag_core.specs.File.{File}
+use Rattle.diag_core.specs.declared.diagnostic.Diagnostic.{Diagnostic}
+use Rattle.heard_core.specs.Cause.{Cause, no_memory, told, failed_read, refused_write}
+use Rattle.heard_core.specs.declared.fault.ReadFault.TheVariants.{Failed}
+use Rattle.print_core.specs.declared.context.LogContext.{LogContext}
+use Rattle.print_core.specs.declared.printer.PrintError.{PrintError}
+use Rattle.print_core.specs.declared.printer.PrintError.TheVariants as print
+use Rattle.tree_core.specs.Content.{Content}
+use Rattle.tree_core.specs.Faults.{Rose, Gained, GainedPrefix}
+use Rattle.policy_core.specs.Heard.{ExceptionsHeard, IsHeardOf, file_heard, read_of}
+use Rattle.policy_core.specs.Load.{numbers_at}
+use Rattle.policy_core.specs.Policy.{PolicyFound, policy_found}
+use Rattle.policy_config.specs.declared.root.RootConfig.{RootConfig}
+use Rattle.policy_text.specs.Config.{config_told}
+use Rattle.policy_text.specs.declared.error.ConfigError.{ConfigError}
+use Rattle.policy_text.specs.declared.text.ConfigText.{ConfigText}
+use Rattle.policy_core.specs.declared.load.LoadedPolicy.{LoadedPolicy}
+use Rattle.validate_core.specs.Order.{PutsPolicyInOrder}
+use Rattle.load_core.specs.Heard.{LoadHeard, HearsFiles}
+use Rattle.load_core.specs.Load.{Loaded, error_of_config, load_by_config, load_of, refusal_findings, unless_error, with_policy}
+use Rattle.load_core.specs.Print.{is_error, printed_findings}
+use Rattle.load_core.specs.declared.error.LoadError.{LoadError}
+use Rattle.load_core.specs.declared.error.LoadError.TheVariants.{Memory, ConfigRead, ConfigInvalid, WriteFault}
+use Rattle.load_core.specs.declared.loading.PolicyPaths.{PolicyPaths}
+
+-- why a load is refused
+abbrev pub load_cause : LoadError → Cause
+load_cause Memory = no_memory
+load_cause (ConfigRead (Failed before after)) = failed_read before after
+load_cause (WriteFault before after) = refused_write before after
+load_cause _ = told
+
+-- A refused write has the sink's counts of faults when the call began and when it ended, and in it the count rose.
+abbrev pub WriteCounts : ℕ → ℕ → Cause → Type 0
+WriteCounts before after (refused_write first last) = (first ≡ before) × (last ≡ after) × Rose before after
+WriteCounts before after _ = ⊤
+
+-- the policy that was found, its lists put in order
+pub record IsPolicyOf (found : PolicyFound) (valid : LoadedPolicy) : Type 0 where
+  pub licenses : PutsPolicyInOrder found.licenses valid.licenses
+  pub graph : valid.graph ≡ found.graph
+  pub output : valid.output ≡ found.output
+
+-- there is such a policy
+pub record IsFound (answer : Result PolicyFound LoadError) (valid : LoadedPolicy) : Type 0 where
+  pub found : PolicyFound
+  pub is : answer ≡ Ok found
+  pub valid_of : IsPolicyOf found valid
+
+-- A call answers what comes of the load. Want of memory and a refused write may come in the place of any answer.
+abbrev pub Answers : Result PolicyFound LoadError → Result LoadedPolicy LoadError → Type 0
+Answers answer (Ok valid) = IsFound answer valid
+Answers answer (Err Memory) = ⊤
+Answers answer (Err (WriteFault before after)) = ⊤
+Answers answer (Err error) = answer ≡ Err error
+
+-- the sink gained the text, or a front of it where memory or a write was refused
+abbrev pub Prints : Option (List ℕ) → Option (List ℕ) → List ℕ → Result LoadedPolicy LoadError → Type 0
+Prints old new text (Err Memory) = GainedPrefix old new text
+Prints old new text (Err (WriteFault before after)) = GainedPrefix old new text
+Prints old new text result = Gained old new text
+
+-- the files gained those of the load behind the others; where memory was refused maybe not all
+abbrev pub GainsFiles : List File → List File → List File → Result LoadedPolicy LoadError → Type 0
+GainsFiles old new more (Err Memory) = ⊤
+GainsFiles old new more result = new ≡ old ++ more
+
+-- what came of a load was answered, added to the files and printed
+pub record Comes (it : Loaded) (context : LogContext) (old new : List File) (before behind : Option (List ℕ))
+    (result : Result LoadedPolicy LoadError) : Type 0 where
+  pub answers : Answers it.answer result
+  pub files : GainsFiles old new it.files result
+  pub prints : Prints before behind (printed_findings context (old ++ it.files) it.findings) result
+
+-- The load of a policy: what was heard of its files in the call, less the reads that failed in it, and what came of that.
+pub record Loads (lists : CatalogLists) (context : LogContext) (paths : PolicyPaths) (content : Option Content) (begun after : ℕ)
+    (old new : List File) (before behind : Option (List ℕ)) (result : Result LoadedPolicy LoadError) : Type 0 where
+  pub heard : LoadHeard
+  pub hears : ForSome content (HearsFiles paths begun after heard)
+  pub comes : Comes (load_of lists old paths heard) context old new before behind result
+
+-- ---- from the policy's text on
+
+-- memory was wanting, and nothing was printed
+pub record IsUnprinted (before behind : Option (List ℕ)) (result : Result LoadedPolicy LoadError) : Type 0 where
+  pub memory : result ≡ Err Memory
+  pub same : behind ≡ before
+
+-- a refusal of something else than the policy's read
+abbrev pub IsOfText : LoadError → Type 0
+IsOfText (ConfigRead fault) = ⊥
+IsOfText _ = ⊤
+
+-- what holds where a policy has its shape, and the exceptions file is read
+abbrev pub WhereRead : Result RootConfig ConfigError → Type 0 → Type 0
+WhereRead (Ok root) P = P
+WhereRead (Err error) P = ⊤
+
+-- the same where the policy's text was heard
+pub record LoadsText (lists : CatalogLists) (context : LogContext) (paths : PolicyPaths) (text : ConfigText) (content : Option Content)
+    (mid after : ℕ) (old new : List File) (before behind : Option (List ℕ)) (result : Result LoadedPolicy LoadError) : Type 0 where
+  pub exceptions : ExceptionsHeard
+  pub hears : WhereRead (config_told lists text.text) (IsHeardOf content mid after (with_policy old paths text) paths.exceptions exceptions)
+  pub comes : Comes (load_by_config lists old paths exceptions text (config_told lists text.text)) context old new before behind result
+
+-- what comes of a refusal of the policy's text, and of a policy that has its shape, where its file is known
+abbrev pub refused_by : ℕ → ConfigError → Loaded
+refused_by file refused = record { files = []; findings = refusal_findings file refused; answer = Err (error_of_config refused) }
+
+abbrev pub rooted_by : ExceptionsHeard → PolicyFound → Loaded
+rooted_by exceptions found = record { files = file_heard exceptions; findings = found.findings; answer = unless_error found }
+
+-- the same where it has its shape, and its file is the one of that number
+pub record LoadsRoot (lists : CatalogLists) (context : LogContext) (file : ℕ) (absence : List Diagnostic) (root : RootConfig) (path : Option (List ℕ))
+    (content : Option Content) (mid after : ℕ) (old new : List File) (before behind : Option (List ℕ)) (result : Result LoadedPolicy LoadError) : Type 0 where
+  pub exceptions : ExceptionsHeard
+  pub hears : IsHeardOf content mid after old path exceptions
+  pub comes : Comes (rooted_by exceptions (policy_found lists (numbers_at file old) absence (read_of exceptions) root)) context old new before behind result
+
+-- the findings were printed, and then the policy was answered, or refused for an error
+abbrev pub Ends : LoadedPolicy → List Diagnostic → Result LoadedPolicy LoadError → Type 0
+Ends policy found (Ok answered) = (answered ≡ policy) × (list_any is_error found ≡ false)
+Ends policy found (Err Memory) = ⊤
+Ends policy found (Err (WriteFault before after)) = ⊤
+Ends policy found (Err error) = (error ≡ ConfigInvalid found) × (list_any is_error found ≡ true)
+
+abbrev pub error_of_print : PrintError → LoadError
+error_of_print (print.WriteFault before after) = WriteFault before after
+error_of_print print.Memory = Memory

@@ -1,0 +1,4 @@
+pub mod Answer
+pub mod Heard
+pub mod Load
+pub mod Print

@@ -1,0 +1,30 @@
+-- Findings that are printed.
+use Rattle.std.specs.Prelude.{◌≡◌, ℕ, Bool, List, All, ⊤}
+use Rattle.std.specs.List.{flat_map}
+use Rattle.tree_core.specs.Faults.{Rose}
+use Rattle.diag_core.specs.File.{File}
+use Rattle.diag_core.specs.Severity.{is_same_severity}
+use Rattle.diag_core.specs.declared.diagnostic.Diagnostic.{Diagnostic}
+use Rattle.diag_core.specs.declared.severity.Severity.TheVariants as severity
+use Rattle.print_core.specs.Places.{LabelsAreInside}
+use Rattle.print_core.specs.Printed.{printed_at}
+use Rattle.print_core.specs.declared.context.LogContext.{LogContext}
+use Rattle.print_core.specs.declared.printer.PrintError.{PrintError}
+use Rattle.print_core.specs.declared.printer.PrintError.TheVariants.{WriteFault, Memory}
+
+-- a finding that refuses a policy
+abbrev pub is_error : Diagnostic → Bool
+is_error finding = is_same_severity finding.severity severity.Error
+
+-- each label of each finding is inside its file
+abbrev pub AreInside : List File → List Diagnostic → Type 0
+AreInside files findings = All (LabelsAreInside files) findings
+
+-- the lines of findings, in order
+abbrev pub printed_findings : LogContext → List File → List Diagnostic → List ℕ
+printed_findings context files findings = flat_map (printed_at context files) findings
+
+-- a refused write tells the sink's count of faults at the start of the call and the one after that, and it rose between
+abbrev pub HasReasonSince : ℕ → ℕ → PrintError → Type 0
+HasReasonSince begun after (WriteFault first last) = (first ≡ begun) × (last ≡ after) × Rose begun after
+HasReasonSince begun after Memory = ⊤
