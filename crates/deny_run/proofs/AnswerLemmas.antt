@@ -1,12 +1,12 @@
 -- The answer of a run, from the answers of its steps.
-use Rattle.std.proofs.Common.{◌≡◌, ℕ, ◌≤◌, ◌⊎◌, List, [], ◌∷◌, Option, Some, None, Result, Ok, Err, refl, sym, ap, subst, ◌∙◌, inl, inr, arith}
+use Rattle.std.proofs.Common.{◌≡◌, ℕ, ◌≤◌, ◌⊎◌, List, [], ◌∷◌, ◌++◌, Option, Some, None, Result, Ok, Err, refl, sym, ap, ap₂, subst, ◌∙◌, inl, inr, arith}
 use Rattle.std.specs.Prelude.{IsSome}
 use Rattle.std.specs.List.{AllByRecursion, AllZip}
 use Rattle.std.proofs.lemmas.List.Elements.{All-from_recursion}
 use Rattle.tree_core.specs.Content.{Content}
-use Rattle.tree_core.specs.Hearing.{policy, metadata, FailedRead, Hearing, IsHearing}
+use Rattle.tree_core.specs.Faults.{Rose}
+use Rattle.tree_core.specs.Hearing.{metadata, FailedRead, Hearing, IsHearing}
 use Rattle.catalog_core.specs.Catalog.{CatalogLists}
-use Rattle.term_core.specs.declared.term.LicenseReq.{LicenseReq}
 use Rattle.spdx_core.specs.Reading.{ExpressionView}
 use Rattle.graph_core.specs.Krate.{Record}
 use Rattle.graph_core.specs.Metadata.{Graph}
@@ -17,31 +17,50 @@ use Rattle.selection_core.specs.Listed.{Chosen}
 use Rattle.selection_core.specs.Roots.{HasRoot}
 use Rattle.heard_core.specs.declared.fault.ReadFault.{ReadFault}
 use Rattle.heard_core.specs.declared.fault.ReadFault.TheVariants.{Failed, Absent, Folder, NotUtf8}
+use Rattle.search_core.specs.Search.{candidates, first_existing, search_cause}
+use Rattle.search_core.specs.declared.search.SearchError.{SearchError}
+use Rattle.search_core.specs.declared.search.SearchError.TheVariants as search
+use Rattle.search_core.specs.declared.search.Sought.TheVariants.{Exceptions}
 use Rattle.workspace_core.specs.declared.error.KratesError.{KratesError}
 use Rattle.workspace_core.specs.declared.error.KratesError.TheVariants as krates
 use Rattle.heard_core.specs.Cause.{Cause, no_memory, told, failed_read, refused_write, heard_cause, ReadCounts}
 use Rattle.heard_core.specs.Heard.{hearing_of, text_heard, IsHeard}
 use Rattle.workspace_core.specs.Krates.{graph_in, graph_told, sparse_dir, Gathers}
-use Rattle.deny_run.specs.declared.error.Part.TheVariants.{Words, Policy, Crate}
+use Rattle.validate_core.specs.Order.{PutsPolicyInOrder}
+use Rattle.valid_policy.specs.Policy.{Policy}
+use Rattle.valid_policy.specs.View.{policy_of}
+use Rattle.valid_policy.specs.declared.policy.ValidConfig.{ValidConfig}
+use Rattle.policy_core.specs.Policy.{PolicyFound}
+use Rattle.policy_core.specs.declared.load.LoadedPolicy.{LoadedPolicy}
+use Rattle.load_core.specs.Answer.{Answers, IsFound, IsPolicyOf}
+use Rattle.load_core.specs.Heard.{LoadHeard, HearsFiles, load_heard}
+use Rattle.load_core.specs.Load.{Loaded, load_of}
+use Rattle.load_core.specs.declared.error.LoadError.{LoadError}
+use Rattle.load_core.specs.declared.error.LoadError.TheVariants as load
+use Rattle.load_core.specs.declared.loading.PolicyPaths.{PolicyPaths}
+use Rattle.deny_run.specs.declared.error.Part.TheVariants.{Words, Crate}
 use Rattle.deny_run.specs.declared.error.Error.{Error}
-use Rattle.deny_run.specs.declared.error.Error.TheVariants.{NotYet}
+use Rattle.deny_run.specs.declared.error.Error.TheVariants.{ConfigRead, NotYet}
 use Rattle.deny_run.specs.declared.error.Refusal.{Refusal}
 use Rattle.deny_run.specs.declared.error.Refusal.TheVariants as refusal
 use Rattle.deny_run.specs.declared.report.Verdict.{Verdict}
-use Rattle.deny_run.specs.declared.report.Verdict.TheVariants.{Accepted, Rejected}
+use Rattle.deny_run.specs.declared.report.Verdict.TheVariants.{Accepted, Rejected, Skipped}
 use Rattle.deny_run.specs.declared.report.CrateReport.{CrateReport}
 use Rattle.deny_run.specs.declared.report.Report.{Report}
 use Rattle.deny_run.specs.declared.words.Request.{Request}
 use Rattle.deny_run.specs.Counts.{counts_of}
-use Rattle.deny_run.specs.Error.{cause_of, error_of, error_of_krates, FreeOr}
+use Rattle.deny_run.specs.Error.{cause_of, error_of, error_of_krates, error_of_load, error_of_search, FreeOr}
 use Rattle.deny_run.specs.Given.{Given}
-use Rattle.deny_run.specs.Heard.{◌>>=◌, Found, found_of, or_error, or_refused, config_in, graph_heard}
-use Rattle.deny_run.specs.Policy.{policy_of}
-use Rattle.deny_run.specs.Report.{Asked, Asks, HasExpression, IsVerdictOf, IsReportOf, IsReport, IsRefusal}
-use Rattle.deny_run.specs.Selection.{plain_choice, AreSelected, Refuses}
-use Rattle.deny_run.specs.Steps.{Checks, IsFirstUnread, IsJudged}
+use Rattle.deny_run.specs.Heard.{◌>>=◌, Found, exceptions_by, exceptions_in, found_of, load_at, loaded_of, manifest_in, or_error, or_load_error, or_refused, graph_heard, paths_of}
+use Rattle.deny_run.specs.Hearing.{look_failed, all_told, RunHearing, IsRunHearing, all_heard}
+use Rattle.deny_run.specs.Report.{Asked, Asks, HasExpression, IsVerdictOf, IsReportOf, IsReport, IsRefusal, paths_at}
+use Rattle.deny_run.specs.Script.{told_before, told_of}
+use Rattle.deny_run.specs.Selection.{choice_by, choice_in, included_by, included_in, AreSelected, Refuses}
+use Rattle.deny_run.specs.Steps.{AreCheckedAt, Checks, ChecksAt, IsAfterLoad, IsFirstUnread, IsJudged, paths_by}
 use Rattle.deny_run.specs.Words.{request_of}
 use Rattle.deny_run.proofs.FieldLemmas.{has_expression, reads_reported}
+use Rattle.deny_run.proofs.LoadedLemmas.{quiet, metadata_alike, stands_quiet}
+use Rattle.deny_run.proofs.PolicyLemmas.{load_is, policy_is}
 
 -- ---- what is found
 
@@ -51,30 +70,71 @@ bind-Ok first next x last e f = ap (λ one. one >>= next) e ∙ f
 bind-Err : {X Y : Type 0} (first : Result X Error) (next : X → Result Y Error) (error : Error) → first ≡ Err error → (first >>= next) ≡ Err error
 bind-Err first next error e = ap (λ one. one >>= next) e
 
-found-words : (given : Given) (hearing : Hearing) → request_of given.words given.cwd ≡ None → found_of given hearing ≡ Err (NotYet Words)
+found-words : (given : Given) (hearing : RunHearing) → request_of given.words given.cwd ≡ None → found_of given hearing ≡ Err (NotYet Words)
 found-words given hearing none = bind-Err (or_refused (NotYet Words) (request_of given.words given.cwd)) _ (NotYet Words) (ap (or_refused (NotYet Words)) none)
 
-found-config : (given : Given) (hearing : Hearing) (request : Request) (error : Error) → request_of given.words given.cwd ≡ Some request
-    → config_in given.lists (text_heard hearing policy request.config_path) ≡ Err error → found_of given hearing ≡ Err error
-found-config given hearing request error asked refused =
-    bind-Ok (or_refused (NotYet Words) (request_of given.words given.cwd)) _ request (Err error) (ap (or_refused (NotYet Words)) asked)
-    (bind-Err (config_in given.lists (text_heard hearing policy request.config_path)) _ error refused)
+pub loaded-words : (given : Given) (hearing : RunHearing) → request_of given.words given.cwd ≡ None → loaded_of given hearing ≡ Err (NotYet Words)
+loaded-words given hearing none = bind-Err (or_refused (NotYet Words) (request_of given.words given.cwd)) _ (NotYet Words) (ap (or_refused (NotYet Words)) none)
 
-pub found-graph : (given : Given) (hearing : Hearing) (request : Request) (config : List LicenseReq) (last : Result Graph Error)
-    → request_of given.words given.cwd ≡ Some request → config_in given.lists (text_heard hearing policy request.config_path) ≡ Ok config
-    → graph_heard (text_heard hearing metadata request.metadata_path) ≡ last
-    → found_of given hearing ≡ (last >>= λ graph. Ok (record { request = request; config = config; graph = graph }))
-found-graph given hearing request config last asked allows tells =
-    bind-Ok (or_refused (NotYet Words) (request_of given.words given.cwd)) _ request _ (ap (or_refused (NotYet Words)) asked)
-    (bind-Ok (config_in given.lists (text_heard hearing policy request.config_path)) _ config _ allows
-    (ap (λ one. one >>= λ graph. Ok (record { request = request; config = config; graph = graph })) tells))
+-- a hearing in which each look told
+abbrev pub looked : Hearing → RunHearing
+looked files = record { looks = all_told; files = files }
+
+-- where the policy's files are, where a look failed
+pub paths-failed : (given : Given) (files : Hearing) (request : Request) (before after : ℕ)
+    → paths_of given (record { looks = look_failed before after; files = files }) request ≡ Err (ConfigRead (Failed before after))
+paths-failed given files request before after = refl
+
+module _ (given : Given) (request : Request) (asked : request_of given.words given.cwd ≡ Some request) where
+  found-paths : (hearing : RunHearing) (error : Error) → paths_of given hearing request ≡ Err error → found_of given hearing ≡ Err error
+  found-paths hearing error refused =
+      bind-Ok (or_refused (NotYet Words) (request_of given.words given.cwd)) _ request (Err error) (ap (or_refused (NotYet Words)) asked)
+      (bind-Err (paths_of given hearing request) _ error refused)
+
+  pub loaded-paths : (hearing : RunHearing) (error : Error) → paths_of given hearing request ≡ Err error → loaded_of given hearing ≡ Err error
+  loaded-paths hearing error refused =
+      bind-Ok (or_refused (NotYet Words) (request_of given.words given.cwd)) _ request (Err error) (ap (or_refused (NotYet Words)) asked)
+      (bind-Err (paths_of given hearing request) _ error refused)
+
+  module _ (hearing : RunHearing) (paths : PolicyPaths) (at : paths_of given hearing request ≡ Ok paths) where
+    pub loaded-Ok : loaded_of given hearing ≡ Ok (load_at given hearing paths)
+    loaded-Ok =
+        bind-Ok (or_refused (NotYet Words) (request_of given.words given.cwd)) _ request _ (ap (or_refused (NotYet Words)) asked)
+        (bind-Ok (paths_of given hearing request) _ paths _ at refl)
+
+    found-load : (error : Error) → or_load_error (load_at given hearing paths).answer ≡ Err error → found_of given hearing ≡ Err error
+    found-load error refused =
+        bind-Ok (or_refused (NotYet Words) (request_of given.words given.cwd)) _ request _ (ap (or_refused (NotYet Words)) asked)
+        (bind-Ok (paths_of given hearing request) _ paths _ at
+        (bind-Err (or_load_error (load_at given hearing paths).answer) _ error refused))
+
+    found-graph : (policy : PolicyFound) (last : Result Graph Error) → (load_at given hearing paths).answer ≡ Ok policy
+        → graph_heard (text_heard hearing.files metadata request.metadata_path) ≡ last
+        → found_of given hearing ≡ (last >>= λ graph. Ok (record { request = request; policy = policy; graph = graph }))
+    found-graph policy last loads tells =
+        bind-Ok (or_refused (NotYet Words) (request_of given.words given.cwd)) _ request _ (ap (or_refused (NotYet Words)) asked)
+        (bind-Ok (paths_of given hearing request) _ paths _ at
+        (bind-Ok (or_load_error (load_at given hearing paths).answer) _ policy _ (ap or_load_error loads)
+        (ap (λ one. one >>= λ graph. Ok (record { request = request; policy = policy; graph = graph })) tells)))
+
+-- where each look told, the paths are those of the content
+pub paths-told : (given : Given) (content : Content) (files : Hearing) (request : Request) → files.content ≡ content
+    → paths_of given (looked files) request ≡ Ok (paths_by content given.cwd request.config_path)
+paths-told given content files request same =
+    ap (λ held. exceptions_by all_told (first_existing held (candidates Exceptions (manifest_in given.cwd))) >>= λ exceptions. Ok (paths_at request.config_path exceptions)) same
 
 -- lawful input is found
-pub found_of-from_Asks : (given : Given) (hearing : Hearing) (asked : Asked) → Asks given hearing asked
-    → found_of given hearing ≡ Ok (record { request = asked.request; config = asked.config; graph = asked.graph })
+paths-asked : (given : Given) (hearing : RunHearing) (request : Request) (exceptions : Option (List ℕ))
+    → exceptions_in hearing (candidates Exceptions (manifest_in given.cwd)) ≡ Ok exceptions → paths_of given hearing request ≡ Ok (paths_at request.config_path exceptions)
+paths-asked given hearing request exceptions found =
+    bind-Ok (exceptions_in hearing (candidates Exceptions (manifest_in given.cwd))) _ exceptions _ found refl
+
+pub found_of-from_Asks : (given : Given) (hearing : RunHearing) (asked : Asked) → Asks given hearing asked
+    → found_of given hearing ≡ Ok (record { request = asked.request; policy = asked.policy; graph = asked.graph })
 found_of-from_Asks given hearing asked asks =
-    found-graph given hearing asked.request asked.config (Ok asked.graph) asks.request
-    (ap (config_in given.lists) asks.config.heard ∙ ap (or_refused (NotYet Policy)) asks.config.allows)
+    let paths = paths_at asked.request.config_path asks.policy.exceptions in
+    found-graph given asked.request asks.request hearing paths (paths-asked given hearing asked.request asks.policy.exceptions asks.policy.found)
+    asked.policy (Ok asked.graph) (load_is given.lists paths (load_heard hearing.files paths) asked.policy asks.policy.is)
     (ap graph_heard asks.metadata.heard ∙ ap (λ one. or_error (graph_told one)) asks.metadata.tells)
 
 -- ---- refusals
@@ -87,96 +147,96 @@ heard_one content begun read after (Err Absent) first step last counts = record 
 heard_one content begun read after (Err Folder) first step last counts = record { content = refl; begun = refl; rises = omega arith }
 heard_one content begun read after (Err (NotUtf8 at)) first step last counts = record { content = refl; begun = refl; rises = omega arith }
 
+of_content : (content : Content) (begun : ℕ) (read : FailedRead) (heard : Result (List ℕ) ReadFault) → (hearing_of content begun read heard).content ≡ content
+of_content content begun read (Ok text) = refl
+of_content content begun read (Err (Failed before now)) = refl
+of_content content begun read (Err Absent) = refl
+of_content content begun read (Err Folder) = refl
+of_content content begun read (Err (NotUtf8 at)) = refl
+
 -- what is so may also be free
-freely : (cause : Cause) (P : Type 0) → P → FreeOr cause P
+pub freely : (cause : Cause) (P : Type 0) → P → FreeOr cause P
 freely no_memory P is = tt
 freely told P is = is
 freely (failed_read before after) P is = is
 freely (refused_write before after) P is = tt
 
-no_memory_free : (P : Error → Type 0) (refused : Refusal) → refused ≡ refusal.Memory → FreeOr (cause_of (error_of refused)) (P (error_of refused))
-no_memory_free P refused memory = subst (λ one. FreeOr (cause_of (error_of one)) (P (error_of one))) (sym memory) tt
+-- What is found by a hearing of the run: the refusal, or the paths and what comes of the load. It is both a refusal of the run
+-- and what is told of its load.
+pub record Refused (given : Given) (content : Content) (begun after : ℕ) (error : Error) (text : List ℕ) : Type 0 where
+  pub hearing : RunHearing
+  pub heard : IsRunHearing content begun after hearing
+  pub refuses : FreeOr (cause_of error) (Refuses given hearing (found_of given hearing) error)
+  pub tells : text ≡ told_before given hearing
 
--- the same of equal counts and paths
-pub heard_at : (content : Content) (start begun : ℕ) (at path : List ℕ) (before after : ℕ) (heard : Result (List ℕ) ReadFault) → start ≡ begun → at ≡ path → IsHeard content start at before after heard → IsHeard content begun path before after heard
-heard_at content start begun at path before after heard e f hears =
-    subst (λ one. IsHeard content begun one before after heard) f (subst (λ one. IsHeard content one at before after heard) e hears)
+free_map : (cause : Cause) (P Q : Type 0) → (P → Q) → FreeOr cause P → FreeOr cause Q
+free_map no_memory P Q f free = tt
+free_map told P Q f is = f is
+free_map (failed_read before last) P Q f is = f is
+free_map (refused_write before last) P Q f free = tt
 
-pub counts_at : (start begun before after : ℕ) (cause : Cause) → start ≡ begun → ReadCounts start before after cause → ReadCounts begun before after cause
-counts_at start begun before after cause e counts = subst (λ one. ReadCounts one before after cause) e counts
-
--- what is gathered, of equal choices, counts and paths
-pub gathers_at : (choice : Choice) (content : Content) (start begun : ℕ) (at path : List ℕ) (before after : ℕ) (result : Result Chosen KratesError) → choice ≡ plain_choice → start ≡ begun → at ≡ path → Gathers choice content start at before after result → Gathers plain_choice content begun path before after result
-gathers_at choice content start begun at path before after result d e f gathers =
-    subst (λ one. Gathers one content begun path before after result) d
-    (subst (λ one. Gathers choice content one path before after result) e
-    (subst (λ one. Gathers choice content start one before after result) f gathers))
-
--- what stands where no read failed
-abbrev pub quiet : Content → ℕ → Hearing
-quiet content begun = record { content = content; begun = begun; failed = [] }
+pub is_refusal : (given : Given) (content : Content) (begun after : ℕ) (error : Error) (text : List ℕ) → Refused given content begun after error text
+    → FreeOr (cause_of error) (IsRefusal given content begun after error)
+is_refusal given content begun after error text refused =
+    free_map (cause_of error) _ _ (λ refuses. record { hearing = refused.hearing; heard = refused.heard; refused = refuses }) refused.refuses
 
 -- a refusal that is the first of what is looked for
-refused_first : (given : Given) (content : Content) (begun after : ℕ) (hearing : Hearing) (error : Error) → IsHearing content begun after hearing
-    → found_of given hearing ≡ Err error → IsRefusal given content begun after error
-refused_first given content begun after hearing error heard is =
-    record { hearing = hearing; heard = heard; refused = subst (λ found. Refuses given hearing found error) (sym is) refl }
+pub refused_first : (given : Given) (content : Content) (begun after : ℕ) (hearing : RunHearing) (error : Error) (text : List ℕ) → IsRunHearing content begun after hearing
+    → text ≡ told_before given hearing → found_of given hearing ≡ Err error → Refused given content begun after error text
+refused_first given content begun after hearing error text heard tells is = record {
+  hearing = hearing;
+  heard = heard;
+  refuses = freely (cause_of error) _ (subst (λ found. Refuses given hearing found error) (sym is) refl);
+  tells = tells;
+}
 
 -- a refusal of the selection
-refused_last : (given : Given) (content : Content) (begun after : ℕ) (hearing : Hearing) (found : Found) (error : Error) → IsHearing content begun after hearing
-    → found_of given hearing ≡ Ok found → Refuses given hearing (Ok found) error → IsRefusal given content begun after error
-refused_last given content begun after hearing found error heard is refuses =
-    record { hearing = hearing; heard = heard; refused = subst (λ one. Refuses given hearing one error) (sym is) refuses }
+refused_last : (given : Given) (content : Content) (begun after : ℕ) (hearing : RunHearing) (found : Found) (error : Error) (text : List ℕ) → IsRunHearing content begun after hearing
+    → text ≡ told_before given hearing → found_of given hearing ≡ Ok found → Refuses given hearing (Ok found) error → Refused given content begun after error text
+refused_last given content begun after hearing found error text heard tells is refuses = record {
+  hearing = hearing;
+  heard = heard;
+  refuses = freely (cause_of error) _ (subst (λ one. Refuses given hearing one error) (sym is) refuses);
+  tells = tells;
+}
+
+pub quiet_run : (content : Content) (begun after : ℕ) → begun ≤ after → IsRunHearing content begun after (all_heard content begun)
+quiet_run content begun after later = record { looks = tt; files = record { content = refl; begun = refl; rises = later } }
+
+-- want of memory and a refused write come of any hearing
+abbrev pub IsFree : Cause → Type 0
+IsFree no_memory = Unit {0}
+IsFree (refused_write before after) = Unit {0}
+IsFree _ = ⊥
+
+free_of : (cause : Cause) (P : Type 0) → IsFree cause → FreeOr cause P
+free_of no_memory P free = tt
+free_of told P free = absurd free
+free_of (failed_read before after) P free = absurd free
+free_of (refused_write before after) P free = tt
+
+pub freely_refused : (given : Given) (content : Content) (begun after : ℕ) (hearing : RunHearing) (error : Error) (text : List ℕ) → IsRunHearing content begun after hearing
+    → text ≡ told_before given hearing → IsFree (cause_of error) → Refused given content begun after error text
+freely_refused given content begun after hearing error text heard tells free =
+    record { hearing = hearing; heard = heard; refuses = free_of (cause_of error) _ free; tells = tells }
 
 -- words of another form
-pub words_refused : (given : Given) (content : Content) (begun after : ℕ) → begun ≤ after → request_of given.words given.cwd ≡ None → IsRefusal given content begun after (NotYet Words)
+pub words_refused : (given : Given) (content : Content) (begun after : ℕ) → begun ≤ after → request_of given.words given.cwd ≡ None → Refused given content begun after (NotYet Words) []
 words_refused given content begun after later none =
-    refused_first given content begun after (quiet content begun) (NotYet Words) (record { content = refl; begun = refl; rises = later }) (found-words given (quiet content begun) none)
+    refused_first given content begun after (all_heard content begun) (NotYet Words) [] (quiet_run content begun after later)
+    (sym (ap told_of (loaded-words given (all_heard content begun) none))) (found-words given (all_heard content begun) none)
 
--- the policy's refusal
-pub config_refused : (given : Given) (content : Content) (begun before after : ℕ) (request : Request) (heard : Result (List ℕ) ReadFault) (refused : Refusal) → begun ≤ before → before ≤ after → request_of given.words given.cwd ≡ Some request → IsHeard content begun request.config_path before after heard → ReadCounts begun before after (heard_cause heard) → (refused ≡ refusal.Memory) ⊎ (config_in given.lists heard ≡ Err (error_of refused)) → FreeOr (cause_of (error_of refused)) (IsRefusal given content begun after (error_of refused))
-config_refused given content begun before after request heard refused first later asked hears counts (inl memory) =
-    no_memory_free (IsRefusal given content begun after) refused memory
-config_refused given content begun before after request heard refused first later asked hears counts (inr refuses) =
-    let read : FailedRead = record { kind = policy; path = request.config_path; before = before; after = after } in
-    let hearing = hearing_of content begun read heard in
-    freely (cause_of (error_of refused)) (IsRefusal given content begun after (error_of refused))
-    (refused_first given content begun after hearing (error_of refused) (heard_one content begun read after heard first later (omega arith) counts)
-    (found-config given hearing request (error_of refused) asked (ap (config_in given.lists) (hears policy) ∙ refuses)))
-
--- a policy that was read and is of the form that is built did not fail, and nothing else was read before it
-pub config_stands : (given : Given) (content : Content) (begun before after : ℕ) (path : List ℕ) (heard : Result (List ℕ) ReadFault) (config : List LicenseReq) → IsHeard content begun path before after heard → config_in given.lists heard ≡ Ok config → config_in given.lists (text_heard (record { content = content; begun = begun; failed = [] }) policy path) ≡ Ok config
-config_stands given content begun before after path (Ok text) config hears allows = ap (config_in given.lists) (hears policy) ∙ allows
-config_stands given content begun before after path (Err (Failed first last)) config hears allows = absurd (cc)
-config_stands given content begun before after path (Err Absent) config hears allows = absurd (cc)
-config_stands given content begun before after path (Err Folder) config hears allows = absurd (cc)
-config_stands given content begun before after path (Err (NotUtf8 at)) config hears allows = absurd (cc)
-
--- the same of metadata
-pub graph_stands : (content : Content) (begun before after : ℕ) (path : List ℕ) (heard : Result (List ℕ) ReadFault) (graph : Graph) → IsHeard content begun path before after heard → graph_in heard ≡ Ok graph → graph_heard (text_heard (quiet content begun) metadata path) ≡ Ok graph
-graph_stands content begun before after path (Ok text) graph hears tells = ap graph_heard (hears metadata) ∙ ap or_error tells
-graph_stands content begun before after path (Err fault) graph hears tells = absurd (cc)
-
--- the policy is heard alike where the metadata's read may have failed
-heard_alike : (content : Content) (begun : ℕ) (path other : List ℕ) (before after : ℕ) (heard : Result (List ℕ) ReadFault) → text_heard (hearing_of content begun (record { kind = metadata; path = other; before = before; after = after }) heard) policy path ≡ text_heard (record { content = content; begun = begun; failed = [] }) policy path
-heard_alike content begun path other before after (Ok text) = refl
-heard_alike content begun path other before after (Err (Failed first last)) = refl
-heard_alike content begun path other before after (Err Absent) = refl
-heard_alike content begun path other before after (Err Folder) = refl
-heard_alike content begun path other before after (Err (NotUtf8 at)) = refl
+-- a look that failed
+pub search_refused : (given : Given) (content : Content) (begun after : ℕ) (request : Request) (first last : ℕ) → begun ≤ after
+    → request_of given.words given.cwd ≡ Some request → ReadCounts begun begun after (failed_read first last) → Refused given content begun after (ConfigRead (Failed first last)) []
+search_refused given content begun after request first last later asked counts =
+    let hearing : RunHearing = record { looks = look_failed first last; files = quiet content begun } in
+    refused_first given content begun after hearing (ConfigRead (Failed first last)) []
+    (record { looks = counts; files = record { content = refl; begun = refl; rises = later } })
+    (sym (ap told_of (loaded-paths given request asked hearing (ConfigRead (Failed first last)) (paths-failed given (quiet content begun) request first last))))
+    (found-paths given request asked hearing (ConfigRead (Failed first last)) (paths-failed given (quiet content begun) request first last))
 
 -- ---- what is reported
-
-or_refused-Ok : {X : Type 0} (error : Error) (value : Option X) (x : X) → or_refused error value ≡ Ok x → value ≡ Some x
-or_refused-Ok error None x e = absurd (cc)
-or_refused-Ok error (Some value) x e = cc
-
-config_in-Ok : (lists : CatalogLists) (heard : Result (List ℕ) ReadFault) (config : List LicenseReq) → config_in lists heard ≡ Ok config → (text : List ℕ) × (heard ≡ Ok text) × (policy_of lists text ≡ Some config)
-config_in-Ok lists (Ok text) config e = (text, refl, or_refused-Ok _ (policy_of lists text) config e)
-config_in-Ok lists (Err (Failed before after)) config e = absurd (cc)
-config_in-Ok lists (Err Absent) config e = absurd (cc)
-config_in-Ok lists (Err Folder) config e = absurd (cc)
-config_in-Ok lists (Err (NotUtf8 at)) config e = absurd (cc)
 
 told-Ok : (told : Option (Told Graph)) (graph : Graph) → or_error (graph_told told) ≡ Ok graph → told ≡ Some (Ok graph)
 told-Ok None graph e = absurd (cc)
@@ -187,117 +247,168 @@ graph_heard-Ok : (heard : Result (List ℕ) ReadFault) (graph : Graph) → graph
 graph_heard-Ok (Ok text) graph e = (text, refl, told-Ok (records_of text sparse_dir) graph e)
 graph_heard-Ok (Err fault) graph e = absurd (cc)
 
+-- metadata that was read did not fail
+pub graph_stands : (content : Content) (begun before after : ℕ) (path : List ℕ) (heard : Result (List ℕ) ReadFault) (graph : Graph) → IsHeard content begun path before after heard → graph_in heard ≡ Ok graph → graph_heard (text_heard (quiet content begun) metadata path) ≡ Ok graph
+graph_stands content begun before after path (Ok text) graph hears tells = ap graph_heard (hears metadata) ∙ ap or_error tells
+graph_stands content begun before after path (Err fault) graph hears tells = absurd (cc)
+
 -- a verdict is given on an expression alone
-judged_some : (config : List LicenseReq) (expression : Option ExpressionView) (verdict : Verdict) → IsVerdictOf config expression verdict → IsSome expression
-judged_some config None Accepted is = absurd is
-judged_some config None Rejected is = absurd is
-judged_some config (Some expression) verdict is = refl
+judged_some : (policy : Policy) (krate : Record) (expression : Option ExpressionView) (verdict : Verdict) → IsVerdictOf policy krate expression verdict → IsSome expression
+judged_some policy krate None Accepted is = absurd is.1
+judged_some policy krate None Rejected is = absurd is.1
+judged_some policy krate None Skipped is = is.1
+judged_some policy krate (Some expression) verdict is = refl
 
 -- a crate that is judged has an expression, and its report is the one that is asked for
-module _ (given : Given) (config : List LicenseReq) (hearing : Hearing) where
-  expressions_of : (crates : List Record) (reports : List CrateReport) → AllZip (IsJudged given.lists config) crates reports
-      → AllByRecursion (HasExpression given config hearing) crates
+module _ (given : Given) (found : PolicyFound) (policy : Policy) (hearing : RunHearing) where
+  expressions_of : (crates : List Record) (reports : List CrateReport) → AllZip (IsJudged given.lists policy) crates reports
+      → AllByRecursion (HasExpression given found hearing) crates
   expressions_of [] reports judged = tt
   expressions_of (krate ∷ crates) [] judged = absurd judged
   expressions_of (krate ∷ crates) (report ∷ reports) judged =
-      (has_expression given config hearing krate report.expression judged.0.expression (judged_some config report.expression report.verdict judged.0.verdict), expressions_of crates reports judged.1)
+      (has_expression given found hearing krate report.expression judged.0.expression (judged_some policy krate report.expression report.verdict judged.0.verdict), expressions_of crates reports judged.1)
 
-  verdicts_of : (crates : List Record) (reports : List CrateReport) → AllZip (IsJudged given.lists config) crates reports
-      → AllZip (IsReportOf given config hearing) crates reports
+  verdicts_of : (crates : List Record) (reports : List CrateReport) → AllZip (IsJudged given.lists policy) crates reports
+      → AllZip (IsReportOf given found policy hearing) crates reports
   verdicts_of [] [] judged = tt
   verdicts_of [] (report ∷ reports) judged = absurd judged
   verdicts_of (krate ∷ crates) [] judged = absurd judged
   verdicts_of (krate ∷ crates) (report ∷ reports) judged = (
     record {
       id = judged.0.id;
-      expression = reads_reported given config hearing krate report.expression judged.0.expression (judged_some config report.expression report.verdict judged.0.verdict);
+      expression = reads_reported given found hearing krate report.expression judged.0.expression (judged_some policy krate report.expression report.verdict judged.0.verdict);
       verdict = judged.0.verdict;
     },
     verdicts_of crates reports judged.1,
   )
 
--- ---- after the words and the policy
+-- ---- after the words and the looks
 
-module _ (given : Given) (content : Content) (begun : ℕ) (request : Request) (config : List LicenseReq)
-    (asked : request_of given.words given.cwd ≡ Some request)
-    (allows : config_in given.lists (text_heard (record { content = content; begun = begun; failed = [] }) policy request.config_path) ≡ Ok config) where
-  -- the metadata's refusal
-  module _ (before after : ℕ) (first : begun ≤ before) (later : before ≤ after) where
-    told_refused : (heard : Result (List ℕ) ReadFault) (error : KratesError) → IsHeard content begun request.metadata_path before after heard
-        → ReadCounts begun before after (heard_cause heard) → graph_in heard ≡ Err error
-        → FreeOr (cause_of (error_of_krates error)) (IsRefusal given content begun after (error_of_krates error))
-    told_refused heard error hears counts tells =
-        let read : FailedRead = record { kind = metadata; path = request.metadata_path; before = before; after = after } in
-        let hearing = hearing_of content begun read heard in
-        freely (cause_of (error_of_krates error)) (IsRefusal given content begun after (error_of_krates error))
-        (refused_first given content begun after hearing (error_of_krates error) (heard_one content begun read after heard first later (omega arith) counts)
-        (found-graph given hearing request config (Err (error_of_krates error)) asked
-        (ap (config_in given.lists) (heard_alike content begun request.config_path request.metadata_path before after heard) ∙ allows)
-        (ap graph_heard (hears metadata) ∙ ap or_error tells)))
+-- what is told of a load that comes of these reads
+pub load_tells : (given : Given) (content : Content) (request : Request) (files : Hearing) → request_of given.words given.cwd ≡ Some request → files.content ≡ content
+    → (paths : PolicyPaths) → paths ≡ paths_by content given.cwd request.config_path → (heard : LoadHeard) → heard ≡ load_heard files paths
+    → told_of (Ok (load_of given.lists [] paths heard)) ≡ told_before given (looked files)
+load_tells given content request files asked same paths at heard is =
+    ap (λ own. told_of (Ok (load_of given.lists [] paths own))) is
+    ∙ ap (λ own. told_of (Ok (load_of given.lists [] own (load_heard files own)))) at
+    ∙ sym (ap told_of (loaded-Ok given request asked (looked files) (paths_by content given.cwd request.config_path) (paths-told given content files request same)))
 
-    pub krates_refused : (error : KratesError) → Gathers plain_choice content begun request.metadata_path before after (Err error)
-        → FreeOr (cause_of (error_of (refusal.Krates error))) (IsRefusal given content begun after (error_of (refusal.Krates error)))
-    krates_refused krates.Memory gathers = tt
-    krates_refused (krates.NotCarried what) gathers = told_refused gathers.heard (krates.NotCarried what) gathers.hears gathers.counts gathers.from
-    krates_refused (krates.MetadataRead fault) gathers = told_refused gathers.heard (krates.MetadataRead fault) gathers.hears gathers.counts gathers.from
-    krates_refused krates.MetadataSyntax gathers = told_refused gathers.heard krates.MetadataSyntax gathers.hears gathers.counts gathers.from
-    krates_refused (krates.MetadataShape fault) gathers = told_refused gathers.heard (krates.MetadataShape fault) gathers.hears gathers.counts gathers.from
-    krates_refused (krates.NoRoots base excluded unpublished) gathers =
-        let rootless = gathers.from in
-        refused_last given content begun after (quiet content begun) (record { request = request; config = config; graph = rootless.graph })
-        (error_of_krates (krates.NoRoots base excluded unpublished)) (record { content = refl; begun = refl; rises = omega arith })
-        (found-graph given (quiet content begun) request config (Ok rootless.graph) asked allows
-        (graph_stands content begun before after request.metadata_path gathers.heard rootless.graph gathers.hears rootless.tells))
-        rootless.lacks
+module _ (given : Given) (content : Content) (begun : ℕ) (request : Request) (asked : request_of given.words given.cwd ≡ Some request) where
+  -- the load's refusal
+  module _ (files : Hearing) (after : ℕ) (heard : IsHearing content begun after files) (text : List ℕ) (tells : text ≡ told_before given (record { looks = all_told; files = files })) where
+    told_refused : (error : LoadError)
+        → (load_of given.lists [] (paths_by content given.cwd request.config_path) (load_heard files (paths_by content given.cwd request.config_path))).answer ≡ Err error
+        → Refused given content begun after (error_of_load error) text
+    told_refused error is =
+        refused_first given content begun after (looked files) (error_of_load error) text (record { looks = tt; files = heard }) tells
+        (found-load given request asked (looked files) (paths_by content given.cwd request.config_path) (paths-told given content files request heard.content) (error_of_load error) (ap or_load_error is))
 
-  -- ---- after the metadata
+    pub load_refused : (error : LoadError)
+        → Answers (load_of given.lists [] (paths_by content given.cwd request.config_path) (load_heard files (paths_by content given.cwd request.config_path))).answer (Err error)
+        → Refused given content begun after (error_of_load error) text
+    load_refused load.Memory answers = freely_refused given content begun after (looked files) (error_of_load load.Memory) text (record { looks = tt; files = heard }) tells tt
+    load_refused (load.ConfigRead fault) answers = told_refused (load.ConfigRead fault) answers
+    load_refused (load.ConfigSyntax fault) answers = told_refused (load.ConfigSyntax fault) answers
+    load_refused (load.ConfigShape faults) answers = told_refused (load.ConfigShape faults) answers
+    load_refused load.NotCarried answers = told_refused load.NotCarried answers
+    load_refused (load.ConfigInvalid found) answers = told_refused (load.ConfigInvalid found) answers
+    load_refused (load.WriteFault before last) answers =
+        freely_refused given content begun after (looked files) (error_of_load (load.WriteFault before last)) text (record { looks = tt; files = heard }) tells tt
 
-  module _ (graph : Graph) (after : ℕ) (later : begun ≤ after) (root : HasRoot graph plain_choice)
-      (tells : graph_heard (text_heard (record { content = content; begun = begun; failed = [] }) metadata request.metadata_path) ≡ Ok graph) where
-    abbrev found : Found
-    found = record { request = request; config = config; graph = graph }
+  -- ---- after the load
 
-    is-found : found_of given (quiet content begun) ≡ Ok (record { request = request; config = config; graph = graph })
-    is-found = found-graph given (quiet content begun) request config (Ok graph) asked allows tells
+  module _ (policy : PolicyFound) (loads : (load_of given.lists [] (paths_by content given.cwd request.config_path) (load_heard (record { content = content; begun = begun; failed = [] }) (paths_by content given.cwd request.config_path))).answer ≡ Ok policy)
+      (text : List ℕ) (tells : text ≡ told_of (Ok (load_of given.lists [] (paths_by content given.cwd request.config_path) (load_heard (record { content = content; begun = begun; failed = [] }) (paths_by content given.cwd request.config_path))))) where
+    quietly : text ≡ told_before given (all_heard content begun)
+    quietly = tells ∙ load_tells given content request (quiet content begun) asked refl (paths_by content given.cwd request.config_path) refl _ refl
 
-    -- the refusal of a crate
-    unread_refused : (crates : List Record) (refused : Refusal) → AreSelected graph crates → (refused ≡ refusal.Memory) ⊎ IsFirstUnread given.lists crates refused
-        → FreeOr (cause_of (error_of refused)) (IsRefusal given content begun after (error_of refused))
-    unread_refused crates refused selected (inl memory) = no_memory_free (IsRefusal given content begun after) refused memory
-    unread_refused crates refused selected (inr unread) =
-        subst (λ one. FreeOr (cause_of (error_of one)) (IsRefusal given content begun after (error_of one))) (sym unread.named)
-        (refused_last given content begun after (quiet content begun) (record { request = request; config = config; graph = graph })
-        (NotYet (Crate unread.krate.id)) (record { content = refl; begun = refl; rises = later }) is-found
-        (record { root = root; crates = crates; selected = selected; krate = unread.krate; first = unread.first; named = refl }))
+    -- the metadata's refusal
+    module _ (before after : ℕ) (first : begun ≤ before) (later : before ≤ after) where
+      metadata_refused : (heard : Result (List ℕ) ReadFault) (error : KratesError) → IsHeard content begun request.metadata_path before after heard
+          → ReadCounts begun before after (heard_cause heard) → graph_in heard ≡ Err error → Refused given content begun after (error_of_krates error) text
+      metadata_refused heard error hears counts is =
+          let read : FailedRead = record { kind = metadata; path = request.metadata_path; before = before; after = after } in
+          let files = hearing_of content begun read heard in
+          let at = paths_by content given.cwd request.config_path in
+          let same = metadata_alike content begun at request.metadata_path before after heard in
+          refused_first given content begun after (looked files) (error_of_krates error) text
+          (record { looks = tt; files = heard_one content begun read after heard first later (omega arith) counts })
+          (tells ∙ load_tells given content request files asked (of_content content begun read heard) at refl _ (sym same))
+          (found-graph given request asked (looked files) at (paths-told given content files request (of_content content begun read heard)) policy (Err (error_of_krates error))
+          (ap (λ own. (load_of given.lists [] at own).answer) same ∙ loads)
+          (ap graph_heard (hears metadata) ∙ ap or_error is))
 
-    pub check_refused : (refused : Refusal) → Checks given.lists config graph plain_choice (Err refused)
-        → FreeOr (cause_of (error_of refused)) (IsRefusal given content begun after (error_of refused))
-    check_refused refusal.Memory checks = tt
-    check_refused refusal.Words checks = unread_refused checks.crates refusal.Words checks.selected checks.judged
-    check_refused (refusal.PolicyRead fault) checks = unread_refused checks.crates (refusal.PolicyRead fault) checks.selected checks.judged
-    check_refused refusal.PolicyForm checks = unread_refused checks.crates refusal.PolicyForm checks.selected checks.judged
-    check_refused (refusal.Krates error) checks = unread_refused checks.crates (refusal.Krates error) checks.selected checks.judged
-    check_refused (refusal.CrateForm id) checks = unread_refused checks.crates (refusal.CrateForm id) checks.selected checks.judged
+      pub krates_refused : (error : KratesError) → Gathers (choice_in policy) content begun request.metadata_path before after (Err error)
+          → Refused given content begun after (error_of (refusal.Krates error)) text
+      krates_refused krates.Memory gathers =
+          freely_refused given content begun after (all_heard content begun) (error_of (refusal.Krates krates.Memory)) text (quiet_run content begun after (omega arith)) quietly tt
+      krates_refused (krates.NotCarried what) gathers = metadata_refused gathers.heard (krates.NotCarried what) gathers.hears gathers.counts gathers.from
+      krates_refused (krates.MetadataRead fault) gathers = metadata_refused gathers.heard (krates.MetadataRead fault) gathers.hears gathers.counts gathers.from
+      krates_refused krates.MetadataSyntax gathers = metadata_refused gathers.heard krates.MetadataSyntax gathers.hears gathers.counts gathers.from
+      krates_refused (krates.MetadataShape fault) gathers = metadata_refused gathers.heard (krates.MetadataShape fault) gathers.hears gathers.counts gathers.from
+      krates_refused (krates.NoRoots base excluded unpublished) gathers =
+          let rootless = gathers.from in
+          refused_last given content begun after (all_heard content begun) (record { request = request; policy = policy; graph = rootless.graph })
+          (error_of_krates (krates.NoRoots base excluded unpublished)) text (quiet_run content begun after (omega arith)) quietly
+          (found-graph given request asked (all_heard content begun) (paths_by content given.cwd request.config_path) (paths-told given content (quiet content begun) request refl) policy (Ok rootless.graph) loads
+          (graph_stands content begun before after request.metadata_path gathers.heard rootless.graph gathers.hears rootless.tells))
+          rootless.lacks
 
-    -- the report is the one that is asked for
-    pub all_reported : (report : Report) → Checks given.lists config graph plain_choice (Ok report.crates) → report.stats ≡ counts_of report.crates
-        → IsReport given content begun after report
-    all_reported report checks stats =
-        let hearing = quiet content begun in
-        let (policy_text, policy_heard, policy_allows) = config_in-Ok given.lists (text_heard hearing policy request.config_path) config allows in
-        let (text, heard, is_told) = graph_heard-Ok (text_heard hearing metadata request.metadata_path) graph tells in
-        record {
-          hearing = hearing;
-          heard = record { content = refl; begun = refl; rises = later };
-          failed = refl;
-          asked = record { request = request; config = config; graph = graph; crates = checks.crates };
-          asks = record {
-            request = asked;
-            config = record { text = policy_text; heard = policy_heard; allows = policy_allows };
-            metadata = record { text = text; heard = heard; tells = is_told };
-            root = root;
-            selected = checks.selected;
-            expressions = All-from_recursion (HasExpression given config hearing) checks.crates (expressions_of given config hearing checks.crates report.crates checks.judged);
-          };
-          gives = record { verdicts = verdicts_of given config hearing checks.crates report.crates checks.judged; stats = stats };
-        }
+    -- ---- after the metadata
+
+    module _ (graph : Graph) (after : ℕ) (later : begun ≤ after) (root : HasRoot graph (choice_in policy))
+        (drawn : graph_heard (text_heard (record { content = content; begun = begun; failed = [] }) metadata request.metadata_path) ≡ Ok graph) where
+      is-found : found_of given (all_heard content begun) ≡ Ok (record { request = request; policy = policy; graph = graph })
+      is-found =
+          found-graph given request asked (all_heard content begun) (paths_by content given.cwd request.config_path) (paths-told given content (quiet content begun) request refl) policy (Ok graph) loads drawn
+
+      -- the refusal of a crate
+      unread_refused : (crates : List Record) (refused : Refusal) → AreSelected policy graph crates → (refused ≡ refusal.Memory) ⊎ IsFirstUnread given.lists crates refused
+          → Refused given content begun after (error_of refused) text
+      unread_refused crates refused selected (inl memory) =
+          subst (λ one. Refused given content begun after (error_of one) text) (sym memory)
+          (freely_refused given content begun after (all_heard content begun) (error_of refusal.Memory) text (quiet_run content begun after later) quietly tt)
+      unread_refused crates refused selected (inr unread) =
+          subst (λ one. Refused given content begun after (error_of one) text) (sym unread.named)
+          (refused_last given content begun after (all_heard content begun) (record { request = request; policy = policy; graph = graph })
+          (NotYet (Crate unread.krate.id)) text (quiet_run content begun after later) quietly is-found
+          (record { root = root; crates = crates; selected = selected; krate = unread.krate; first = unread.first; named = refl }))
+
+      pub check_refused : (valid : Policy) (refused : Refusal) → Checks given.lists valid (included_in policy) graph (choice_in policy) (Err refused)
+          → Refused given content begun after (error_of refused) text
+      check_refused valid refusal.Memory checks =
+          freely_refused given content begun after (all_heard content begun) (error_of refusal.Memory) text (quiet_run content begun after later) quietly tt
+      check_refused valid refusal.Words checks = unread_refused checks.crates refusal.Words checks.selected checks.judged
+      check_refused valid (refusal.Search error) checks = unread_refused checks.crates (refusal.Search error) checks.selected checks.judged
+      check_refused valid (refusal.Load error) checks = unread_refused checks.crates (refusal.Load error) checks.selected checks.judged
+      check_refused valid (refusal.Krates error) checks = unread_refused checks.crates (refusal.Krates error) checks.selected checks.judged
+      check_refused valid (refusal.CrateForm id) checks = unread_refused checks.crates (refusal.CrateForm id) checks.selected checks.judged
+
+      -- the report is the one that is asked for
+      pub all_reported : (report : Report) → PutsPolicyInOrder policy.licenses report.policy → policy.licenses.file_id ≡ 0
+          → Checks given.lists (policy_of report.policy) (included_in policy) graph (choice_in policy) (Ok report.crates) → report.stats ≡ counts_of report.crates
+          → IsReport given content begun after report
+      all_reported report order file checks stats =
+          let hearing = all_heard content begun in
+          let at = paths_by content given.cwd request.config_path in
+          let (bytes, heard, is_told) = graph_heard-Ok (text_heard (quiet content begun) metadata request.metadata_path) graph drawn in
+          record {
+            hearing = hearing;
+            heard = quiet_run content begun after later;
+            failed = refl;
+            asked = record { request = request; policy = policy; graph = graph; crates = checks.crates };
+            asks = record {
+              request = asked;
+              policy = record { exceptions = at.exceptions; found = refl; is = policy_is given.lists at (load_heard (quiet content begun) at) policy loads };
+              metadata = record { text = bytes; heard = heard; tells = is_told };
+              root = root;
+              selected = checks.selected;
+              expressions = All-from_recursion (HasExpression given policy hearing) checks.crates (expressions_of given policy (policy_of report.policy) hearing checks.crates report.crates checks.judged);
+            };
+            gives = record {
+              policy = order;
+              file = ap (λ (one : ValidConfig). one.file_id) order.rest ∙ file;
+              verdicts = verdicts_of given policy (policy_of report.policy) hearing checks.crates report.crates checks.judged;
+              stats = stats;
+            };
+          }

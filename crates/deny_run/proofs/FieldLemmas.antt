@@ -2,11 +2,9 @@
 use Rattle.std.proofs.Common.{◌≡◌, ◌∙◌, refl, sym, ap, subst, ℕ, true, false, cond, nat_eq, List, Option, Some, None, option_and_then, length, arith}
 use Rattle.std.proofs.lemmas.Bool.Decides.{nat_tests}
 use Rattle.std.specs.Prelude.{IsSome, IsSomeAnd, is_none}
-use Rattle.tree_core.specs.Hearing.{Hearing}
 use Rattle.catalog_core.specs.Catalog.{CatalogLists}
 use Rattle.term_core.specs.declared.error.ParseError.{ParseError}
 use Rattle.term_core.specs.declared.term.ExpressionReq.{ExpressionReq}
-use Rattle.term_core.specs.declared.term.LicenseReq.{LicenseReq}
 use Rattle.term_core.specs.Items.{items_of}
 use Rattle.term_core.specs.Faults.{first_fault}
 use Rattle.spdx_core.specs.Grammar.{Spells}
@@ -14,7 +12,9 @@ use Rattle.spdx_core.specs.Expressions.{IsRead}
 use Rattle.spdx_core.specs.Reading.{ExpressionView, expression_if, expression_of, after_items, nothing_read}
 use Rattle.spdx_core.proofs.SpellingLemmas.{is_read, is_spelled}
 use Rattle.graph_core.specs.Krate.{Record}
+use Rattle.policy_core.specs.Policy.{PolicyFound}
 use Rattle.deny_run.specs.Given.{Given}
+use Rattle.deny_run.specs.Hearing.{RunHearing}
 use Rattle.deny_run.specs.Heard.{field_mode, of_one_term, field_of, expression_heard}
 use Rattle.deny_run.specs.Report.{ReadsField, HasExpression}
 
@@ -22,8 +22,8 @@ one_term : (read : ExpressionView) → length read.terms ≡ 1 → of_one_term r
 one_term read h = ap (λ n. cond (nat_eq n 1) (Some read) None) h
 
 -- what a field spells is heard
-pub heard_by : (given : Given) (config : List LicenseReq) (hearing : Hearing) (krate : Record) (read : ExpressionView) → ReadsField given config hearing krate read → expression_heard given config hearing krate ≡ Some read
-heard_by given config hearing krate read reads =
+pub heard_by : (given : Given) (policy : PolicyFound) (hearing : RunHearing) (krate : Record) (read : ExpressionView) → ReadsField given policy hearing krate read → expression_heard given policy hearing krate ≡ Some read
+heard_by given policy hearing krate read reads =
     ap (option_and_then (field_of given.lists)) reads.field
     ∙ ap (option_and_then of_one_term) (is_read field_mode given.lists read.text read.tree read.terms reads.spelled)
     ∙ one_term read reads.one
@@ -75,17 +75,17 @@ spelled_by lists (Some text) read h =
     refl h
 
 -- what is heard of a field is what it spells
-pub reads_by : (given : Given) (config : List LicenseReq) (hearing : Hearing) (krate : Record) (read : ExpressionView) → expression_heard given config hearing krate ≡ Some read → ReadsField given config hearing krate read
-reads_by given config hearing krate read h =
+pub reads_by : (given : Given) (policy : PolicyFound) (hearing : RunHearing) (krate : Record) (read : ExpressionView) → expression_heard given policy hearing krate ≡ Some read → ReadsField given policy hearing krate read
+reads_by given policy hearing krate read h =
     let spelled = spelled_by given.lists krate.license read h in
     record { field = spelled.0; spelled = spelled.1; one = spelled.2 }
 
 -- the same of an expression that there is
-pub has_expression : (given : Given) (config : List LicenseReq) (hearing : Hearing) (krate : Record) (found : Option ExpressionView) → found ≡ expression_heard given config hearing krate → IsSome found → HasExpression given config hearing krate
-has_expression given config hearing krate None is some = absurd (cc)
-has_expression given config hearing krate (Some read) is some = (read, reads_by given config hearing krate read (sym is))
+pub has_expression : (given : Given) (policy : PolicyFound) (hearing : RunHearing) (krate : Record) (found : Option ExpressionView) → found ≡ expression_heard given policy hearing krate → IsSome found → HasExpression given policy hearing krate
+has_expression given policy hearing krate None is some = absurd (cc)
+has_expression given policy hearing krate (Some read) is some = (read, reads_by given policy hearing krate read (sym is))
 
-pub reads_reported : (given : Given) (config : List LicenseReq) (hearing : Hearing) (krate : Record) (found : Option ExpressionView) → found ≡ expression_heard given config hearing krate → IsSome found
-    → IsSomeAnd found (ReadsField given config hearing krate)
-reads_reported given config hearing krate None is some = absurd (cc)
-reads_reported given config hearing krate (Some read) is some = reads_by given config hearing krate read (sym is)
+pub reads_reported : (given : Given) (policy : PolicyFound) (hearing : RunHearing) (krate : Record) (found : Option ExpressionView) → found ≡ expression_heard given policy hearing krate → IsSome found
+    → IsSomeAnd found (ReadsField given policy hearing krate)
+reads_reported given policy hearing krate None is some = absurd (cc)
+reads_reported given policy hearing krate (Some read) is some = reads_by given policy hearing krate read (sym is)

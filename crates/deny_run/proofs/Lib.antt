@@ -1,10 +1,12 @@
 pub mod AnswerLemmas
 pub mod FieldLemmas
 pub mod HeadlineLemmas
-pub mod LicenseeLemmas
 pub mod JudgeLemmas
 pub mod ListedLemmas
-pub mod Pieces
-pub mod ReadBack
+pub mod LoadedLemmas
+pub mod PolicyLemmas
+pub mod ReportLemmas
 pub mod ScriptLemmas
+pub mod SpecLemmas
 pub mod StepLemmas
+pub mod VerdictLemmas

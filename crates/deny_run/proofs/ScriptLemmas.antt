@@ -1,114 +1,296 @@
 -- What a run writes, from what each of its sinks gained.
-use Rattle.std.proofs.Common.{◌≡◌, ℕ, ◌≤◌, List, [], ◌∷◌, ◌++◌, Option, Some, None, Ok, Err, refl, sym, ap, subst, ◌∙◌, inl, inr, append-nil}
+use Rattle.std.proofs.Common.{◌≡◌, ◌∙◌, ◌⊎◌, inl, inr, refl, sym, ap, subst, ℕ, ◌+◌, ◌^◌, ◌<◌, ◌≤◌, List, [], ◌∷◌, ◌++◌, Option, Some, None, Result, Ok, Err, cond, append-nil, append_assoc, arith}
+use Rattle.std.proofs.lemmas.Grind.{flat_map-append}
+use Rattle.tree_core.proofs.GainedLemmas.{Gained-then}
 use Rattle.std.specs.Option.{ForSome}
 use Rattle.tree_core.specs.Content.{Content}
-use Rattle.tree_core.specs.Faults.{Gained}
+use Rattle.tree_core.specs.Faults.{Rose, Gained, GainedPrefix}
 use Rattle.tree_core.specs.Hearing.{Hearing, IsHearing}
-use Rattle.tree_core.specs.Script.{to_out, to_err, Script, FaultCounts, Written, Gains, LineWritten}
-use Rattle.tree_core.specs.TreeState.{root_alone}
+use Rattle.tree_core.specs.Script.{to_out, to_err, Script, FaultCounts, Written, Gains, IsCut, IsLineOrFront, LineWritten, RefusedBy, is_target, text_for}
+use Rattle.tree_core.specs.Script as script
+use Rattle.heard_core.specs.Cause.{Cause, no_memory, failed_read, refused_write}
+use Rattle.heard_core.specs.Cause as causes
+use Rattle.search_core.specs.Search.{search_cause}
+use Rattle.search_core.specs.declared.search.SearchError.{SearchError}
+use Rattle.search_core.specs.declared.search.SearchError.TheVariants as search
+use Rattle.heard_core.specs.Cause.{ReadCounts}
+use Rattle.heard_core.specs.declared.fault.ReadFault.TheVariants.{Failed, Absent, Folder, NotUtf8}
+use Rattle.policy_core.specs.Policy.{PolicyFound}
+use Rattle.policy_core.specs.declared.load.LoadedPolicy.{LoadedPolicy}
+use Rattle.load_core.specs.Answer.{Prints, WriteCounts, load_cause}
+use Rattle.load_core.specs.Heard.{LoadHeard, HearsFiles, load_heard}
+use Rattle.load_core.specs.Load.{Loaded, load_of}
+use Rattle.load_core.specs.Print.{printed_findings}
+use Rattle.load_core.specs.declared.error.LoadError.{LoadError}
+use Rattle.load_core.specs.declared.error.LoadError.TheVariants as load
 use Rattle.deny_run.specs.declared.error.Error.{Error}
+use Rattle.deny_run.specs.declared.error.Error.TheVariants.{WriteFault}
+use Rattle.deny_run.specs.declared.error.Refusal.{Refusal}
+use Rattle.deny_run.specs.declared.error.Refusal.TheVariants as refusal
+use Rattle.workspace_core.specs.declared.error.KratesError.{KratesError}
+use Rattle.workspace_core.specs.declared.error.KratesError.TheVariants as krates
 use Rattle.deny_run.specs.declared.report.Report.{Report}
 use Rattle.deny_run.specs.Counts.{summary_of}
-use Rattle.heard_core.specs.Cause.{Cause, no_memory, told, failed_read, refused_write}
-use Rattle.deny_run.specs.Error.{cause_of, fault_line, ComesUnwritten}
+use Rattle.deny_run.specs.Error.{cause_of, error_of, error_of_load, fault_line, FreeOr}
 use Rattle.deny_run.specs.Given.{Given}
-use Rattle.deny_run.specs.Report.{IsReport}
-use Rattle.deny_run.specs.Script.{Begins, Writes, SummaryCut}
+use Rattle.deny_run.specs.Heard.{loaded_of}
+use Rattle.deny_run.specs.Hearing.{RunHearing, IsRunHearing, all_heard}
+use Rattle.deny_run.specs.Report.{IsReport, failed_of}
+use Rattle.deny_run.specs.Script.{Begins, CutsReport, EndsIn, HasBegun, HasLine, IsAnsweredBy, IsFront, TellsLoad, TextWritten, Writes, WritesFirst, WritesLoad, cause_in, load_script, plain_log, script_of, told_before, told_of}
+use Rattle.deny_run.specs.Steps.{IsAfterLoad, paths_by}
+use Rattle.deny_run.proofs.AnswerLemmas.{Refused}
 
-gained-nil : (old new : Option (List ℕ)) → new ≡ old → Gained old new []
-gained-nil None new e = e
-gained-nil (Some held) new e = e ∙ ap Some (sym (append-nil held))
+-- ---- what is told of the load
+
+-- a refusal comes of a hearing by which this is told
+pub refused_tells : (given : Given) (content : Content) (begun after : ℕ) (error : Error) (text : List ℕ) → Refused given content begun after error text
+    → TellsLoad given content begun after (Err error) text
+refused_tells given content begun after error text refused =
+    record { hearing = refused.hearing; heard = refused.heard; answers = refused.refuses; is = refused.tells }
+
+gained-nil : (held : Option (List ℕ)) → Gained held held []
+gained-nil None = refl
+gained-nil (Some held) = ap Some (sym (append-nil held))
+
+nothing_of : (held : Option (List ℕ)) (text : List ℕ) → GainedPrefix held held text
+nothing_of held text = record { front = []; rest = text; parts = refl; gained = gained-nil held }
+
+all_of : (old new : Option (List ℕ)) (text : List ℕ) → Gained old new text → GainedPrefix old new text
+all_of old new text gained = record { front = text; rest = []; parts = sym (append-nil text); gained = gained }
+
+-- nothing was written, and nothing is told
+pub silent : (old : Option (List ℕ)) (before after : ℕ) (text : List ℕ) (cause : Cause) → (cause ≡ no_memory) ⊎ ((text ≡ []) × ((first last : ℕ) → cause ≡ refused_write first last → ⊥))
+    → TextWritten text old old before after cause
+silent old before after text no_memory is = nothing_of old text
+silent old before after text causes.told (inl e) = absurd (cc)
+silent old before after text causes.told (inr is) = subst (Gained old old) (sym is.0) (gained-nil old)
+silent old before after text (failed_read first last) (inl e) = absurd (cc)
+silent old before after text (failed_read first last) (inr is) = subst (Gained old old) (sym is.0) (gained-nil old)
+silent old before after text (refused_write first last) (inl e) = absurd (cc)
+silent old before after text (refused_write first last) (inr is) = absurd (is.1 first last refl)
+
+-- what a load printed
+pub load_written : (old new : Option (List ℕ)) (before after : ℕ) (text : List ℕ) (error : LoadError) → WriteCounts before after (load_cause error)
+    → Prints old new text (Err error) → TextWritten text old new before after (cause_of (error_of_load error))
+load_written old new before after text load.Memory counts prints = prints
+load_written old new before after text (load.ConfigRead (Failed one other)) counts prints = prints
+load_written old new before after text (load.ConfigRead Absent) counts prints = prints
+load_written old new before after text (load.ConfigRead Folder) counts prints = prints
+load_written old new before after text (load.ConfigRead (NotUtf8 at)) counts prints = prints
+load_written old new before after text (load.ConfigSyntax fault) counts prints = prints
+load_written old new before after text (load.ConfigShape faults) counts prints = prints
+load_written old new before after text load.NotCarried counts prints = prints
+load_written old new before after text (load.ConfigInvalid found) counts prints = prints
+load_written old new before after text (load.WriteFault one other) counts prints = (counts.0, counts.1, counts.2, prints)
+
+krates_written : (old new : Option (List ℕ)) (before after : ℕ) (text : List ℕ) (error : KratesError) → Gained old new text
+    → TextWritten text old new before after (cause_of (error_of (refusal.Krates error)))
+krates_written old new before after text krates.Memory gained = all_of old new text gained
+krates_written old new before after text (krates.NotCarried what) gained = gained
+krates_written old new before after text (krates.MetadataRead (Failed one other)) gained = gained
+krates_written old new before after text (krates.MetadataRead Absent) gained = gained
+krates_written old new before after text (krates.MetadataRead Folder) gained = gained
+krates_written old new before after text (krates.MetadataRead (NotUtf8 at)) gained = gained
+krates_written old new before after text krates.MetadataSyntax gained = gained
+krates_written old new before after text (krates.MetadataShape fault) gained = gained
+krates_written old new before after text (krates.NoRoots base excluded unpublished) gained = gained
+
+-- behind the load nothing more is written before a refusal
+pub after_written : (old new : Option (List ℕ)) (before after : ℕ) (text : List ℕ) (refused : Refusal) → IsAfterLoad refused → Gained old new text
+    → TextWritten text old new before after (cause_of (error_of refused))
+after_written old new before after text refusal.Memory cause gained = all_of old new text gained
+after_written old new before after text refusal.Words cause gained = absurd cause
+after_written old new before after text (refusal.Search error) cause gained = absurd cause
+after_written old new before after text (refusal.Load error) cause gained = absurd cause
+after_written old new before after text (refusal.Krates error) cause gained = krates_written old new before after text error gained
+after_written old new before after text (refusal.CrateForm id) cause gained = gained
+
+-- ---- scripts
 
 gained-append_nil : (old new : Option (List ℕ)) (text : List ℕ) → Gained old new text → Gained old new (text ++ [])
 gained-append_nil old new text gained = subst (Gained old new) (sym (append-nil text)) gained
 
--- what is heard where no read failed, of whatever content is told
-record Quiet (content : Option Content) (before after : ℕ) : Type 0 where
-  hearing : Hearing
-  failed : hearing.failed ≡ []
-  heard : ForSome content (λ one. IsHearing one before after hearing)
+err_alone : (out err_old err_new : Option (List ℕ)) (text : List ℕ) → Gained err_old err_new text
+    → Gains (record { out = out; err = err_old }) (record { out = out; err = err_new }) (load_script text)
+err_alone out err_old err_new text gained = record { out = gained-nil out; err = gained-append_nil err_old err_new text gained }
 
-quiet_of : (content : Option Content) (before after : ℕ) → before ≤ after → Quiet content before after
-quiet_of None before after later = record { hearing = record { content = root_alone; begun = before; failed = [] }; failed = refl; heard = λ one e. absurd (cc) }
-quiet_of (Some content) before after later = record {
-  hearing = record { content = content; begun = before; failed = [] };
-  failed = refl;
-  heard = λ one e. let same : content ≡ one = cc in record { content = same; begun = refl; rises = later };
-}
+-- ---- before the summary
 
--- after a report its summary stands on `out`
-pub Writes-from_summary : (given : Given) (content : Option Content) (counts : FaultCounts) (old new : Written) (report : Report) → counts.tree_before ≤ counts.tree_after → Gained old.out new.out (summary_of report.stats) → new.err ≡ old.err → Writes given content counts old new (Ok report)
-Writes-from_summary given content counts old new report later out err =
-    let quiet = quiet_of content counts.tree_before counts.tree_after later in
-    record {
-      hearing = quiet.hearing;
-      heard = quiet.heard;
-      script = (to_out, summary_of report.stats) ∷ [];
-      is = (quiet.failed, refl);
-      gains = record { out = gained-append_nil old.out new.out _ out; err = gained-nil old.err new.err err };
-    }
-
--- what was begun before a refusal, and that a line on `err` comes after it
-record Begun (given : Given) (content : Option Content) (counts : FaultCounts) (hearing : Hearing) (old new : Written) (cause : Cause) : Type 0 where
-  begun : Script
-  begins : Begins given content counts hearing begun cause
-  gains : (line : List ℕ) → Gained old.err new.err line → Gains old new (begun ++ (to_err, line) ∷ [])
-
-line_alone : (old new : Written) (line : List ℕ) → new.out ≡ old.out → Gained old.err new.err line → Gains old new ((to_err, line) ∷ [])
-line_alone old new line same err = record { out = gained-nil old.out new.out same; err = gained-append_nil old.err new.err line err }
-
-begun_of : (given : Given) (content : Option Content) (counts : FaultCounts) (hearing : Hearing) → hearing.failed ≡ [] → (old new : Written) (cause : Cause) → SummaryCut (λ report. ForSome content (λ one. IsReport given one counts.tree_before counts.tree_after report)) old.out new.out counts.out_before counts.out_after cause → Begun given content counts hearing old new cause
-begun_of given content counts hearing none old new no_memory same = record { begun = []; begins = refl; gains = λ line err. line_alone old new line same err }
-begun_of given content counts hearing none old new told same = record { begun = []; begins = refl; gains = λ line err. line_alone old new line same err }
-begun_of given content counts hearing none old new (failed_read before after) same = record { begun = []; begins = refl; gains = λ line err. line_alone old new line same err }
-begun_of given content counts hearing none old new (refused_write before after) cut =
-    let (report, is, front) = cut.3 in
-    record {
-      begun = (to_out, front.front) ∷ [];
-      begins = record {
-        report = report;
-        asked = is;
-        failed = none;
-        cut = record {
+module _ (given : Given) (content : Option Content) (counts : FaultCounts) (out err_old err_new : Option (List ℕ)) where
+  first_by : (error : Error) (text : List ℕ) → ForSome content (λ one. TellsLoad given one counts.tree_before counts.tree_after (Err error) text)
+      → (cause : Cause) → cause_of error ≡ cause → TextWritten text err_old err_new counts.err_before counts.err_after cause
+      → WritesFirst given content counts (record { out = out; err = err_old }) (record { out = out; err = err_new }) (Err error)
+  first_by error text tells no_memory is written = record {
+    text = text;
+    tells = tells;
+    begun = load_script written.front;
+    begins = subst (Begins given content counts text (load_script written.front)) (sym is) (record { front = written.front; rest = written.rest; parts = written.parts; is = refl });
+    gains = err_alone out err_old err_new written.front written.gained;
+  }
+  first_by error text tells causes.told is written = record {
+    text = text;
+    tells = tells;
+    begun = load_script text;
+    begins = subst (Begins given content counts text (load_script text)) (sym is) refl;
+    gains = err_alone out err_old err_new text written;
+  }
+  first_by error text tells (failed_read first last) is written = record {
+    text = text;
+    tells = tells;
+    begun = load_script text;
+    begins = subst (Begins given content counts text (load_script text)) (sym is) refl;
+    gains = err_alone out err_old err_new text written;
+  }
+  first_by error text tells (refused_write first last) is written =
+      let front = written.3 in
+      record {
+        text = text;
+        tells = tells;
+        begun = load_script front.front;
+        begins = subst (Begins given content counts text (load_script front.front)) (sym is) (inl (record {
           earlier = [];
-          target = to_out;
+          target = to_err;
           front = front.front;
           rest = front.rest;
           later = [];
-          parts = ap (λ text. (to_out, text) ∷ []) front.parts;
+          parts = ap load_script front.parts;
           written = refl;
-          refused = (cut.0, cut.1, cut.2);
-        };
+          refused = (written.0, (let e : last ≤ counts.err_after = omega (arith, written.1) in e), subst (λ n. Rose n last) (sym written.0) (subst (Rose counts.err_before) (sym written.1) written.2));
+        }));
+        gains = err_alone out err_old err_new front.front front.gained;
+      }
+
+  pub first_refused : (error : Error)
+      → WritesLoad given content counts.tree_before counts.tree_after err_old err_new counts.err_before counts.err_after (Err error)
+      → WritesFirst given content counts (record { out = out; err = err_old }) (record { out = out; err = err_new }) (Err error)
+  first_refused error writes = first_by error writes.text writes.tells (cause_of error) refl writes.written
+
+-- ---- with the summary
+
+module _ (given : Given) (content : Option Content) (counts : FaultCounts) (old new : Written) (report : Report)
+    (writes : WritesLoad given content counts.tree_before counts.tree_after old.err new.err counts.err_before counts.err_after (Ok report)) where
+  pub first_reported : Gained old.out new.out (summary_of report.stats) → WritesFirst given content counts old new (Ok report)
+  first_reported gained = record {
+    text = writes.text;
+    tells = writes.tells;
+    begun = script_of writes.text report;
+    begins = refl;
+    gains = record { out = gained-append_nil old.out new.out _ gained; err = gained-append_nil old.err new.err writes.text writes.written };
+  }
+
+  -- a summary that was cut
+  pub first_cut : (before after : ℕ) → ForSome content (λ one. IsReport given one counts.tree_before counts.tree_after report)
+      → GainedPrefix old.out new.out (summary_of report.stats) → before ≡ counts.out_before → after ≡ counts.out_after → Rose counts.out_before counts.out_after
+      → WritesFirst given content counts old new (Err (WriteFault before after))
+  first_cut before after asked front first last rose = record {
+    text = writes.text;
+    tells = λ one e. let own = writes.tells one e in record { hearing = own.hearing; heard = own.heard; answers = tt; is = own.is };
+    begun = (to_err, writes.text) ∷ (to_out, front.front) ∷ [];
+    begins = inr (record {
+      report = report;
+      asked = asked;
+      text_of = writes.tells;
+      cut = record {
+        earlier = (to_err, writes.text) ∷ [];
+        target = to_out;
+        front = front.front;
+        rest = front.rest;
+        later = [];
+        parts = ap (λ summary. (to_err, writes.text) ∷ (to_out, summary) ∷ []) front.parts;
+        written = refl;
+        refused = (first, last, rose);
       };
-      gains = λ line err. record { out = gained-append_nil old.out new.out front.front front.gained; err = gained-append_nil old.err new.err line err };
-    }
+    });
+    gains = record { out = gained-append_nil old.out new.out front.front front.gained; err = gained-append_nil old.err new.err writes.text writes.written };
+  }
 
--- after a refusal stand what was begun and the line of the refusal, or a front of it
-pub Writes-from_line : (given : Given) (content : Option Content) (counts : FaultCounts) (old new : Written) (error : Error) → counts.tree_before ≤ counts.tree_after → SummaryCut (λ report. ForSome content (λ one. IsReport given one counts.tree_before counts.tree_after report)) old.out new.out counts.out_before counts.out_after (cause_of error) → LineWritten old.err new.err counts.err_before counts.err_after (fault_line error) → Writes given content counts old new (Err error)
-Writes-from_line given content counts old new error later cut (inl gained) =
-    let quiet = quiet_of content counts.tree_before counts.tree_after later in
-    let first = begun_of given content counts quiet.hearing quiet.failed old new (cause_of error) cut in
-    record {
-      hearing = quiet.hearing;
-      heard = quiet.heard;
-      script = first.begun ++ (to_err, fault_line error) ∷ [];
-      is = record { begun = first.begun; begins = first.begins; line = fault_line error; ends = inl refl; parts = refl };
-      gains = first.gains (fault_line error) gained;
-    }
-Writes-from_line given content counts old new error later cut (inr (rose, front)) =
-    let quiet = quiet_of content counts.tree_before counts.tree_after later in
-    let first = begun_of given content counts quiet.hearing quiet.failed old new (cause_of error) cut in
-    record {
-      hearing = quiet.hearing;
-      heard = quiet.heard;
-      script = first.begun ++ (to_err, front.front) ∷ [];
-      is = record { begun = first.begun; begins = first.begins; line = front.front; ends = inr (rose, (front.rest, front.parts)); parts = refl };
-      gains = first.gains front.front front.gained;
-    }
+-- ---- with the line of a refusal
 
--- a refusal that comes before anything is written leaves the sink as it was
-pub SummaryCut-unwritten : (Cuts : Report → Type 0) (old new : Option (List ℕ)) (before after : ℕ) (cause : Cause) → ComesUnwritten cause → new ≡ old → SummaryCut Cuts old new before after cause
-SummaryCut-unwritten Cuts old new before after no_memory unwritten same = same
-SummaryCut-unwritten Cuts old new before after told unwritten same = same
-SummaryCut-unwritten Cuts old new before after (failed_read first last) unwritten same = same
-SummaryCut-unwritten Cuts old new before after (refused_write first last) unwritten same = absurd unwritten
+text_out : (begun : Script) (line : List ℕ) → text_for to_out (begun ++ (to_err, line) ∷ []) ≡ text_for to_out begun
+text_out begun line = flat_map-append (λ (piece : script.Target × List ℕ). cond (is_target to_out piece.0) piece.1 []) begun ((to_err, line) ∷ []) ∙ append-nil (text_for to_out begun)
+
+text_err : (begun : Script) (line : List ℕ) → text_for to_err (begun ++ (to_err, line) ∷ []) ≡ text_for to_err begun ++ line
+text_err begun line =
+    flat_map-append (λ (piece : script.Target × List ℕ). cond (is_target to_err piece.0) piece.1 []) begun ((to_err, line) ∷ []) ∙ ap (λ own. text_for to_err begun ++ own) (append-nil line)
+
+with_line : (old mid new : Written) (begun : Script) (line : List ℕ) → Gains old mid begun → new.out ≡ mid.out → Gained mid.err new.err line
+    → Gains old new (begun ++ (to_err, line) ∷ [])
+with_line old mid new begun line gains out err = record {
+  out =
+      subst (Gained old.out new.out) (sym (text_out begun line))
+      (subst (λ one. Gained old.out one (text_for to_out begun)) (sym out) gains.out);
+  err =
+      subst (Gained old.err new.err) (sym (text_err begun line)) (Gained-then old.err mid.err new.err (text_for to_err begun) line gains.err err);
+}
+
+-- the counts of `err` may rise further in the line
+further : (counts later : FaultCounts) → later.out_before ≡ counts.out_before → later.out_after ≡ counts.out_after → later.err_before ≡ counts.err_before
+    → counts.err_after ≤ later.err_after → (target : script.Target) (before after : ℕ) → RefusedBy counts target before after → RefusedBy later target before after
+further counts later one two three four to_out before after refused =
+    (refused.0 ∙ sym one, refused.1 ∙ sym two, subst (λ n. Rose n later.out_after) (sym one) (subst (Rose counts.out_before) (sym two) refused.2))
+further counts later one two three four to_err before after refused = (refused.0 ∙ sym three, (let e : after ≤ later.err_after = omega (arith, refused.1) in e), refused.2)
+
+-- the counts of a call, with those of `err` behind it
+abbrev pub with_err : FaultCounts → ℕ → FaultCounts
+with_err counts err_after = record {
+  tree_before = counts.tree_before;
+  tree_after = counts.tree_after;
+  out_before = counts.out_before;
+  out_after = counts.out_after;
+  err_before = counts.err_before;
+  err_after = err_after;
+}
+
+module _ (given : Given) (content : Option Content) (counts : FaultCounts) (err_after : ℕ) (first_later : counts.err_before ≤ counts.err_after) (later : counts.err_after ≤ err_after) where
+  wider : Rose counts.err_after err_after → Rose counts.err_before err_after
+  wider (inl less) = inl (omega arith)
+  wider (inr last) = inr last
+
+  cut_further : (before after : ℕ) (whole begun : Script) → IsCut counts before after whole begun → IsCut (with_err counts err_after) before after whole begun
+  cut_further before after whole begun cut = record {
+    earlier = cut.earlier;
+    target = cut.target;
+    front = cut.front;
+    rest = cut.rest;
+    later = cut.later;
+    parts = cut.parts;
+    written = cut.written;
+    refused = further counts (with_err counts err_after) refl refl refl later cut.target before after cut.refused;
+  }
+
+  begins_further : (text : List ℕ) (begun : Script) (cause : Cause) → Begins given content counts text begun cause → Begins given content (with_err counts err_after) text begun cause
+  begins_further text begun no_memory begins = begins
+  begins_further text begun causes.told begins = begins
+  begins_further text begun (failed_read before after) begins = begins
+  begins_further text begun (refused_write before after) (inl cut) = inl (cut_further before after (load_script text) begun cut)
+  begins_further text begun (refused_write before after) (inr cut) =
+      inr (record { report = cut.report; asked = cut.asked; text_of = cut.text_of; cut = cut_further before after (script_of text cut.report) begun cut.cut })
+
+  -- after a refusal stand what was begun and the line of the refusal, or a front of it
+  pub Writes-from_line : (old mid new : Written) (error : Error) → WritesFirst given content counts old mid (Err error) → new.out ≡ mid.out
+      → LineWritten mid.err new.err counts.err_after err_after (fault_line error)
+      → Writes given content (with_err counts err_after) old new (Err error)
+  Writes-from_line old mid new error first out (inl gained) = record {
+    text = first.text;
+    tells = first.tells;
+    begun = first.begun;
+    begins = begins_further first.text first.begun (cause_of error) first.begins;
+    script = first.begun ++ (to_err, fault_line error) ∷ [];
+    ends = record { line = fault_line error; ends = inl refl; parts = refl };
+    gains = with_line old mid new first.begun (fault_line error) first.gains out gained;
+  }
+  Writes-from_line old mid new error first out (inr cut) = record {
+    text = first.text;
+    tells = first.tells;
+    begun = first.begun;
+    begins = begins_further first.text first.begun (cause_of error) first.begins;
+    script = first.begun ++ (to_err, cut.1.front) ∷ [];
+    ends = record { line = cut.1.front; ends = inr (wider cut.0, (cut.1.rest, cut.1.parts)); parts = refl };
+    gains = with_line old mid new first.begun cut.1.front first.gains out cut.1.gained;
+  }
+
+-- after a report nothing comes behind
+pub Writes-from_report : (given : Given) (content : Option Content) (counts : FaultCounts) (old new : Written) (report : Report)
+    → WritesFirst given content counts old new (Ok report) → Writes given content counts old new (Ok report)
+Writes-from_report given content counts old new report first =
+    record { text = first.text; tells = first.tells; begun = first.begun; begins = first.begins; script = first.begun; ends = refl; gains = first.gains }

@@ -1,12 +1,17 @@
 -- The errors' words, and why they come.
 use Rattle.std.specs.Prelude.{ℕ, List, ◌++◌, codes}
-use Rattle.heard_core.specs.declared.fault.ReadFault.TheVariants.{Failed, Absent}
+use Rattle.heard_core.specs.declared.fault.ReadFault.TheVariants.{Failed}
 use Rattle.workspace_core.specs.declared.error.KratesError.{KratesError}
 use Rattle.workspace_core.specs.declared.error.KratesError.TheVariants as krates
 use Rattle.heard_core.specs.Cause.{Cause, no_memory, told, failed_read, refused_write}
-use Rattle.deny_run.specs.declared.error.Part.TheVariants.{Words, Policy, Crate}
+use Rattle.load_core.specs.declared.error.LoadError.{LoadError}
+use Rattle.load_core.specs.declared.error.LoadError.TheVariants as load
+use Rattle.search_core.specs.declared.search.SearchError.{SearchError}
+use Rattle.search_core.specs.declared.search.SearchError.TheVariants as search
+use Rattle.workspace_core.specs.declared.error.What.TheVariants.{ExcludeSpec}
+use Rattle.deny_run.specs.declared.error.Part.TheVariants.{Words, Crate}
 use Rattle.deny_run.specs.declared.error.Error.{Error}
-use Rattle.deny_run.specs.declared.error.Error.TheVariants.{Memory, NotCarried, ConfigRead, MetadataRead, MetadataSyntax, MetadataShape, NoRoots, WriteFault, NotYet}
+use Rattle.deny_run.specs.declared.error.Error.TheVariants.{Memory, NotCarried, ConfigRead, ConfigSyntax, ConfigShape, ConfigInvalid, MetadataRead, MetadataSyntax, MetadataShape, NoRoots, WriteFault, NotYet}
 use Rattle.deny_run.specs.declared.error.Refusal.{Refusal}
 use Rattle.deny_run.specs.declared.error.Refusal.TheVariants as refusal
 
@@ -14,6 +19,9 @@ abbrev pub words_of : Error → List ℕ
 words_of Memory = codes "out of memory"
 words_of (NotCarried what) = codes "the request is not carried"
 words_of (ConfigRead fault) = codes "the policy could not be read"
+words_of (ConfigSyntax fault) = codes "the policy could not be parsed"
+words_of (ConfigShape faults) = codes "the policy could not be deserialized"
+words_of (ConfigInvalid found) = codes "the policy is not valid"
 words_of (MetadataRead fault) = codes "the metadata could not be read"
 words_of MetadataSyntax = codes "the metadata could not be parsed"
 words_of (MetadataShape fault) = codes "the metadata has not the stated shape"
@@ -38,11 +46,6 @@ FreeOr no_memory P = Unit {0}
 FreeOr (refused_write before after) P = Unit {0}
 FreeOr _ P = P
 
--- nothing was written before it
-abbrev pub ComesUnwritten : Cause → Type 0
-ComesUnwritten (refused_write before after) = ⊥
-ComesUnwritten _ = Unit {0}
-
 -- it may end a run over lawful input without a fault
 abbrev pub MayEndLawful : Cause → Type 0
 MayEndLawful no_memory = Unit {0}
@@ -59,12 +62,26 @@ error_of_krates krates.MetadataSyntax = MetadataSyntax
 error_of_krates (krates.MetadataShape fault) = MetadataShape fault
 error_of_krates (krates.NoRoots base excluded unpublished) = NoRoots base excluded unpublished
 
--- The error of a refusal: a policy that is absent is of a form that is not built.
+-- why a file was not looked for
+abbrev pub error_of_search : SearchError → Error
+error_of_search (search.Failed before after) = ConfigRead (Failed before after)
+error_of_search search.Memory = Memory
+
+-- why a policy was not loaded
+abbrev pub error_of_load : LoadError → Error
+error_of_load load.Memory = Memory
+error_of_load (load.ConfigRead fault) = ConfigRead fault
+error_of_load (load.ConfigSyntax fault) = ConfigSyntax fault
+error_of_load (load.ConfigShape faults) = ConfigShape faults
+error_of_load load.NotCarried = NotCarried ExcludeSpec
+error_of_load (load.ConfigInvalid found) = ConfigInvalid found
+error_of_load (load.WriteFault before after) = WriteFault before after
+
+-- the error of a refusal
 abbrev pub error_of : Refusal → Error
 error_of refusal.Memory = Memory
 error_of refusal.Words = NotYet Words
-error_of (refusal.PolicyRead Absent) = NotYet Policy
-error_of (refusal.PolicyRead fault) = ConfigRead fault
-error_of refusal.PolicyForm = NotYet Policy
+error_of (refusal.Search error) = error_of_search error
+error_of (refusal.Load error) = error_of_load error
 error_of (refusal.Krates error) = error_of_krates error
 error_of (refusal.CrateForm id) = NotYet (Crate id)

@@ -1,24 +1,31 @@
 -- What is heard of the files, and what the words and the files ask to check.
-use Rattle.std.specs.Prelude.{ℕ, ◌==◌, true, false, List, length, Option, Some, None, Result, Ok, Err, option_and_then, if◌then◌else◌}
-use Rattle.tree_core.specs.Hearing.{policy, metadata, Hearing}
+use Rattle.std.specs.Prelude.{ℕ, ◌==◌, true, false, List, [], codes, length, Option, Some, None, Result, Ok, Err, option_and_then, if◌then◌else◌}
+use Rattle.deny_text.specs.Path.{join_of}
+use Rattle.tree_core.specs.Hearing.{metadata}
 use Rattle.catalog_core.specs.Catalog.{CatalogLists}
 use Rattle.term_core.specs.declared.mode.ParseMode.{ParseMode}
-use Rattle.term_core.specs.declared.term.LicenseReq.{LicenseReq}
 use Rattle.spdx_core.specs.Reading.{ExpressionView, expression_of}
 use Rattle.graph_core.specs.Krate.{Record}
 use Rattle.graph_core.specs.Metadata.{Graph}
 use Rattle.heard_core.specs.declared.fault.ReadFault.{ReadFault}
-use Rattle.heard_core.specs.declared.fault.ReadFault.TheVariants.{Absent}
-use Rattle.workspace_core.specs.declared.error.KratesError.{KratesError}
+use Rattle.heard_core.specs.declared.fault.ReadFault.TheVariants.{Failed}
 use Rattle.heard_core.specs.Heard.{text_heard}
+use Rattle.search_core.specs.Search.{candidates, first_existing}
+use Rattle.search_core.specs.declared.search.Sought.TheVariants.{Exceptions}
+use Rattle.workspace_core.specs.declared.error.KratesError.{KratesError}
 use Rattle.workspace_core.specs.Krates.{graph_in}
-use Rattle.deny_run.specs.declared.error.Part.TheVariants.{Words, Policy}
+use Rattle.policy_core.specs.Policy.{PolicyFound}
+use Rattle.load_core.specs.Heard.{load_heard}
+use Rattle.load_core.specs.Load.{Loaded, load_of}
+use Rattle.load_core.specs.declared.error.LoadError.{LoadError}
+use Rattle.load_core.specs.declared.loading.PolicyPaths.{PolicyPaths}
+use Rattle.deny_run.specs.declared.error.Part.TheVariants.{Words}
 use Rattle.deny_run.specs.declared.error.Error.{Error}
 use Rattle.deny_run.specs.declared.error.Error.TheVariants.{ConfigRead, NotYet}
 use Rattle.deny_run.specs.declared.words.Request.{Request}
-use Rattle.deny_run.specs.Error.{error_of_krates}
+use Rattle.deny_run.specs.Error.{error_of_krates, error_of_load}
 use Rattle.deny_run.specs.Given.{Given}
-use Rattle.deny_run.specs.Policy.{policy_of}
+use Rattle.deny_run.specs.Hearing.{Looks, look_failed, all_told, RunHearing}
 use Rattle.deny_run.specs.Words.{request_of}
 
 -- the next step, where the one before was not refused
@@ -32,11 +39,17 @@ abbrev pub or_refused : {X : Type 0} → Error → Option X → Result X Error
 or_refused error None = Err error
 or_refused error (Some value) = Ok value
 
--- the policy, from what was heard of its file: the licensees that it allows
-abbrev pub config_in : CatalogLists → Result (List ℕ) ReadFault → Result (List LicenseReq) Error
-config_in lists (Ok text) = or_refused (NotYet Policy) (policy_of lists text)
-config_in lists (Err Absent) = Err (NotYet Policy)
-config_in lists (Err fault) = Err (ConfigRead fault)
+-- the manifest of a run
+abbrev pub manifest_in : List ℕ → List ℕ
+manifest_in cwd = join_of cwd (codes "Cargo.toml")
+
+-- where the exceptions file is: at the first of the paths at which something stands
+abbrev pub exceptions_by : Looks → Option (List ℕ) → Result (Option (List ℕ)) Error
+exceptions_by (look_failed before after) found = Err (ConfigRead (Failed before after))
+exceptions_by all_told found = Ok found
+
+abbrev pub exceptions_in : RunHearing → List (List ℕ) → Result (Option (List ℕ)) Error
+exceptions_in hearing paths = exceptions_by hearing.looks (first_existing hearing.files.content paths)
 
 -- the crates and the edges between them, from what was heard of the metadata's file
 abbrev pub or_error : Result Graph KratesError → Result Graph Error
@@ -46,19 +59,42 @@ or_error (Err error) = Err (error_of_krates error)
 abbrev pub graph_heard : Result (List ℕ) ReadFault → Result Graph Error
 graph_heard heard = or_error (graph_in heard)
 
--- what was found: the request, the licensees that its policy allows, and the crates with the edges between them
+-- where the two files of the policy are
+abbrev pub paths_of : Given → RunHearing → Request → Result PolicyPaths Error
+paths_of given hearing request = do
+  exceptions ← exceptions_in hearing (candidates Exceptions (manifest_in given.cwd))
+  Ok (record { policy = Some request.config_path; exceptions = exceptions })
+
+-- what comes of the load of the policy at these paths; no file is known before it
+abbrev pub load_at : Given → RunHearing → PolicyPaths → Loaded
+load_at given hearing paths = load_of given.lists [] paths (load_heard hearing.files paths)
+
+abbrev pub or_load_error : Result PolicyFound LoadError → Result PolicyFound Error
+or_load_error (Ok found) = Ok found
+or_load_error (Err error) = Err (error_of_load error)
+
+-- what was found: the request, its policy, and the crates with the edges between them
 pub record Found : Type 0 where
   pub request : Request
-  pub config : List LicenseReq
+  pub policy : PolicyFound
   pub graph : Graph
 
--- What is found by the words and in the files, or the first refusal: of the words, the policy, the metadata.
-abbrev pub found_of : Given → Hearing → Result Found Error
+-- What comes of the load, or the first refusal before it: of the words, of the looks for an exceptions file.
+abbrev pub loaded_of : Given → RunHearing → Result Loaded Error
+loaded_of given hearing = do
+  request ← or_refused (NotYet Words) (request_of given.words given.cwd)
+  paths ← paths_of given hearing request
+  Ok (load_at given hearing paths)
+
+-- What is found by the words and in the files, or the first refusal: of the words, of the looks, of the policy, of the
+-- metadata.
+abbrev pub found_of : Given → RunHearing → Result Found Error
 found_of given hearing = do
   request ← or_refused (NotYet Words) (request_of given.words given.cwd)
-  config ← config_in given.lists (text_heard hearing policy request.config_path)
-  graph ← graph_heard (text_heard hearing metadata request.metadata_path)
-  Ok (record { request = request; config = config; graph = graph })
+  paths ← paths_of given hearing request
+  policy ← or_load_error (load_at given hearing paths).answer
+  graph ← graph_heard (text_heard hearing.files metadata request.metadata_path)
+  Ok (record { request = request; policy = policy; graph = graph })
 
 -- ---- the expression of a crate
 
@@ -84,5 +120,5 @@ abbrev pub field_read : CatalogLists → Record → Option ExpressionView
 field_read lists krate = option_and_then (field_of lists) krate.license
 
 -- the licence expression of a crate: that of its field
-abbrev pub expression_heard : Given → List LicenseReq → Hearing → Record → Option ExpressionView
-expression_heard given config hearing krate = field_read given.lists krate
+abbrev pub expression_heard : Given → PolicyFound → RunHearing → Record → Option ExpressionView
+expression_heard given policy hearing krate = field_read given.lists krate

@@ -3,6 +3,7 @@ pub mod Error
 pub mod Given
 pub mod Headline
 pub mod Heard
+pub mod Hearing
 pub mod Policy
 pub mod Report
 pub mod Run

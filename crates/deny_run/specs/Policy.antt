@@ -1,66 +1,57 @@
--- The policy that a text is, in the one form that is built: a table of licences with a list of those that are allowed.
-use Rattle.std.specs.Prelude.{◌≡◌, ℕ, ◌==◌, Bool, false, All, List, [], ◌∷◌, ◌++◌, Option, Some, None, option_map, option_and_then, codes, if◌then◌else◌}
-use Rattle.std.specs.Str.{bytes_eq}
-use Rattle.std.specs.List.{AllByRecursion, flat_map, slice_split}
-use Rattle.catalog_core.specs.declared.catalog.LicenseEntry.{LicenseEntry}
-use Rattle.catalog_core.specs.Catalog.{CatalogLists, entry_of}
-use Rattle.term_core.specs.declared.term.LicenseItem.TheVariants.{Spdx}
-use Rattle.term_core.specs.declared.term.LicenseReq.{LicenseReq}
+-- The policy's bytes: when its two files are a policy, in words of texts, values and shapes.
+use Rattle.std.specs.Prelude.{◌≡◌, ℕ, false, List, [], ◌∷◌, Option, Some, None, Result, Ok}
+use Rattle.std.specs.List.{list_any}
+use Rattle.catalog_core.specs.Catalog.{CatalogLists}
+use Rattle.context_core.specs.Asked.{is_uncarried}
+use Rattle.diag_core.specs.File.{File, id_at}
+use Rattle.heard_core.specs.declared.fault.ReadFault.{ReadFault}
+use Rattle.load_core.specs.Heard.{LoadHeard}
+use Rattle.load_core.specs.Load.{policy_file}
+use Rattle.load_core.specs.Print.{is_error}
+use Rattle.load_core.specs.declared.loading.PolicyPaths.{PolicyPaths}
+use Rattle.policy_config.specs.Root.{root_of}
+use Rattle.policy_config.specs.declared.root.RootConfig.{RootConfig}
+use Rattle.policy_core.specs.Exceptions.{ExceptionsRead, no_file, value}
+use Rattle.policy_core.specs.Policy.{PolicyFound, absence_told, policy_found}
+use Rattle.policy_entries.specs.Exceptions.{exceptions_file_of}
+use Rattle.policy_text.specs.Text.{text_told}
+use Rattle.policy_text.specs.declared.text.ConfigText.{ConfigText}
+use Rattle.toml_shapes.specs.Shaped.{faults_in}
+use Rattle.toml_subset.specs.Data.{Toml}
+use Rattle.toml_subset.specs.Reading.{read_text}
 
--- a name in double quotes
-abbrev pub quoted : List ℕ → List ℕ
-quoted name = codes "\"" ++ name ++ codes "\""
+-- the policy's text: that of its file, or the empty one where no file is there
+abbrev pub IsTextOf : Result (List ℕ) ReadFault → ConfigText → Type 0
+IsTextOf heard text = text_told heard ≡ Ok text
 
--- a name that follows another one
-abbrev pub next_quoted : List ℕ → List ℕ
-next_quoted name = codes ", " ++ quoted name
+-- An exceptions file that is there: its path is another one than the policy's, it is a text, the text has a value, and
+-- nothing is wrong with the shape of the value.
+pub record ExceptionsFileAt (lists : CatalogLists) (files : List File) (path : List ℕ) (heard : Result (List ℕ) ReadFault) (read : ExceptionsRead) : Type 0 where
+  pub apart : id_at files path ≡ None
+  pub text : List ℕ
+  pub text_heard : heard ≡ Ok text
+  pub toml : Toml
+  pub reads : read_text text ≡ Ok toml
+  pub shape : faults_in (exceptions_file_of lists toml) ≡ []
+  pub is : read ≡ value toml
 
--- names in double quotes, with a comma and a space between
-abbrev pub quoted_names : List (List ℕ) → List ℕ
-quoted_names [] = []
-quoted_names (name ∷ names) = quoted name ++ flat_map next_quoted names
+-- there is no exceptions file, or there is one
+abbrev pub ExceptionsAt : CatalogLists → List File → Option (List ℕ) → Result (List ℕ) ReadFault → ExceptionsRead → Type 0
+ExceptionsAt lists files None heard read = read ≡ no_file
+ExceptionsAt lists files (Some path) heard read = ExceptionsFileAt lists files path heard read
 
--- the text of the policy that allows these names
-abbrev pub policy_text : List (List ℕ) → List ℕ
-policy_text names = codes "[licenses]\nallow = [" ++ quoted_names names ++ codes "]\n"
-
--- a double quote
-abbrev pub is_quote : ℕ → Bool
-is_quote byte = byte == 34
-
--- the second, the fourth, and so on
-abbrev pub every_second : List (List ℕ) → List (List ℕ)
-every_second [] = []
-every_second (outside ∷ []) = []
-every_second (outside ∷ inside ∷ rest) = inside ∷ every_second rest
-
--- what a text has in double quotes
-abbrev pub names_in : List ℕ → List (List ℕ)
-names_in text = every_second (slice_split is_quote text)
-
--- the licensee of a licence's name: only the name says whether later versions are meant
-abbrev pub licensee_of : List ℕ → LicenseEntry → LicenseReq
-licensee_of name entry = record { item = Spdx name entry.family entry.rank entry.later false; exception = None }
-
--- the licensee that a name is; none where the catalogue does not know it
-abbrev pub licensee_named : CatalogLists → List ℕ → Option LicenseReq
-licensee_named lists name = option_map (licensee_of name) (entry_of lists.licences name)
-
--- the licensees that names are; none where the catalogue does not know one
-abbrev pub licensees_of : CatalogLists → List (List ℕ) → Option (List LicenseReq)
-licensees_of lists [] = Some []
-licensees_of lists (name ∷ names) =
-    option_and_then (λ licensee. option_map (λ licensees. licensee ∷ licensees) (licensees_of lists names)) (licensee_named lists name)
-
--- The licensees that a policy allows. The text is that of the policy that allows the names in its quotes, and the
--- catalogue knows each name, be it deprecated or not. There are none where the text is of another form.
-abbrev pub policy_of : CatalogLists → List ℕ → Option (List LicenseReq)
-policy_of lists text = if bytes_eq (policy_text (names_in text)) text then licensees_of lists (names_in text) else None
-
--- a name has no double quote
-abbrev pub HasNoQuote : List ℕ → Type 0
-HasNoQuote name = All (λ byte. is_quote byte ≡ false) name
-
--- A policy reads back: the text that allows these names allows the licensees that they are, in whatever catalogue.
-abbrev pub PolicyReadsBack : Type 0
-PolicyReadsBack = (lists : CatalogLists) (names : List (List ℕ)) → AllByRecursion HasNoQuote names → policy_of lists (policy_text names) ≡ licensees_of lists names
+-- What is heard of the two files is a policy: the policy's text has a value, the value has the shape of a policy, which
+-- leaves out no crate by a spec that is not carried; an exceptions file that is there is one; and nothing that is told of the
+-- two is an error.
+pub record IsPolicyAt (lists : CatalogLists) (paths : PolicyPaths) (heard : LoadHeard) (found : PolicyFound) : Type 0 where
+  pub text : ConfigText
+  pub text_of : IsTextOf heard.policy text
+  pub toml : Toml
+  pub reads : read_text text.text ≡ Ok toml
+  pub root : RootConfig
+  pub shape : root_of lists toml ≡ Ok root
+  pub carried : list_any is_uncarried root.graph.exclude ≡ false
+  pub read : ExceptionsRead
+  pub exceptions : ExceptionsAt lists (policy_file paths.policy text.text ∷ []) paths.exceptions heard.exceptions read
+  pub is : found ≡ policy_found lists (record { policy = 0; exceptions = 1 }) (absence_told text.is_there paths.policy) read root
+  pub valid : list_any is_error found.findings ≡ false

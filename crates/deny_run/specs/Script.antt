@@ -1,56 +1,132 @@
 -- What a run writes to its two sinks.
-use Rattle.std.specs.Prelude.{◌≡◌, ℕ, List, [], ◌∷◌, ◌++◌, Option, Result, Ok, Err}
+use Rattle.std.specs.Prelude.{◌≡◌, ◌⊎◌, ℕ, List, [], ◌∷◌, ◌++◌, Option, Result, Ok, Err}
 use Rattle.std.specs.Option.{ForSome}
 use Rattle.tree_core.specs.Content.{Content}
-use Rattle.tree_core.specs.Faults.{Rose, GainedPrefix}
-use Rattle.tree_core.specs.Hearing.{Hearing, IsHearing}
+use Rattle.tree_core.specs.Faults.{Rose, Gained, GainedPrefix}
 use Rattle.tree_core.specs.Script.{to_out, to_err, Script, FaultCounts, Written, Gains, IsCut, IsLineOrFront}
-use Rattle.heard_core.specs.Cause.{Cause, refused_write}
+use Rattle.diag_core.specs.declared.severity.LevelFilter.TheVariants.{Warn}
+use Rattle.heard_core.specs.Cause as causes
+use Rattle.heard_core.specs.Cause.{Cause, no_memory, refused_write}
+use Rattle.print_core.specs.declared.context.Color.TheVariants.{Auto}
+use Rattle.print_core.specs.declared.context.Format.TheVariants.{Human}
+use Rattle.print_core.specs.declared.context.LogContext.{LogContext}
+use Rattle.load_core.specs.Load.{Loaded}
+use Rattle.load_core.specs.Print.{printed_findings}
 use Rattle.deny_run.specs.declared.error.Error.{Error}
 use Rattle.deny_run.specs.declared.report.Report.{Report}
 use Rattle.deny_run.specs.Counts.{summary_of}
-use Rattle.deny_run.specs.Error.{cause_of, fault_line}
+use Rattle.deny_run.specs.Error.{cause_of, fault_line, FreeOr}
 use Rattle.deny_run.specs.Given.{Given}
+use Rattle.deny_run.specs.Heard.{found_of, loaded_of}
+use Rattle.deny_run.specs.Hearing.{all_told, RunHearing, IsRunHearing}
 use Rattle.deny_run.specs.Report.{IsReport, failed_of}
+use Rattle.deny_run.specs.Selection.{Refuses}
 
--- what a report is written as: its summary, on `out`
-abbrev pub script_of : Given → Hearing → Report → Script
-script_of given hearing report = (to_out, summary_of report.stats) ∷ []
+-- how findings are written: as lines for a person, warnings and what is worse; the words ask for no other form yet
+abbrev pub plain_log : LogContext
+plain_log = record { format = Human; color = Auto; log_level = Warn }
 
--- the script of a report that is asked for was cut
-pub record CutsReport (given : Given) (told : Option Content) (counts : FaultCounts) (hearing : Hearing) (before after : ℕ) (begun : Script) : Type 0 where
+-- what is told of a load: all of its findings, or what is wrong with the policy's shape; nothing where there was none
+abbrev pub told_of : Result Loaded Error → List ℕ
+told_of (Ok loaded) = printed_findings plain_log loaded.files loaded.findings
+told_of (Err error) = []
+
+-- what is told of the load by what was heard
+abbrev pub told_before : Given → RunHearing → List ℕ
+told_before given hearing = told_of (loaded_of given hearing)
+
+-- what is heard where a run answers so: no failed read but those that the report lists, or what the refusal comes of
+abbrev pub IsAnsweredBy : Given → RunHearing → Result Report Error → Type 0
+IsAnsweredBy given hearing (Ok report) = (hearing.looks ≡ all_told) × (hearing.files.failed ≡ failed_of report)
+IsAnsweredBy given hearing (Err error) = FreeOr (cause_of error) (Refuses given hearing (found_of given hearing) error)
+
+-- the text is what is told of the load in a run that answers so
+pub record TellsLoad (given : Given) (content : Content) (before after : ℕ) (answer : Result Report Error) (text : List ℕ) : Type 0 where
+  pub hearing : RunHearing
+  pub heard : IsRunHearing content before after hearing
+  pub answers : IsAnsweredBy given hearing answer
+  pub is : text ≡ told_before given hearing
+
+-- what is told of the load, on `err`
+abbrev pub load_script : List ℕ → Script
+load_script text = (to_err, text) ∷ []
+
+-- what a report is written as: what is told of the load, and its summary, on `out`
+abbrev pub script_of : List ℕ → Report → Script
+script_of text report = (to_err, text) ∷ (to_out, summary_of report.stats) ∷ []
+
+-- the script of a report that is asked for was cut, in a run in which no read of it failed
+pub record CutsReport (given : Given) (told : Option Content) (counts : FaultCounts) (text : List ℕ) (before after : ℕ) (begun : Script) : Type 0 where
   pub report : Report
   pub asked : ForSome told (λ content. IsReport given content counts.tree_before counts.tree_after report)
-  pub failed : hearing.failed ≡ failed_of report
-  pub cut : IsCut counts before after (script_of given hearing report) begun
+  pub text_of : ForSome told (λ content. TellsLoad given content counts.tree_before counts.tree_after (Ok report) text)
+  pub cut : IsCut counts before after (script_of text report) begun
 
--- what was begun before a refusal: the report, where a write was refused, and else nothing
-abbrev pub Begins : Given → Option Content → FaultCounts → Hearing → Script → Cause → Type 0
-Begins given told counts hearing begun (refused_write before after) = CutsReport given told counts hearing before after begun
-Begins given told counts hearing begun _ = begun ≡ []
+-- a front of the text, on `err`
+pub record IsFront (text : List ℕ) (begun : Script) : Type 0 where
+  pub front : List ℕ
+  pub rest : List ℕ
+  pub parts : text ≡ front ++ rest
+  pub is : begun ≡ load_script front
 
--- the script of a refusal: what was begun before it, and its line on `err`, or a front of the line
-pub record IsRefused (given : Given) (told : Option Content) (counts : FaultCounts) (hearing : Hearing) (error : Error) (script : Script) : Type 0 where
-  pub begun : Script
-  pub begins : Begins given told counts hearing begun (cause_of error)
+-- What was begun before a refusal: a front of what is told of the load where memory was wanting; where a write was refused a
+-- cut of that, or of a report; else all that is told of the load.
+abbrev pub Begins : Given → Option Content → FaultCounts → List ℕ → Script → Cause → Type 0
+Begins given told counts text begun no_memory = IsFront text begun
+Begins given told counts text begun (refused_write before after) =
+    IsCut counts before after (load_script text) begun ⊎ CutsReport given told counts text before after begun
+Begins given told counts text begun _ = begun ≡ load_script text
+
+-- what was written before a fault line, if there is one
+abbrev pub HasBegun : Given → Option Content → FaultCounts → List ℕ → Script → Result Report Error → Type 0
+HasBegun given told counts text begun (Ok report) = begun ≡ script_of text report
+HasBegun given told counts text begun (Err error) = Begins given told counts text begun (cause_of error)
+
+-- a fault line behind it, or a front of the line
+pub record HasLine (counts : FaultCounts) (error : Error) (begun script : Script) : Type 0 where
   pub line : List ℕ
   pub ends : IsLineOrFront counts.err_before counts.err_after (fault_line error) line
   pub parts : script ≡ begun ++ (to_err, line) ∷ []
 
-abbrev pub IsScript : Given → Option Content → FaultCounts → Hearing → Result Report Error → Script → Type 0
-IsScript given told counts hearing (Ok report) script = (hearing.failed ≡ failed_of report) × (script ≡ script_of given hearing report)
-IsScript given told counts hearing (Err error) script = IsRefused given told counts hearing error script
+-- a report has none, a refusal has its own
+abbrev pub EndsIn : FaultCounts → Script → Script → Result Report Error → Type 0
+EndsIn counts begun script (Ok report) = script ≡ begun
+EndsIn counts begun script (Err error) = HasLine counts error begun script
 
--- what a run wrote, by what was heard where the tree tells its content
+-- what a run wrote before a fault line: the text is what is told of the load, by what was heard where the tree tells its content
+pub record WritesFirst (given : Given) (told : Option Content) (counts : FaultCounts) (old new : Written) (answer : Result Report Error) : Type 0 where
+  pub text : List ℕ
+  pub tells : ForSome told (λ content. TellsLoad given content counts.tree_before counts.tree_after answer text)
+  pub begun : Script
+  pub begins : HasBegun given told counts text begun answer
+  pub gains : Gains old new begun
+
+-- what a run wrote
 pub record Writes (given : Given) (told : Option Content) (counts : FaultCounts) (old new : Written) (answer : Result Report Error) : Type 0 where
-  pub hearing : Hearing
-  pub heard : ForSome told (λ content. IsHearing content counts.tree_before counts.tree_after hearing)
+  pub text : List ℕ
+  pub tells : ForSome told (λ content. TellsLoad given content counts.tree_before counts.tree_after answer text)
+  pub begun : Script
+  pub begins : HasBegun given told counts text begun answer
   pub script : Script
-  pub is : IsScript given told counts hearing answer script
+  pub ends : EndsIn counts begun script answer
   pub gains : Gains old new script
 
--- the summary of a report of which this holds was cut off by a refused write; after another refusal nothing is written
-abbrev pub SummaryCut : (Report → Type 0) → Option (List ℕ) → Option (List ℕ) → ℕ → ℕ → Cause → Type 0
-SummaryCut Asked old new before after (refused_write first last) =
-    (first ≡ before) × (last ≡ after) × Rose before after × ((report : Report) × Asked report × GainedPrefix old new (summary_of report.stats))
-SummaryCut Asked old new before after _ = new ≡ old
+-- ---- one step
+
+-- What `err` gained of what is told of the load, before a summary: all of it, or a front where memory was wanting or where
+-- `err` refused, whose counts are told.
+abbrev pub TextWritten : List ℕ → Option (List ℕ) → Option (List ℕ) → ℕ → ℕ → Cause → Type 0
+TextWritten text old new before after no_memory = GainedPrefix old new text
+TextWritten text old new before after (refused_write first last) =
+    (first ≡ before) × (last ≡ after) × Rose before after × GainedPrefix old new text
+TextWritten text old new before after _ = Gained old new text
+
+abbrev pub cause_in : Result Report Error → Cause
+cause_in (Ok report) = causes.told
+cause_in (Err error) = cause_of error
+
+-- what is told of the load was written to `err`, between these counts of the tree and of `err`
+pub record WritesLoad (given : Given) (content : Option Content) (tree_before tree_after : ℕ) (old new : Option (List ℕ)) (err_before err_after : ℕ) (answer : Result Report Error) : Type 0 where
+  pub text : List ℕ
+  pub tells : ForSome content (λ one. TellsLoad given one tree_before tree_after answer text)
+  pub written : TextWritten text old new err_before err_after (cause_in answer)

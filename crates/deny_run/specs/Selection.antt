@@ -1,47 +1,58 @@
 -- The crates that are checked, and why none are.
-use Rattle.std.specs.Prelude.{◌≡◌, ℕ, List, [], true, false, find, is_none, Some, Result, Ok, Err}
-use Rattle.tree_core.specs.Hearing.{Hearing}
+use Rattle.std.specs.Prelude.{◌≡◌, ℕ, List, false, find, is_none, Some, Result, Ok, Err}
+use Rattle.std.specs.List.{filter_map}
 use Rattle.graph_core.specs.Krate.{Record}
 use Rattle.graph_core.specs.Metadata.{Graph}
 use Rattle.selection_core.specs.declared.selection.Include.{Include}
-use Rattle.selection_core.specs.Choice.{Choice}
+use Rattle.selection_core.specs.Choice.{Choice, spec_read}
 use Rattle.selection_core.specs.Listed.{IsListOf}
 use Rattle.selection_core.specs.Roots.{HasRoot, LacksRoots}
 use Rattle.selection_core.specs.Walks.{Selected}
+use Rattle.policy_core.specs.Policy.{PolicyFound}
+use Rattle.valid_policy.specs.declared.policy.ValidConfig.{ValidConfig}
 use Rattle.deny_run.specs.declared.error.Part.TheVariants.{Crate}
 use Rattle.deny_run.specs.declared.error.Error.{Error}
 use Rattle.deny_run.specs.declared.error.Error.TheVariants.{NoRoots, NotYet}
 use Rattle.deny_run.specs.Given.{Given}
+use Rattle.deny_run.specs.Hearing.{RunHearing}
 use Rattle.deny_run.specs.Heard.{Found, expression_heard}
 
--- nothing is left out: the words don't ask for it yet
-abbrev pub plain_choice : Choice
-plain_choice = record { workspace = false; exclude = []; exclude_dev = false; exclude_unpublished = false }
+-- the crates that these specs leave out; the words leave none out yet
+abbrev pub choice_by : List (List ℕ) → Choice
+choice_by exclude =
+    record { workspace = false; exclude = filter_map spec_read exclude; exclude_dev = false; exclude_unpublished = false }
 
--- crates that only dev dependencies lead to are not checked, those that only build dependencies lead to are
-abbrev pub included : Include
-included = record { dev = false; build = true }
+-- by the policy's readable specs
+abbrev pub choice_in : PolicyFound → Choice
+choice_in policy = choice_by policy.graph.exclude
+
+-- whether crates are checked that only dev dependencies lead to, and those that only build dependencies lead to
+abbrev pub included_by : ValidConfig → Include
+included_by licenses = record { dev = licenses.include_dev; build = licenses.include_build }
+
+abbrev pub included_in : PolicyFound → Include
+included_in policy = included_by policy.licenses
 
 -- the crates that are checked, in the order of their ids
-abbrev pub AreSelected : Graph → List Record → Type 0
-AreSelected graph crates = IsListOf graph (Selected graph plain_choice included) crates
+abbrev pub AreSelected : PolicyFound → Graph → List Record → Type 0
+AreSelected policy graph crates = IsListOf graph (Selected graph (choice_in policy) (included_in policy)) crates
 
 -- the first of the crates that are checked, in the order of their ids, that has no licence expression
-pub record IsFirstWithout (given : Given) (hearing : Hearing) (found : Found) (id : List ℕ) : Type 0 where
-  pub root : HasRoot found.graph plain_choice
+pub record IsFirstWithout (given : Given) (hearing : RunHearing) (found : Found) (id : List ℕ) : Type 0 where
+  pub root : HasRoot found.graph (choice_in found.policy)
   pub crates : List Record
-  pub selected : AreSelected found.graph crates
+  pub selected : AreSelected found.policy found.graph crates
   pub krate : Record
-  pub first : find (λ one. is_none (expression_heard given found.config hearing one)) crates ≡ Some krate
+  pub first : find (λ one. is_none (expression_heard given found.policy hearing one)) crates ≡ Some krate
   pub named : krate.id ≡ id
 
 -- the refusal of the selection: no root is left, or a crate has no licence expression
-abbrev pub RefusesSelection : Given → Hearing → Found → Error → Type 0
-RefusesSelection given hearing found (NoRoots base excluded unpublished) = LacksRoots found.graph plain_choice base excluded unpublished
+abbrev pub RefusesSelection : Given → RunHearing → Found → Error → Type 0
+RefusesSelection given hearing found (NoRoots base excluded unpublished) = LacksRoots found.graph (choice_in found.policy) base excluded unpublished
 RefusesSelection given hearing found (NotYet (Crate id)) = IsFirstWithout given hearing found id
 RefusesSelection given hearing found _ = ⊥
 
 -- the first refusal: of what is looked for, else of the selection
-abbrev pub Refuses : Given → Hearing → Result Found Error → Error → Type 0
+abbrev pub Refuses : Given → RunHearing → Result Found Error → Error → Type 0
 Refuses given hearing (Err first) error = first ≡ error
 Refuses given hearing (Ok found) error = RefusesSelection given hearing found error

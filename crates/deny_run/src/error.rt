@@ -3,7 +3,8 @@ ghost use Rattle.std.specs.Prelude.{◌≡◌};
 ghost use Rattle.deny_run.specs.Error.{fault_line};
 
 use deny_text::Text;
-use heard_core::ReadFault;
+use load_core::{Diagnostics, LoadError, ReadFault, ShapeErrors, SyntaxError};
+use search_core::SearchError;
 use std::alloc::AllocError;
 use workspace_core::{KratesError, MetaFault, What};
 
@@ -11,18 +12,24 @@ use workspace_core::{KratesError, MetaFault, What};
 #[derive(Debug, Drop)]
 pub enum Part {
     Words,
-    Policy,
     /// The crate with this id.
     Crate(Text),
 }
 
-#[derive(Debug, Drop)]
+#[derive(Drop)]
 pub enum Error {
     Memory,
-    /// The first part of the request that is not carried. The words that are built ask for none.
+    /// The first part of the request, or of the policy, that is not carried.
     NotCarried(What),
-    /// The policy was not read. An absent one is of a form that is not built yet.
+    /// The policy was not read, or it was not found out where the exceptions file is. It is never absent: an
+    /// absent policy is an empty one.
     ConfigRead(ReadFault),
+    /// The policy's text stands for no value.
+    ConfigSyntax(SyntaxError),
+    /// The policy's value has not the shape of a policy. There is one fault at least.
+    ConfigShape(ShapeErrors),
+    /// Of these findings of the load one is an error at least.
+    ConfigInvalid(Diagnostics),
     /// The metadata was not read.
     MetadataRead(ReadFault),
     /// The metadata is no JSON.
@@ -57,6 +64,9 @@ impl Error {
             Error::Memory => "error: out of memory\n",
             Error::NotCarried(_) => "error: the request is not carried\n",
             Error::ConfigRead(_) => "error: the policy could not be read\n",
+            Error::ConfigSyntax(_) => "error: the policy could not be parsed\n",
+            Error::ConfigShape(_) => "error: the policy could not be deserialized\n",
+            Error::ConfigInvalid(_) => "error: the policy is not valid\n",
             Error::MetadataRead(_) => "error: the metadata could not be read\n",
             Error::MetadataSyntax => "error: the metadata could not be parsed\n",
             Error::MetadataShape(_) => "error: the metadata has not the stated shape\n",
@@ -74,6 +84,40 @@ impl From<AllocError> for Error {
 
     fn from(_: AllocError) -> Error {
         Error::Memory
+    }
+}
+
+impl From<SearchError> for Error {
+    ghost use Rattle.deny_run.specs.Error.{error_of_search};
+
+    ghost from_gives = { λ refused error. error ≡ error_of_search refused };
+
+    fn from(refused: SearchError) -> Error {
+        match refused {
+            SearchError::Failed { before, after } => Error::ConfigRead(ReadFault::Failed {
+                before,
+                after,
+            }),
+            SearchError::Memory => Error::Memory,
+        }
+    }
+}
+
+impl From<LoadError> for Error {
+    ghost use Rattle.deny_run.specs.Error.{error_of_load};
+
+    ghost from_gives = { λ refused error. error ≡ error_of_load refused };
+
+    fn from(refused: LoadError) -> Error {
+        match refused {
+            LoadError::Memory => Error::Memory,
+            LoadError::ConfigRead(fault) => Error::ConfigRead(fault),
+            LoadError::ConfigSyntax(fault) => Error::ConfigSyntax(fault),
+            LoadError::ConfigShape(faults) => Error::ConfigShape(faults),
+            LoadError::NotCarried => Error::NotCarried(What::ExcludeSpec),
+            LoadError::ConfigInvalid(found) => Error::ConfigInvalid(found),
+            LoadError::WriteFault { before, after } => Error::WriteFault { before, after },
+        }
     }
 }
 
@@ -102,13 +146,13 @@ impl From<KratesError> for Error {
     }
 }
 
-/// Why nothing is checked, and so nothing written.
-#[derive(Debug, Drop)]
+/// Why nothing is checked, and so no summary written.
+#[derive(Drop)]
 pub(crate) enum Refusal {
     Memory,
     Words,
-    PolicyRead(ReadFault),
-    PolicyForm,
+    Search(SearchError),
+    Load(LoadError),
     Krates(KratesError),
     /// The crate with this id.
     CrateForm(Text),
@@ -121,6 +165,26 @@ impl From<AllocError> for Refusal {
 
     fn from(_: AllocError) -> Refusal {
         Refusal::Memory
+    }
+}
+
+impl From<SearchError> for Refusal {
+    ghost use Rattle.deny_run.specs.declared.error.Refusal.TheVariants.{Search};
+
+    ghost from_gives = { λ refused refusal. refusal ≡ Search refused };
+
+    fn from(refused: SearchError) -> Refusal {
+        Refusal::Search(refused)
+    }
+}
+
+impl From<LoadError> for Refusal {
+    ghost use Rattle.deny_run.specs.declared.error.Refusal.TheVariants.{Load};
+
+    ghost from_gives = { λ refused refusal. refusal ≡ Load refused };
+
+    fn from(refused: LoadError) -> Refusal {
+        Refusal::Load(refused)
     }
 }
 
@@ -143,10 +207,8 @@ impl From<Refusal> for Error {
         match refusal {
             Refusal::Memory => Error::Memory,
             Refusal::Words => Error::NotYet(Part::Words),
-            Refusal::PolicyRead(ReadFault::Absent) | Refusal::PolicyForm => Error::NotYet(
-                Part::Policy,
-            ),
-            Refusal::PolicyRead(fault) => Error::ConfigRead(fault),
+            Refusal::Search(refused) => Error::from(refused),
+            Refusal::Load(refused) => Error::from(refused),
             Refusal::Krates(refused) => Error::from(refused),
             Refusal::CrateForm(id) => Error::NotYet(Part::Crate(id)),
         }

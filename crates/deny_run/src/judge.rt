@@ -1,30 +1,25 @@
-//! The parts of a check: what the policy allows, the crates, and the verdict on each.
-ghost use Rattle.std.specs.Prelude.{◌≡◌, ◌<◌, ◌↔◌, ◌⊎◌, Some, IfOk, IfErr, IsTrue, length, map, None};
+//! The verdict on each crate.
+ghost use Rattle.std.specs.Prelude.{◌≡◌, ◌<◌, ◌⊎◌, Some, IfOk, IfErr, length, map, None};
 ghost use Rattle.graph_core.specs.Krate.{record_of};
 ghost use Rattle.graph_core.specs.Metadata.{Graph};
-ghost use Rattle.term_core.specs.Satisfaction.{Satisfies};
 ghost use Rattle.selection_core.specs.Choice.{Choice};
 ghost use Rattle.selection_core.specs.Listed.{IsChosen, record_behind};
-ghost use Rattle.deny_run.specs.Heard.{config_in, field_of, field_read};
-ghost use Rattle.deny_run.specs.Report.{Allows, IsVerdictOf};
-ghost use Rattle.deny_run.specs.Steps.{AreJudged, Checks, IsJudged, IsOfCrates, Tells};
+ghost use Rattle.valid_policy.specs.View.{policy_of};
+ghost use Rattle.deny_run.specs.Heard.{field_of, field_read};
+ghost use Rattle.deny_run.specs.Report.{IsVerdictOf, has_hit};
+ghost use Rattle.deny_run.specs.Selection.{included_by};
+ghost use Rattle.deny_run.specs.Steps.{AreJudged, Checks, IsJudged, IsMadeFor, IsOfCrates};
 
 use crate::error::Refusal;
-use crate::policy::allowed;
 use crate::report::{CrateReport, Verdict};
 use deny_text::{ListOf, Steps, Text};
-use heard_core::Heard;
-use spdx_core::{Catalog, ExprError, Expression, LicenseReq, Licensee, ParseMode};
+use evaluate_core::Evaluator;
+use spdx_core::{Catalog, ExprError, Expression, ParseMode};
 use std::alloc::{AllocError, Global};
 use std::marker::Brand;
 use std::sync::ledger::{Blank, Ledger};
+use valid_policy::ValidConfig;
 use workspace_core::{Include, Krate, Krates};
-
-/// Crates that only dev dependencies lead to are not checked, those that only build dependencies lead to are.
-const INCLUDED: Include = Include {
-    dev: false,
-    build: true,
-};
 
 /// The mode that the field of a crate is read in: strict, and a slash says `OR`.
 const FIELD: ParseMode = ParseMode {
@@ -33,24 +28,6 @@ const FIELD: ParseMode = ParseMode {
     allow_postfix_plus_on_gpl: false,
     allow_slash_as_or_operator: true,
 };
-
-/// The licensees that the policy allows, from what was heard of its file.
-#[tactic(auto, using(crate::proofs::StepLemmas::policy_fault))]
-pub(crate) fn config_of<C: Catalog>(
-    alloc: Global,
-    heard: Heard,
-    catalog: &C,
-) -> Result<ListOf<Licensee>, Refusal>
-    ensures { Tells (config_in (C.lists catalog.now) heard) result }
-{
-    match heard {
-        Ok(text) => match allowed(alloc, text.as_str(), catalog)? {
-            Some(config) => Ok(config),
-            None => Err(Refusal::PolicyForm),
-        },
-        Err(fault) => Err(Refusal::PolicyRead(fault)),
-    }
-}
 
 /// The expression that a field is; none where it is none of one term.
 fn expression_of<C: Catalog>(
@@ -73,44 +50,6 @@ fn expression_of<C: Catalog>(
     }
 }
 
-/// Whether a licensee is content with a term, with its step counted in a ledger.
-fn satisfies_in<L: Ledger>(ledger: Blank, licensee: &Licensee, term: &LicenseReq) -> bool
-    requires name { ledger.name ≡ L.name }
-    requires parts { ledger.parts ≡ L.parts }
-    requires some { 0 < ledger.parts }
-    ensures { IsTrue result ↔ Satisfies licensee.now term.now }
-{
-    let mut steps = Steps::<L>::new(ledger);
-    licensee.satisfies(term, &mut steps)
-}
-
-/// Whether a licensee is content with a term. Its step is counted in a ledger of its own.
-fn satisfies(licensee: &Licensee, term: &LicenseReq) -> bool
-    ensures { IsTrue result ↔ Satisfies licensee.now term.now }
-{
-    satisfies_in::<Brand>(Blank::new(1), licensee, term)
-}
-
-/// Whether some licensee of the policy is content with a term.
-fn allows(config: &[Licensee], term: &LicenseReq) -> bool
-    ensures { IsTrue result ↔ Allows config.now term.now }
-{
-    config.iter().any(|licensee| satisfies(licensee, term))
-}
-
-/// The verdict on an expression of one term.
-fn verdict(config: &[Licensee], expression: &Expression) -> Verdict
-    requires { length expression.now.terms ≡ 1 }
-    ensures { IsVerdictOf config.now (Some expression.now) result }
-{
-    let term = &expression.requirements()[0].req;
-    if allows(config, term) {
-        Verdict::Accepted
-    } else {
-        Verdict::Rejected
-    }
-}
-
 /// The expression of a crate's field; none where there is none of one term.
 fn field_read<C: Catalog>(
     alloc: Global,
@@ -125,25 +64,87 @@ fn field_read<C: Catalog>(
     }
 }
 
-/// The report on a crate, by the licensees that the policy allows.
+/// Whether a policy has a hit for the one term of a crate's expression, with its steps counted in a ledger.
+fn has_hit_in<L: Ledger>(
+    ledger: Blank,
+    evaluator: &mut Evaluator,
+    policy: &ValidConfig,
+    krate: &Krate,
+    expression: &Expression,
+) -> bool
+    requires name { ledger.name ≡ L.name }
+    requires parts { ledger.parts ≡ L.parts }
+    requires some { 0 < ledger.parts }
+    requires one { length expression.now.terms ≡ 1 }
+    requires made { IsMadeFor (policy_of policy.now) evaluator.old }
+    ensures hit { result ≡ has_hit (policy_of policy.now) (record_of krate.now) expression.now.terms }
+    ensures made { IsMadeFor (policy_of policy.now) evaluator.new }
+{
+    // What an expression keeps of its terms and nodes is known once it was asked for them.
+    let _terms = expression.requirements();
+    let mut steps = Steps::<L>::new(ledger);
+    evaluator.evaluate(expression, krate, policy, &mut steps)
+}
+
+/// The same, with its steps counted in a ledger of its own.
+fn has_hit(
+    evaluator: &mut Evaluator,
+    policy: &ValidConfig,
+    krate: &Krate,
+    expression: &Expression,
+) -> bool
+    requires one { length expression.now.terms ≡ 1 }
+    requires made { IsMadeFor (policy_of policy.now) evaluator.old }
+    ensures hit { result ≡ has_hit (policy_of policy.now) (record_of krate.now) expression.now.terms }
+    ensures made { IsMadeFor (policy_of policy.now) evaluator.new }
+{
+    has_hit_in::<Brand>(Blank::new(1), evaluator, policy, krate, expression)
+}
+
+/// The verdict on a crate with an expression of one term.
+fn verdict(
+    evaluator: &mut Evaluator,
+    policy: &ValidConfig,
+    krate: &Krate,
+    expression: &Expression,
+) -> Verdict
+    requires one { length expression.now.terms ≡ 1 }
+    requires made { IsMadeFor (policy_of policy.now) evaluator.old }
+    ensures verdict { IsVerdictOf (policy_of policy.now) (record_of krate.now)
+        (Some expression.now) result }
+    ensures made { IsMadeFor (policy_of policy.now) evaluator.new }
+{
+    if policy.is_private(krate) {
+        Verdict::Skipped
+    } else if has_hit(evaluator, policy, krate, expression) {
+        Verdict::Accepted
+    } else {
+        Verdict::Rejected
+    }
+}
+
+/// The report on a crate.
 fn judge<C: Catalog>(
     alloc: Global,
-    config: &[Licensee],
+    evaluator: &mut Evaluator,
+    policy: &ValidConfig,
     krate: &Krate,
     catalog: &C,
 ) -> Result<CrateReport, Refusal>
+    requires { IsMadeFor (policy_of policy.now) evaluator.old }
     ensures ok { IfOk result (λ report.
-        IsJudged (C.lists catalog.now) config.now (record_of krate.now) report) }
+        IsJudged (C.lists catalog.now) (policy_of policy.now) (record_of krate.now) report) }
     ensures refused { IfErr result (λ refusal. (refusal ≡ Refusal.Memory)
         ⊎ ((refusal ≡ Refusal.CrateForm krate.now.id)
         × (field_read (C.lists catalog.now) (record_of krate.now) ≡ None))) }
     ensures cause { IfErr result IsOfCrates }
+    ensures made { IsMadeFor (policy_of policy.now) evaluator.new }
 {
     let expression = field_read(alloc, krate, catalog)?;
     let id = Text::copy(alloc, krate.id.as_str())?;
     match expression {
         Some(expression) => {
-            let verdict = verdict(config, &expression);
+            let verdict = verdict(evaluator, policy, krate, &expression);
             Ok(CrateReport {
                 id,
                 expression: Some(expression),
@@ -157,33 +158,48 @@ fn judge<C: Catalog>(
 /// The reports on some crates, in order, or the refusal of the first that has no expression.
 fn judge_all<C: Catalog>(
     alloc: Global,
-    config: &[Licensee],
+    evaluator: &mut Evaluator,
+    policy: &ValidConfig,
     crates: &[&Krate],
     catalog: &C,
 ) -> Result<ListOf<CrateReport>, Refusal>
-    ensures judged { AreJudged (C.lists catalog.now) config.now (map record_behind crates.now) result }
+    requires { IsMadeFor (policy_of policy.now) evaluator.old }
+    ensures judged { AreJudged (C.lists catalog.now) (policy_of policy.now)
+        (map record_behind crates.now) result }
     ensures cause { IfErr result IsOfCrates }
 {
     let mut reports = ListOf::new(alloc);
     'crates: for krate in crates {
-        let report = judge(alloc, config, krate, catalog)?;
+        let report = judge(alloc, evaluator, policy, krate, catalog)?;
         reports.push(report)?;
     }
     Ok(reports)
 }
 
-/// The reports on the crates that are checked, in the order of their ids.
+/// Which crates a policy has checked.
+fn included(policy: &ValidConfig) -> Include
+    ensures { result ≡ included_by policy.now }
+{
+    Include {
+        dev: policy.include_dev,
+        build: policy.include_build,
+    }
+}
+
+/// The reports on the crates that a policy has checked, in the order of their ids. One evaluator with one
+/// index of the policy's exceptions serves all of them.
 pub(crate) fn check_all<C: Catalog>(
     alloc: Global,
-    config: &[Licensee],
+    policy: &ValidConfig,
     krates: &Krates,
     catalog: &C,
 ) -> Result<ListOf<CrateReport>, Refusal>
     // of each graph and choice that the crates are of
     ensures checked { (graph : Graph) (choice : Choice) → IsChosen graph choice krates.now
-        → Checks (C.lists catalog.now) config.now graph choice result }
+        → Checks (C.lists catalog.now) (policy_of policy.now) (included_by policy.now) graph choice result }
     ensures cause { IfErr result IsOfCrates }
 {
-    let crates = krates.selected(alloc, INCLUDED)?;
-    judge_all(alloc, config, crates.items(), catalog)
+    let crates = krates.selected(alloc, included(policy))?;
+    let mut evaluator = Evaluator::with_room(alloc, 1, policy)?;
+    judge_all(alloc, &mut evaluator, policy, crates.items(), catalog)
 }

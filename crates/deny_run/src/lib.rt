@@ -3,7 +3,13 @@
 
 pub mod error;
 mod judge;
-pub mod policy;
 pub mod report;
 pub mod run;
+mod stages;
 pub mod words;
+
+pub use load_core::{
+    Diagnostics, ErrorKind, ReadFault, ShapeError, ShapeErrors, SyntaxError, SyntaxReason,
+    ValidConfig,
+};
+pub use print_core::{Color, DiagPrinter, Format, LogContext, OutputLock, PrintError};

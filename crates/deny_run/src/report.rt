@@ -3,6 +3,7 @@ ghost use Rattle.std.specs.Prelude.{◌≡◌};
 
 use crate::error::Error;
 use deny_text::{ListOf, Text};
+use policy_core::ValidConfig;
 use spdx_core::Expression;
 
 /// Whether a policy allows a crate's licence.
@@ -10,6 +11,8 @@ use spdx_core::Expression;
 pub enum Verdict {
     Accepted,
     Rejected,
+    /// The crate is private, and the policy passes such crates over.
+    Skipped,
 }
 
 impl Verdict {
@@ -19,7 +22,7 @@ impl Verdict {
         ensures { result ≡ is_against self }
     {
         match self {
-            Verdict::Accepted => false,
+            Verdict::Accepted | Verdict::Skipped => false,
             Verdict::Rejected => true,
         }
     }
@@ -30,7 +33,7 @@ impl Verdict {
 pub struct CrateReport {
     /// The package id, as cargo writes it.
     pub id: Text,
-    /// The licence expression that was judged.
+    /// The licence expression.
     pub expression: Option<Expression>,
     pub verdict: Verdict,
 }
@@ -56,7 +59,7 @@ pub struct AllStats {
 impl AllStats {
     ghost use Rattle.deny_run.specs.Counts.{counts_of, has_errors};
 
-    /// Counts the verdicts: a rejected crate is an error, an accepted one a note.
+    /// Counts the verdicts: a rejected crate is an error, any other one a note.
     pub fn of_verdicts(crates: &[CrateReport]) -> AllStats
         ensures { result ≡ counts_of crates.now }
     {
@@ -90,6 +93,8 @@ impl AllStats {
 #[derive(Drop)]
 pub struct Report {
     pub stats: AllStats,
+    /// The policy that the crates were judged by; its lists are in order.
+    pub policy: ValidConfig,
     /// One verdict for each crate that was checked, in the order of their ids.
     pub crates: ListOf<CrateReport>,
 }

@@ -1,5 +1,5 @@
 //! The run: from words and files to a report, a summary and a status.
-ghost use Rattle.std.specs.Prelude.{◌≡◌, ◌≢◌, ◌≤◌, ◌↔◌, IfOk, IfErr, OnOk, OnErr};
+ghost use Rattle.std.specs.Prelude.{◌≡◌, ◌≢◌, ◌≤◌, ◌↔◌, IfErr, OnOk, OnErr};
 ghost use Rattle.std.specs.Option.{ForSome};
 ghost use Rattle.tree_core.specs.Faults.{Gained, GainedPrefix, IsCounted};
 ghost use Rattle.tree_core.specs.Hearing.{KeepsTree};
@@ -7,81 +7,110 @@ ghost use Rattle.tree_core.specs.Script.{LineWritten};
 ghost use Rattle.deny_run.specs.declared.error.Part.{Part};
 ghost use Rattle.heard_core.specs.declared.fault.ReadFault.{ReadFault};
 ghost use Rattle.heard_core.specs.Cause.{ReadCounts};
-ghost use Rattle.selection_core.specs.Choice.{choice_of};
 ghost use Rattle.deny_run.specs.Counts.{counts_of, status_of, summary_of};
-ghost use Rattle.deny_run.specs.Error.{cause_of, error_of, fault_line};
+ghost use Rattle.deny_run.specs.Error.{cause_of, fault_line};
 ghost use Rattle.deny_run.specs.Given.{given_of};
 ghost use Rattle.deny_run.specs.Headline.{Headline};
-ghost use Rattle.deny_run.specs.Report.{IsAnswer, IsReport};
+ghost use Rattle.deny_run.specs.Report.{IsAnswer};
 ghost use Rattle.deny_run.specs.Run.{answer_from, answer_of, exit_status};
-ghost use Rattle.deny_run.specs.Script.{SummaryCut, Writes};
-ghost use Rattle.deny_run.specs.Selection.{plain_choice};
+ghost use Rattle.deny_run.specs.Script.{Writes, WritesFirst, WritesLoad, plain_log};
 ghost use Rattle.deny_run.specs.Words.{request_of, texts};
 
 use crate::error::{Error, Refusal};
-use crate::judge::{check_all, config_of};
 use crate::report::{AllStats, CrateReport, Ended, Outcome, Report};
+use crate::stages::{check_crates, policy_paths};
 use crate::words::Request;
 use deny_text::ListOf;
-use heard_core::load;
+use diag_core::{Files, LevelFilter};
+use load_core::{ValidConfig, load};
+use print_core::{Color, Format, LogContext};
 use spdx_core::{Catalog, Identifier};
 use std::alloc::Global;
 use tree_core::{Sink, SinkFailed, Tree, write_all};
-use workspace_core::{ExcludeSpecs, Selection, krates_at};
 
-/// The selection that the words ask for: nothing is left out.
-fn plain_selection(alloc: Global) -> Selection
-    ensures { choice_of result ≡ plain_choice }
+/// How findings are written: as lines for a person, warnings and what is worse.
+fn plain_log() -> LogContext
+    ensures { result ≡ plain_log }
 {
-    Selection {
-        workspace: false,
-        exclude: ExcludeSpecs::new(alloc),
-        exclude_dev: false,
-        exclude_unpublished: false,
+    LogContext {
+        format: Format::Human,
+        color: Color::Auto,
+        log_level: LevelFilter::Warn,
     }
 }
 
-/// The report with these verdicts.
-fn report_of(crates: ListOf<CrateReport>) -> Report
+/// The report with this policy and these verdicts.
+fn report_of(policy: ValidConfig, crates: ListOf<CrateReport>) -> Report
+    ensures policy { result.policy ≡ policy }
     ensures crates { result.crates ≡ crates }
     ensures stats { result.stats ≡ counts_of crates }
 {
     let stats = AllStats::of_verdicts(crates.items());
-    Report { stats, crates }
+    Report {
+        stats,
+        policy,
+        crates,
+    }
 }
 
-/// The report that the words and the files ask for.
-fn report<T: Tree, C: Catalog, I: Identifier>(
+/// The report that the words and the files ask for. What is told of the policy's load is written to `err`.
+fn report<T: Tree, E: Sink, C: Catalog, I: Identifier>(
     alloc: Global,
     words: &[String],
     cwd: &str,
     tree: &mut T,
+    err: &mut E,
     catalog: &C,
     identifier: &I,
 ) -> Result<Report, Refusal>
     ensures answer { ForSome (T.content tree.old) (λ c. IsAnswer
         (given_of (C.lists catalog.now) (I.match_of identifier.now) words.now cwd.now) c
         (T.fault_count tree.old) (T.fault_count tree.new) (answer_from result)) }
-    ensures words { (result ≡ Err Refusal.Words) ↔ (request_of (texts words.now) cwd.now ≡ None) }
+    ensures words { (answer_from result ≡ Err (Error.NotYet Part.Words))
+        ↔ (request_of (texts words.now) cwd.now ≡ None) }
+    ensures policy { answer_from result ≢ Err (Error.ConfigRead ReadFault.Absent) }
     ensures kept { KeepsTree (T.content tree.old) (T.content tree.new)
         (T.fault_count tree.old) (T.fault_count tree.new) }
-    ensures counts { IfErr result (λ refusal. ReadCounts
-        (T.fault_count tree.old) (T.fault_count tree.old) (T.fault_count tree.new)
-        (cause_of (error_of refusal))) }
+    ensures counts { IfErr (answer_from result) (λ error. ReadCounts
+        (T.fault_count tree.old) (T.fault_count tree.old) (T.fault_count tree.new) (cause_of error)) }
+    ensures written { WritesLoad
+        (given_of (C.lists catalog.now) (I.match_of identifier.now) words.now cwd.now)
+        (T.content tree.old) (T.fault_count tree.old) (T.fault_count tree.new)
+        (E.written err.old) (E.written err.new) (E.fault_count err.old) (E.fault_count err.new)
+        (answer_from result) }
+    ensures later { E.fault_count err.old ≤ E.fault_count err.new }
 {
     // No file of a crate is read so far, so nothing is asked of the identifier.
     let _ = identifier;
-    let before = tree.faults();
+    let begun = tree.faults();
     let Some(request) = Request::from_words(alloc, words, cwd)? else {
         return Err(Refusal::Words);
     };
-    let policy = load(alloc, tree, request.config_path.as_path(), before)?;
-    let config = config_of(alloc, policy, catalog)?;
-    let selection = plain_selection(alloc);
-    let path = request.metadata_path.as_path();
-    let krates = krates_at(alloc, tree, path, &selection, before)?;
-    let checked = check_all(alloc, config.items(), &krates, catalog)?;
-    Ok(report_of(checked))
+    let Request {
+        metadata_path,
+        config_path,
+    } = request;
+    let paths = policy_paths(alloc, tree, cwd, config_path, begun)?;
+    let mut files = Files::new(alloc);
+    let policy = load(
+        alloc,
+        paths,
+        &mut files,
+        plain_log(),
+        tree,
+        err,
+        catalog,
+        begun,
+    )?;
+    let crates = check_crates(
+        alloc,
+        &policy,
+        metadata_path.as_path(),
+        tree,
+        catalog,
+        begun,
+    )?;
+    Ok(report_of(policy.licenses, crates))
 }
 
 /// Writes the summary of a report.
@@ -99,13 +128,15 @@ fn write_summary<O: Sink>(out: &mut O, report: &Report) -> Result<(), SinkFailed
     write_all(out, summary.as_bytes())
 }
 
-/// The report that the words and the files ask for, with its summary written.
-fn check<T: Tree, O: Sink, C: Catalog, I: Identifier>(
+/// The report that the words and the files ask for, with what is told of the policy's load and its summary
+/// written.
+fn check<T: Tree, O: Sink, E: Sink, C: Catalog, I: Identifier>(
     alloc: Global,
     words: &[String],
     cwd: &str,
     tree: &mut T,
     out: &mut O,
+    err: &mut E,
     catalog: &C,
     identifier: &I,
 ) -> Result<Report, Error>
@@ -119,18 +150,24 @@ fn check<T: Tree, O: Sink, C: Catalog, I: Identifier>(
     ensures counts { IfErr result (λ error.
         ReadCounts (T.fault_count tree.old) (T.fault_count tree.old) (T.fault_count tree.new)
         (cause_of error)) }
-    ensures written { IfOk result (λ report.
-        Gained (O.written out.old) (O.written out.new) (summary_of report.stats)) }
-    ensures cut { IfErr result (λ error. SummaryCut
-        (λ report. ForSome (T.content tree.old) (λ c. IsReport
-        (given_of (C.lists catalog.now) (I.match_of identifier.now) words.now cwd.now) c
-        (T.fault_count tree.old) (T.fault_count tree.new) report))
-        (O.written out.old) (O.written out.new) (O.fault_count out.old) (O.fault_count out.new)
-        (cause_of error)) }
-    ensures later { O.fault_count out.old ≤ O.fault_count out.new }
+    ensures written { WritesFirst
+        (given_of (C.lists catalog.now) (I.match_of identifier.now) words.now cwd.now) (T.content tree.old)
+        (record {
+          tree_before = T.fault_count tree.old;
+          tree_after = T.fault_count tree.new;
+          out_before = O.fault_count out.old;
+          out_after = O.fault_count out.new;
+          err_before = E.fault_count err.old;
+          err_after = E.fault_count err.new;
+        })
+        (record { out = O.written out.old; err = E.written err.old })
+        (record { out = O.written out.new; err = E.written err.new })
+        result }
+    ensures out_later { O.fault_count out.old ≤ O.fault_count out.new }
+    ensures err_later { E.fault_count err.old ≤ E.fault_count err.new }
 {
     let before = out.faults();
-    let report = match report(alloc, words, cwd, tree, catalog, identifier) {
+    let report = match report(alloc, words, cwd, tree, err, catalog, identifier) {
         Ok(report) => report,
         Err(refusal) => return Err(Error::from(refusal)),
     };
@@ -160,9 +197,10 @@ fn exit_status(report: &Report) -> u8
 }
 
 /// Runs the licence gate over the words of a command line, whose first is the program's name. Paths in them
-/// are read from `cwd`. The summary goes to `out`, and the line of a refusal to `err`.
+/// are read from `cwd`. The summary goes to `out`; what is told of the policy's load and the line of a refusal
+/// go to `err`.
 ///
-/// The status is 0 where every crate is accepted, 4 where one is rejected, and 1 after a refusal.
+/// The status is 0 where no crate is rejected, 4 where one is, and 1 after a refusal.
 pub fn run<T: Tree, O: Sink, E: Sink, C: Catalog, I: Identifier>(
     alloc: Global,
     words: &[String],
@@ -221,7 +259,7 @@ pub fn run<T: Tree, O: Sink, E: Sink, C: Catalog, I: Identifier>(
         })
         result) }
 {
-    match check(alloc, words, cwd, tree, out, catalog, identifier) {
+    match check(alloc, words, cwd, tree, out, err, catalog, identifier) {
         Ok(report) => Outcome {
             status: exit_status(&report),
             ended: Ended::Checked(report),

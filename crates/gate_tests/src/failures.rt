@@ -1,5 +1,5 @@
 //! Each call of the tree fails in turn.
-use crate::rows::{OPEN, POLICY, WORDS, Want, accepted, expect, refused, tree};
+use crate::rows::{POLICY, WORDS, Want, accepted, expect, refused, tree};
 use std::test::Fail;
 
 const NO_POLICY: &str = "error: the policy could not be read\n";
@@ -19,7 +19,10 @@ fn each_failed_call_is_told_as_its_own(rt: HostRuntime) -> Result<(), Fail> {
     let alloc = rt.alloc();
     let policy_failed = refused("policy: Failed { before: 0, after: 1 }", NO_POLICY);
     let metadata_failed = refused("metadata: Failed { before: 0, after: 1 }", NO_METADATA);
-    let other_policy = refused("policy", OPEN);
+    let other_policy = refused(
+        "syntax: UnexpectedEnd 1..1",
+        "error: the policy could not be parsed\n",
+    );
     let other_metadata = refused(
         "shape: /packages Missing",
         "error: the metadata has not the stated shape\n",
@@ -51,7 +54,8 @@ fn each_failed_call_is_told_as_its_own(rt: HostRuntime) -> Result<(), Fail> {
         },
     ] {
         let [first, second, third] = want;
-        for (call, want) in [(1, first), (2, second), (3, third)] {
+        // Six looks for an exceptions file come first.
+        for (call, want) in [(7, first), (8, second), (9, third)] {
             let mut tree = tree(alloc, "MIT", policy)?;
             if let Some(metadata) = metadata {
                 tree.put("/w/m.json", metadata)?;

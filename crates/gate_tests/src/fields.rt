@@ -5,7 +5,7 @@ use std::process::Abort;
 use std::test::Fail;
 
 /// A field, the name that the policy allows, how the run ends, and what it writes.
-const ROWS: [(&str, &str, &str); 20] = [
+const ROWS: [(&str, &str, &str); 17] = [
     ("(MIT)", "MIT", "a 1.0.0: (MIT) Accepted; licenses ok\n"),
     ("MIT+", "MIT", "a 1.0.0: MIT+ Accepted; licenses ok\n"),
     (
@@ -38,13 +38,22 @@ const ROWS: [(&str, &str, &str); 20] = [
     (" ", "MIT", "crate a 1.0.0; "),
     ("", "MIT", "crate a 1.0.0; "),
     ("(MIT", "MIT", "crate a 1.0.0; "),
-    // A policy has names of the catalogue alone.
-    ("MIT", " MIT", "policy; "),
-    ("MIT", "MIT+", "policy; "),
-    ("MIT", "MIT WITH LLVM-exception", "policy; "),
-    ("LicenseRef-a", "LicenseRef-a", "policy; "),
-    ("MIT", "Mit", "policy; "),
-    ("MIT", "", "policy; "),
+    // A policy's entries are licensees: a licence with an exception, or a reference.
+    (
+        "MIT",
+        "MIT WITH LLVM-exception",
+        "a 1.0.0: MIT Rejected; licenses FAILED\n",
+    ),
+    (
+        "LicenseRef-a",
+        "LicenseRef-a",
+        "a 1.0.0: LicenseRef-a Accepted; licenses ok\n",
+    ),
+    (
+        "LicenseRef-a",
+        "LicenseRef-b",
+        "a 1.0.0: LicenseRef-a Rejected; licenses FAILED\n",
+    ),
 ];
 
 /// How a run over a crate with this field ends, and what it writes.

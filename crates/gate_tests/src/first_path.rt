@@ -37,17 +37,12 @@ fn each_field_and_policy_has_its_answer(rt: HostRuntime) -> Result<(), Fail> {
         (
             "MIT",
             "[licenses]\nallow = [\"MIT\",\"ISC\"]\n",
-            refused("policy", OPEN),
-        ),
-        (
-            "MIT",
-            "[licenses]\nallow = [\"mit\"]\n",
-            refused("policy", OPEN),
+            accepted("a 1.0.0: MIT Accepted"),
         ),
         (
             "MIT",
             "[licenses]\nallow = [\"MIT\"]",
-            refused("policy", OPEN),
+            accepted("a 1.0.0: MIT Accepted"),
         ),
     ] {
         let mut tree = tree(alloc, license, policy.as_bytes())?;
@@ -148,7 +143,15 @@ fn lone_file(alloc: Global, path: &str, bytes: &[u8]) -> Result<MemTree, Fail> {
 fn absent_files_and_folders_are_refused(rt: HostRuntime) -> Result<(), Fail> {
     let alloc = rt.alloc();
     for (path, want) in [
-        ("/w/x", refused("policy", OPEN)),
+        // An absent policy is empty, so the metadata is read.
+        (
+            "/w/x",
+            refused(
+                "metadata: Absent",
+                "warning: config path '/w/p.toml' doesn't exist, falling back to default config\n\
+error: the metadata could not be read\n",
+            ),
+        ),
         (
             "/w/p.toml/x",
             refused("policy: Folder", "error: the policy could not be read\n"),
@@ -184,14 +187,14 @@ fn faults_of_files_and_sinks_are_counted(rt: HostRuntime) -> Result<(), Fail> {
     let alloc = rt.alloc();
     for (call, want) in [
         (
-            1,
+            7,
             refused(
                 "policy: Failed { before: 0, after: 1 }",
                 "error: the policy could not be read\n",
             ),
         ),
         (
-            2,
+            8,
             refused(
                 "metadata: Failed { before: 0, after: 1 }",
                 "error: the metadata could not be read\n",

@@ -2,7 +2,7 @@
 ghost use Rattle.std.specs.Prelude.{◌≤◌, length, IfSome};
 
 use crate::rows::{
-    OPEN, POLICY, Seen, Want, accepted, compare, refused, rejected, text, told, tree,
+    OPEN, POLICY, Seen, Want, accepted, compare, notes_of, refused, rejected, text, told, tree,
 };
 use deny_gate::{exit_code, gate_over};
 use std::alloc::Global;
@@ -94,9 +94,13 @@ fn watch(alloc: Global, process: Process, tree: &mut MemTree) -> Result<(ExitCod
     let mut err = MemSink::new(alloc, 1000, 1000)?;
     let ended = gate_over(&(process, alloc), tree, &mut out, &mut err);
     let code = exit_code(&ended);
-    let (status, ended) = match &ended {
-        Ok(outcome) => (outcome.status, told(alloc, &outcome.ended)?),
-        Err(error) => (1, format!(in alloc; "{error:?}")?),
+    let (status, notes, ended) = match &ended {
+        Ok(outcome) => (
+            outcome.status,
+            notes_of(&outcome.ended),
+            told(alloc, &outcome.ended)?,
+        ),
+        Err(error) => (1, 0, format!(in alloc; "{error:?}")?),
     };
     let out = text(alloc, out.written())?;
     let err = text(alloc, err.written())?;
@@ -104,6 +108,7 @@ fn watch(alloc: Global, process: Process, tree: &mut MemTree) -> Result<(ExitCod
         code,
         Seen {
             status,
+            notes,
             ended,
             out,
             err,

@@ -2,6 +2,8 @@
 use deny_run::error::{Error, Part};
 use deny_run::report::{CrateReport, Ended, Report};
 use deny_run::run::run;
+use deny_run::{Diagnostics, ShapeErrors};
+use deny_text::Span;
 use spdx_core::{LicenseStore, Table};
 use std::alloc::{AllocError, Global};
 use std::process::Abort;
@@ -54,9 +56,22 @@ pub(crate) fn tree(alloc: Global, license: &str, policy: &[u8]) -> Result<MemTre
 #[derive(Drop)]
 pub(crate) struct Seen {
     pub(crate) status: u8,
+    /// How many notes the report counts.
+    pub(crate) notes: u64,
     pub(crate) ended: String,
     pub(crate) out: String,
     pub(crate) err: String,
+}
+
+/// How many notes a report counts.
+pub(crate) fn notes_of(ended: &Ended) -> u64 {
+    match ended {
+        Ended::Checked(report) => match &report.stats.licenses {
+            Some(stats) => stats.notes,
+            None => 0,
+        },
+        Ended::Refused(_) => 0,
+    }
 }
 
 /// How a run ended, in words.
@@ -71,7 +86,6 @@ pub(crate) fn told(alloc: Global, ended: &Ended) -> Result<String, AllocError> {
 fn told_part(alloc: Global, part: &Part) -> Result<String, AllocError> {
     match part {
         Part::Words => String::from_str(alloc, "words"),
-        Part::Policy => String::from_str(alloc, "policy"),
         Part::Crate(id) => format!(in alloc; "crate {id}"),
     }
 }
@@ -81,6 +95,13 @@ fn told_error(alloc: Global, error: &Error) -> Result<String, AllocError> {
         Error::Memory => String::from_str(alloc, "memory"),
         Error::NotCarried(what) => format!(in alloc; "not carried: {what:?}"),
         Error::ConfigRead(fault) => format!(in alloc; "policy: {fault:?}"),
+        Error::ConfigSyntax(fault) => {
+            let reason = fault.reason;
+            let place = place(alloc, fault.span)?;
+            format!(in alloc; "syntax: {reason:?} {place}")
+        }
+        Error::ConfigShape(faults) => told_faults(alloc, faults),
+        Error::ConfigInvalid(found) => told_found(alloc, found),
         Error::MetadataRead(fault) => format!(in alloc; "metadata: {fault:?}"),
         Error::MetadataSyntax => String::from_str(alloc, "no json"),
         Error::MetadataShape(fault) => {
@@ -96,6 +117,36 @@ fn told_error(alloc: Global, error: &Error) -> Result<String, AllocError> {
         Error::WriteFault { before, after } => format!(in alloc; "write: {before} {after}"),
         Error::NotYet(part) => told_part(alloc, part),
     }
+}
+
+/// A place, as its first byte and the one behind it.
+fn place(alloc: Global, span: Span) -> Result<String, AllocError> {
+    let start = span.start;
+    let end = span.end;
+    format!(in alloc; "{start}..{end}")
+}
+
+/// The places of the faults of a policy's shape.
+fn told_faults(alloc: Global, faults: &ShapeErrors) -> Result<String, AllocError> {
+    let mut told = String::from_str(alloc, "shape:")?;
+    for fault in faults.items() {
+        told.push_str(" ")?;
+        told.push_str(place(alloc, fault.span)?.as_str())?;
+    }
+    Ok(told)
+}
+
+/// The places that the findings of a load label.
+fn told_found(alloc: Global, found: &Diagnostics) -> Result<String, AllocError> {
+    let mut told = String::from_str(alloc, "invalid:")?;
+    for finding in found.items() {
+        for label in finding.labels.items() {
+            let file = label.file_id;
+            let place = place(alloc, label.range)?;
+            told.push_str(format!(in alloc; " {file}:{place}")?.as_str())?;
+        }
+    }
+    Ok(told)
 }
 
 /// The verdicts, with a comma and a space between.
@@ -126,7 +177,39 @@ pub(crate) fn text(alloc: Global, bytes: &[u8]) -> Result<String, Fail> {
     Ok(String::from_str(alloc, text)?)
 }
 
-/// Runs the gate over the tree in a folder, with this much room for the summary.
+/// How many bytes each sink takes.
+#[derive(Clone, Copy)]
+pub(crate) struct Room {
+    pub(crate) out: usize,
+    pub(crate) err: usize,
+}
+
+/// Runs the gate over the tree in a folder, with this much room in the sinks.
+pub(crate) fn observe_in(
+    alloc: Global,
+    words: &[&str],
+    cwd: &str,
+    tree: &mut MemTree,
+    room: Room,
+) -> Result<Seen, Fail> {
+    let mut owned = Vec::new(alloc);
+    for word in words {
+        owned.push(String::from_str(alloc, word)?)?;
+    }
+    let mut out = MemSink::new(alloc, room.out, 4)?;
+    let mut err = MemSink::new(alloc, room.err, 1000)?;
+    let store = LicenseStore::default(alloc);
+    let outcome = run(alloc, &owned, cwd, tree, &mut out, &mut err, &Table, &store);
+    Ok(Seen {
+        status: outcome.status,
+        notes: notes_of(&outcome.ended),
+        ended: told(alloc, &outcome.ended)?,
+        out: text(alloc, out.written())?,
+        err: text(alloc, err.written())?,
+    })
+}
+
+/// The same, with this much room for the summary.
 pub(crate) fn observe(
     alloc: Global,
     words: &[&str],
@@ -134,20 +217,11 @@ pub(crate) fn observe(
     tree: &mut MemTree,
     room: usize,
 ) -> Result<Seen, Fail> {
-    let mut owned = Vec::new(alloc);
-    for word in words {
-        owned.push(String::from_str(alloc, word)?)?;
-    }
-    let mut out = MemSink::new(alloc, room, 4)?;
-    let mut err = MemSink::new(alloc, 1000, 1000)?;
-    let store = LicenseStore::default(alloc);
-    let outcome = run(alloc, &owned, cwd, tree, &mut out, &mut err, &Table, &store);
-    Ok(Seen {
-        status: outcome.status,
-        ended: told(alloc, &outcome.ended)?,
-        out: text(alloc, out.written())?,
-        err: text(alloc, err.written())?,
-    })
+    let room = Room {
+        out: room,
+        err: 1000,
+    };
+    observe_in(alloc, words, cwd, tree, room)
 }
 
 /// What a run is to come to.
@@ -180,6 +254,15 @@ pub(crate) fn expect(
     let seen = observe(alloc, words, "/w", tree, room)?;
     compare(rt, &seen, want);
     Ok(())
+}
+
+/// A tree of files.
+pub(crate) fn files(alloc: Global, files: &[(&str, &[u8])]) -> Result<MemTree, Fail> {
+    let mut tree = MemTree::new(alloc);
+    for (path, bytes) in files {
+        tree.put(path, bytes)?;
+    }
+    Ok(tree)
 }
 
 /// A refusal before anything is written to the summary's sink.

@@ -170,7 +170,7 @@ fn a_failed_read_of_cut_metadata_is_told(rt: HostRuntime) -> Result<(), Fail> {
     let alloc = rt.alloc();
     let mut tree = tree(alloc, "MIT", POLICY.as_bytes())?;
     tree.put("/w/m.json", b"{\"packages\":[")?;
-    tree.fail_call(2)?;
+    tree.fail_call(8)?;
     let want = refused(
         "metadata: Failed { before: 0, after: 1 }",
         "error: the metadata could not be read\n",

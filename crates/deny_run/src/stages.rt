@@ -1,0 +1,106 @@
+//! The stages of a run before its verdicts: where the policy's files are, and the crates that are checked.
+ghost use Rattle.std.specs.Prelude.{◌≡◌, ◌≤◌, ◌++◌, map, IfErr, IfOk, OnOk};
+ghost use Rattle.std.specs.List.{filter_map};
+ghost use Rattle.std.specs.Option.{ForSome};
+ghost use Rattle.tree_core.specs.Hearing.{KeepsTree};
+ghost use Rattle.heard_core.specs.Cause.{ReadCounts};
+ghost use Rattle.search_core.specs.Search.{search_cause};
+ghost use Rattle.selection_core.specs.Choice.{choice_of, spec_of, spec_read};
+ghost use Rattle.context_core.specs.Asked.{read_one};
+ghost use Rattle.deny_run.specs.Error.{cause_of, error_of};
+ghost use Rattle.deny_run.specs.Selection.{choice_by};
+ghost use Rattle.deny_run.specs.Steps.{ChecksAt, IsAfterLoad, paths_by};
+
+use crate::error::Refusal;
+use crate::judge::check_all;
+use crate::report::CrateReport;
+use deny_text::path::join;
+use deny_text::{ListOf, PathBuf, Text, Texts};
+use load_core::{LoadedPolicy, PolicyPaths};
+use search_core::{SearchError, Sought, find_upwards};
+use spdx_core::Catalog;
+use std::alloc::{AllocError, Global};
+use tree_core::Tree;
+use workspace_core::{ExcludeSpec, ExcludeSpecs, Selection, krates_at};
+
+/// Where the two files of a policy are, where the policy's path is given: the exceptions file is looked for
+/// in the folder `cwd` and those above it. `begun` is the tree's count of faults when the run began.
+pub(crate) fn policy_paths<T: Tree>(
+    alloc: Global,
+    tree: &mut T,
+    cwd: &str,
+    config_path: PathBuf,
+    begun: u64,
+) -> Result<PolicyPaths, SearchError>
+    requires { begun ≤ T.fault_count tree.old }
+    ensures answer { ForSome (T.content tree.old) (λ c.
+        IfOk result (λ paths. paths ≡ paths_by c cwd.now config_path)) }
+    ensures kept { KeepsTree (T.content tree.old) (T.content tree.new)
+        (T.fault_count tree.old) (T.fault_count tree.new) }
+    ensures counts { IfErr result (λ error.
+        ReadCounts begun (T.fault_count tree.old) (T.fault_count tree.new) (search_cause error)) }
+{
+    let manifest = join(alloc, cwd, "Cargo.toml")?;
+    let exceptions = find_upwards(alloc, tree, manifest.as_path(), Sought::Exceptions, begun)?;
+    Ok(PolicyPaths {
+        policy: Some(config_path),
+        exceptions,
+    })
+}
+
+fn push_spec(alloc: Global, specs: &mut ExcludeSpecs, text: &Text) -> Result<(), AllocError>
+    ensures { OnOk result (map spec_of specs.new ≡ map spec_of specs.old ++ read_one text.now) }
+{
+    if let Some(read) = ExcludeSpec::read(alloc, text.as_str())? {
+        specs.push(read)?;
+    }
+    Ok(())
+}
+
+/// Appends the specs that texts are read as. Unreadable ones are passed over.
+fn read_specs(alloc: Global, specs: &mut ExcludeSpecs, texts: &[Text]) -> Result<(), AllocError>
+    ensures { OnOk result (map spec_of specs.new ≡ map spec_of specs.old ++ filter_map spec_read texts.now) }
+{
+    'texts: for text in texts {
+        push_spec(alloc, specs, text)?;
+    }
+    Ok(())
+}
+
+/// The selection that leaves out what some specs say. The words ask for nothing else yet.
+fn selection_by(alloc: Global, excludes: &Texts) -> Result<Selection, AllocError>
+    ensures { IfOk result (λ selection. choice_of selection ≡ choice_by excludes.now) }
+{
+    let mut exclude = ExcludeSpecs::new(alloc);
+    read_specs(alloc, &mut exclude, excludes.items())?;
+    Ok(Selection {
+        workspace: false,
+        exclude,
+        exclude_dev: false,
+        exclude_unpublished: false,
+    })
+}
+
+/// The reports on the crates that a policy has checked, of those that the metadata at a path tells of. `begun`
+/// is the tree's count of faults when the run began.
+pub(crate) fn check_crates<T: Tree, C: Catalog>(
+    alloc: Global,
+    policy: &LoadedPolicy,
+    metadata_path: &str,
+    tree: &mut T,
+    catalog: &C,
+    begun: u64,
+) -> Result<ListOf<CrateReport>, Refusal>
+    requires { begun ≤ T.fault_count tree.old }
+    ensures answer { ForSome (T.content tree.old) (λ c. ChecksAt (C.lists catalog.now) policy.now c begun
+        metadata_path.now (T.fault_count tree.old) (T.fault_count tree.new) result) }
+    ensures cause { IfErr result IsAfterLoad }
+    ensures kept { KeepsTree (T.content tree.old) (T.content tree.new)
+        (T.fault_count tree.old) (T.fault_count tree.new) }
+    ensures counts { IfErr result (λ refusal. ReadCounts begun
+        (T.fault_count tree.old) (T.fault_count tree.new) (cause_of (error_of refusal))) }
+{
+    let selection = selection_by(alloc, &policy.graph.exclude)?;
+    let krates = krates_at(alloc, tree, metadata_path, &selection, begun)?;
+    check_all(alloc, &policy.licenses, &krates, catalog)
+}

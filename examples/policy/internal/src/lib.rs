@@ -1,0 +1,1 @@
+//! Is published nowhere.

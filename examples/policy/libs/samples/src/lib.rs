@@ -1,0 +1,1 @@
+//! Samples for tests alone.

@@ -1,0 +1,1 @@
+//! Stamps that are made while a crate is built.

@@ -1,0 +1,1 @@
+//! Serves pages from a store.
