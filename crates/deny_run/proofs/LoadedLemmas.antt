@@ -114,21 +114,21 @@ stands_quiet lists paths found hearing e =
 
 -- ---- the policy's files are heard alike where the metadata's read may have failed
 
-alike_one : (content : Content) (begun : ℕ) (path other : List ℕ) (before after : ℕ) (heard : Result (List ℕ) ReadFault)
-    → text_heard (hearing_of content begun (record { kind = metadata; path = other; before = before; after = after }) heard) policy path ≡ text_heard (quiet content begun) policy path
+alike_one : (content : Content) (begun : ℕ) (path other : List ℕ) (before after : ℕ) (told : Result (List ℕ) ReadFault)
+    → text_heard (hearing_of content begun (record { kind = metadata; path = other; before = before; after = after }) told) policy path ≡ text_heard (quiet content begun) policy path
 alike_one content begun path other before after (Ok text) = refl
 alike_one content begun path other before after (Err (Failed first last)) = refl
 alike_one content begun path other before after (Err Absent) = refl
 alike_one content begun path other before after (Err Folder) = refl
 alike_one content begun path other before after (Err (NotUtf8 at)) = refl
 
-alike_path : (content : Content) (begun : ℕ) (path : Option (List ℕ)) (other : List ℕ) (before after : ℕ) (heard : Result (List ℕ) ReadFault)
-    → heard_at (hearing_of content begun (record { kind = metadata; path = other; before = before; after = after }) heard) path ≡ heard_at (quiet content begun) path
-alike_path content begun None other before after heard = refl
-alike_path content begun (Some path) other before after heard = alike_one content begun path other before after heard
+alike_path : (content : Content) (begun : ℕ) (path : Option (List ℕ)) (other : List ℕ) (before after : ℕ) (told : Result (List ℕ) ReadFault)
+    → heard_at (hearing_of content begun (record { kind = metadata; path = other; before = before; after = after }) told) path ≡ heard_at (quiet content begun) path
+alike_path content begun None other before after told = refl
+alike_path content begun (Some path) other before after told = alike_one content begun path other before after told
 
-pub metadata_alike : (content : Content) (begun : ℕ) (paths : PolicyPaths) (other : List ℕ) (before after : ℕ) (heard : Result (List ℕ) ReadFault)
-    → load_heard (hearing_of content begun (record { kind = metadata; path = other; before = before; after = after }) heard) paths ≡ load_heard (quiet content begun) paths
-metadata_alike content begun paths other before after heard =
+pub metadata_alike : (content : Content) (begun : ℕ) (paths : PolicyPaths) (other : List ℕ) (before after : ℕ) (told : Result (List ℕ) ReadFault)
+    → load_heard (hearing_of content begun (record { kind = metadata; path = other; before = before; after = after }) told) paths ≡ load_heard (quiet content begun) paths
+metadata_alike content begun paths other before after told =
     ap₂ (λ one two. let it : LoadHeard = record { policy = one; exceptions = two } in it)
-    (alike_path content begun paths.policy other before after heard) (alike_path content begun paths.exceptions other before after heard)
+    (alike_path content begun paths.policy other before after told) (alike_path content begun paths.exceptions other before after told)

@@ -53,11 +53,16 @@ pub told_among : (lists : CatalogLists) (policy exceptions : ℕ) (absence : Lis
     → list_any is_error (exceptions_told lists exceptions read) ≡ true
     → list_any is_error (load_findings lists (record { policy = policy; exceptions = exceptions }) absence root read) ≡ true
 told_among lists policy exceptions absence root read any =
-    any_front _ (output_key_told policy root) (any_front _ (graph_keys_told policy root) (any_front _ (targets_told policy root)
-    (any_behind (absence ++ address_findings policy (licences_in root) ++ clarification_findings lists policy (licences_in root) ++ removed_findings policy (licences_in root)) _ any)))
+    let config = licences_in root in
+    let front = absence ++ address_findings policy config ++ clarification_findings lists policy config ++ removed_findings policy config in
+    let file = front ++ exceptions_told lists exceptions read in
+    let targets = file ++ targets_told policy root in
+    let keys = targets ++ graph_keys_told policy root in
+    any_front keys (output_key_told policy root) (any_front targets (graph_keys_told policy root) (any_front file (targets_told policy root)
+    (any_behind front (exceptions_told lists exceptions read) any)))
 
 -- a policy that is answered has no error among its findings
-unless_Ok : (it found : PolicyFound) → unless_error it ≡ Ok found → (it ≡ found) × (list_any is_error it.findings ≡ false)
+pub unless_Ok : (it found : PolicyFound) → unless_error it ≡ Ok found → (it ≡ found) × (list_any is_error it.findings ≡ false)
 unless_Ok it found e =
     elim (list_any is_error it.findings) as (λ b. cond b (Err (ConfigInvalid it.findings)) (Ok it) ≡ Ok found → (it ≡ found) × (b ≡ false)) [
       | true ↦ λ is. absurd (cc)
