@@ -6,6 +6,7 @@ use Rattle.tree_core.specs.Faults.{Gained}
 use Rattle.tree_core.specs.Hearing.{Hearing, IsHearing}
 use Rattle.graph_core.specs.Metadata.{Graph}
 use Rattle.heard_core.specs.Cause.{Cause, no_memory, failed_read, refused_write, ReadCounts}
+use Rattle.heard_core.specs.Cause as causes
 use Rattle.search_core.specs.Search.{search_cause}
 use Rattle.search_core.specs.declared.search.SearchError.{SearchError}
 use Rattle.search_core.specs.declared.search.SearchError.TheVariants as search
@@ -45,6 +46,13 @@ use Rattle.deny_run.proofs.ScriptLemmas.{after_written, load_written, refused_te
 
 -- ---- before the load
 
+-- what is told of the words or of a read comes of no refused write
+told_apart : (first last : ℕ) → ◌≡◌ {A = Cause} causes.told (refused_write first last) → ⊥
+told_apart first last e = absurd (cc)
+
+read_apart : (begun after first last : ℕ) → ◌≡◌ {A = Cause} (failed_read begun after) (refused_write first last) → ⊥
+read_apart begun after first last e = absurd (cc)
+
 -- what is told where no read failed
 told_quietly : Given → Option Content → ℕ → List ℕ
 told_quietly given content begun = option_map_or (λ one. told_before given (all_heard one begun)) content []
@@ -64,7 +72,7 @@ module _ (given : Given) (content : Option Content) (begun after : ℕ) (later :
   words_before none = record {
     text = [];
     tells = λ one is. refused_tells given one begun after (error_of refusal.Words) [] (words_refused given one begun after later none);
-    written = silent held err_before err_after [] _ (inr (refl, λ first last e. absurd (cc)));
+    written = silent held err_before err_after [] causes.told (inr (refl, told_apart));
   }
 
   pub search_before : (request : Request) (error : SearchError) → request_of given.words given.cwd ≡ Some request → ReadCounts begun begun after (search_cause error)
@@ -73,7 +81,7 @@ module _ (given : Given) (content : Option Content) (begun after : ℕ) (later :
   search_before request (search.Failed first last) asked counts = record {
     text = [];
     tells = λ one is. refused_tells given one begun after (error_of_search (search.Failed first last)) [] (search_refused given one begun after request first last later asked counts);
-    written = silent held err_before err_after [] _ (inr (refl, λ one other e. absurd (cc)));
+    written = silent held err_before err_after [] (failed_read first last) (inr (refl, read_apart first last));
   }
 
 pub search_answer : (given : Given) (content : Content) (begun after : ℕ) (request : Request) (error : SearchError) → begun ≤ after
