@@ -1,9 +1,11 @@
 -- The answer of `report` and what it writes, at each of its ends.
 use Rattle.std.proofs.Common.{◌≡◌, ◌∙◌, ◌⊎◌, inl, inr, refl, sym, ap, subst, ℕ, ◌≤◌, List, [], ◌++◌, map, Option, Some, None, Result, Ok, Err, arith}
-use Rattle.std.specs.Option.{ForSome, option_map_or}
+use Rattle.std.specs.Prelude.{IsErrAnd}
+use Rattle.std.specs.Option.{ForSome, option_and_then, option_map_or}
 use Rattle.tree_core.specs.Content.{Content}
 use Rattle.tree_core.specs.Faults.{Gained}
 use Rattle.tree_core.specs.Hearing.{Hearing, IsHearing}
+use Rattle.catalog_core.specs.Catalog.{CatalogLists}
 use Rattle.graph_core.specs.Metadata.{Graph}
 use Rattle.heard_core.specs.Cause.{Cause, no_memory, failed_read, refused_write, ReadCounts}
 use Rattle.heard_core.specs.Cause as causes
@@ -15,7 +17,8 @@ use Rattle.workspace_core.specs.Krates.{Gathers}
 use Rattle.validate_core.specs.Order.{PutsPolicyInOrder}
 use Rattle.valid_policy.specs.View.{policy_of}
 use Rattle.valid_policy.specs.declared.policy.ValidConfig.{ValidConfig}
-use Rattle.diag_core.specs.File.{File}
+use Rattle.diag_core.specs.File.{File, id_at}
+use Rattle.print_core.specs.declared.context.LogContext.{LogContext}
 use Rattle.policy_core.specs.Policy.{PolicyFound}
 use Rattle.policy_core.specs.declared.load.LoadedPolicy.{LoadedPolicy}
 use Rattle.load_core.specs.Answer.{Answers, Comes, IsFound, IsPolicyOf, Loads, Prints, WriteCounts, load_cause}
@@ -44,7 +47,39 @@ use Rattle.deny_run.proofs.LoadedLemmas.{quiet, stands_quiet}
 use Rattle.deny_run.proofs.PolicyLemmas.{policy_is}
 use Rattle.deny_run.proofs.ScriptLemmas.{after_written, load_written, refused_tells, silent}
 
+-- ---- what a step answered, in the words of the run: between the counts since it began, over the content that it began with
+
+-- the refusal that a step hands on
+pub handed_on : {X E : Type 0} (result : Result X E) (error : E) → IsErrAnd result (λ own. own ≡ error) → result ≡ Err error
+handed_on (Ok value) error is = absurd is
+handed_on (Err own) error is = ap Err is
+
+pub counts_at : (begun own before after : ℕ) (cause : Cause) → own ≡ begun → ReadCounts own before after cause → ReadCounts begun before after cause
+counts_at begun own before after cause same counts = subst (λ n. ReadCounts n before after cause) same counts
+
+pub loads_at : (lists : CatalogLists) (context : LogContext) (paths : PolicyPaths) (content held : Option Content) (begun own after : ℕ)
+    (old new : List File) (before behind : Option (List ℕ)) (result : Result LoadedPolicy LoadError) → context ≡ plain_log → held ≡ content → own ≡ begun → old ≡ []
+    → Loads lists context paths held own after old new before behind result → Loads lists plain_log paths content begun after [] new before behind result
+loads_at lists context paths content held begun own after old new before behind result plain same since none loads =
+    subst (λ files. Loads lists plain_log paths content begun after files new before behind result) none
+    (subst (λ n. Loads lists plain_log paths content n after old new before behind result) since
+    (subst (λ there. Loads lists plain_log paths there own after old new before behind result) same
+    (subst (λ log. Loads lists log paths held own after old new before behind result) plain loads)))
+
+pub checks_at : (lists : CatalogLists) (policy : LoadedPolicy) (content held : Option Content) (begun own : ℕ) (path other : List ℕ) (before after : ℕ)
+    (result : Result (List CrateReport) Refusal) → held ≡ content → own ≡ begun → other ≡ path
+    → ForSome held (λ one. ChecksAt lists policy one own other before after result) → ForSome content (λ one. ChecksAt lists policy one begun path before after result)
+checks_at lists policy content held begun own path other before after result same since at checks =
+    subst (λ own_path. ForSome content (λ one. ChecksAt lists policy one begun own_path before after result)) at
+    (subst (λ n. ForSome content (λ one. ChecksAt lists policy one n other before after result)) since
+    (subst (λ there. ForSome there (λ one. ChecksAt lists policy one own other before after result)) same checks))
+
 -- ---- before the load
+
+-- no file is known before the load
+pub none_known : (path : Option (List ℕ)) → option_and_then (id_at []) path ≡ None
+none_known None = refl
+none_known (Some path) = refl
 
 -- what is told of the words or of a read comes of no refused write
 told_apart : (first last : ℕ) → ◌≡◌ {A = Cause} causes.told (refused_write first last) → ⊥

@@ -1,5 +1,6 @@
 -- The refusals of steps: their counts, and that they are none of the words or of an absent policy.
 use Rattle.std.proofs.Common.{◌≡◌, ◌≢◌, ℕ, ◌+◌, ◌^◌, ◌<◌, ◌≤◌, ◌⊎◌, ◌↔◌, List, Option, Some, None, Result, Ok, Err, refl, sym, ap, subst, ◌∙◌, inl, inr, arith}
+use Rattle.std.specs.Prelude.{IsSome}
 use Rattle.catalog_core.specs.Catalog.{CatalogLists}
 use Rattle.graph_core.specs.Krate.{Record}
 use Rattle.graph_core.specs.Metadata.{Graph}
@@ -23,7 +24,7 @@ use Rattle.load_core.specs.declared.error.LoadError.TheVariants as load
 use Rattle.policy_core.specs.declared.load.LoadedPolicy.{LoadedPolicy}
 use Rattle.deny_run.specs.declared.error.Part.TheVariants.{Words, Crate}
 use Rattle.deny_run.specs.declared.error.Error.{Error}
-use Rattle.deny_run.specs.declared.error.Error.TheVariants.{ConfigRead, NotYet}
+use Rattle.deny_run.specs.declared.error.Error.TheVariants.{Memory, ConfigRead, NotYet}
 use Rattle.deny_run.specs.declared.error.Refusal.{Refusal}
 use Rattle.deny_run.specs.declared.error.Refusal.TheVariants as refusal
 use Rattle.deny_run.specs.declared.report.CrateReport.{CrateReport}
@@ -80,6 +81,11 @@ IsOther error = (error ≢ NotYet Words) × (error ≢ ConfigRead Absent)
 pub other_words : (error : Error) (words : Option Request) (request : Request) → words ≡ Some request → IsOther error
     → ◌≡◌ {A = Result Report Error} (Err error) (Err (NotYet Words)) ↔ (words ≡ None)
 other_words error words request some other = (λ e. absurd (other.0 (cc)), λ none. absurd (there words request some none))
+
+-- want of memory is none of words that ask for nothing
+pub memory_words : (words : Option Request) → IsSome words → ◌≡◌ {A = Result Report Error} (Err Memory) (Err (NotYet Words)) ↔ (words ≡ None)
+memory_words None some = absurd (cc)
+memory_words (Some request) some = other_words Memory (Some request) request refl ((λ e. absurd (cc)), (λ e. absurd (cc)))
 
 pub other_policy : (error : Error) → IsOther error → ◌≡◌ {A = Result Report Error} (Err error) (Err (ConfigRead Absent)) → ⊥
 other_policy error other e = other.1 (cc)

@@ -1,19 +1,33 @@
--- Names of goals and steps are those that the check is expected to give; the terms are meant.
-use Rattle.std.proofs.Common.{Ok, Err, ◌∙◌, sym, ap, subst, arith}
+-- Each end of `report`: the words, the looks for the exceptions file, the load, the crates, and the report.
+use Rattle.std.proofs.Common.{◌≡◌, [], None, Ok, Err, ◌∙◌, refl, sym, ap, subst, arith}
 use Rattle.std.proofs.lemmas.Result.{err_from_is_err_and}
 use Rattle.deny_run.specs.Counts.{counts_of}
-use Rattle.deny_run.specs.Error.{error_of, error_of_load, error_of_search}
+use Rattle.deny_run.specs.Error.{cause_of, error_of, error_of_load, error_of_search}
 use Rattle.deny_run.specs.Given.{given_of}
+use Rattle.deny_run.specs.Steps.{ChecksAt}
+use Rattle.deny_run.specs.Words.{request_of, texts}
+use Rattle.std.specs.Option.{option_and_then}
+use Rattle.diag_core.specs.File.{id_at}
+use Rattle.load_core.specs.Load.{policy_name}
 use Rattle.deny_run.specs.declared.error.Refusal.TheVariants as refusal
+use Rattle.search_core.specs.Search.{search_cause}
+use Rattle.load_core.specs.Answer.{load_cause}
 use Rattle.deny_run.proofs.AnswerLemmas.{is_refusal, words_refused}
-use Rattle.deny_run.proofs.ReportLemmas.{crates_answer, crates_writes, load_answer, load_writes, memory_before, report_answer, report_writes, search_answer, search_before, words_before}
-use Rattle.deny_run.proofs.StepLemmas.{crates_other, load_counts, load_other, other_policy, other_words, report_words, search_counts, search_other, since_begun}
+use Rattle.deny_run.proofs.ReportLemmas.{checks_at, counts_at, crates_answer, crates_writes, load_answer, load_writes, loads_at, memory_before, none_known, report_answer, report_writes, search_answer, search_before, words_before}
+use Rattle.deny_run.proofs.StepLemmas.{crates_other, load_counts, load_other, memory_words, other_policy, other_words, report_words, search_counts, search_other, since_begun}
 use Rattle.deny_run.proofs.run.report.Goals as goal
 
 -- ---- the words
 
 pub returns-in_err-request-clause-written : goal.returns-in_err-request-clause-written
-returns-in_err-request-clause-written g c = memory_before _ _ _ _ (omega arith) _ _ _
+returns-in_err-request-clause-written g c =
+    let given = given_of (g.C.Catalog.lists c.args.catalog.now) (g.I.Identifier.match_of c.args.identifier.now) c.args.words.now c.args.cwd.now in
+    let content = g.T.Tree.content c.args.tree.now in
+    let begun = g.T.Tree.fault_count c.args.tree.now in
+    let held = g.E.Sink.written c.args.err.now in
+    let count = g.E.Sink.fault_count c.args.err.now in
+    let p = err_from_is_err_and c.from_residual.result c.from_residual.ensures.1 in
+    rw (p.1, p.2) (memory_before given content begun begun (omega arith) held count count)
 
 pub returns-in_default-clause-answer : goal.returns-in_default-clause-answer
 returns-in_default-clause-answer g c = λ content told.
@@ -22,7 +36,39 @@ returns-in_default-clause-answer g c = λ content told.
     is_refusal given content begun begun (error_of refusal.Words) [] (words_refused given content begun begun (omega arith) (sym c.in_ok-request.ensures.ok ∙ c.in_default.is))
 
 pub returns-in_default-clause-written : goal.returns-in_default-clause-written
-returns-in_default-clause-written g c = words_before _ _ _ _ (omega arith) _ _ _ (sym c.in_ok-request.ensures.ok ∙ c.in_default.is)
+returns-in_default-clause-written g c =
+    let given = given_of (g.C.Catalog.lists c.args.catalog.now) (g.I.Identifier.match_of c.args.identifier.now) c.args.words.now c.args.cwd.now in
+    let content = g.T.Tree.content c.args.tree.now in
+    let begun = g.T.Tree.fault_count c.args.tree.now in
+    let held = g.E.Sink.written c.args.err.now in
+    let count = g.E.Sink.fault_count c.args.err.now in
+    words_before given content begun begun (omega arith) held count count (sym c.in_ok-request.ensures.ok ∙ c.in_default.is)
+
+pub returns-in_err-request-clause-words : goal.returns-in_err-request-clause-words
+returns-in_err-request-clause-words g c =
+    let p = err_from_is_err_and c.from_residual.result c.from_residual.ensures.1 in
+    rw (p.1, p.2) (memory_words (request_of (texts c.args.words.now) c.args.cwd.now) c.in_err-request.ensures.refused)
+
+-- ---- what the steps require
+
+pub load-requires-clause-begun : goal.load-requires-clause-begun
+load-requires-clause-begun g c =
+    let same = c.faults-begun.ensures in
+    let later = c.in_ok-paths.ensures.kept.later in
+    omega arith
+
+pub load-requires-clause-policy : goal.load-requires-clause-policy
+load-requires-clause-policy g c = subst (λ files. id_at files (policy_name c.in_ok-paths.paths.policy) ≡ None) (sym c.new-files.ensures) refl
+
+pub load-requires-clause-exceptions : goal.load-requires-clause-exceptions
+load-requires-clause-exceptions g c = subst (λ files. option_and_then (id_at files) c.in_ok-paths.paths.exceptions ≡ None) (sym c.new-files.ensures) (none_known c.in_ok-paths.paths.exceptions)
+
+pub check_crates-requires : goal.check_crates-requires
+check_crates-requires g c =
+    let same = c.faults-begun.ensures in
+    let early = c.in_ok-paths.ensures.kept.later in
+    let later = c.in_ok-policy.ensures.kept.later in
+    omega arith
 
 -- ---- the looks
 
@@ -30,81 +76,231 @@ pub returns-in_err-paths-clause-answer : goal.returns-in_err-paths-clause-answer
 returns-in_err-paths-clause-answer g c = λ content told.
     let given = given_of (g.C.Catalog.lists c.args.catalog.now) (g.I.Identifier.match_of c.args.identifier.now) c.args.words.now c.args.cwd.now in
     let begun = g.T.Tree.fault_count c.args.tree.now in
-    search_answer given content begun (g.T.Tree.fault_count c.policy_paths.new.tree) c.in-Some.request c.in_err-paths.field-0.0 c.in_err-paths.ensures.kept.later
-    (sym c.in_ok-request.ensures.ok ∙ c.in-Some.is) c.in_err-paths.ensures.counts
+    let after = g.T.Tree.fault_count c.policy_paths.new.tree in
+    let error = c.in_err-paths.field-0.0 in
+    let p = err_from_is_err_and c.from_residual-in_err-paths.result c.from_residual-in_err-paths.ensures.1 in
+    rw (p.1, p.2)
+    (search_answer given content begun after c.in-Some.request error c.in_err-paths.ensures.kept.later (sym c.in_ok-request.ensures.ok ∙ c.in-Some.is)
+    (counts_at begun c.faults-begun.result begun after (search_cause error) c.faults-begun.ensures c.in_err-paths.ensures.counts))
 
 pub returns-in_err-paths-clause-written : goal.returns-in_err-paths-clause-written
 returns-in_err-paths-clause-written g c =
-    search_before _ _ _ _ c.in_err-paths.ensures.kept.later _ _ _ c.in-Some.request c.in_err-paths.field-0.0 (sym c.in_ok-request.ensures.ok ∙ c.in-Some.is) c.in_err-paths.ensures.counts
+    let given = given_of (g.C.Catalog.lists c.args.catalog.now) (g.I.Identifier.match_of c.args.identifier.now) c.args.words.now c.args.cwd.now in
+    let content = g.T.Tree.content c.args.tree.now in
+    let begun = g.T.Tree.fault_count c.args.tree.now in
+    let after = g.T.Tree.fault_count c.policy_paths.new.tree in
+    let held = g.E.Sink.written c.args.err.now in
+    let count = g.E.Sink.fault_count c.args.err.now in
+    let error = c.in_err-paths.field-0.0 in
+    let p = err_from_is_err_and c.from_residual-in_err-paths.result c.from_residual-in_err-paths.ensures.1 in
+    rw (p.1, p.2)
+    (search_before given content begun after c.in_err-paths.ensures.kept.later held count count c.in-Some.request error (sym c.in_ok-request.ensures.ok ∙ c.in-Some.is)
+    (counts_at begun c.faults-begun.result begun after (search_cause error) c.faults-begun.ensures c.in_err-paths.ensures.counts))
 
 -- ---- the load
 
 pub returns-in_err-policy-clause-answer : goal.returns-in_err-policy-clause-answer
 returns-in_err-policy-clause-answer g c = λ content told.
-    load_answer _ _ _ _ _ c.in-Some.request (sym c.in_ok-request.ensures.ok ∙ c.in-Some.is) c.in_ok-paths.paths _ _ _ _ _ c.in_err-policy.field-0.0 c.in_err-policy.ensures.loads
-    content told (c.in_ok-paths.ensures.answer content told)
+    let given = given_of (g.C.Catalog.lists c.args.catalog.now) (g.I.Identifier.match_of c.args.identifier.now) c.args.words.now c.args.cwd.now in
+    let there = g.T.Tree.content c.args.tree.now in
+    let begun = g.T.Tree.fault_count c.args.tree.now in
+    let middle = g.T.Tree.fault_count c.policy_paths.new.tree in
+    let after = g.T.Tree.fault_count c.load.new.tree in
+    let old = g.E.Sink.written c.args.err.now in
+    let new = g.E.Sink.written c.load.new.sink in
+    let first = g.E.Sink.fault_count c.args.err.now in
+    let last = g.E.Sink.fault_count c.load.new.sink in
+    let error = c.in_err-policy.field-0.0 in
+    let asked = sym c.in_ok-request.ensures.ok ∙ c.in-Some.is in
+    let loads = loads_at given.lists c.plain_log.result c.in_ok-paths.paths there (g.T.Tree.content c.policy_paths.new.tree) begun c.faults-begun.result after c.new-files.result c.load.new.files old new (Err error)
+        c.plain_log.ensures c.in_ok-paths.ensures.kept.content c.faults-begun.ensures c.new-files.ensures c.in_err-policy.ensures.loads in
+    let p = err_from_is_err_and c.from_residual-in_err-policy.result c.from_residual-in_err-policy.ensures.1 in
+    rw (p.1, p.2)
+    (load_answer given there begun middle after c.in-Some.request asked c.in_ok-paths.paths c.load.new.files old new first last error loads content told (c.in_ok-paths.ensures.answer content told))
 
 pub returns-in_err-policy-clause-written : goal.returns-in_err-policy-clause-written
 returns-in_err-policy-clause-written g c =
-    load_writes _ _ _ _ _ c.in-Some.request (sym c.in_ok-request.ensures.ok ∙ c.in-Some.is) c.in_ok-paths.paths _ _ _ _ _ c.in_err-policy.field-0.0 c.in_err-policy.ensures.loads
-    c.in_ok-paths.ensures.answer c.in_err-policy.ensures.writes
+    let given = given_of (g.C.Catalog.lists c.args.catalog.now) (g.I.Identifier.match_of c.args.identifier.now) c.args.words.now c.args.cwd.now in
+    let there = g.T.Tree.content c.args.tree.now in
+    let begun = g.T.Tree.fault_count c.args.tree.now in
+    let middle = g.T.Tree.fault_count c.policy_paths.new.tree in
+    let after = g.T.Tree.fault_count c.load.new.tree in
+    let old = g.E.Sink.written c.args.err.now in
+    let new = g.E.Sink.written c.load.new.sink in
+    let first = g.E.Sink.fault_count c.args.err.now in
+    let last = g.E.Sink.fault_count c.load.new.sink in
+    let error = c.in_err-policy.field-0.0 in
+    let asked = sym c.in_ok-request.ensures.ok ∙ c.in-Some.is in
+    let loads = loads_at given.lists c.plain_log.result c.in_ok-paths.paths there (g.T.Tree.content c.policy_paths.new.tree) begun c.faults-begun.result after c.new-files.result c.load.new.files old new (Err error)
+        c.plain_log.ensures c.in_ok-paths.ensures.kept.content c.faults-begun.ensures c.new-files.ensures c.in_err-policy.ensures.loads in
+    let p = err_from_is_err_and c.from_residual-in_err-policy.result c.from_residual-in_err-policy.ensures.1 in
+    rw (p.1, p.2)
+    (load_writes given there begun middle after c.in-Some.request asked c.in_ok-paths.paths c.load.new.files old new first last error loads c.in_ok-paths.ensures.answer c.in_err-policy.ensures.writes)
 
 -- ---- the crates
 
 pub returns-in_err-crates-clause-answer : goal.returns-in_err-crates-clause-answer
 returns-in_err-crates-clause-answer g c = λ content told.
-    crates_answer _ _ _ _ _ _ _ c.in-Some.request (sym c.in_ok-request.ensures.ok ∙ c.in-Some.is) c.in_ok-paths.paths _ _ _ _ _ c.in_ok-policy.policy c.in_ok-policy.ensures.loads
-    content told (c.in_ok-paths.ensures.answer content told) c.in_err-crates.field-0.0 c.in_err-crates.ensures.cause (c.in_err-crates.ensures.answer content told)
+    let given = given_of (g.C.Catalog.lists c.args.catalog.now) (g.I.Identifier.match_of c.args.identifier.now) c.args.words.now c.args.cwd.now in
+    let there = g.T.Tree.content c.args.tree.now in
+    let begun = g.T.Tree.fault_count c.args.tree.now in
+    let middle = g.T.Tree.fault_count c.load.new.tree in
+    let after = g.T.Tree.fault_count c.check_crates.new.tree in
+    let old = g.E.Sink.written c.args.err.now in
+    let new = g.E.Sink.written c.load.new.sink in
+    let first = g.E.Sink.fault_count c.args.err.now in
+    let last = g.E.Sink.fault_count c.load.new.sink in
+    let policy = c.in_ok-policy.policy in
+    let refused = c.in_err-crates.field-0.0 in
+    let asked = sym c.in_ok-request.ensures.ok ∙ c.in-Some.is in
+    let same = c.in_ok-policy.ensures.kept.content ∙ c.in_ok-paths.ensures.kept.content in
+    let early = c.in_ok-paths.ensures.kept.later in
+    let then = c.in_ok-policy.ensures.kept.later in
+    let loads = loads_at given.lists c.plain_log.result c.in_ok-paths.paths there (g.T.Tree.content c.policy_paths.new.tree) begun c.faults-begun.result middle c.new-files.result c.load.new.files old new (Ok policy)
+        c.plain_log.ensures c.in_ok-paths.ensures.kept.content c.faults-begun.ensures c.new-files.ensures c.in_ok-policy.ensures.loads in
+    let checks = checks_at given.lists policy there (g.T.Tree.content c.load.new.tree) begun c.faults-begun.result c.in-Some.request.metadata_path c.as_path.result.now middle after (Err refused)
+        same c.faults-begun.ensures c.as_path.ensures c.in_err-crates.ensures.answer in
+    let p = err_from_is_err_and c.from_residual-in_err-crates.result c.from_residual-in_err-crates.ensures.1 in
+    rw (p.1, p.2)
+    (crates_answer given there begun middle after (omega arith) c.in_err-crates.ensures.kept.later c.in-Some.request asked c.in_ok-paths.paths c.load.new.files old new first last policy loads
+    content told (c.in_ok-paths.ensures.answer content told) refused c.in_err-crates.ensures.cause (checks content told))
 
 pub returns-in_err-crates-clause-written : goal.returns-in_err-crates-clause-written
 returns-in_err-crates-clause-written g c =
-    crates_writes _ _ _ _ _ _ _ c.in-Some.request (sym c.in_ok-request.ensures.ok ∙ c.in-Some.is) c.in_ok-paths.paths _ _ _ _ _ c.in_ok-policy.policy c.in_ok-policy.ensures.loads
-    c.in_ok-paths.ensures.answer c.in_err-crates.field-0.0 c.in_err-crates.ensures.cause c.in_err-crates.ensures.answer
+    let given = given_of (g.C.Catalog.lists c.args.catalog.now) (g.I.Identifier.match_of c.args.identifier.now) c.args.words.now c.args.cwd.now in
+    let there = g.T.Tree.content c.args.tree.now in
+    let begun = g.T.Tree.fault_count c.args.tree.now in
+    let middle = g.T.Tree.fault_count c.load.new.tree in
+    let after = g.T.Tree.fault_count c.check_crates.new.tree in
+    let old = g.E.Sink.written c.args.err.now in
+    let new = g.E.Sink.written c.load.new.sink in
+    let first = g.E.Sink.fault_count c.args.err.now in
+    let last = g.E.Sink.fault_count c.load.new.sink in
+    let policy = c.in_ok-policy.policy in
+    let refused = c.in_err-crates.field-0.0 in
+    let asked = sym c.in_ok-request.ensures.ok ∙ c.in-Some.is in
+    let same = c.in_ok-policy.ensures.kept.content ∙ c.in_ok-paths.ensures.kept.content in
+    let early = c.in_ok-paths.ensures.kept.later in
+    let then = c.in_ok-policy.ensures.kept.later in
+    let loads = loads_at given.lists c.plain_log.result c.in_ok-paths.paths there (g.T.Tree.content c.policy_paths.new.tree) begun c.faults-begun.result middle c.new-files.result c.load.new.files old new (Ok policy)
+        c.plain_log.ensures c.in_ok-paths.ensures.kept.content c.faults-begun.ensures c.new-files.ensures c.in_ok-policy.ensures.loads in
+    let checks = checks_at given.lists policy there (g.T.Tree.content c.load.new.tree) begun c.faults-begun.result c.in-Some.request.metadata_path c.as_path.result.now middle after (Err refused)
+        same c.faults-begun.ensures c.as_path.ensures c.in_err-crates.ensures.answer in
+    let p = err_from_is_err_and c.from_residual-in_err-crates.result c.from_residual-in_err-crates.ensures.1 in
+    rw (p.1, p.2)
+    (crates_writes given there begun middle after (omega arith) c.in_err-crates.ensures.kept.later c.in-Some.request asked c.in_ok-paths.paths c.load.new.files old new first last policy loads
+    c.in_ok-paths.ensures.answer refused c.in_err-crates.ensures.cause checks)
 
 -- ---- the report
 
 pub returns-clause-answer : goal.returns-clause-answer
 returns-clause-answer g c = λ content told.
-    report_answer _ _ _ _ _ _ _ c.in-Some.request (sym c.in_ok-request.ensures.ok ∙ c.in-Some.is) c.in_ok-paths.paths _ _ _ _ _ c.in_ok-policy.policy c.in_ok-policy.ensures.loads
+    let given = given_of (g.C.Catalog.lists c.args.catalog.now) (g.I.Identifier.match_of c.args.identifier.now) c.args.words.now c.args.cwd.now in
+    let there = g.T.Tree.content c.args.tree.now in
+    let begun = g.T.Tree.fault_count c.args.tree.now in
+    let middle = g.T.Tree.fault_count c.load.new.tree in
+    let after = g.T.Tree.fault_count c.check_crates.new.tree in
+    let old = g.E.Sink.written c.args.err.now in
+    let new = g.E.Sink.written c.load.new.sink in
+    let first = g.E.Sink.fault_count c.args.err.now in
+    let last = g.E.Sink.fault_count c.load.new.sink in
+    let policy = c.in_ok-policy.policy in
+    let asked = sym c.in_ok-request.ensures.ok ∙ c.in-Some.is in
+    let same = c.in_ok-policy.ensures.kept.content ∙ c.in_ok-paths.ensures.kept.content in
+    let early = c.in_ok-paths.ensures.kept.later in
+    let then = c.in_ok-policy.ensures.kept.later in
+    let loads = loads_at given.lists c.plain_log.result c.in_ok-paths.paths there (g.T.Tree.content c.policy_paths.new.tree) begun c.faults-begun.result middle c.new-files.result c.load.new.files old new (Ok policy)
+        c.plain_log.ensures c.in_ok-paths.ensures.kept.content c.faults-begun.ensures c.new-files.ensures c.in_ok-policy.ensures.loads in
+    let checks = checks_at given.lists policy there (g.T.Tree.content c.load.new.tree) begun c.faults-begun.result c.in-Some.request.metadata_path c.as_path.result.now middle after (Ok c.in_ok-crates.crates)
+        same c.faults-begun.ensures c.as_path.ensures c.in_ok-crates.ensures.answer in
+    report_answer given there begun middle after (omega arith) c.in_ok-crates.ensures.kept.later c.in-Some.request asked c.in_ok-paths.paths c.load.new.files old new first last policy loads
     content told (c.in_ok-paths.ensures.answer content told) c.report_of.result c.report_of.ensures.policy
-    (c.in_ok-crates.ensures.answer content told) (c.report_of.ensures.stats ∙ ap counts_of (sym c.report_of.ensures.crates))
+    (subst (λ crates. ChecksAt given.lists policy content begun c.in-Some.request.metadata_path middle after (Ok crates)) (sym c.report_of.ensures.crates) (checks content told))
+    (c.report_of.ensures.stats ∙ ap counts_of (sym c.report_of.ensures.crates))
 
 pub returns-clause-written : goal.returns-clause-written
 returns-clause-written g c =
-    report_writes _ _ _ _ _ _ _ c.in-Some.request (sym c.in_ok-request.ensures.ok ∙ c.in-Some.is) c.in_ok-paths.paths _ _ _ _ _ c.in_ok-policy.policy c.in_ok-policy.ensures.loads
+    let given = given_of (g.C.Catalog.lists c.args.catalog.now) (g.I.Identifier.match_of c.args.identifier.now) c.args.words.now c.args.cwd.now in
+    let there = g.T.Tree.content c.args.tree.now in
+    let begun = g.T.Tree.fault_count c.args.tree.now in
+    let middle = g.T.Tree.fault_count c.load.new.tree in
+    let after = g.T.Tree.fault_count c.check_crates.new.tree in
+    let old = g.E.Sink.written c.args.err.now in
+    let new = g.E.Sink.written c.load.new.sink in
+    let first = g.E.Sink.fault_count c.args.err.now in
+    let last = g.E.Sink.fault_count c.load.new.sink in
+    let policy = c.in_ok-policy.policy in
+    let asked = sym c.in_ok-request.ensures.ok ∙ c.in-Some.is in
+    let early = c.in_ok-paths.ensures.kept.later in
+    let then = c.in_ok-policy.ensures.kept.later in
+    let loads = loads_at given.lists c.plain_log.result c.in_ok-paths.paths there (g.T.Tree.content c.policy_paths.new.tree) begun c.faults-begun.result middle c.new-files.result c.load.new.files old new (Ok policy)
+        c.plain_log.ensures c.in_ok-paths.ensures.kept.content c.faults-begun.ensures c.new-files.ensures c.in_ok-policy.ensures.loads in
+    report_writes given there begun middle after (omega arith) c.in_ok-crates.ensures.kept.later c.in-Some.request asked c.in_ok-paths.paths c.load.new.files old new first last policy loads
     c.in_ok-paths.ensures.answer c.report_of.result
 
 -- ---- no other refusal is one of the words or of an absent policy, and counts are those since the run began
 
 pub returns-in_err-paths-clause-words : goal.returns-in_err-paths-clause-words
-returns-in_err-paths-clause-words g c = other_words _ _ c.in-Some.request (sym c.in_ok-request.ensures.ok ∙ c.in-Some.is) (search_other c.in_err-paths.field-0.0)
+returns-in_err-paths-clause-words g c =
+    let p = err_from_is_err_and c.from_residual-in_err-paths.result c.from_residual-in_err-paths.ensures.1 in
+    rw (p.1, p.2) (other_words _ _ c.in-Some.request (sym c.in_ok-request.ensures.ok ∙ c.in-Some.is) (search_other c.in_err-paths.field-0.0))
 
 pub returns-in_err-paths-clause-policy : goal.returns-in_err-paths-clause-policy
-returns-in_err-paths-clause-policy g c = other_policy _ (search_other c.in_err-paths.field-0.0)
+returns-in_err-paths-clause-policy g c =
+    let p = err_from_is_err_and c.from_residual-in_err-paths.result c.from_residual-in_err-paths.ensures.1 in
+    rw (p.1, p.2) (other_policy _ (search_other c.in_err-paths.field-0.0))
 
 pub returns-in_err-paths-clause-counts : goal.returns-in_err-paths-clause-counts
-returns-in_err-paths-clause-counts g c = search_counts _ _ _ c.in_err-paths.field-0.0 c.in_err-paths.ensures.counts
+returns-in_err-paths-clause-counts g c =
+    let begun = g.T.Tree.fault_count c.args.tree.now in
+    let after = g.T.Tree.fault_count c.policy_paths.new.tree in
+    let error = c.in_err-paths.field-0.0 in
+    let p = err_from_is_err_and c.from_residual-in_err-paths.result c.from_residual-in_err-paths.ensures.1 in
+    rw (p.1, p.2) (search_counts begun begun after error (counts_at begun c.faults-begun.result begun after (search_cause error) c.faults-begun.ensures c.in_err-paths.ensures.counts))
 
 pub returns-in_err-policy-clause-words : goal.returns-in_err-policy-clause-words
 returns-in_err-policy-clause-words g c =
-    other_words _ _ c.in-Some.request (sym c.in_ok-request.ensures.ok ∙ c.in-Some.is) (load_other c.in_err-policy.field-0.0 c.in_err-policy.ensures.there)
+    let p = err_from_is_err_and c.from_residual-in_err-policy.result c.from_residual-in_err-policy.ensures.1 in
+    rw (p.1, p.2) (other_words _ _ c.in-Some.request (sym c.in_ok-request.ensures.ok ∙ c.in-Some.is) (load_other c.in_err-policy.field-0.0 c.in_err-policy.ensures.there))
 
 pub returns-in_err-policy-clause-policy : goal.returns-in_err-policy-clause-policy
-returns-in_err-policy-clause-policy g c = other_policy _ (load_other c.in_err-policy.field-0.0 c.in_err-policy.ensures.there)
+returns-in_err-policy-clause-policy g c =
+    let p = err_from_is_err_and c.from_residual-in_err-policy.result c.from_residual-in_err-policy.ensures.1 in
+    rw (p.1, p.2) (other_policy _ (load_other c.in_err-policy.field-0.0 c.in_err-policy.ensures.there))
 
 pub returns-in_err-policy-clause-counts : goal.returns-in_err-policy-clause-counts
 returns-in_err-policy-clause-counts g c =
-    since_begun _ _ _ _ c.in_ok-paths.ensures.kept.later (load_counts _ _ _ c.in_err-policy.field-0.0 c.in_err-policy.ensures.counts)
+    let begun = g.T.Tree.fault_count c.args.tree.now in
+    let middle = g.T.Tree.fault_count c.policy_paths.new.tree in
+    let after = g.T.Tree.fault_count c.load.new.tree in
+    let error = c.in_err-policy.field-0.0 in
+    let p = err_from_is_err_and c.from_residual-in_err-policy.result c.from_residual-in_err-policy.ensures.1 in
+    rw (p.1, p.2)
+    (since_begun begun middle after (cause_of (error_of_load error)) c.in_ok-paths.ensures.kept.later
+    (load_counts begun middle after error (counts_at begun c.faults-begun.result middle after (load_cause error) c.faults-begun.ensures c.in_err-policy.ensures.counts)))
 
 pub returns-in_err-crates-clause-words : goal.returns-in_err-crates-clause-words
 returns-in_err-crates-clause-words g c =
-    other_words _ _ c.in-Some.request (sym c.in_ok-request.ensures.ok ∙ c.in-Some.is) (crates_other c.in_err-crates.field-0.0 c.in_err-crates.ensures.cause)
+    let p = err_from_is_err_and c.from_residual-in_err-crates.result c.from_residual-in_err-crates.ensures.1 in
+    rw (p.1, p.2) (other_words _ _ c.in-Some.request (sym c.in_ok-request.ensures.ok ∙ c.in-Some.is) (crates_other c.in_err-crates.field-0.0 c.in_err-crates.ensures.cause))
 
 pub returns-in_err-crates-clause-policy : goal.returns-in_err-crates-clause-policy
-returns-in_err-crates-clause-policy g c = other_policy _ (crates_other c.in_err-crates.field-0.0 c.in_err-crates.ensures.cause)
+returns-in_err-crates-clause-policy g c =
+    let p = err_from_is_err_and c.from_residual-in_err-crates.result c.from_residual-in_err-crates.ensures.1 in
+    rw (p.1, p.2) (other_policy _ (crates_other c.in_err-crates.field-0.0 c.in_err-crates.ensures.cause))
 
 pub returns-in_err-crates-clause-counts : goal.returns-in_err-crates-clause-counts
-returns-in_err-crates-clause-counts g c = since_begun _ _ _ _ (omega arith) c.in_err-crates.ensures.counts
+returns-in_err-crates-clause-counts g c =
+    let begun = g.T.Tree.fault_count c.args.tree.now in
+    let middle = g.T.Tree.fault_count c.load.new.tree in
+    let after = g.T.Tree.fault_count c.check_crates.new.tree in
+    let refused = c.in_err-crates.field-0.0 in
+    let early = c.in_ok-paths.ensures.kept.later in
+    let then = c.in_ok-policy.ensures.kept.later in
+    let p = err_from_is_err_and c.from_residual-in_err-crates.result c.from_residual-in_err-crates.ensures.1 in
+    rw (p.1, p.2)
+    (since_begun begun middle after (cause_of (error_of refused)) (omega arith)
+    (counts_at begun c.faults-begun.result middle after (cause_of (error_of refused)) c.faults-begun.ensures c.in_err-crates.ensures.counts))
 
 pub returns-clause-words : goal.returns-clause-words
 returns-clause-words g c = report_words c.report_of.result _ c.in-Some.request (sym c.in_ok-request.ensures.ok ∙ c.in-Some.is)
