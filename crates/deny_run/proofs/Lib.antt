@@ -8,5 +8,6 @@ pub mod PolicyLemmas
 pub mod ReportLemmas
 pub mod ScriptLemmas
 pub mod SpecLemmas
+pub mod StageLemmas
 pub mod StepLemmas
 pub mod VerdictLemmas
