@@ -3,7 +3,7 @@ use Rattle.tree_core.specs.Script.{FaultCounts, Written}
 use Rattle.deny_run.specs.Error.{error_of}
 use Rattle.deny_run.specs.Given.{given_of}
 use Rattle.deny_run.specs.Script.{WritesFirst}
-use Rattle.deny_run.proofs.ScriptLemmas.{first_cut, first_refused, first_reported}
+use Rattle.deny_run.proofs.ScriptLemmas.{first_cut, first_refused}
 use Rattle.deny_run.proofs.run.check.Goals as goal
 
 -- a refusal before the summary: what is told of the load, or a front of it, stands on `err`
@@ -24,23 +24,6 @@ returns-in-Err-clause-written g c =
     let new = g.E.Sink.written c.report.new.err in
     subst (λ error. WritesFirst given content counts (record { out = out; err = old }) (record { out = out; err = new }) (Err error)) (sym c.from.ensures)
     (first_refused given content counts out old new (error_of c.in-Err.refusal) c.in-Err.ensures.written)
-
--- the summary was written
-pub returns-in-Ok-write_summary-clause-written : goal.returns-in-Ok-write_summary-clause-written
-returns-in-Ok-write_summary-clause-written g c =
-    let given = given_of (g.C.Catalog.lists c.args.catalog.now) (g.I.Identifier.match_of c.args.identifier.now) c.args.words.now c.args.cwd.now in
-    let content = g.T.Tree.content c.args.tree.now in
-    let counts : FaultCounts = record {
-      tree_before = g.T.Tree.fault_count c.args.tree.now;
-      tree_after = g.T.Tree.fault_count c.report.new.tree;
-      out_before = g.O.Sink.fault_count c.args.out.now;
-      out_after = g.O.Sink.fault_count c.write_summary.new.out;
-      err_before = g.E.Sink.fault_count c.args.err.now;
-      err_after = g.E.Sink.fault_count c.report.new.err;
-    } in
-    let old : Written = record { out = g.O.Sink.written c.args.out.now; err = g.E.Sink.written c.args.err.now } in
-    let new : Written = record { out = g.O.Sink.written c.write_summary.new.out; err = g.E.Sink.written c.report.new.err } in
-    first_reported given content counts old new c.in-Ok.report c.in-Ok.ensures.written c.in-Ok-write_summary.ensures.ok
 
 -- the summary was cut
 pub returns-in-Err-write_summary-clause-written : goal.returns-in-Err-write_summary-clause-written

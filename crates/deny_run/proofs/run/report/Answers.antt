@@ -44,32 +44,6 @@ returns-in_default-clause-written g c =
     let count = g.E.Sink.fault_count c.args.err.now in
     words_before given content begun begun (omega arith) held count count (sym c.in_ok-request.ensures.ok ∙ c.in_default.is)
 
-pub returns-in_err-request-clause-words : goal.returns-in_err-request-clause-words
-returns-in_err-request-clause-words g c =
-    let p = err_from_is_err_and c.from_residual.result c.from_residual.ensures.1 in
-    rw (p.1, p.2) (memory_words (request_of (texts c.args.words.now) c.args.cwd.now) c.in_err-request.ensures.refused)
-
--- ---- what the steps require
-
-pub load-requires-clause-begun : goal.load-requires-clause-begun
-load-requires-clause-begun g c =
-    let same = c.faults-begun.ensures in
-    let later = c.in_ok-paths.ensures.kept.later in
-    omega arith
-
-pub load-requires-clause-policy : goal.load-requires-clause-policy
-load-requires-clause-policy g c = subst (λ files. id_at files (policy_name c.in_ok-paths.paths.policy) ≡ None) (sym c.new-files.ensures) refl
-
-pub load-requires-clause-exceptions : goal.load-requires-clause-exceptions
-load-requires-clause-exceptions g c = subst (λ files. option_and_then (id_at files) c.in_ok-paths.paths.exceptions ≡ None) (sym c.new-files.ensures) (none_known c.in_ok-paths.paths.exceptions)
-
-pub check_crates-requires : goal.check_crates-requires
-check_crates-requires g c =
-    let same = c.faults-begun.ensures in
-    let early = c.in_ok-paths.ensures.kept.later in
-    let later = c.in_ok-policy.ensures.kept.later in
-    omega arith
-
 -- ---- the looks
 
 pub returns-in_err-paths-clause-answer : goal.returns-in_err-paths-clause-answer
@@ -240,55 +214,6 @@ returns-clause-written g c =
 
 -- ---- no other refusal is one of the words or of an absent policy, and counts are those since the run began
 
-pub returns-in_err-paths-clause-words : goal.returns-in_err-paths-clause-words
-returns-in_err-paths-clause-words g c =
-    let p = err_from_is_err_and c.from_residual-in_err-paths.result c.from_residual-in_err-paths.ensures.1 in
-    rw (p.1, p.2) (other_words _ _ c.in-Some.request (sym c.in_ok-request.ensures.ok ∙ c.in-Some.is) (search_other c.in_err-paths.field-0.0))
-
-pub returns-in_err-paths-clause-policy : goal.returns-in_err-paths-clause-policy
-returns-in_err-paths-clause-policy g c =
-    let p = err_from_is_err_and c.from_residual-in_err-paths.result c.from_residual-in_err-paths.ensures.1 in
-    rw (p.1, p.2) (other_policy _ (search_other c.in_err-paths.field-0.0))
-
-pub returns-in_err-paths-clause-counts : goal.returns-in_err-paths-clause-counts
-returns-in_err-paths-clause-counts g c =
-    let begun = g.T.Tree.fault_count c.args.tree.now in
-    let after = g.T.Tree.fault_count c.policy_paths.new.tree in
-    let error = c.in_err-paths.field-0.0 in
-    let p = err_from_is_err_and c.from_residual-in_err-paths.result c.from_residual-in_err-paths.ensures.1 in
-    rw (p.1, p.2) (search_counts begun begun after error (counts_at begun c.faults-begun.result begun after (search_cause error) c.faults-begun.ensures c.in_err-paths.ensures.counts))
-
-pub returns-in_err-policy-clause-words : goal.returns-in_err-policy-clause-words
-returns-in_err-policy-clause-words g c =
-    let p = err_from_is_err_and c.from_residual-in_err-policy.result c.from_residual-in_err-policy.ensures.1 in
-    rw (p.1, p.2) (other_words _ _ c.in-Some.request (sym c.in_ok-request.ensures.ok ∙ c.in-Some.is) (load_other c.in_err-policy.field-0.0 c.in_err-policy.ensures.there))
-
-pub returns-in_err-policy-clause-policy : goal.returns-in_err-policy-clause-policy
-returns-in_err-policy-clause-policy g c =
-    let p = err_from_is_err_and c.from_residual-in_err-policy.result c.from_residual-in_err-policy.ensures.1 in
-    rw (p.1, p.2) (other_policy _ (load_other c.in_err-policy.field-0.0 c.in_err-policy.ensures.there))
-
-pub returns-in_err-policy-clause-counts : goal.returns-in_err-policy-clause-counts
-returns-in_err-policy-clause-counts g c =
-    let begun = g.T.Tree.fault_count c.args.tree.now in
-    let middle = g.T.Tree.fault_count c.policy_paths.new.tree in
-    let after = g.T.Tree.fault_count c.load.new.tree in
-    let error = c.in_err-policy.field-0.0 in
-    let p = err_from_is_err_and c.from_residual-in_err-policy.result c.from_residual-in_err-policy.ensures.1 in
-    rw (p.1, p.2)
-    (since_begun begun middle after (cause_of (error_of_load error)) c.in_ok-paths.ensures.kept.later
-    (load_counts begun middle after error (counts_at begun c.faults-begun.result middle after (load_cause error) c.faults-begun.ensures c.in_err-policy.ensures.counts)))
-
-pub returns-in_err-crates-clause-words : goal.returns-in_err-crates-clause-words
-returns-in_err-crates-clause-words g c =
-    let p = err_from_is_err_and c.from_residual-in_err-crates.result c.from_residual-in_err-crates.ensures.1 in
-    rw (p.1, p.2) (other_words _ _ c.in-Some.request (sym c.in_ok-request.ensures.ok ∙ c.in-Some.is) (crates_other c.in_err-crates.field-0.0 c.in_err-crates.ensures.cause))
-
-pub returns-in_err-crates-clause-policy : goal.returns-in_err-crates-clause-policy
-returns-in_err-crates-clause-policy g c =
-    let p = err_from_is_err_and c.from_residual-in_err-crates.result c.from_residual-in_err-crates.ensures.1 in
-    rw (p.1, p.2) (other_policy _ (crates_other c.in_err-crates.field-0.0 c.in_err-crates.ensures.cause))
-
 pub returns-in_err-crates-clause-counts : goal.returns-in_err-crates-clause-counts
 returns-in_err-crates-clause-counts g c =
     let begun = g.T.Tree.fault_count c.args.tree.now in
@@ -302,5 +227,3 @@ returns-in_err-crates-clause-counts g c =
     (since_begun begun middle after (cause_of (error_of refused)) (omega arith)
     (counts_at begun c.faults-begun.result middle after (cause_of (error_of refused)) c.faults-begun.ensures c.in_err-crates.ensures.counts))
 
-pub returns-clause-words : goal.returns-clause-words
-returns-clause-words g c = report_words c.report_of.result _ c.in-Some.request (sym c.in_ok-request.ensures.ok ∙ c.in-Some.is)

@@ -5,9 +5,6 @@ use Rattle.deny_run.proofs.HeadlineLemmas.{Headline-from_answer}
 use Rattle.deny_run.proofs.ScriptLemmas.{Writes-from_line, Writes-from_report}
 use Rattle.deny_run.proofs.run.run.Goals as goal
 
-pub returns-in-Ok-clause-written : goal.returns-in-Ok-clause-written
-returns-in-Ok-clause-written g c = Writes-from_report _ _ _ _ _ _ c.in-Ok.ensures.written
-
 pub returns-in-Ok-clause-headline : goal.returns-in-Ok-clause-headline
 returns-in-Ok-clause-headline g c = λ content told.
     Headline-from_answer _ content _ _ _ _ _ (c.in-Ok.ensures.answer content told) (Writes-from_report _ _ _ _ _ _ c.in-Ok.ensures.written) c.exit_status.ensures
