@@ -1,10 +1,7 @@
 -- The answer of `report` and what it writes, at each of its ends.
-use Rattle.std.proofs.Common.{◌≡◌, ◌∙◌, ◌⊎◌, inl, inr, refl, sym, ap, subst, ℕ, ◌≤◌, List, [], ◌++◌, map, Option, Some, None, Result, Ok, Err, arith}
-use Rattle.std.specs.Prelude.{IsErrAnd}
-use Rattle.std.specs.Option.{ForSome, option_and_then, option_map_or}
+use Rattle.std.proofs.Common.{◌≡◌, ◌∙◌, inl, inr, refl, sym, ap, subst, ℕ, ◌≤◌, List, [], Option, Some, None, Result, Ok, Err, arith}
+use Rattle.std.specs.Option.{ForSome, option_map_or}
 use Rattle.tree_core.specs.Content.{Content}
-use Rattle.tree_core.specs.Faults.{Gained}
-use Rattle.tree_core.specs.Hearing.{Hearing, IsHearing}
 use Rattle.catalog_core.specs.Catalog.{CatalogLists}
 use Rattle.graph_core.specs.Metadata.{Graph}
 use Rattle.heard_core.specs.Cause.{Cause, no_memory, failed_read, refused_write, ReadCounts}
@@ -17,16 +14,15 @@ use Rattle.workspace_core.specs.Krates.{Gathers}
 use Rattle.validate_core.specs.Order.{PutsPolicyInOrder}
 use Rattle.valid_policy.specs.View.{policy_of}
 use Rattle.valid_policy.specs.declared.policy.ValidConfig.{ValidConfig}
-use Rattle.diag_core.specs.File.{File, id_at}
+use Rattle.diag_core.specs.File.{File}
 use Rattle.print_core.specs.declared.context.LogContext.{LogContext}
 use Rattle.policy_core.specs.Policy.{PolicyFound}
 use Rattle.policy_core.specs.declared.load.LoadedPolicy.{LoadedPolicy}
-use Rattle.load_core.specs.Answer.{Answers, Comes, IsFound, IsPolicyOf, Loads, Prints, WriteCounts, load_cause}
+use Rattle.load_core.specs.Answer.{Answers, IsPolicyOf, Loads, WriteCounts, load_cause}
 use Rattle.load_core.specs.Heard.{LoadHeard, HearsFiles, load_heard}
 use Rattle.load_core.specs.Load.{Loaded, load_of}
 use Rattle.load_core.specs.declared.error.LoadError.{LoadError}
 use Rattle.load_core.specs.declared.loading.PolicyPaths.{PolicyPaths}
-use Rattle.deny_run.specs.declared.error.Error.{Error}
 use Rattle.deny_run.specs.declared.error.Error.TheVariants.{Memory}
 use Rattle.deny_run.specs.declared.error.Refusal.{Refusal}
 use Rattle.deny_run.specs.declared.error.Refusal.TheVariants as refusal
@@ -36,9 +32,9 @@ use Rattle.deny_run.specs.declared.words.Request.{Request}
 use Rattle.deny_run.specs.Counts.{counts_of}
 use Rattle.deny_run.specs.Error.{cause_of, error_of, error_of_load, error_of_search, FreeOr}
 use Rattle.deny_run.specs.Given.{Given}
-use Rattle.deny_run.specs.Hearing.{all_heard, all_told}
+use Rattle.deny_run.specs.Hearing.{all_heard}
 use Rattle.deny_run.specs.Report.{IsReport, IsRefusal}
-use Rattle.deny_run.specs.Script.{TellsLoad, TextWritten, WritesLoad, plain_log, told_before, told_of}
+use Rattle.deny_run.specs.Script.{WritesLoad, plain_log, told_before, told_of}
 use Rattle.deny_run.specs.Selection.{choice_by, choice_in, included_by, included_in}
 use Rattle.deny_run.specs.Steps.{AreCheckedAt, Checks, ChecksAt, IsAfterLoad, paths_by}
 use Rattle.deny_run.specs.Words.{request_of}
@@ -48,11 +44,6 @@ use Rattle.deny_run.proofs.PolicyLemmas.{policy_is}
 use Rattle.deny_run.proofs.ScriptLemmas.{after_written, load_written, refused_tells, silent}
 
 -- ---- what a step answered, in the words of the run: between the counts since it began, over the content that it began with
-
--- the refusal that a step hands on
-pub handed_on : {X E : Type 0} (result : Result X E) (error : E) → IsErrAnd result (λ own. own ≡ error) → result ≡ Err error
-handed_on (Ok value) error is = absurd is
-handed_on (Err own) error is = ap Err is
 
 pub counts_at : (begun own before after : ℕ) (cause : Cause) → own ≡ begun → ReadCounts own before after cause → ReadCounts begun before after cause
 counts_at begun own before after cause same counts = subst (λ n. ReadCounts n before after cause) same counts
@@ -75,11 +66,6 @@ checks_at lists policy content held begun own path other before after result sam
     (subst (λ there. ForSome there (λ one. ChecksAt lists policy one own other before after result)) same checks))
 
 -- ---- before the load
-
--- no file is known before the load
-pub none_known : (path : Option (List ℕ)) → option_and_then (id_at []) path ≡ None
-none_known None = refl
-none_known (Some path) = refl
 
 -- what is told of the words or of a read comes of no refused write
 told_apart : (first last : ℕ) → ◌≡◌ {A = Cause} causes.told (refused_write first last) → ⊥
@@ -127,10 +113,6 @@ search_answer given content begun after request (search.Failed first last) later
     is_refusal given content begun after (error_of_search (search.Failed first last)) [] (search_refused given content begun after request first last later asked counts)
 
 -- ---- the load
-
--- what a load was heard to come to
-abbrev pub it_of : Given → PolicyPaths → LoadHeard → Loaded
-it_of given paths heard = load_of given.lists [] paths heard
 
 module _ (given : Given) (content : Content) (begun : ℕ) (request : Request) (asked : request_of given.words given.cwd ≡ Some request)
     (paths : PolicyPaths) (at : paths ≡ paths_by content given.cwd request.config_path) (heard : LoadHeard) where

@@ -1,20 +1,15 @@
 -- Each end of `report`: the words, the looks for the exceptions file, the load, the crates, and the report.
-use Rattle.std.proofs.Common.{◌≡◌, [], None, Ok, Err, ◌∙◌, refl, sym, ap, subst, arith}
+use Rattle.std.proofs.Common.{[], Ok, Err, ◌∙◌, sym, ap, subst, arith}
 use Rattle.std.proofs.lemmas.Result.{err_from_is_err_and}
 use Rattle.deny_run.specs.Counts.{counts_of}
-use Rattle.deny_run.specs.Error.{cause_of, error_of, error_of_load, error_of_search}
+use Rattle.deny_run.specs.Error.{cause_of, error_of}
 use Rattle.deny_run.specs.Given.{given_of}
 use Rattle.deny_run.specs.Steps.{ChecksAt}
-use Rattle.deny_run.specs.Words.{request_of, texts}
-use Rattle.std.specs.Option.{option_and_then}
-use Rattle.diag_core.specs.File.{id_at}
-use Rattle.load_core.specs.Load.{policy_name}
 use Rattle.deny_run.specs.declared.error.Refusal.TheVariants as refusal
 use Rattle.search_core.specs.Search.{search_cause}
-use Rattle.load_core.specs.Answer.{load_cause}
 use Rattle.deny_run.proofs.AnswerLemmas.{is_refusal, words_refused}
-use Rattle.deny_run.proofs.ReportLemmas.{checks_at, counts_at, crates_answer, crates_writes, load_answer, load_writes, loads_at, memory_before, none_known, report_answer, report_writes, search_answer, search_before, words_before}
-use Rattle.deny_run.proofs.StepLemmas.{crates_other, load_counts, load_other, memory_words, other_policy, other_words, report_words, search_counts, search_other, since_begun}
+use Rattle.deny_run.proofs.ReportLemmas.{checks_at, counts_at, crates_answer, crates_writes, load_answer, load_writes, loads_at, memory_before, report_answer, report_writes, search_answer, search_before, words_before}
+use Rattle.deny_run.proofs.StepLemmas.{since_begun}
 use Rattle.deny_run.proofs.run.report.Goals as goal
 
 -- ---- the words
@@ -212,7 +207,7 @@ returns-clause-written g c =
     report_writes given there begun middle after (omega arith) c.in_ok-crates.ensures.kept.later c.in-Some.request asked c.in_ok-paths.paths c.load.new.files old new first last policy loads
     c.in_ok-paths.ensures.answer c.report_of.result
 
--- ---- no other refusal is one of the words or of an absent policy, and counts are those since the run began
+-- ---- the counts are those since the run began
 
 pub returns-in_err-crates-clause-counts : goal.returns-in_err-crates-clause-counts
 returns-in_err-crates-clause-counts g c =
