@@ -1,5 +1,6 @@
 //! Each call of the tree fails in turn.
-use crate::rows::{POLICY, WORDS, Want, accepted, expect, refused, tree};
+use crate::rows::expect;
+use run_rows::{POLICY, WORDS, Want, accepted, refused, tree};
 use std::test::Fail;
 
 const NO_POLICY: &str = "error: the policy could not be read\n";

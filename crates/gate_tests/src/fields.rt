@@ -1,5 +1,5 @@
 //! Fields of one crate against a policy that allows one name.
-use crate::rows::{WORDS, observe, tree};
+use run_rows::{WORDS, observe, tree};
 use std::alloc::Global;
 use std::process::Abort;
 use std::test::Fail;

@@ -1,5 +1,6 @@
 //! One crate, a policy with a list of licences, and the seven words.
-use crate::rows::{OPEN, POLICY, WORDS, Want, accepted, expect, refused, rejected, tree};
+use crate::rows::expect;
+use run_rows::{OPEN, POLICY, WORDS, Want, accepted, refused, rejected, tree};
 use std::alloc::Global;
 use std::test::Fail;
 use tree_core::MemTree;

@@ -2,17 +2,11 @@
 #![tactic(auto)]
 
 #[cfg(test)]
-mod exceptions;
-#[cfg(test)]
 mod failures;
 #[cfg(test)]
 mod fields;
 #[cfg(test)]
 mod first_path;
-#[cfg(test)]
-mod policy;
-#[cfg(test)]
-mod private;
 #[cfg(test)]
 mod process;
 #[cfg(test)]

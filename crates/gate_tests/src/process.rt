@@ -1,10 +1,9 @@
 //! The gate over the words and the folder of a process that is made up.
 ghost use Rattle.std.specs.Prelude.{◌≤◌, length, IfSome};
 
-use crate::rows::{
-    OPEN, POLICY, Seen, Want, accepted, compare, notes_of, refused, rejected, text, told, tree,
-};
+use crate::rows::compare;
 use deny_gate::{exit_code, gate_over};
+use run_rows::{OPEN, POLICY, Seen, Want, accepted, notes_of, refused, rejected, text, told, tree};
 use std::alloc::Global;
 use std::env::{Env, FillError};
 use std::io;

@@ -1,5 +1,6 @@
 //! Inputs that are longer than the first row's, and other places of the same files.
-use crate::rows::{POLICY, WORDS, accepted, compare, expect, metadata, observe, tree};
+use crate::rows::{compare, expect};
+use run_rows::{POLICY, WORDS, accepted, metadata, observe, tree};
 use std::alloc::{AllocError, Global};
 use std::test::Fail;
 use tree_core::MemTree;

@@ -1,5 +1,6 @@
 //! Metadata of several crates, and metadata that is refused.
-use crate::rows::{OPEN, POLICY, WORDS, Want, accepted, expect, metadata, refused, rejected, tree};
+use crate::rows::expect;
+use run_rows::{OPEN, POLICY, WORDS, Want, accepted, metadata, refused, rejected, tree};
 use std::alloc::{AllocError, Global};
 use std::test::Fail;
 

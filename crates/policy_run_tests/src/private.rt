@@ -1,5 +1,6 @@
 //! Private crates, and the crates that a policy includes.
-use crate::rows::{Seen, WORDS, Want, accepted, compare, expect, files, observe};
+use crate::rows::{compare, expect};
+use run_rows::{Seen, WORDS, Want, accepted, files, observe};
 use std::alloc::Global;
 use std::test::Fail;
 

@@ -1,5 +1,6 @@
 //! Exceptions, of the policy and of its exceptions file, and specs of crates that are left out.
-use crate::rows::{POLICY, WORDS, Want, accepted, expect, files, refused, rejected};
+use crate::rows::expect;
+use run_rows::{POLICY, WORDS, Want, accepted, files, refused, rejected};
 use std::alloc::Global;
 use std::process::Abort;
 use std::test::Fail;

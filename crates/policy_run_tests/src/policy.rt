@@ -1,8 +1,6 @@
 //! Policies of every form, and what a run with each comes to.
-use crate::rows::{
-    POLICY, Room, WORDS, Want, accepted, compare, expect, files, observe_in, refused, rejected,
-    tree,
-};
+use crate::rows::{compare, expect};
+use run_rows::{POLICY, Room, WORDS, Want, accepted, files, observe_in, refused, rejected, tree};
 use std::alloc::Global;
 use std::process::Abort;
 use std::test::Fail;
