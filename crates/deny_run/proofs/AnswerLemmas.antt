@@ -1,25 +1,19 @@
 -- The answer of a run, from the answers of its steps.
-use Rattle.std.proofs.Common.{◌≡◌, ℕ, ◌≤◌, ◌⊎◌, List, [], ◌∷◌, ◌++◌, Option, Some, None, Result, Ok, Err, refl, sym, ap, ap₂, subst, ◌∙◌, inl, inr, arith}
+use Rattle.std.proofs.Common.{◌≡◌, ℕ, ◌≤◌, ◌⊎◌, List, [], ◌∷◌, Option, Some, None, Result, Ok, Err, refl, sym, ap, subst, ◌∙◌, inl, inr, arith}
 use Rattle.std.specs.Prelude.{IsSome}
 use Rattle.std.specs.List.{AllByRecursion, AllZip}
 use Rattle.std.proofs.lemmas.List.Elements.{All-from_recursion}
 use Rattle.tree_core.specs.Content.{Content}
-use Rattle.tree_core.specs.Faults.{Rose}
 use Rattle.tree_core.specs.Hearing.{metadata, FailedRead, Hearing, IsHearing}
-use Rattle.catalog_core.specs.Catalog.{CatalogLists}
 use Rattle.spdx_core.specs.Reading.{ExpressionView}
 use Rattle.graph_core.specs.Krate.{Record}
 use Rattle.graph_core.specs.Metadata.{Graph}
 use Rattle.records_core.specs.Records.{records_of}
 use Rattle.records_core.specs.Told.{Told}
-use Rattle.selection_core.specs.Choice.{Choice}
-use Rattle.selection_core.specs.Listed.{Chosen}
 use Rattle.selection_core.specs.Roots.{HasRoot}
 use Rattle.heard_core.specs.declared.fault.ReadFault.{ReadFault}
 use Rattle.heard_core.specs.declared.fault.ReadFault.TheVariants.{Failed, Absent, Folder, NotUtf8}
-use Rattle.search_core.specs.Search.{candidates, first_existing, search_cause}
-use Rattle.search_core.specs.declared.search.SearchError.{SearchError}
-use Rattle.search_core.specs.declared.search.SearchError.TheVariants as search
+use Rattle.search_core.specs.Search.{candidates, first_existing}
 use Rattle.search_core.specs.declared.search.Sought.TheVariants.{Exceptions}
 use Rattle.workspace_core.specs.declared.error.KratesError.{KratesError}
 use Rattle.workspace_core.specs.declared.error.KratesError.TheVariants as krates
@@ -31,10 +25,9 @@ use Rattle.valid_policy.specs.Policy.{Policy}
 use Rattle.valid_policy.specs.View.{policy_of}
 use Rattle.valid_policy.specs.declared.policy.ValidConfig.{ValidConfig}
 use Rattle.policy_core.specs.Policy.{PolicyFound}
-use Rattle.policy_core.specs.declared.load.LoadedPolicy.{LoadedPolicy}
-use Rattle.load_core.specs.Answer.{Answers, IsFound, IsPolicyOf}
-use Rattle.load_core.specs.Heard.{LoadHeard, HearsFiles, load_heard}
-use Rattle.load_core.specs.Load.{Loaded, load_of}
+use Rattle.load_core.specs.Answer.{Answers}
+use Rattle.load_core.specs.Heard.{LoadHeard, load_heard}
+use Rattle.load_core.specs.Load.{load_of}
 use Rattle.load_core.specs.declared.error.LoadError.{LoadError}
 use Rattle.load_core.specs.declared.error.LoadError.TheVariants as load
 use Rattle.load_core.specs.declared.loading.PolicyPaths.{PolicyPaths}
@@ -49,17 +42,17 @@ use Rattle.deny_run.specs.declared.report.CrateReport.{CrateReport}
 use Rattle.deny_run.specs.declared.report.Report.{Report}
 use Rattle.deny_run.specs.declared.words.Request.{Request}
 use Rattle.deny_run.specs.Counts.{counts_of}
-use Rattle.deny_run.specs.Error.{cause_of, error_of, error_of_krates, error_of_load, error_of_search, FreeOr}
+use Rattle.deny_run.specs.Error.{cause_of, error_of, error_of_krates, error_of_load, FreeOr}
 use Rattle.deny_run.specs.Given.{Given}
 use Rattle.deny_run.specs.Heard.{◌>>=◌, Found, exceptions_by, exceptions_in, found_of, load_at, loaded_of, manifest_in, or_error, or_load_error, or_refused, graph_heard, paths_of}
 use Rattle.deny_run.specs.Hearing.{look_failed, all_told, RunHearing, IsRunHearing, all_heard}
 use Rattle.deny_run.specs.Report.{Asked, Asks, HasExpression, IsVerdictOf, IsReportOf, IsReport, IsRefusal, paths_at}
 use Rattle.deny_run.specs.Script.{told_before, told_of}
-use Rattle.deny_run.specs.Selection.{choice_by, choice_in, included_by, included_in, AreSelected, Refuses}
-use Rattle.deny_run.specs.Steps.{AreCheckedAt, Checks, ChecksAt, IsAfterLoad, IsFirstUnread, IsJudged, paths_by}
+use Rattle.deny_run.specs.Selection.{choice_in, included_in, AreSelected, Refuses}
+use Rattle.deny_run.specs.Steps.{Checks, IsFirstUnread, IsJudged, paths_by}
 use Rattle.deny_run.specs.Words.{request_of}
 use Rattle.deny_run.proofs.FieldLemmas.{has_expression, reads_reported}
-use Rattle.deny_run.proofs.LoadedLemmas.{quiet, metadata_alike, stands_quiet}
+use Rattle.deny_run.proofs.LoadedLemmas.{quiet, metadata_alike}
 use Rattle.deny_run.proofs.PolicyLemmas.{load_is, policy_is}
 
 -- ---- what is found

@@ -1,10 +1,8 @@
 -- The answer of `report` and what it writes, at each of its ends.
-use Rattle.std.proofs.Common.{◌≡◌, ◌∙◌, ◌⊎◌, inl, inr, refl, sym, ap, subst, ℕ, ◌≤◌, List, [], ◌++◌, map, Option, Some, None, Result, Ok, Err, arith}
+use Rattle.std.proofs.Common.{◌≡◌, ◌∙◌, inl, inr, refl, sym, ap, subst, ℕ, ◌≤◌, List, [], Option, Some, None, Result, Ok, Err, arith}
 use Rattle.std.specs.Prelude.{IsErrAnd}
 use Rattle.std.specs.Option.{ForSome, option_and_then, option_map_or}
 use Rattle.tree_core.specs.Content.{Content}
-use Rattle.tree_core.specs.Faults.{Gained}
-use Rattle.tree_core.specs.Hearing.{Hearing, IsHearing}
 use Rattle.catalog_core.specs.Catalog.{CatalogLists}
 use Rattle.graph_core.specs.Metadata.{Graph}
 use Rattle.heard_core.specs.Cause.{Cause, no_memory, failed_read, refused_write, ReadCounts}
@@ -21,12 +19,11 @@ use Rattle.diag_core.specs.File.{File, id_at}
 use Rattle.print_core.specs.declared.context.LogContext.{LogContext}
 use Rattle.policy_core.specs.Policy.{PolicyFound}
 use Rattle.policy_core.specs.declared.load.LoadedPolicy.{LoadedPolicy}
-use Rattle.load_core.specs.Answer.{Answers, Comes, IsFound, IsPolicyOf, Loads, Prints, WriteCounts, load_cause}
+use Rattle.load_core.specs.Answer.{Answers, IsPolicyOf, Loads, WriteCounts, load_cause}
 use Rattle.load_core.specs.Heard.{LoadHeard, HearsFiles, load_heard}
 use Rattle.load_core.specs.Load.{Loaded, load_of}
 use Rattle.load_core.specs.declared.error.LoadError.{LoadError}
 use Rattle.load_core.specs.declared.loading.PolicyPaths.{PolicyPaths}
-use Rattle.deny_run.specs.declared.error.Error.{Error}
 use Rattle.deny_run.specs.declared.error.Error.TheVariants.{Memory}
 use Rattle.deny_run.specs.declared.error.Refusal.{Refusal}
 use Rattle.deny_run.specs.declared.error.Refusal.TheVariants as refusal
@@ -36,9 +33,9 @@ use Rattle.deny_run.specs.declared.words.Request.{Request}
 use Rattle.deny_run.specs.Counts.{counts_of}
 use Rattle.deny_run.specs.Error.{cause_of, error_of, error_of_load, error_of_search, FreeOr}
 use Rattle.deny_run.specs.Given.{Given}
-use Rattle.deny_run.specs.Hearing.{all_heard, all_told}
+use Rattle.deny_run.specs.Hearing.{all_heard}
 use Rattle.deny_run.specs.Report.{IsReport, IsRefusal}
-use Rattle.deny_run.specs.Script.{TellsLoad, TextWritten, WritesLoad, plain_log, told_before, told_of}
+use Rattle.deny_run.specs.Script.{WritesLoad, plain_log, told_before, told_of}
 use Rattle.deny_run.specs.Selection.{choice_by, choice_in, included_by, included_in}
 use Rattle.deny_run.specs.Steps.{AreCheckedAt, Checks, ChecksAt, IsAfterLoad, paths_by}
 use Rattle.deny_run.specs.Words.{request_of}

@@ -1,26 +1,17 @@
 -- What a run writes, from what each of its sinks gained.
-use Rattle.std.proofs.Common.{◌≡◌, ◌∙◌, ◌⊎◌, inl, inr, refl, sym, ap, subst, ℕ, ◌+◌, ◌^◌, ◌<◌, ◌≤◌, List, [], ◌∷◌, ◌++◌, Option, Some, None, Result, Ok, Err, cond, append-nil, append_assoc, arith}
+use Rattle.std.proofs.Common.{◌≡◌, ◌∙◌, ◌⊎◌, inl, inr, refl, sym, ap, subst, ℕ, ◌≤◌, List, [], ◌∷◌, ◌++◌, Option, Some, None, Ok, Err, cond, append-nil, arith}
 use Rattle.std.proofs.lemmas.Grind.{flat_map-append}
 use Rattle.tree_core.proofs.GainedLemmas.{Gained-then}
 use Rattle.std.specs.Option.{ForSome}
 use Rattle.tree_core.specs.Content.{Content}
 use Rattle.tree_core.specs.Faults.{Rose, Gained, GainedPrefix}
-use Rattle.tree_core.specs.Hearing.{Hearing, IsHearing}
 use Rattle.tree_core.specs.Script.{to_out, to_err, Script, FaultCounts, Written, Gains, IsCut, IsLineOrFront, LineWritten, RefusedBy, is_target, text_for}
 use Rattle.tree_core.specs.Script as script
 use Rattle.heard_core.specs.Cause.{Cause, no_memory, failed_read, refused_write}
 use Rattle.heard_core.specs.Cause as causes
-use Rattle.search_core.specs.Search.{search_cause}
-use Rattle.search_core.specs.declared.search.SearchError.{SearchError}
-use Rattle.search_core.specs.declared.search.SearchError.TheVariants as search
 use Rattle.heard_core.specs.Cause.{ReadCounts}
 use Rattle.heard_core.specs.declared.fault.ReadFault.TheVariants.{Failed, Absent, Folder, NotUtf8}
-use Rattle.policy_core.specs.Policy.{PolicyFound}
-use Rattle.policy_core.specs.declared.load.LoadedPolicy.{LoadedPolicy}
 use Rattle.load_core.specs.Answer.{Prints, WriteCounts, load_cause}
-use Rattle.load_core.specs.Heard.{LoadHeard, HearsFiles, load_heard}
-use Rattle.load_core.specs.Load.{Loaded, load_of}
-use Rattle.load_core.specs.Print.{printed_findings}
 use Rattle.load_core.specs.declared.error.LoadError.{LoadError}
 use Rattle.load_core.specs.declared.error.LoadError.TheVariants as load
 use Rattle.deny_run.specs.declared.error.Error.{Error}
@@ -31,13 +22,11 @@ use Rattle.workspace_core.specs.declared.error.KratesError.{KratesError}
 use Rattle.workspace_core.specs.declared.error.KratesError.TheVariants as krates
 use Rattle.deny_run.specs.declared.report.Report.{Report}
 use Rattle.deny_run.specs.Counts.{summary_of}
-use Rattle.deny_run.specs.Error.{cause_of, error_of, error_of_load, fault_line, FreeOr}
+use Rattle.deny_run.specs.Error.{cause_of, error_of, error_of_load, fault_line}
 use Rattle.deny_run.specs.Given.{Given}
-use Rattle.deny_run.specs.Heard.{loaded_of}
-use Rattle.deny_run.specs.Hearing.{RunHearing, IsRunHearing, all_heard}
-use Rattle.deny_run.specs.Report.{IsReport, failed_of}
-use Rattle.deny_run.specs.Script.{Begins, CutsReport, EndsIn, HasBegun, HasLine, IsAnsweredBy, IsFront, TellsLoad, TextWritten, Writes, WritesFirst, WritesLoad, cause_in, load_script, plain_log, script_of, told_before, told_of}
-use Rattle.deny_run.specs.Steps.{IsAfterLoad, paths_by}
+use Rattle.deny_run.specs.Report.{IsReport}
+use Rattle.deny_run.specs.Script.{Begins, TellsLoad, TextWritten, Writes, WritesFirst, WritesLoad, load_script, script_of}
+use Rattle.deny_run.specs.Steps.{IsAfterLoad}
 use Rattle.deny_run.proofs.AnswerLemmas.{Refused}
 
 -- ---- what is told of the load

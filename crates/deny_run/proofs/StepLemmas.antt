@@ -1,5 +1,5 @@
 -- The refusals of steps: their counts, and that they are none of the words or of an absent policy.
-use Rattle.std.proofs.Common.{◌≡◌, ◌≢◌, ℕ, ◌+◌, ◌^◌, ◌<◌, ◌≤◌, ◌⊎◌, ◌↔◌, List, Option, Some, None, Result, Ok, Err, refl, sym, ap, subst, ◌∙◌, inl, inr, arith}
+use Rattle.std.proofs.Common.{◌≡◌, ◌≢◌, ℕ, ◌≤◌, ◌↔◌, List, Option, Some, None, Result, Ok, Err, refl, sym, ◌∙◌, inl, inr, arith}
 use Rattle.std.specs.Prelude.{IsSome}
 use Rattle.catalog_core.specs.Catalog.{CatalogLists}
 use Rattle.graph_core.specs.Krate.{Record}
@@ -11,7 +11,6 @@ use Rattle.selection_core.specs.Listed.{IsListOf}
 use Rattle.selection_core.specs.Walks.{Selected}
 use Rattle.valid_policy.specs.Policy.{Policy}
 use Rattle.heard_core.specs.Cause.{Cause, no_memory, told, failed_read, refused_write, ReadCounts}
-use Rattle.heard_core.specs.declared.fault.ReadFault.{ReadFault}
 use Rattle.heard_core.specs.declared.fault.ReadFault.TheVariants.{Failed, Absent, Folder, NotUtf8}
 use Rattle.search_core.specs.Search.{search_cause}
 use Rattle.search_core.specs.declared.search.SearchError.{SearchError}
@@ -22,7 +21,7 @@ use Rattle.load_core.specs.Answer.{load_cause}
 use Rattle.load_core.specs.declared.error.LoadError.{LoadError}
 use Rattle.load_core.specs.declared.error.LoadError.TheVariants as load
 use Rattle.policy_core.specs.declared.load.LoadedPolicy.{LoadedPolicy}
-use Rattle.deny_run.specs.declared.error.Part.TheVariants.{Words, Crate}
+use Rattle.deny_run.specs.declared.error.Part.TheVariants.{Words}
 use Rattle.deny_run.specs.declared.error.Error.{Error}
 use Rattle.deny_run.specs.declared.error.Error.TheVariants.{Memory, ConfigRead, NotYet}
 use Rattle.deny_run.specs.declared.error.Refusal.{Refusal}
