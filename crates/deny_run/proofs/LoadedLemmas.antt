@@ -1,22 +1,19 @@
 -- The load in a run, as a part of one hearing: what it comes to is what is found by that, and a load that answers a policy
 -- heard no read fail.
-use Rattle.std.proofs.Common.{◌≡◌, ◌∙◌, ◌⊎◌, inl, inr, refl, sym, ap, ap₂, subst, ℕ, ◌≤◌, Bool, true, false, cond, List, [], ◌∷◌, ◌++◌, map, length, Option, Some, None, Result, Ok, Err, arith}
+use Rattle.std.proofs.Common.{◌≡◌, ◌∙◌, refl, sym, ap, ap₂, subst, ℕ, Bool, true, false, List, [], ◌∷◌, Option, Some, None, Result, Ok, Err}
 use Rattle.std.specs.Prelude.{find}
-use Rattle.std.specs.List.{list_any}
 use Rattle.std.specs.Option.{option_map_or}
 use Rattle.catalog_core.specs.Catalog.{CatalogLists}
 use Rattle.diag_core.specs.File.{File, id_at}
 use Rattle.tree_core.specs.Content.{Content, node_at}
-use Rattle.tree_core.specs.Hearing.{policy, metadata, FailedRead, Hearing, IsHearing, is_read, read_failed, stands}
-use Rattle.heard_core.specs.Heard.{heard_of, hearing_of, text_heard, text_in}
+use Rattle.tree_core.specs.Hearing.{policy, metadata, FailedRead, Hearing, is_read, read_failed, stands}
+use Rattle.heard_core.specs.Heard.{hearing_of, text_heard, text_in}
 use Rattle.heard_core.specs.declared.fault.ReadFault.{ReadFault}
 use Rattle.heard_core.specs.declared.fault.ReadFault.TheVariants.{Failed, Absent, Folder, NotUtf8}
 use Rattle.load_core.specs.Heard.{LoadHeard, exceptions_at, exceptions_heard, heard_at, load_heard}
-use Rattle.load_core.specs.Load.{Loaded, found_by, load_by_config, load_by_text, load_of, policy_file, unless_error}
-use Rattle.load_core.specs.Print.{is_error}
+use Rattle.load_core.specs.Load.{Loaded, found_by, load_by_config, load_by_text, load_of, policy_file}
 use Rattle.load_core.specs.declared.loading.PolicyPaths.{PolicyPaths}
 use Rattle.policy_config.specs.declared.root.RootConfig.{RootConfig}
-use Rattle.policy_core.specs.Exceptions.{ExceptionsRead, exceptions_told}
 use Rattle.policy_core.specs.Heard.{ExceptionsHeard, heard, read_of}
 use Rattle.policy_core.specs.Policy.{PolicyFound, absence_told}
 use Rattle.policy_text.specs.Config.{config_told}

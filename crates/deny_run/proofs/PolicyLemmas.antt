@@ -1,22 +1,20 @@
 -- A policy's bytes: a load answers it exactly where its two files are one, in words of texts, values and shapes.
-use Rattle.std.proofs.Common.{◌≡◌, ◌∙◌, refl, sym, ap, subst, ℕ, Bool, true, false, cond, List, [], ◌∷◌, ◌++◌, map, length, Option, Some, None, Result, Ok, Err, ◌||◌}
+use Rattle.std.proofs.Common.{◌≡◌, ◌∙◌, refl, sym, ap, subst, ℕ, Bool, true, false, cond, List, [], ◌∷◌, ◌++◌, map, Option, Some, None, Result, Ok, Err, ◌||◌}
 use Rattle.std.specs.List.{list_any}
 use Rattle.catalog_core.specs.Catalog.{CatalogLists}
 use Rattle.context_core.specs.Asked.{is_uncarried}
 use Rattle.diag_core.specs.File.{File, id_at}
 use Rattle.diag_core.specs.declared.diagnostic.Diagnostic.{Diagnostic}
 use Rattle.heard_core.specs.declared.fault.ReadFault.{ReadFault}
-use Rattle.heard_core.specs.declared.fault.ReadFault.TheVariants.{Absent}
 use Rattle.load_core.specs.Heard.{LoadHeard, exceptions_at, exceptions_heard}
-use Rattle.load_core.specs.Load.{Loaded, found_by, load_by_config, load_by_text, load_of, policy_file, unless_error, with_policy}
+use Rattle.load_core.specs.Load.{found_by, load_by_config, load_by_text, load_of, policy_file, unless_error}
 use Rattle.load_core.specs.Print.{is_error}
-use Rattle.load_core.specs.declared.error.LoadError.{LoadError}
 use Rattle.load_core.specs.declared.error.LoadError.TheVariants.{ConfigInvalid}
 use Rattle.load_core.specs.declared.loading.PolicyPaths.{PolicyPaths}
 use Rattle.policy_config.specs.Root.{root_of}
 use Rattle.policy_config.specs.declared.root.RootConfig.{RootConfig}
-use Rattle.policy_core.specs.Exceptions.{ExceptionsRead, no_file, policy_itself, no_text, no_value, value, exceptions_told, shape_told}
-use Rattle.policy_core.specs.Heard.{ExceptionsHeard, no_path, the_policy, heard, read_of, value_or_fault, fault_words}
+use Rattle.policy_core.specs.Exceptions.{ExceptionsRead, exceptions_told, shape_told}
+use Rattle.policy_core.specs.Heard.{heard, read_of, value_or_fault}
 use Rattle.policy_core.specs.Policy.{PolicyFound, absence_told, policy_found, load_findings, licences_in}
 use Rattle.policy_core.specs.Findings.{targets_told, graph_keys_told, output_key_told}
 use Rattle.validate_core.specs.Valid.{address_findings, clarification_findings, removed_findings}

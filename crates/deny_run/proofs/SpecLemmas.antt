@@ -1,5 +1,5 @@
 -- Specs of crates to be left out are read text by text.
-use Rattle.std.proofs.Common.{◌≡◌, ◌∙◌, refl, sym, ap, ℕ, ◌+◌, ◌<◌, List, ◌∷◌, ◌++◌, drop, get_or, length, Option, Some, None, append_assoc}
+use Rattle.std.proofs.Common.{◌≡◌, ◌∙◌, refl, sym, ap, ℕ, ◌+◌, ◌<◌, List, ◌++◌, drop, get_or, length, Option, Some, None, append_assoc}
 use Rattle.std.specs.List.{cons_option, filter_map}
 use Rattle.std.specs.Option.{option_to_list}
 use Rattle.records_core.proofs.Drops.{at-drop}

@@ -1,5 +1,5 @@
 -- An expression of one term is accepted exactly where there is a hit for the term.
-use Rattle.std.proofs.Common.{◌≡◌, ◌∙◌, refl, sym, ap, subst, ℕ, ◌+◌, ◌<◌, ◌≤◌, nat_eq, cond, true, false, List, [], ◌∷◌, length, Option, Some, None, option_and_then, arith}
+use Rattle.std.proofs.Common.{◌≡◌, ◌∙◌, refl, sym, ap, subst, ℕ, ◌+◌, ◌<◌, ◌≤◌, nat_eq, cond, true, false, List, [], ◌∷◌, length, Some, None, option_and_then, arith}
 use Rattle.std.specs.Prelude.{is_some}
 use Rattle.std.proofs.lemmas.Bool.Decides.{nat_tests}
 use Rattle.certificate_core.specs.Certificates as certificates

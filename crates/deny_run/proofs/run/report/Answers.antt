@@ -82,7 +82,7 @@ returns-in_err-policy-clause-answer g c = λ content told.
     let error = c.in_err-policy.field-0.0 in
     let asked = sym c.in_ok-request.ensures.ok ∙ c.in-Some.is in
     let loads = loads_at given.lists c.plain_log.result c.in_ok-paths.paths there (g.T.Tree.content c.policy_paths.new.tree) begun c.faults-begun.result after c.new-files.result c.load.new.files old new (Err error)
-        c.plain_log.ensures c.in_ok-paths.ensures.kept.content c.faults-begun.ensures c.new-files.ensures c.in_err-policy.ensures.loads in
+    c.plain_log.ensures c.in_ok-paths.ensures.kept.content c.faults-begun.ensures c.new-files.ensures c.in_err-policy.ensures.loads in
     let p = err_from_is_err_and c.from_residual-in_err-policy.result c.from_residual-in_err-policy.ensures.1 in
     rw (p.1, p.2)
     (load_answer given there begun middle after c.in-Some.request asked c.in_ok-paths.paths c.load.new.files old new first last error loads content told (c.in_ok-paths.ensures.answer content told))
@@ -101,7 +101,7 @@ returns-in_err-policy-clause-written g c =
     let error = c.in_err-policy.field-0.0 in
     let asked = sym c.in_ok-request.ensures.ok ∙ c.in-Some.is in
     let loads = loads_at given.lists c.plain_log.result c.in_ok-paths.paths there (g.T.Tree.content c.policy_paths.new.tree) begun c.faults-begun.result after c.new-files.result c.load.new.files old new (Err error)
-        c.plain_log.ensures c.in_ok-paths.ensures.kept.content c.faults-begun.ensures c.new-files.ensures c.in_err-policy.ensures.loads in
+    c.plain_log.ensures c.in_ok-paths.ensures.kept.content c.faults-begun.ensures c.new-files.ensures c.in_err-policy.ensures.loads in
     let p = err_from_is_err_and c.from_residual-in_err-policy.result c.from_residual-in_err-policy.ensures.1 in
     rw (p.1, p.2)
     (load_writes given there begun middle after c.in-Some.request asked c.in_ok-paths.paths c.load.new.files old new first last error loads c.in_ok-paths.ensures.answer c.in_err-policy.ensures.writes)
@@ -126,9 +126,9 @@ returns-in_err-crates-clause-answer g c = λ content told.
     let early = c.in_ok-paths.ensures.kept.later in
     let then = c.in_ok-policy.ensures.kept.later in
     let loads = loads_at given.lists c.plain_log.result c.in_ok-paths.paths there (g.T.Tree.content c.policy_paths.new.tree) begun c.faults-begun.result middle c.new-files.result c.load.new.files old new (Ok policy)
-        c.plain_log.ensures c.in_ok-paths.ensures.kept.content c.faults-begun.ensures c.new-files.ensures c.in_ok-policy.ensures.loads in
+    c.plain_log.ensures c.in_ok-paths.ensures.kept.content c.faults-begun.ensures c.new-files.ensures c.in_ok-policy.ensures.loads in
     let checks = checks_at given.lists policy there (g.T.Tree.content c.load.new.tree) begun c.faults-begun.result c.in-Some.request.metadata_path c.as_path.result.now middle after (Err refused)
-        same c.faults-begun.ensures c.as_path.ensures c.in_err-crates.ensures.answer in
+    same c.faults-begun.ensures c.as_path.ensures c.in_err-crates.ensures.answer in
     let p = err_from_is_err_and c.from_residual-in_err-crates.result c.from_residual-in_err-crates.ensures.1 in
     rw (p.1, p.2)
     (crates_answer given there begun middle after (omega arith) c.in_err-crates.ensures.kept.later c.in-Some.request asked c.in_ok-paths.paths c.load.new.files old new first last policy loads
@@ -152,9 +152,9 @@ returns-in_err-crates-clause-written g c =
     let early = c.in_ok-paths.ensures.kept.later in
     let then = c.in_ok-policy.ensures.kept.later in
     let loads = loads_at given.lists c.plain_log.result c.in_ok-paths.paths there (g.T.Tree.content c.policy_paths.new.tree) begun c.faults-begun.result middle c.new-files.result c.load.new.files old new (Ok policy)
-        c.plain_log.ensures c.in_ok-paths.ensures.kept.content c.faults-begun.ensures c.new-files.ensures c.in_ok-policy.ensures.loads in
+    c.plain_log.ensures c.in_ok-paths.ensures.kept.content c.faults-begun.ensures c.new-files.ensures c.in_ok-policy.ensures.loads in
     let checks = checks_at given.lists policy there (g.T.Tree.content c.load.new.tree) begun c.faults-begun.result c.in-Some.request.metadata_path c.as_path.result.now middle after (Err refused)
-        same c.faults-begun.ensures c.as_path.ensures c.in_err-crates.ensures.answer in
+    same c.faults-begun.ensures c.as_path.ensures c.in_err-crates.ensures.answer in
     let p = err_from_is_err_and c.from_residual-in_err-crates.result c.from_residual-in_err-crates.ensures.1 in
     rw (p.1, p.2)
     (crates_writes given there begun middle after (omega arith) c.in_err-crates.ensures.kept.later c.in-Some.request asked c.in_ok-paths.paths c.load.new.files old new first last policy loads
@@ -179,9 +179,9 @@ returns-clause-answer g c = λ content told.
     let early = c.in_ok-paths.ensures.kept.later in
     let then = c.in_ok-policy.ensures.kept.later in
     let loads = loads_at given.lists c.plain_log.result c.in_ok-paths.paths there (g.T.Tree.content c.policy_paths.new.tree) begun c.faults-begun.result middle c.new-files.result c.load.new.files old new (Ok policy)
-        c.plain_log.ensures c.in_ok-paths.ensures.kept.content c.faults-begun.ensures c.new-files.ensures c.in_ok-policy.ensures.loads in
+    c.plain_log.ensures c.in_ok-paths.ensures.kept.content c.faults-begun.ensures c.new-files.ensures c.in_ok-policy.ensures.loads in
     let checks = checks_at given.lists policy there (g.T.Tree.content c.load.new.tree) begun c.faults-begun.result c.in-Some.request.metadata_path c.as_path.result.now middle after (Ok c.in_ok-crates.crates)
-        same c.faults-begun.ensures c.as_path.ensures c.in_ok-crates.ensures.answer in
+    same c.faults-begun.ensures c.as_path.ensures c.in_ok-crates.ensures.answer in
     report_answer given there begun middle after (omega arith) c.in_ok-crates.ensures.kept.later c.in-Some.request asked c.in_ok-paths.paths c.load.new.files old new first last policy loads
     content told (c.in_ok-paths.ensures.answer content told) c.report_of.result c.report_of.ensures.policy
     (subst (λ crates. ChecksAt given.lists policy content begun c.in-Some.request.metadata_path middle after (Ok crates)) (sym c.report_of.ensures.crates) (checks content told))
@@ -203,7 +203,7 @@ returns-clause-written g c =
     let early = c.in_ok-paths.ensures.kept.later in
     let then = c.in_ok-policy.ensures.kept.later in
     let loads = loads_at given.lists c.plain_log.result c.in_ok-paths.paths there (g.T.Tree.content c.policy_paths.new.tree) begun c.faults-begun.result middle c.new-files.result c.load.new.files old new (Ok policy)
-        c.plain_log.ensures c.in_ok-paths.ensures.kept.content c.faults-begun.ensures c.new-files.ensures c.in_ok-policy.ensures.loads in
+    c.plain_log.ensures c.in_ok-paths.ensures.kept.content c.faults-begun.ensures c.new-files.ensures c.in_ok-policy.ensures.loads in
     report_writes given there begun middle after (omega arith) c.in_ok-crates.ensures.kept.later c.in-Some.request asked c.in_ok-paths.paths c.load.new.files old new first last policy loads
     c.in_ok-paths.ensures.answer c.report_of.result
 
@@ -221,4 +221,3 @@ returns-in_err-crates-clause-counts g c =
     rw (p.1, p.2)
     (since_begun begun middle after (cause_of (error_of refused)) (omega arith)
     (counts_at begun c.faults-begun.result middle after (cause_of (error_of refused)) c.faults-begun.ensures c.in_err-crates.ensures.counts))
-
