@@ -1,11 +1,6 @@
 -- The answer of `report` and what it writes, at each of its ends.
 use Rattle.std.proofs.Common.{◌≡◌, ◌∙◌, inl, inr, refl, sym, ap, subst, ℕ, ◌≤◌, List, [], Option, Some, None, Result, Ok, Err, arith}
-<<<<<<< HEAD
 use Rattle.std.specs.Option.{ForSome, option_map_or}
-=======
-use Rattle.std.specs.Prelude.{IsErrAnd}
-use Rattle.std.specs.Option.{ForSome, option_and_then, option_map_or}
->>>>>>> 8457e13ba6db7c9e79d9c5aafbb99abfd1fb68b9
 use Rattle.tree_core.specs.Content.{Content}
 use Rattle.catalog_core.specs.Catalog.{CatalogLists}
 use Rattle.graph_core.specs.Metadata.{Graph}

@@ -1,26 +1,14 @@
 -- What a run writes, from what each of its sinks gained.
-<<<<<<< HEAD
 use Rattle.std.proofs.Common.{◌≡◌, ◌∙◌, ◌⊎◌, inl, inr, refl, sym, ap, subst, ℕ, ◌+◌, ◌≤◌, List, [], ◌∷◌, ◌++◌, Option, Some, None, Ok, Err, cond, append-nil, arith}
-=======
-use Rattle.std.proofs.Common.{◌≡◌, ◌∙◌, ◌⊎◌, inl, inr, refl, sym, ap, subst, ℕ, ◌≤◌, List, [], ◌∷◌, ◌++◌, Option, Some, None, Ok, Err, cond, append-nil, arith}
->>>>>>> 8457e13ba6db7c9e79d9c5aafbb99abfd1fb68b9
 use Rattle.std.proofs.lemmas.Grind.{flat_map-append}
 use Rattle.tree_core.proofs.GainedLemmas.{Gained-then}
 use Rattle.std.specs.Option.{ForSome}
 use Rattle.tree_core.specs.Content.{Content}
 use Rattle.tree_core.specs.Faults.{Rose, Gained, GainedPrefix}
-<<<<<<< HEAD
 use Rattle.tree_core.specs.Script.{to_out, to_err, Script, FaultCounts, Written, Gains, IsCut, LineWritten, RefusedBy, is_target, text_for}
 use Rattle.tree_core.specs.Script as script
 use Rattle.heard_core.specs.Cause.{Cause, no_memory, failed_read, refused_write}
 use Rattle.heard_core.specs.Cause as causes
-=======
-use Rattle.tree_core.specs.Script.{to_out, to_err, Script, FaultCounts, Written, Gains, IsCut, IsLineOrFront, LineWritten, RefusedBy, is_target, text_for}
-use Rattle.tree_core.specs.Script as script
-use Rattle.heard_core.specs.Cause.{Cause, no_memory, failed_read, refused_write}
-use Rattle.heard_core.specs.Cause as causes
-use Rattle.heard_core.specs.Cause.{ReadCounts}
->>>>>>> 8457e13ba6db7c9e79d9c5aafbb99abfd1fb68b9
 use Rattle.heard_core.specs.declared.fault.ReadFault.TheVariants.{Failed, Absent, Folder, NotUtf8}
 use Rattle.load_core.specs.Answer.{Prints, WriteCounts, load_cause}
 use Rattle.load_core.specs.declared.error.LoadError.{LoadError}

@@ -1,11 +1,5 @@
-<<<<<<< HEAD
 -- The refusals of steps and their counts.
 use Rattle.std.proofs.Common.{ℕ, ◌≤◌, List, Result, Ok, Err, inl, inr, arith}
-=======
--- The refusals of steps: their counts, and that they are none of the words or of an absent policy.
-use Rattle.std.proofs.Common.{◌≡◌, ◌≢◌, ℕ, ◌≤◌, ◌↔◌, List, Option, Some, None, Result, Ok, Err, refl, sym, ◌∙◌, inl, inr, arith}
-use Rattle.std.specs.Prelude.{IsSome}
->>>>>>> 8457e13ba6db7c9e79d9c5aafbb99abfd1fb68b9
 use Rattle.catalog_core.specs.Catalog.{CatalogLists}
 use Rattle.graph_core.specs.Krate.{Record}
 use Rattle.graph_core.specs.Metadata.{Graph}
@@ -16,24 +10,8 @@ use Rattle.selection_core.specs.Listed.{IsListOf}
 use Rattle.selection_core.specs.Walks.{Selected}
 use Rattle.valid_policy.specs.Policy.{Policy}
 use Rattle.heard_core.specs.Cause.{Cause, no_memory, told, failed_read, refused_write, ReadCounts}
-<<<<<<< HEAD
 use Rattle.deny_run.specs.declared.error.Part.TheVariants.{Words}
 use Rattle.deny_run.specs.declared.error.Error.TheVariants.{Memory}
-=======
-use Rattle.heard_core.specs.declared.fault.ReadFault.TheVariants.{Failed, Absent, Folder, NotUtf8}
-use Rattle.search_core.specs.Search.{search_cause}
-use Rattle.search_core.specs.declared.search.SearchError.{SearchError}
-use Rattle.search_core.specs.declared.search.SearchError.TheVariants as search
-use Rattle.workspace_core.specs.declared.error.KratesError.{KratesError}
-use Rattle.workspace_core.specs.declared.error.KratesError.TheVariants as krates
-use Rattle.load_core.specs.Answer.{load_cause}
-use Rattle.load_core.specs.declared.error.LoadError.{LoadError}
-use Rattle.load_core.specs.declared.error.LoadError.TheVariants as load
-use Rattle.policy_core.specs.declared.load.LoadedPolicy.{LoadedPolicy}
-use Rattle.deny_run.specs.declared.error.Part.TheVariants.{Words}
-use Rattle.deny_run.specs.declared.error.Error.{Error}
-use Rattle.deny_run.specs.declared.error.Error.TheVariants.{Memory, ConfigRead, NotYet}
->>>>>>> 8457e13ba6db7c9e79d9c5aafbb99abfd1fb68b9
 use Rattle.deny_run.specs.declared.error.Refusal.{Refusal}
 use Rattle.deny_run.specs.declared.error.Refusal.TheVariants as refusal
 use Rattle.deny_run.specs.declared.report.CrateReport.{CrateReport}
