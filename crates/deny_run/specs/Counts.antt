@@ -2,7 +2,7 @@
 use Rattle.std.specs.Prelude.{ℕ, Bool, true, false, List, Some, None, count_by, not, nat_lt, codes, if◌then◌else◌}
 use Rattle.std.specs.Option.{option_map_or}
 use Rattle.deny_run.specs.declared.report.Verdict.{Verdict}
-use Rattle.deny_run.specs.declared.report.Verdict.TheVariants.{Accepted, Rejected, Skipped}
+use Rattle.deny_run.specs.declared.report.Verdict.TheVariants.{Accepted, Rejected, Skipped, Unlicensed}
 use Rattle.deny_run.specs.declared.report.CrateReport.{CrateReport}
 use Rattle.deny_run.specs.declared.report.Stats.{Stats}
 use Rattle.deny_run.specs.declared.report.AllStats.{AllStats}
@@ -12,6 +12,7 @@ abbrev pub is_against : Verdict → Bool
 is_against Accepted = false
 is_against Rejected = true
 is_against Skipped = false
+is_against Unlicensed = true
 
 -- a verdict against a crate is an error, and any other a note
 abbrev pub stats_of : List CrateReport → Stats

@@ -1,11 +1,8 @@
 -- What is heard of the files, and what the words and the files ask to check.
-use Rattle.std.specs.Prelude.{ℕ, ◌==◌, true, false, List, [], codes, length, Option, Some, None, Result, Ok, Err, option_and_then, if◌then◌else◌}
+use Rattle.std.specs.Prelude.{◌≡◌, ℕ, Bool, false, nat_lt, List, [], codes, length, Option, Some, None, option_map, Result, Ok, Err}
 use Rattle.deny_text.specs.Path.{join_of}
 use Rattle.tree_core.specs.Hearing.{metadata}
-use Rattle.catalog_core.specs.Catalog.{CatalogLists}
-use Rattle.term_core.specs.declared.mode.ParseMode.{ParseMode}
-use Rattle.spdx_core.specs.Reading.{ExpressionView, expression_of}
-use Rattle.graph_core.specs.Krate.{Record}
+use Rattle.spdx_core.specs.Reading.{ExpressionView}
 use Rattle.graph_core.specs.Metadata.{Graph}
 use Rattle.heard_core.specs.declared.fault.ReadFault.{ReadFault}
 use Rattle.heard_core.specs.declared.fault.ReadFault.TheVariants.{Failed}
@@ -14,6 +11,14 @@ use Rattle.search_core.specs.Search.{candidates, first_existing}
 use Rattle.search_core.specs.declared.search.Sought.TheVariants.{Exceptions}
 use Rattle.workspace_core.specs.declared.error.KratesError.{KratesError}
 use Rattle.workspace_core.specs.Krates.{graph_in}
+use Rattle.pack_core.specs.Ears.{Ears, ears_of}
+use Rattle.expression_core.specs.Scanned.{Scanner}
+use Rattle.priority_core.specs.Priority.{Answer, folder_of, priority_of, records_of}
+use Rattle.priority_core.specs.Settled.{source_info}
+use Rattle.priority_core.specs.declared.license.LicenseExprSource.{LicenseExprSource}
+use Rattle.valid_policy.specs.declared.policy.ValidConfig.{ValidConfig}
+use Rattle.gather_core.specs.Entries.{clarifications_of, entries_of}
+use Rattle.gather_core.specs.Gathered.{threshold_of}
 use Rattle.policy_core.specs.Policy.{PolicyFound}
 use Rattle.load_core.specs.Heard.{load_heard}
 use Rattle.load_core.specs.Load.{Loaded, load_of}
@@ -25,7 +30,7 @@ use Rattle.deny_run.specs.declared.error.Error.TheVariants.{ConfigRead, NotYet}
 use Rattle.deny_run.specs.declared.words.Request.{Request}
 use Rattle.deny_run.specs.Error.{error_of_krates, error_of_load}
 use Rattle.deny_run.specs.Given.{Given}
-use Rattle.deny_run.specs.Hearing.{Looks, look_failed, all_told, RunHearing}
+use Rattle.deny_run.specs.Hearing.{Looks, look_failed, all_told, CrateHeard, RunHearing}
 use Rattle.deny_run.specs.Words.{request_of}
 
 -- the next step, where the one before was not refused
@@ -98,27 +103,33 @@ found_of given hearing = do
 
 -- ---- the expression of a crate
 
--- the mode that fields are read in: strict, and a slash says OR
-abbrev pub field_mode : ParseMode
-field_mode = record {
-  allow_deprecated = false;
-  allow_imprecise_license_names = false;
-  allow_postfix_plus_on_gpl = false;
-  allow_slash_as_or_operator = true;
-}
+-- What texts are identified by: the catalogue, the identifier, and the least score that the policy asks for.
+abbrev pub scanner_in : Given → ValidConfig → Scanner
+scanner_in given policy = record { lists = given.lists; match_of = given.match_of; threshold = threshold_of policy.confidence_threshold }
 
--- an expression with one term; what has more is not judged yet
-abbrev pub of_one_term : ExpressionView → Option ExpressionView
-of_one_term read = if length read.terms == 1 then Some read else None
+-- what is heard of a crate's files: what the content holds, but for those of the crate's own reads that failed
+abbrev pub ears_heard : RunHearing → CrateHeard → Ears
+ears_heard hearing one = ears_of hearing.files.content (folder_of one.krate) one.reads
 
--- the expression that a field is
-abbrev pub field_of : CatalogLists → List ℕ → Option ExpressionView
-field_of lists field = option_and_then of_one_term (expression_of field_mode lists field)
+-- What has priority of a crate: a clarification of the policy whose files have their hashes, else the crate's field, else what
+-- its licence files are identified as, else nothing.
+abbrev pub priority_heard : Given → ValidConfig → RunHearing → CrateHeard → Option Answer
+priority_heard given policy hearing one =
+    priority_of (scanner_in given policy) (clarifications_of one.krate (entries_of policy)) one.krate (ears_heard hearing one)
 
--- the expression of a crate's field, where there is one
-abbrev pub field_read : CatalogLists → Record → Option ExpressionView
-field_read lists krate = option_and_then (field_of lists) krate.license
+-- the expression, and where it comes from
+abbrev pub expression_in : Option Answer → Option ExpressionView
+expression_in answer = option_map (λ own. own.expression) answer
 
--- the licence expression of a crate: that of its field
-abbrev pub expression_heard : Given → PolicyFound → RunHearing → Record → Option ExpressionView
-expression_heard given policy hearing krate = field_read given.lists krate
+abbrev pub source_in : Option Answer → Option LicenseExprSource
+source_in answer = option_map (λ own. source_info own.source) answer
+
+-- an expression of more than one term; it is not judged yet
+abbrev pub has_many : Option ExpressionView → Bool
+has_many None = false
+has_many (Some read) = nat_lt 1 (length read.terms)
+
+-- the records of a crate's reads are those that its clarifications, its field and its files ask for
+abbrev pub AreOwnReads : Given → ValidConfig → RunHearing → CrateHeard → Type 0
+AreOwnReads given policy hearing one =
+    one.reads ≡ records_of (scanner_in given policy) (clarifications_of one.krate (entries_of policy)) one.krate (ears_heard hearing one)

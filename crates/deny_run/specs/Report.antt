@@ -1,10 +1,10 @@
 -- When a report is the one that the words and the files ask for.
-use Rattle.std.specs.Prelude.{◌≡◌, ℕ, Bool, true, false, List, [], ◌∷◌, length, Option, Some, IsSome, is_some, Result, Ok, Err, All, IsSomeAnd}
+use Rattle.std.specs.Prelude.{◌≡◌, ℕ, Bool, true, false, List, [], ◌∷◌, map, Option, Some, None, is_some, Result, Ok, Err, All, IsSomeAnd}
 use Rattle.std.specs.List.{AllZip}
 use Rattle.tree_core.specs.Content.{Content}
-use Rattle.tree_core.specs.Hearing.{metadata, FailedRead}
+use Rattle.tree_core.specs.Hearing.{metadata}
+use Rattle.tree_core.specs.declared.reads.ReadRecord.{ReadRecord}
 use Rattle.term_core.specs.declared.term.ExpressionReq.{ExpressionReq}
-use Rattle.spdx_core.specs.Grammar.{Spells}
 use Rattle.spdx_core.specs.Reading.{ExpressionView}
 use Rattle.graph_core.specs.Krate.{Record}
 use Rattle.graph_core.specs.Metadata.{Graph}
@@ -16,21 +16,23 @@ use Rattle.search_core.specs.declared.search.Sought.TheVariants.{Exceptions}
 use Rattle.workspace_core.specs.Krates.{sparse_dir}
 use Rattle.valid_policy.specs.Policy.{Policy, IsPrivate, hit_of}
 use Rattle.valid_policy.specs.View.{policy_of}
+use Rattle.valid_policy.specs.declared.policy.ValidConfig.{ValidConfig}
+use Rattle.priority_core.specs.Settled.{notes_of}
 use Rattle.validate_core.specs.Order.{PutsPolicyInOrder}
 use Rattle.policy_core.specs.Policy.{PolicyFound}
 use Rattle.load_core.specs.Heard.{load_heard}
 use Rattle.load_core.specs.declared.loading.PolicyPaths.{PolicyPaths}
 use Rattle.deny_run.specs.declared.error.Error.{Error}
 use Rattle.deny_run.specs.declared.report.Verdict.{Verdict}
-use Rattle.deny_run.specs.declared.report.Verdict.TheVariants.{Accepted, Rejected, Skipped}
+use Rattle.deny_run.specs.declared.report.Verdict.TheVariants.{Accepted, Rejected, Skipped, Unlicensed}
 use Rattle.deny_run.specs.declared.report.CrateReport.{CrateReport}
 use Rattle.deny_run.specs.declared.report.Report.{Report}
 use Rattle.deny_run.specs.declared.words.Request.{Request}
 use Rattle.deny_run.specs.Counts.{counts_of}
 use Rattle.deny_run.specs.Error.{cause_of, FreeOr}
 use Rattle.deny_run.specs.Given.{Given}
-use Rattle.deny_run.specs.Heard.{exceptions_in, field_mode, found_of, manifest_in}
-use Rattle.deny_run.specs.Hearing.{RunHearing, IsRunHearing}
+use Rattle.deny_run.specs.Heard.{AreOwnReads, exceptions_in, expression_in, found_of, has_many, manifest_in, priority_heard, source_in}
+use Rattle.deny_run.specs.Hearing.{CrateHeard, RunHearing, IsRunHearing, crates_heard}
 use Rattle.deny_run.specs.Policy.{IsPolicyAt}
 use Rattle.deny_run.specs.Selection.{choice_in, AreSelected, Refuses}
 use Rattle.deny_run.specs.Words.{request_of}
@@ -52,15 +54,10 @@ pub record GraphAt (hearing : RunHearing) (path : List ℕ) (graph : Graph) : Ty
   pub heard : text_heard hearing.files metadata path ≡ Ok text
   pub tells : records_of text sparse_dir ≡ Some (Ok graph)
 
--- the expression of a crate: its field spells it, in strict mode with the slash as OR, and it has one term
-pub record ReadsField (given : Given) (policy : PolicyFound) (hearing : RunHearing) (krate : Record) (read : ExpressionView) : Type 0 where
-  pub field : krate.license ≡ Some read.text
-  pub spelled : Spells field_mode given.lists read.text read.tree read.terms
-  pub one : length read.terms ≡ 1
-
--- a crate has an expression
-abbrev pub HasExpression : Given → PolicyFound → RunHearing → Record → Type 0
-HasExpression given policy hearing krate = (read : ExpressionView) × ReadsField given policy hearing krate read
+-- where no read of a crate fails, its expression has one term at most
+abbrev pub HasOneAtMost : Given → ValidConfig → RunHearing → Record → Type 0
+HasOneAtMost given policy hearing krate =
+    has_many (expression_in (priority_heard given policy hearing (record { krate = krate; reads = [] }))) ≡ false
 
 -- what is to be checked: the request, its policy, the graph of its metadata, and the crates of it that are checked
 pub record Asked : Type 0 where
@@ -69,14 +66,19 @@ pub record Asked : Type 0 where
   pub graph : Graph
   pub crates : List Record
 
--- lawful input: the words, the policy, the metadata and the crates are of the forms that are built, and ask to check this
+-- the words, the policy and the metadata are of the forms that are built, and ask to check this
 pub record Asks (given : Given) (hearing : RunHearing) (asked : Asked) : Type 0 where
   pub request : request_of given.words given.cwd ≡ Some asked.request
   pub policy : PolicyAt given hearing asked.request.config_path asked.policy
   pub metadata : GraphAt hearing asked.request.metadata_path asked.graph
   pub root : HasRoot asked.graph (choice_in asked.policy)
   pub selected : AreSelected asked.policy asked.graph asked.crates
-  pub expressions : All (HasExpression given asked.policy hearing) asked.crates
+
+-- lawful input: that, and no expression of a crate is of a form that is not built yet, however the policy's lists are put in
+-- order
+pub record IsLawful (given : Given) (hearing : RunHearing) (asked : Asked) : Type 0 where
+  pub asks : Asks given hearing asked
+  pub forms : (policy : ValidConfig) → PutsPolicyInOrder asked.policy.licenses policy → All (HasOneAtMost given policy hearing) asked.crates
 
 -- ---- what is reported
 
@@ -86,42 +88,55 @@ has_hit policy krate [] = false
 has_hit policy krate (term ∷ []) = is_some (hit_of policy krate term.req)
 has_hit policy krate (term ∷ next ∷ rest) = false
 
--- Skipped: the crate is private, be its expression what it may. Accepted: it is not, and the policy has a hit for the
--- expression's one term. Rejected: it is not, there is an expression, and there is no hit.
+-- Skipped: the crate is private, be its expression what it may. Unlicensed: it is not, and there is no expression. Accepted: it
+-- is not, and the policy has a hit for the expression's one term. Rejected: it is not, there is an expression, and there is no
+-- hit. An expression of more than one term has no verdict.
 abbrev pub IsVerdictOf : Policy → Record → Option ExpressionView → Verdict → Type 0
-IsVerdictOf policy krate expression Skipped = IsPrivate policy krate × IsSome expression
+IsVerdictOf policy krate expression Skipped = IsPrivate policy krate × (has_many expression ≡ false)
+IsVerdictOf policy krate expression Unlicensed = ¬ (IsPrivate policy krate) × (expression ≡ None)
 IsVerdictOf policy krate expression Accepted =
     ¬ (IsPrivate policy krate) × IsSomeAnd expression (λ read. has_hit policy krate read.terms ≡ true)
 IsVerdictOf policy krate expression Rejected =
-    ¬ (IsPrivate policy krate) × IsSomeAnd expression (λ read. has_hit policy krate read.terms ≡ false)
+    ¬ (IsPrivate policy krate)
+    × IsSomeAnd expression (λ read. (has_many (Some read) ≡ false) × (has_hit policy krate read.terms ≡ false))
 
--- the report on a crate, by a valid policy
-pub record IsReportOf (given : Given) (found : PolicyFound) (policy : Policy) (hearing : RunHearing) (krate : Record) (report : CrateReport) : Type 0 where
+-- a crate, heard by its own reads
+abbrev pub heard_by : Record → CrateReport → CrateHeard
+heard_by krate report = record { krate = krate; reads = report.reads }
+
+-- The report on a crate, by a valid policy: what has priority, by what the content and the crate's own reads let hear, and the
+-- verdict on that.
+pub record IsReportOf (given : Given) (policy : ValidConfig) (hearing : RunHearing) (krate : Record) (report : CrateReport) : Type 0 where
   pub id : report.id ≡ krate.id
-  pub expression : IsSomeAnd report.expression (ReadsField given found hearing krate)
-  pub verdict : IsVerdictOf policy krate report.expression report.verdict
+  pub reads : AreOwnReads given policy hearing (heard_by krate report)
+  pub expression : report.expression ≡ expression_in (priority_heard given policy hearing (heard_by krate report))
+  pub source : report.source ≡ source_in (priority_heard given policy hearing (heard_by krate report))
+  pub notes : report.notes ≡ notes_of (priority_heard given policy hearing (heard_by krate report))
+  pub verdict : IsVerdictOf (policy_of policy) krate report.expression report.verdict
 
 -- The policy that was found is reported, its lists put in order. Each crate that is checked has its one report by it, in the
 -- same order, and the verdicts are counted.
 pub record GivesVerdicts (given : Given) (hearing : RunHearing) (asked : Asked) (report : Report) : Type 0 where
   pub policy : PutsPolicyInOrder asked.policy.licenses report.policy
   pub file : report.policy.file_id ≡ 0
-  pub verdicts : AllZip (IsReportOf given asked.policy (policy_of report.policy) hearing) asked.crates report.crates
+  pub verdicts : AllZip (IsReportOf given report.policy hearing) asked.crates report.crates
   pub stats : report.stats ≡ counts_of report.crates
 
--- the failed reads that a report lists: none, since no file of a crate is read
-abbrev pub failed_of : Report → List FailedRead
-failed_of report = []
+-- The reads that a report lists, crate by crate. Those among them that failed are all that failed in the run.
+abbrev pub reads_told : Report → List (List ReadRecord)
+reads_told report = map (λ crate. crate.reads) report.crates
 
 -- ---- what is answered
 
--- the report is what is asked for, by the content less the report's failed reads
+-- the report is what is asked for, by the content less the report's failed reads, and no other read failed
 pub record IsReport (given : Given) (content : Content) (before after : ℕ) (report : Report) : Type 0 where
   pub hearing : RunHearing
   pub heard : IsRunHearing content before after hearing
-  pub failed : hearing.files.failed ≡ failed_of report
+  pub failed : hearing.files.failed ≡ []
   pub asked : Asked
   pub asks : Asks given hearing asked
+  pub crates : crates_heard hearing ≡ asked.crates
+  pub reads : map (λ one. one.reads) hearing.crates ≡ reads_told report
   pub gives : GivesVerdicts given hearing asked report
 
 -- the refusal is the first one, by the content less some reads that failed

@@ -1,5 +1,5 @@
 -- What a run writes to its two sinks.
-use Rattle.std.specs.Prelude.{◌≡◌, ◌⊎◌, ℕ, List, [], ◌∷◌, ◌++◌, Option, Result, Ok, Err}
+use Rattle.std.specs.Prelude.{◌≡◌, ◌⊎◌, ℕ, List, [], ◌∷◌, ◌++◌, map, Option, Result, Ok, Err}
 use Rattle.std.specs.Option.{ForSome}
 use Rattle.tree_core.specs.Content.{Content}
 use Rattle.tree_core.specs.Faults.{Rose, Gained, GainedPrefix}
@@ -19,7 +19,7 @@ use Rattle.deny_run.specs.Error.{cause_of, fault_line, FreeOr}
 use Rattle.deny_run.specs.Given.{Given}
 use Rattle.deny_run.specs.Heard.{found_of, loaded_of}
 use Rattle.deny_run.specs.Hearing.{all_told, RunHearing, IsRunHearing}
-use Rattle.deny_run.specs.Report.{IsReport, failed_of}
+use Rattle.deny_run.specs.Report.{IsReport, reads_told}
 use Rattle.deny_run.specs.Selection.{Refuses}
 
 -- how findings are written: as lines for a person, warnings and what is worse; the words ask for no other form yet
@@ -37,7 +37,8 @@ told_before given hearing = told_of (loaded_of given hearing)
 
 -- what is heard where a run answers so: no failed read but those that the report lists, or what the refusal comes of
 abbrev pub IsAnsweredBy : Given → RunHearing → Result Report Error → Type 0
-IsAnsweredBy given hearing (Ok report) = (hearing.looks ≡ all_told) × (hearing.files.failed ≡ failed_of report)
+IsAnsweredBy given hearing (Ok report) =
+    (hearing.looks ≡ all_told) × (hearing.files.failed ≡ []) × (map (λ one. one.reads) hearing.crates ≡ reads_told report)
 IsAnsweredBy given hearing (Err error) = FreeOr (cause_of error) (Refuses given hearing (found_of given hearing) error)
 
 -- the text is what is told of the load in a run that answers so

@@ -1,6 +1,6 @@
 -- The crates that are checked, and why none are.
-use Rattle.std.specs.Prelude.{◌≡◌, ℕ, List, false, find, is_none, Some, Result, Ok, Err}
-use Rattle.std.specs.List.{filter_map}
+use Rattle.std.specs.Prelude.{◌≡◌, ℕ, List, false, find, Some, Result, Ok, Err}
+use Rattle.std.specs.List.{AllByRecursion, filter_map}
 use Rattle.graph_core.specs.Krate.{Record}
 use Rattle.graph_core.specs.Metadata.{Graph}
 use Rattle.selection_core.specs.declared.selection.Include.{Include}
@@ -10,12 +10,13 @@ use Rattle.selection_core.specs.Roots.{HasRoot, LacksRoots}
 use Rattle.selection_core.specs.Walks.{Selected}
 use Rattle.policy_core.specs.Policy.{PolicyFound}
 use Rattle.valid_policy.specs.declared.policy.ValidConfig.{ValidConfig}
+use Rattle.validate_core.specs.Order.{PutsPolicyInOrder}
 use Rattle.deny_run.specs.declared.error.Part.TheVariants.{Crate}
 use Rattle.deny_run.specs.declared.error.Error.{Error}
 use Rattle.deny_run.specs.declared.error.Error.TheVariants.{NoRoots, NotYet}
 use Rattle.deny_run.specs.Given.{Given}
-use Rattle.deny_run.specs.Hearing.{RunHearing}
-use Rattle.deny_run.specs.Heard.{Found, expression_heard}
+use Rattle.deny_run.specs.Hearing.{CrateHeard, RunHearing, crates_heard}
+use Rattle.deny_run.specs.Heard.{AreOwnReads, Found, expression_in, has_many, priority_heard}
 
 -- the crates that these specs leave out; the words leave none out yet
 abbrev pub choice_by : List (List ℕ) → Choice
@@ -37,19 +38,22 @@ included_in policy = included_by policy.licenses
 abbrev pub AreSelected : PolicyFound → Graph → List Record → Type 0
 AreSelected policy graph crates = IsListOf graph (Selected graph (choice_in policy) (included_in policy)) crates
 
--- the first of the crates that are checked, in the order of their ids, that has no licence expression
-pub record IsFirstWithout (given : Given) (hearing : RunHearing) (found : Found) (id : List ℕ) : Type 0 where
+-- The first of the crates that are checked, in the order of their ids, whose expression has more than one term. It is told once
+-- the files of all of them were read, by the policy with its lists in order.
+pub record IsFirstWithMany (given : Given) (hearing : RunHearing) (found : Found) (id : List ℕ) : Type 0 where
   pub root : HasRoot found.graph (choice_in found.policy)
-  pub crates : List Record
-  pub selected : AreSelected found.policy found.graph crates
-  pub krate : Record
-  pub first : find (λ one. is_none (expression_heard given found.policy hearing one)) crates ≡ Some krate
-  pub named : krate.id ≡ id
+  pub selected : AreSelected found.policy found.graph (crates_heard hearing)
+  pub policy : ValidConfig
+  pub order : PutsPolicyInOrder found.policy.licenses policy
+  pub reads : AllByRecursion (AreOwnReads given policy hearing) hearing.crates
+  pub one : CrateHeard
+  pub first : find (λ own. has_many (expression_in (priority_heard given policy hearing own))) hearing.crates ≡ Some one
+  pub named : one.krate.id ≡ id
 
--- the refusal of the selection: no root is left, or a crate has no licence expression
+-- the refusal of the selection: no root is left, or the expression of a crate is not judged yet
 abbrev pub RefusesSelection : Given → RunHearing → Found → Error → Type 0
 RefusesSelection given hearing found (NoRoots base excluded unpublished) = LacksRoots found.graph (choice_in found.policy) base excluded unpublished
-RefusesSelection given hearing found (NotYet (Crate id)) = IsFirstWithout given hearing found id
+RefusesSelection given hearing found (NotYet (Crate id)) = IsFirstWithMany given hearing found id
 RefusesSelection given hearing found _ = ⊥
 
 -- the first refusal: of what is looked for, else of the selection

@@ -1,15 +1,15 @@
 -- What the steps of a run answer, one by one.
-use Rattle.std.specs.Prelude.{◌≡◌, ◌⊎◌, ℕ, ◌≤◌, List, find, is_none, Some, Result, Ok, Err}
+use Rattle.std.specs.Prelude.{◌≡◌, ◌⊎◌, ℕ, ◌≤◌, Bool, List, map, find, Option, Some, None, Result, Ok, Err}
 use Rattle.std.specs.List.{AllZip}
 use Rattle.tree_core.specs.Content.{Content}
 use Rattle.catalog_core.specs.Catalog.{CatalogLists}
-use Rattle.graph_core.specs.Krate.{Record}
+use Rattle.catalog_core.specs.declared.identifier.Match.{Match}
+use Rattle.spdx_core.specs.Reading.{ExpressionView}
 use Rattle.graph_core.specs.Metadata.{Graph}
 use Rattle.heard_core.specs.Heard.{IsHeard}
 use Rattle.heard_core.specs.declared.fault.ReadFault.{ReadFault}
 use Rattle.search_core.specs.Search.{candidates, first_existing}
 use Rattle.search_core.specs.declared.search.Sought.TheVariants.{Exceptions}
-use Rattle.selection_core.specs.declared.selection.Include.{Include}
 use Rattle.selection_core.specs.Choice.{Choice}
 use Rattle.selection_core.specs.Listed.{IsListOf}
 use Rattle.selection_core.specs.Roots.{HasRoot}
@@ -17,13 +17,23 @@ use Rattle.selection_core.specs.Walks.{Selected}
 use Rattle.workspace_core.specs.Krates.{Gathers, IsCarried, graph_in}
 use Rattle.valid_policy.specs.Policy.{Policy}
 use Rattle.valid_policy.specs.View.{policy_of}
+use Rattle.valid_policy.specs.declared.policy.ValidConfig.{ValidConfig}
+use Rattle.reads_core.specs.Rising.{RiseInOrder}
+use Rattle.expression_core.specs.Scanned.{Scanner}
+use Rattle.priority_core.specs.declared.license.LicenseExprSource.{LicenseExprSource}
+use Rattle.priority_core.specs.declared.license.LicenseInfo.{LicenseInfo}
+use Rattle.priority_core.specs.declared.license.LicenseInfo.TheVariants.{SpdxExpression}
+use Rattle.priority_core.specs.declared.license.LicenseInfo.TheVariants as license_info
+use Rattle.gather_core.specs.Entries.{entries_of}
+use Rattle.gather_core.specs.Gathered.{ArePriorities, AreRead, all_reads, krate_of, threshold_of}
+use Rattle.gather_core.specs.declared.summary.KrateLicense.{KrateLicense}
 use Rattle.evaluate_core.specs.Evaluation.{Evaluation, exception_names}
 use Rattle.policy_core.specs.declared.load.LoadedPolicy.{LoadedPolicy}
 use Rattle.load_core.specs.declared.loading.PolicyPaths.{PolicyPaths}
 use Rattle.deny_run.specs.declared.error.Refusal.{Refusal}
 use Rattle.deny_run.specs.declared.error.Refusal.TheVariants.{Memory, Krates, CrateForm}
 use Rattle.deny_run.specs.declared.report.CrateReport.{CrateReport}
-use Rattle.deny_run.specs.Heard.{field_read, manifest_in}
+use Rattle.deny_run.specs.Heard.{has_many, manifest_in}
 use Rattle.deny_run.specs.Report.{IsVerdictOf, paths_at}
 use Rattle.deny_run.specs.Selection.{choice_by, included_by}
 
@@ -38,33 +48,59 @@ IsOfCrates Memory = Unit {0}
 IsOfCrates (CrateForm id) = Unit {0}
 IsOfCrates _ = ⊥
 
--- a crate's report, by the expression of its field
-pub record IsJudged (lists : CatalogLists) (policy : Policy) (krate : Record) (report : CrateReport) : Type 0 where
-  pub id : report.id ≡ krate.id
-  pub expression : report.expression ≡ field_read lists krate
-  pub verdict : IsVerdictOf policy krate report.expression report.verdict
+-- ---- one crate after another
 
--- the refusal of the first of some crates whose field is no expression
-pub record IsFirstUnread (lists : CatalogLists) (crates : List Record) (refused : Refusal) : Type 0 where
-  pub krate : Record
-  pub first : find (λ one. is_none (field_read lists one)) crates ≡ Some krate
-  pub named : refused ≡ CrateForm krate.id
+-- the expression of a licence that was settled, and where it comes from
+abbrev pub expression_told : LicenseInfo → Option ExpressionView
+expression_told (SpdxExpression expression info) = Some expression
+expression_told license_info.Unlicensed = None
+
+abbrev pub source_told : LicenseInfo → Option LicenseExprSource
+source_told (SpdxExpression expression info) = Some info.source
+source_told license_info.Unlicensed = None
+
+-- a crate's report, by its licence
+pub record IsJudged (policy : Policy) (license : KrateLicense) (report : CrateReport) : Type 0 where
+  pub id : report.id ≡ (krate_of license).id
+  pub reads : report.reads ≡ license.reads
+  pub expression : report.expression ≡ expression_told license.lic_info
+  pub source : report.source ≡ source_told license.lic_info
+  pub notes : report.notes ≡ license.notes
+  pub verdict : IsVerdictOf policy (krate_of license) report.expression report.verdict
+
+-- a licence with an expression of more than one term
+abbrev pub is_many : KrateLicense → Bool
+is_many license = has_many (expression_told license.lic_info)
+
+-- the refusal of the first of some licences that is one
+pub record IsFirstMany (licenses : List KrateLicense) (refused : Refusal) : Type 0 where
+  pub license : KrateLicense
+  pub first : find is_many licenses ≡ Some license
+  pub named : refused ≡ CrateForm (krate_of license).id
 
 -- each of some crates has its report, in order, or the first that has none is refused
-abbrev pub AreJudged : CatalogLists → Policy → List Record → Result (List CrateReport) Refusal → Type 0
-AreJudged lists policy crates (Ok reports) = AllZip (IsJudged lists policy) crates reports
-AreJudged lists policy crates (Err refused) = (refused ≡ Memory) ⊎ IsFirstUnread lists crates refused
+abbrev pub AreJudged : Policy → List KrateLicense → Result (List CrateReport) Refusal → Type 0
+AreJudged policy licenses (Ok reports) = AllZip (IsJudged policy) licenses reports
+AreJudged policy licenses (Err refused) = (refused ≡ Memory) ⊎ IsFirstMany licenses refused
 
--- the same of the crates that are checked
-pub record IsChecked (lists : CatalogLists) (policy : Policy) (include : Include) (graph : Graph) (choice : Choice) (result : Result (List CrateReport) Refusal) : Type 0 where
-  pub crates : List Record
-  pub selected : IsListOf graph (Selected graph choice include) crates
-  pub judged : AreJudged lists policy crates result
+-- the scanner of a run, by the policy's least score
+abbrev pub scanner_by : CatalogLists → (List ℕ → Match) → ValidConfig → Scanner
+scanner_by lists match_of policy = record { lists = lists; match_of = match_of; threshold = threshold_of policy.confidence_threshold }
 
--- the same, unless memory was refused before they were selected
-abbrev pub Checks : CatalogLists → Policy → Include → Graph → Choice → Result (List CrateReport) Refusal → Type 0
-Checks lists policy include graph choice (Err Memory) = Unit {0}
-Checks lists policy include graph choice result = IsChecked lists policy include graph choice result
+-- the licences of the crates that are checked, what they were settled by, and the reports on them
+pub record IsChecked (scanner : Scanner) (policy : ValidConfig) (content : Content) (before after : ℕ) (graph : Graph) (choice : Choice)
+    (result : Result (List CrateReport) Refusal) : Type 0 where
+  pub licenses : List KrateLicense
+  pub selected : IsListOf graph (Selected graph choice (included_by policy)) (map krate_of licenses)
+  pub priorities : ArePriorities scanner (entries_of policy) content licenses
+  pub reads : AreRead scanner (entries_of policy) content licenses
+  pub rises : RiseInOrder before (all_reads licenses) after
+  pub judged : AreJudged (policy_of policy) licenses result
+
+-- the same, unless memory was refused before they were judged
+abbrev pub Checks : Scanner → ValidConfig → Content → ℕ → ℕ → Graph → Choice → Result (List CrateReport) Refusal → Type 0
+Checks scanner policy content before after graph choice (Err Memory) = Unit {0}
+Checks scanner policy content before after graph choice result = IsChecked scanner policy content before after graph choice result
 
 -- where the two files of a policy are, where the policy's path is given
 abbrev pub paths_by : Content → List ℕ → List ℕ → PolicyPaths
@@ -77,18 +113,20 @@ IsAfterLoad (Krates error) = IsCarried error
 IsAfterLoad (CrateForm id) = Unit {0}
 IsAfterLoad _ = ⊥
 
--- what was heard of the metadata's file, the graph that it tells, and the reports on its crates
-pub record AreCheckedAt (lists : CatalogLists) (policy : LoadedPolicy) (content : Content) (begun : ℕ) (path : List ℕ) (before after : ℕ) (result : Result (List CrateReport) Refusal) : Type 0 where
+-- what was heard of the metadata's file, the graph that it tells, and then the reports on its crates
+pub record AreCheckedAt (scanner : Scanner) (policy : LoadedPolicy) (content : Content) (begun : ℕ) (path : List ℕ) (before after : ℕ) (result : Result (List CrateReport) Refusal) : Type 0 where
   pub heard : Result (List ℕ) ReadFault
-  pub hears : IsHeard content begun path before after heard
+  pub middle : ℕ
+  pub first : before ≤ middle
+  pub hears : IsHeard content begun path before middle heard
   pub graph : Graph
   pub tells : graph_in heard ≡ Ok graph
   pub rooted : HasRoot graph (choice_by policy.graph.exclude)
-  pub checked : Checks lists (policy_of policy.licenses) (included_by policy.licenses) graph (choice_by policy.graph.exclude) result
+  pub checked : Checks scanner policy.licenses content middle after graph (choice_by policy.graph.exclude) result
 
 -- the same, or why there are no crates, unless memory was refused
-abbrev pub ChecksAt : CatalogLists → LoadedPolicy → Content → ℕ → List ℕ → ℕ → ℕ → Result (List CrateReport) Refusal → Type 0
-ChecksAt lists policy content begun path before after (Err Memory) = Unit {0}
-ChecksAt lists policy content begun path before after (Err (Krates error)) =
+abbrev pub ChecksAt : Scanner → LoadedPolicy → Content → ℕ → List ℕ → ℕ → ℕ → Result (List CrateReport) Refusal → Type 0
+ChecksAt scanner policy content begun path before after (Err Memory) = Unit {0}
+ChecksAt scanner policy content begun path before after (Err (Krates error)) =
     Gathers (choice_by policy.graph.exclude) content begun path before after (Err error)
-ChecksAt lists policy content begun path before after result = AreCheckedAt lists policy content begun path before after result
+ChecksAt scanner policy content begun path before after result = AreCheckedAt scanner policy content begun path before after result

@@ -50,8 +50,8 @@ pub enum Error {
         before: u64,
         after: u64,
     },
-    /// The first part of the input that is of a form that is not built yet. Of several crates it is the
-    /// first in the order of their ids.
+    /// The first part of the input that is of a form that is not built yet. A crate's expression of more
+    /// than one term is; of several such crates it is the first in the order of their ids.
     NotYet(Part),
 }
 

@@ -1,68 +1,29 @@
 //! The verdict on each crate.
-ghost use Rattle.std.specs.Prelude.{◌≡◌, ◌<◌, ◌⊎◌, Some, IfOk, IfErr, length, map, None};
+ghost use Rattle.std.specs.Prelude.{◌≡◌, ◌<◌, ◌⊎◌, true, false, Some, None, IfOk, IfErr, length};
+ghost use Rattle.std.specs.Option.{ForSome};
+ghost use Rattle.tree_core.specs.Hearing.{KeepsTree};
 ghost use Rattle.graph_core.specs.Krate.{record_of};
 ghost use Rattle.graph_core.specs.Metadata.{Graph};
 ghost use Rattle.selection_core.specs.Choice.{Choice};
-ghost use Rattle.selection_core.specs.Listed.{IsChosen, record_behind};
+ghost use Rattle.selection_core.specs.Listed.{IsChosen};
 ghost use Rattle.valid_policy.specs.View.{policy_of};
-ghost use Rattle.deny_run.specs.Heard.{field_of, field_read};
+ghost use Rattle.gather_core.specs.Gathered.{krate_of};
 ghost use Rattle.deny_run.specs.Report.{IsVerdictOf, has_hit};
-ghost use Rattle.deny_run.specs.Selection.{included_by};
 ghost use Rattle.deny_run.specs.Steps.{AreJudged, Checks, IsJudged, IsMadeFor, IsOfCrates};
+ghost use Rattle.deny_run.specs.Steps.{is_many, scanner_by};
 
 use crate::error::Refusal;
 use crate::report::{CrateReport, Verdict};
 use deny_text::{ListOf, Steps, Text};
 use evaluate_core::Evaluator;
-use spdx_core::{Catalog, ExprError, Expression, ParseMode};
-use std::alloc::{AllocError, Global};
+use gather_core::{Gatherer, KrateLicense, KrateLicenses, LicenseInfo};
+use spdx_core::{Catalog, Expression, Identifier};
+use std::alloc::Global;
 use std::marker::Brand;
 use std::sync::ledger::{Blank, Ledger};
+use tree_core::Tree;
 use valid_policy::ValidConfig;
-use workspace_core::{Include, Krate, Krates};
-
-/// The mode that the field of a crate is read in: strict, and a slash says `OR`.
-const FIELD: ParseMode = ParseMode {
-    allow_deprecated: false,
-    allow_imprecise_license_names: false,
-    allow_postfix_plus_on_gpl: false,
-    allow_slash_as_or_operator: true,
-};
-
-/// The expression that a field is; none where it is none of one term.
-fn expression_of<C: Catalog>(
-    alloc: Global,
-    field: &str,
-    catalog: &C,
-) -> Result<Option<Expression>, AllocError>
-    ensures { IfOk result (λ read. read ≡ field_of (C.lists catalog.now) field.now) }
-{
-    match Expression::parse_mode(alloc, field, FIELD, catalog) {
-        Ok(read) => {
-            if read.requirements().len() == 1 {
-                Ok(Some(read))
-            } else {
-                Ok(None)
-            }
-        }
-        Err(ExprError::Parse(_)) => Ok(None),
-        Err(ExprError::Memory) => Err(AllocError),
-    }
-}
-
-/// The expression of a crate's field; none where there is none of one term.
-fn field_read<C: Catalog>(
-    alloc: Global,
-    krate: &Krate,
-    catalog: &C,
-) -> Result<Option<Expression>, AllocError>
-    ensures { IfOk result (λ read. read ≡ field_read (C.lists catalog.now) (record_of krate.now)) }
-{
-    match &krate.license {
-        Some(field) => expression_of(alloc, field.as_str(), catalog),
-        None => Ok(None),
-    }
-}
+use workspace_core::{Krate, Krates};
 
 /// Whether a policy has a hit for the one term of a crate's expression, with its steps counted in a ledger.
 fn has_hit_in<L: Ledger>(
@@ -123,83 +84,109 @@ fn verdict(
     }
 }
 
-/// The report on a crate.
-fn judge<C: Catalog>(
-    alloc: Global,
-    evaluator: &mut Evaluator,
-    policy: &ValidConfig,
-    krate: &Krate,
-    catalog: &C,
-) -> Result<CrateReport, Refusal>
-    requires { IsMadeFor (policy_of policy.now) evaluator.old }
-    ensures ok { IfOk result (λ report.
-        IsJudged (C.lists catalog.now) (policy_of policy.now) (record_of krate.now) report) }
-    ensures refused { IfErr result (λ refusal. (refusal ≡ Refusal.Memory)
-        ⊎ ((refusal ≡ Refusal.CrateForm krate.now.id)
-        × (field_read (C.lists catalog.now) (record_of krate.now) ≡ None))) }
-    ensures cause { IfErr result IsOfCrates }
-    ensures made { IsMadeFor (policy_of policy.now) evaluator.new }
+/// The verdict on a crate without an expression.
+fn verdict_without(policy: &ValidConfig, krate: &Krate) -> Verdict
+    ensures { IsVerdictOf (policy_of policy.now) (record_of krate.now) None result }
 {
-    let expression = field_read(alloc, krate, catalog)?;
-    let id = Text::copy(alloc, krate.id.as_str())?;
-    match expression {
-        Some(expression) => {
-            let verdict = verdict(evaluator, policy, krate, &expression);
-            Ok(CrateReport {
-                id,
-                expression: Some(expression),
-                verdict,
-            })
-        }
-        None => Err(Refusal::CrateForm(id)),
+    if policy.is_private(krate) {
+        Verdict::Skipped
+    } else {
+        Verdict::Unlicensed
     }
 }
 
-/// The reports on some crates, in order, or the refusal of the first that has no expression.
-fn judge_all<C: Catalog>(
+/// The report on a crate, by its licence.
+fn judge(
     alloc: Global,
     evaluator: &mut Evaluator,
     policy: &ValidConfig,
-    crates: &[&Krate],
-    catalog: &C,
+    license: KrateLicense<'_>,
+) -> Result<CrateReport, Refusal>
+    requires { IsMadeFor (policy_of policy.now) evaluator.old }
+    ensures ok { IfOk result (IsJudged (policy_of policy.now) license.entry) }
+    ensures one { IfOk result (λ _. is_many license.entry ≡ false) }
+    ensures refused { IfErr result (λ refusal. (refusal ≡ Refusal.Memory)
+        ⊎ ((refusal ≡ Refusal.CrateForm (krate_of license.entry).id) × (is_many license.entry ≡ true))) }
+    ensures cause { IfErr result IsOfCrates }
+    ensures made { IsMadeFor (policy_of policy.now) evaluator.new }
+{
+    let KrateLicense {
+        krate,
+        lic_info,
+        notes,
+        diags: _,
+        reads,
+    } = license;
+    let id = Text::copy(alloc, krate.id.as_str())?;
+    match lic_info {
+        LicenseInfo::SpdxExpression { expr, nfo } => {
+            if expr.requirements().len() > 1 {
+                return Err(Refusal::CrateForm(id));
+            }
+            let verdict = verdict(evaluator, policy, krate, &expr);
+            Ok(CrateReport {
+                id,
+                reads,
+                expression: Some(expr),
+                source: Some(nfo.source),
+                notes,
+                verdict,
+            })
+        }
+        LicenseInfo::Unlicensed => Ok(CrateReport {
+            id,
+            reads,
+            expression: None,
+            source: None,
+            notes,
+            verdict: verdict_without(policy, krate),
+        }),
+    }
+}
+
+/// The reports on some crates, in order, or the refusal of the first whose expression is not judged yet.
+fn judge_all(
+    alloc: Global,
+    evaluator: &mut Evaluator,
+    policy: &ValidConfig,
+    licenses: KrateLicenses<'_>,
 ) -> Result<ListOf<CrateReport>, Refusal>
     requires { IsMadeFor (policy_of policy.now) evaluator.old }
-    ensures judged { AreJudged (C.lists catalog.now) (policy_of policy.now)
-        (map record_behind crates.now) result }
+    ensures judged { AreJudged (policy_of policy.now) licenses.entry result }
     ensures cause { IfErr result IsOfCrates }
 {
     let mut reports = ListOf::new(alloc);
-    'crates: for krate in crates {
-        let report = judge(alloc, evaluator, policy, krate, catalog)?;
+    'licenses: for license in licenses.into_vec() {
+        let report = judge(alloc, evaluator, policy, license)?;
         reports.push(report)?;
     }
     Ok(reports)
 }
 
-/// Which crates a policy has checked.
-fn included(policy: &ValidConfig) -> Include
-    ensures { result ≡ included_by policy.now }
-{
-    Include {
-        dev: policy.include_dev,
-        build: policy.include_build,
-    }
-}
-
-/// The reports on the crates that a policy has checked, in the order of their ids. One evaluator with one
-/// index of the policy's exceptions serves all of them.
-pub(crate) fn check_all<C: Catalog>(
+/// The reports on the crates that a policy has checked, in the order of their ids, once the licence of each was
+/// settled. One evaluator with one index of the policy's exceptions serves all of them.
+pub(crate) fn check_all<T: Tree, C: Catalog, I: Identifier>(
     alloc: Global,
     policy: &ValidConfig,
     krates: &Krates,
+    tree: &mut T,
     catalog: &C,
+    identifier: &I,
 ) -> Result<ListOf<CrateReport>, Refusal>
     // of each graph and choice that the crates are of
-    ensures checked { (graph : Graph) (choice : Choice) → IsChosen graph choice krates.now
-        → Checks (C.lists catalog.now) (policy_of policy.now) (included_by policy.now) graph choice result }
+    ensures checked { ForSome (T.content tree.old) (λ c.
+        (graph : Graph) (choice : Choice) → IsChosen graph choice krates.now
+        → Checks (scanner_by (C.lists catalog.now) (I.match_of identifier.now) policy.now) policy.now c
+        (T.fault_count tree.old) (T.fault_count tree.new) graph choice result) }
     ensures cause { IfErr result IsOfCrates }
+    ensures kept { KeepsTree (T.content tree.old) (T.content tree.new)
+        (T.fault_count tree.old) (T.fault_count tree.new) }
 {
-    let crates = krates.selected(alloc, included(policy))?;
+    let gatherer: Gatherer<'_, I> = Gatherer::default();
+    let gatherer = gatherer
+        .with_store(identifier)
+        .with_confidence_threshold(policy.confidence_threshold);
+    let gathered = gatherer.gather(alloc, krates, policy, tree, catalog)?;
     let mut evaluator = Evaluator::with_room(alloc, 1, policy)?;
-    judge_all(alloc, &mut evaluator, policy, crates.items(), catalog)
+    judge_all(alloc, &mut evaluator, policy, gathered.nfos)
 }

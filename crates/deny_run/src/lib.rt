@@ -8,6 +8,7 @@ pub mod run;
 mod stages;
 pub mod words;
 
+pub use gather_core::LicenseExprSource;
 pub use load_core::{
     Diagnostics, ErrorKind, ReadFault, ShapeError, ShapeErrors, SyntaxError, SyntaxReason,
     ValidConfig,

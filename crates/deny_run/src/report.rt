@@ -3,8 +3,11 @@ ghost use Rattle.std.specs.Prelude.{◌≡◌};
 
 use crate::error::Error;
 use deny_text::{ListOf, Text};
+use diag_core::Notes;
 use policy_core::ValidConfig;
+use priority_core::LicenseExprSource;
 use spdx_core::Expression;
+use tree_core::Reads;
 
 /// Whether a policy allows a crate's licence.
 #[derive(Clone, Copy, Debug, PartialEq, Eq)]
@@ -13,6 +16,8 @@ pub enum Verdict {
     Rejected,
     /// The crate is private, and the policy passes such crates over.
     Skipped,
+    /// No expression was found for the crate.
+    Unlicensed,
 }
 
 impl Verdict {
@@ -23,7 +28,7 @@ impl Verdict {
     {
         match self {
             Verdict::Accepted | Verdict::Skipped => false,
-            Verdict::Rejected => true,
+            Verdict::Rejected | Verdict::Unlicensed => true,
         }
     }
 }
@@ -33,8 +38,14 @@ impl Verdict {
 pub struct CrateReport {
     /// The package id, as cargo writes it.
     pub id: Text,
-    /// The licence expression.
+    /// The reads of the crate's files, in the order of the calls.
+    pub reads: Reads,
+    /// The licence expression, if there is one.
     pub expression: Option<Expression>,
+    /// Where the expression comes from.
+    pub source: Option<LicenseExprSource>,
+    /// What is noted of the licence files that the expression was made of.
+    pub notes: Notes,
     pub verdict: Verdict,
 }
 
@@ -59,7 +70,7 @@ pub struct AllStats {
 impl AllStats {
     ghost use Rattle.deny_run.specs.Counts.{counts_of, has_errors};
 
-    /// Counts the verdicts: a rejected crate is an error, any other one a note.
+    /// Counts the verdicts: a rejected or unlicensed crate is an error, any other one a note.
     pub fn of_verdicts(crates: &[CrateReport]) -> AllStats
         ensures { result ≡ counts_of crates.now }
     {

@@ -80,8 +80,6 @@ fn report<T: Tree, E: Sink, C: Catalog, I: Identifier>(
         (answer_from result) }
     ensures later { E.fault_count err.old ≤ E.fault_count err.new }
 {
-    // No file of a crate is read so far, so nothing is asked of the identifier.
-    let _ = identifier;
     let begun = tree.faults();
     let Some(request) = Request::from_words(alloc, words, cwd)? else {
         return Err(Refusal::Words);
@@ -108,6 +106,7 @@ fn report<T: Tree, E: Sink, C: Catalog, I: Identifier>(
         metadata_path.as_path(),
         tree,
         catalog,
+        identifier,
         begun,
     )?;
     Ok(report_of(policy.licenses, crates))

@@ -9,7 +9,7 @@ ghost use Rattle.selection_core.specs.Choice.{choice_of, spec_of, spec_read};
 ghost use Rattle.context_core.specs.Asked.{read_one};
 ghost use Rattle.deny_run.specs.Error.{cause_of, error_of};
 ghost use Rattle.deny_run.specs.Selection.{choice_by};
-ghost use Rattle.deny_run.specs.Steps.{ChecksAt, IsAfterLoad, paths_by};
+ghost use Rattle.deny_run.specs.Steps.{ChecksAt, IsAfterLoad, paths_by, scanner_by};
 
 use crate::error::Refusal;
 use crate::judge::check_all;
@@ -18,7 +18,7 @@ use deny_text::path::join;
 use deny_text::{ListOf, PathBuf, Text, Texts};
 use load_core::{LoadedPolicy, PolicyPaths};
 use search_core::{SearchError, Sought, find_upwards};
-use spdx_core::Catalog;
+use spdx_core::{Catalog, Identifier};
 use std::alloc::{AllocError, Global};
 use tree_core::Tree;
 use workspace_core::{ExcludeSpec, ExcludeSpecs, Selection, krates_at};
@@ -81,18 +81,20 @@ fn selection_by(alloc: Global, excludes: &Texts) -> Result<Selection, AllocError
     })
 }
 
-/// The reports on the crates that a policy has checked, of those that the metadata at a path tells of. `begun`
-/// is the tree's count of faults when the run began.
-pub(crate) fn check_crates<T: Tree, C: Catalog>(
+/// The reports on the crates that a policy has checked, of those that the metadata at a path tells of: their
+/// licences are settled, and then they are judged. `begun` is the tree's count of faults when the run began.
+pub(crate) fn check_crates<T: Tree, C: Catalog, I: Identifier>(
     alloc: Global,
     policy: &LoadedPolicy,
     metadata_path: &str,
     tree: &mut T,
     catalog: &C,
+    identifier: &I,
     begun: u64,
 ) -> Result<ListOf<CrateReport>, Refusal>
     requires { begun ≤ T.fault_count tree.old }
-    ensures answer { ForSome (T.content tree.old) (λ c. ChecksAt (C.lists catalog.now) policy.now c begun
+    ensures answer { ForSome (T.content tree.old) (λ c. ChecksAt
+        (scanner_by (C.lists catalog.now) (I.match_of identifier.now) policy.now.licenses) policy.now c begun
         metadata_path.now (T.fault_count tree.old) (T.fault_count tree.new) result) }
     ensures cause { IfErr result IsAfterLoad }
     ensures kept { KeepsTree (T.content tree.old) (T.content tree.new)
@@ -102,5 +104,5 @@ pub(crate) fn check_crates<T: Tree, C: Catalog>(
 {
     let selection = selection_by(alloc, &policy.graph.exclude)?;
     let krates = krates_at(alloc, tree, metadata_path, &selection, begun)?;
-    check_all(alloc, &policy.licenses, &krates, catalog)
+    check_all(alloc, &policy.licenses, &krates, tree, catalog, identifier)
 }
