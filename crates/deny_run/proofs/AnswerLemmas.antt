@@ -48,7 +48,7 @@ use Rattle.deny_run.specs.Script.{TellsLoad, told_before, told_of}
 use Rattle.deny_run.specs.Selection.{choice_in, included_by, included_in, AreSelected, Refuses}
 use Rattle.deny_run.specs.Steps.{Checks, IsChecked, IsFirstMany, paths_by}
 use Rattle.deny_run.specs.Words.{request_of}
-use Rattle.deny_run.proofs.GatheredLemmas.{first_heard, heard_of, heards_of, krates_same, own_reads, reads_listed, reads_same, reported}
+use Rattle.deny_run.proofs.GatheredLemmas.{first_many, heard_of, heards_of, heards_krates, own_reads, reads_reported, heards_reads, reported}
 use Rattle.deny_run.proofs.LoadedLemmas.{quiet, metadata_alike}
 use Rattle.deny_run.proofs.PolicyLemmas.{load_is, policy_is}
 
@@ -336,14 +336,14 @@ module _ (given : Given) (content : Content) (begun : ℕ) (request : Request) (
         looks = tt;
         middle = middle;
         files = record { content = refl; begun = refl; rises = first };
-        crates = subst (λ reads. RiseInOrder middle reads after) (sym (reads_same licenses)) rises;
+        crates = subst (λ reads. RiseInOrder middle reads after) (sym (heards_reads licenses)) rises;
       }
 
       -- the crates that are heard are those that are checked
       are_selected : (licenses : List KrateLicense) → IsListOf graph (Selected graph (choice_in policy) (included_by valid)) (map krate_of licenses)
           → AreSelected policy graph (crates_heard (gathered licenses))
       are_selected licenses selected =
-          subst (AreSelected policy graph) (sym (krates_same licenses))
+          subst (AreSelected policy graph) (sym (heards_krates licenses))
           (subst (λ include. IsListOf graph (Selected graph (choice_in policy) include) (map krate_of licenses)) flags selected)
 
       -- the refusal of a crate
@@ -363,7 +363,7 @@ module _ (given : Given) (content : Content) (begun : ℕ) (request : Request) (
             order = order;
             reads = own_reads given valid (gathered checked.licenses) checked.licenses checked.reads;
             one = heard_of many.license;
-            first = first_heard given valid (gathered checked.licenses) checked.licenses many.license checked.priorities many.first;
+            first = first_many given valid (gathered checked.licenses) checked.licenses many.license checked.priorities many.first;
             named = refl;
           }))
 
@@ -380,15 +380,15 @@ module _ (given : Given) (content : Content) (begun : ℕ) (request : Request) (
       -- the report is the one that is asked for
       module _ (report : Report) (is : report.policy ≡ valid) (checked : IsChecked (scanner_in given valid) valid content middle after graph (choice_in policy) (Ok report.crates)) where
         given_verdicts : AllZip (IsReportOf given report.policy (gathered checked.licenses)) (map krate_of checked.licenses) report.crates
-          given_verdicts =
+        given_verdicts =
             subst (λ own. AllZip (IsReportOf given own (gathered checked.licenses)) (map krate_of checked.licenses) report.crates) (sym is)
             (reported given valid (gathered checked.licenses) checked.licenses report.crates checked.priorities checked.reads checked.judged)
 
         reads_are : map (λ one. one.reads) (gathered checked.licenses).crates ≡ reads_told report
-          reads_are = reads_listed {policy = policy_of valid} checked.licenses report.crates checked.judged
+        reads_are = reads_reported (policy_of valid) checked.licenses report.crates checked.judged
 
         pub all_reported : policy.licenses.file_id ≡ 0 → report.stats ≡ counts_of report.crates → IsReport given content begun after report
-          all_reported file stats =
+        all_reported file stats =
             let hearing = gathered checked.licenses in
             let at = paths_by content given.cwd request.config_path in
             let (bytes, heard, is_told) = graph_heard-Ok (text_heard (quiet content begun) metadata request.metadata_path) graph drawn in
@@ -404,7 +404,7 @@ module _ (given : Given) (content : Content) (begun : ℕ) (request : Request) (
                 root = root;
                 selected = subst (λ include. IsListOf graph (Selected graph (choice_in policy) include) (map krate_of checked.licenses)) flags checked.selected;
               };
-              crates = krates_same checked.licenses;
+              crates = heards_krates checked.licenses;
               reads = reads_are;
               gives = record {
                 policy = subst (PutsPolicyInOrder policy.licenses) (sym is) order;
@@ -416,7 +416,7 @@ module _ (given : Given) (content : Content) (begun : ℕ) (request : Request) (
 
         -- what is heard of the report's own reads
         pub report_tells : TellsLoad given content begun after (Ok report) text
-          report_tells = record {
+        report_tells = record {
           hearing = gathered checked.licenses;
           heard = is_gathered checked.licenses checked.rises;
           answers = (refl, refl, reads_are);
