@@ -32,12 +32,17 @@ const ROWS: [(&str, &str, &str); 17] = [
     ("MIT OR MIT", "MIT", "crate a 1.0.0; "),
     ("MIT/ISC", "MIT", "crate a 1.0.0; "),
     ("MIT AND ISC", "MIT", "crate a 1.0.0; "),
-    // No expression in strict mode.
-    ("GPL-3.0", "GPL-3.0", "crate a 1.0.0; "),
-    ("mit", "MIT", "crate a 1.0.0; "),
-    (" ", "MIT", "crate a 1.0.0; "),
-    ("", "MIT", "crate a 1.0.0; "),
-    ("(MIT", "MIT", "crate a 1.0.0; "),
+    // No expression in strict mode, but one in lax mode.
+    (
+        "GPL-3.0",
+        "GPL-3.0",
+        "a 1.0.0: GPL-3.0 Accepted; licenses ok\n",
+    ),
+    ("mit", "MIT", "a 1.0.0: mit Accepted; licenses ok\n"),
+    // No expression, and no licence file.
+    (" ", "MIT", "a 1.0.0: none Unlicensed; licenses FAILED\n"),
+    ("", "MIT", "a 1.0.0: none Unlicensed; licenses FAILED\n"),
+    ("(MIT", "MIT", "a 1.0.0: none Unlicensed; licenses FAILED\n"),
     // A policy's entries are licensees: a licence with an exception, or a reference.
     (
         "MIT",

@@ -34,7 +34,7 @@ fn each_field_and_policy_has_its_answer(rt: HostRuntime) -> Result<(), Fail> {
             accepted("a 1.0.0: Zlib Accepted"),
         ),
         ("MIT OR ISC", POLICY, refused("crate a 1.0.0", OPEN)),
-        ("", POLICY, refused("crate a 1.0.0", OPEN)),
+        ("", POLICY, rejected("a 1.0.0: none Unlicensed")),
         (
             "MIT",
             "[licenses]\nallow = [\"MIT\",\"ISC\"]\n",

@@ -47,8 +47,14 @@ fn crates_are_checked_in_the_order_of_their_ids(rt: HostRuntime) -> Result<(), F
         // The crate that only a dev edge leads to is not asked.
         ([MIT, MIT, "null", MIT], all),
         ([MIT, MIT, "\"x y\"", MIT], all),
-        ([MIT, MIT, MIT, "null"], refused("crate d", OPEN)),
-        ([MIT, "null", MIT, "null"], refused("crate b", OPEN)),
+        (
+            [MIT, MIT, MIT, "null"],
+            rejected("a: MIT Accepted, b: MIT Accepted, d: none Unlicensed"),
+        ),
+        (
+            [MIT, "null", MIT, "null"],
+            rejected("a: MIT Accepted, b: none Unlicensed, d: none Unlicensed"),
+        ),
         ([MIT, "\"MIT OR ISC\"", MIT, MIT], refused("crate b", OPEN)),
         (
             [MIT, MIT, MIT, "\"ISC\""],
