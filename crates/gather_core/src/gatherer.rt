@@ -3,10 +3,13 @@ ghost use Rattle.std.specs.Prelude.{◌≡◌, IfOk, map, None, Some};
 ghost use Rattle.std.specs.Option.{ForSome};
 ghost use Rattle.tree_core.specs.Hearing.{KeepsTree};
 ghost use Rattle.graph_core.specs.Krate.{record_of};
+ghost use Rattle.graph_core.specs.Metadata.{Graph};
 ghost use Rattle.pack_core.specs.Ears.{Ears};
 ghost use Rattle.reads_core.specs.Rising.{RiseInOrder};
 ghost use Rattle.priority_core.specs.Settled.{scanner_with};
-ghost use Rattle.selection_core.specs.Listed.{record_behind, selected_in};
+ghost use Rattle.selection_core.specs.Choice.{Choice};
+ghost use Rattle.selection_core.specs.Listed.{IsChosen, IsListOf, record_behind, selected_in};
+ghost use Rattle.selection_core.specs.Walks.{Selected};
 ghost use Rattle.gather_core.specs.Entries.{entries_of};
 ghost use Rattle.gather_core.specs.Gathered.{AreByOwn, AreBySome, ArePriorities, AreRead, IsByEars};
 ghost use Rattle.gather_core.specs.Gathered.{all_reads, include_of, krate_of, own_ears};
@@ -135,6 +138,10 @@ impl<'i, I: Identifier> Gatherer<'i, I> {
             (T.fault_count tree.old) (T.fault_count tree.new) }
         ensures krates { IfOk result (λ summary.
             map krate_of summary.nfos ≡ selected_in (include_of policy.now) krates.entry.now) }
+        // of each graph and choice that the crates were built of
+        ensures listed { (graph : Graph) (choice : Choice) → IsChosen graph choice krates.entry.now
+            → IfOk result (λ summary. IsListOf graph (Selected graph choice (include_of policy.now))
+            (map krate_of summary.nfos)) }
         ensures answers { ForSome (T.content tree.old) (λ c. IfOk result (λ summary.
             ArePriorities (scanner_of (C.lists catalog.now) I.match_of self.entry) (entries_of policy.now)
             c summary.nfos)) }
