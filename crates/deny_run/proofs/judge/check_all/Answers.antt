@@ -1,3 +1,7 @@
+use Rattle.std.proofs.Common.{◌≡◌, ◌∙◌, ap, subst}
+use Rattle.expression_core.specs.Scanned.{Scanner}
+use Rattle.gather_core.specs.Entries.{entries_of}
+use Rattle.gather_core.specs.Gathered.{ArePriorities, AreRead, scanner_of, threshold_of}
 use Rattle.deny_run.specs.Steps.{scanner_by}
 use Rattle.deny_run.proofs.StepLemmas.{are_checked}
 use Rattle.deny_run.proofs.judge.check_all.Goals as goal
@@ -5,6 +9,14 @@ use Rattle.deny_run.proofs.judge.check_all.Goals as goal
 pub returns-clause-checked : goal.returns-clause-checked
 returns-clause-checked g c = λ content told. λ graph choice chosen.
     let policy = c.args.policy.now in
-    are_checked (scanner_by (g.C.Catalog.lists c.args.catalog.now) (g.I.Identifier.match_of c.args.identifier.now) policy) policy content
-    (g.T.Tree.fault_count c.args.tree.now) (g.T.Tree.fault_count c.gather.new.tree) graph choice c.in_ok-gathered.gathered.nfos
-    (c.in_ok-gathered.ensures.listed graph choice chosen) ? ? c.in_ok-gathered.ensures.rises c.judge_all.result c.judge_all.ensures.judged
+    let lists = g.C.Catalog.lists c.args.catalog.now in
+    let own = scanner_by lists (g.I.Identifier.match_of c.args.identifier.now) policy in
+    let nfos = c.in_ok-gathered.gathered.nfos in
+    let same : ◌≡◌ {A = Scanner} (scanner_of lists g.I.Identifier.match_of c.with_confidence_threshold-gatherer.result) own =
+    ap (scanner_of lists g.I.Identifier.match_of) c.with_confidence_threshold-gatherer.ensures
+    ∙ ap (λ one. scanner_of lists g.I.Identifier.match_of (record one { threshold = threshold_of policy.confidence_threshold })) c.with_store.ensures in
+    are_checked own policy content (g.T.Tree.fault_count c.args.tree.now) (g.T.Tree.fault_count c.gather.new.tree) graph choice nfos
+    (c.in_ok-gathered.ensures.listed graph choice chosen)
+    (subst (λ scanner. ArePriorities scanner (entries_of policy) content nfos) same (c.in_ok-gathered.ensures.answers content told))
+    (subst (λ scanner. AreRead scanner (entries_of policy) content nfos) same (c.in_ok-gathered.ensures.reads content told))
+    c.in_ok-gathered.ensures.rises c.judge_all.result c.judge_all.ensures.judged
