@@ -1,16 +1,17 @@
 -- The answer of a run, from the answers of its steps.
-use Rattle.std.proofs.Common.{◌≡◌, ℕ, ◌≤◌, ◌⊎◌, List, [], ◌∷◌, Option, Some, None, Result, Ok, Err, refl, sym, ap, subst, ◌∙◌, inl, inr, arith}
-use Rattle.std.specs.Prelude.{IsSome}
-use Rattle.std.specs.List.{AllByRecursion, AllZip}
-use Rattle.std.proofs.lemmas.List.Elements.{All-from_recursion}
+use Rattle.std.proofs.Common.{◌≡◌, ℕ, ◌≤◌, ◌⊎◌, List, [], map, Option, Some, None, Result, Ok, Err, refl, sym, ap, subst, ◌∙◌, inl, inr, arith}
+use Rattle.std.specs.List.{AllZip}
 use Rattle.tree_core.specs.Content.{Content}
 use Rattle.tree_core.specs.Hearing.{metadata, FailedRead, Hearing, IsHearing}
-use Rattle.spdx_core.specs.Reading.{ExpressionView}
-use Rattle.graph_core.specs.Krate.{Record}
 use Rattle.graph_core.specs.Metadata.{Graph}
 use Rattle.records_core.specs.Records.{records_of}
 use Rattle.records_core.specs.Told.{Told}
+use Rattle.selection_core.specs.Listed.{IsListOf}
 use Rattle.selection_core.specs.Roots.{HasRoot}
+use Rattle.selection_core.specs.Walks.{Selected}
+use Rattle.reads_core.specs.Rising.{RiseInOrder}
+use Rattle.gather_core.specs.Gathered.{all_reads, krate_of}
+use Rattle.gather_core.specs.declared.summary.KrateLicense.{KrateLicense}
 use Rattle.heard_core.specs.declared.fault.ReadFault.{ReadFault}
 use Rattle.heard_core.specs.declared.fault.ReadFault.TheVariants.{Failed, Absent, Folder, NotUtf8}
 use Rattle.search_core.specs.Search.{candidates, first_existing}
@@ -21,7 +22,6 @@ use Rattle.heard_core.specs.Cause.{Cause, no_memory, told, failed_read, refused_
 use Rattle.heard_core.specs.Heard.{hearing_of, text_heard, IsHeard}
 use Rattle.workspace_core.specs.Krates.{graph_in, graph_told, sparse_dir, Gathers}
 use Rattle.validate_core.specs.Order.{PutsPolicyInOrder}
-use Rattle.valid_policy.specs.Policy.{Policy}
 use Rattle.valid_policy.specs.View.{policy_of}
 use Rattle.valid_policy.specs.declared.policy.ValidConfig.{ValidConfig}
 use Rattle.policy_core.specs.Policy.{PolicyFound}
@@ -36,22 +36,19 @@ use Rattle.deny_run.specs.declared.error.Error.{Error}
 use Rattle.deny_run.specs.declared.error.Error.TheVariants.{ConfigRead, NotYet}
 use Rattle.deny_run.specs.declared.error.Refusal.{Refusal}
 use Rattle.deny_run.specs.declared.error.Refusal.TheVariants as refusal
-use Rattle.deny_run.specs.declared.report.Verdict.{Verdict}
-use Rattle.deny_run.specs.declared.report.Verdict.TheVariants.{Accepted, Rejected, Skipped}
-use Rattle.deny_run.specs.declared.report.CrateReport.{CrateReport}
 use Rattle.deny_run.specs.declared.report.Report.{Report}
 use Rattle.deny_run.specs.declared.words.Request.{Request}
 use Rattle.deny_run.specs.Counts.{counts_of}
 use Rattle.deny_run.specs.Error.{cause_of, error_of, error_of_krates, error_of_load, FreeOr}
 use Rattle.deny_run.specs.Given.{Given}
-use Rattle.deny_run.specs.Heard.{◌>>=◌, Found, exceptions_by, exceptions_in, found_of, load_at, loaded_of, manifest_in, or_error, or_load_error, or_refused, graph_heard, paths_of}
-use Rattle.deny_run.specs.Hearing.{look_failed, all_told, RunHearing, IsRunHearing, all_heard}
-use Rattle.deny_run.specs.Report.{Asked, Asks, HasExpression, IsVerdictOf, IsReportOf, IsReport, IsRefusal, paths_at}
-use Rattle.deny_run.specs.Script.{told_before, told_of}
-use Rattle.deny_run.specs.Selection.{choice_in, included_in, AreSelected, Refuses}
-use Rattle.deny_run.specs.Steps.{Checks, IsFirstUnread, IsJudged, paths_by}
+use Rattle.deny_run.specs.Heard.{◌>>=◌, Found, exceptions_by, exceptions_in, found_of, load_at, loaded_of, manifest_in, or_error, or_load_error, or_refused, graph_heard, paths_of, scanner_in}
+use Rattle.deny_run.specs.Hearing.{look_failed, all_told, RunHearing, IsRunHearing, all_heard, crates_heard}
+use Rattle.deny_run.specs.Report.{Asked, Asks, IsReportOf, IsReport, IsRefusal, paths_at, reads_told}
+use Rattle.deny_run.specs.Script.{TellsLoad, told_before, told_of}
+use Rattle.deny_run.specs.Selection.{choice_in, included_by, included_in, AreSelected, Refuses}
+use Rattle.deny_run.specs.Steps.{Checks, IsChecked, IsFirstMany, paths_by}
 use Rattle.deny_run.specs.Words.{request_of}
-use Rattle.deny_run.proofs.FieldLemmas.{has_expression, reads_reported}
+use Rattle.deny_run.proofs.GatheredLemmas.{first_many, heard_of, heards_of, heards_krates, own_reads, reads_reported, heards_reads, reported}
 use Rattle.deny_run.proofs.LoadedLemmas.{quiet, metadata_alike}
 use Rattle.deny_run.proofs.PolicyLemmas.{load_is, policy_is}
 
@@ -71,11 +68,11 @@ loaded-words given hearing none = bind-Err (or_refused (NotYet Words) (request_o
 
 -- a hearing in which each look told
 abbrev pub looked : Hearing → RunHearing
-looked files = record { looks = all_told; files = files }
+looked files = record { looks = all_told; files = files; crates = [] }
 
 -- where the policy's files are, where a look failed
 pub paths-failed : (given : Given) (files : Hearing) (request : Request) (before after : ℕ)
-    → paths_of given (record { looks = look_failed before after; files = files }) request ≡ Err (ConfigRead (Failed before after))
+    → paths_of given (record { looks = look_failed before after; files = files; crates = [] }) request ≡ Err (ConfigRead (Failed before after))
 paths-failed given files request before after = refl
 
 module _ (given : Given) (request : Request) (asked : request_of given.words given.cwd ≡ Some request) where
@@ -194,7 +191,7 @@ refused_last given content begun after hearing found error text heard tells is r
 }
 
 pub quiet_run : (content : Content) (begun after : ℕ) → begun ≤ after → IsRunHearing content begun after (all_heard content begun)
-quiet_run content begun after later = record { looks = tt; files = record { content = refl; begun = refl; rises = later } }
+quiet_run content begun after later = record { looks = tt; middle = after; files = record { content = refl; begun = refl; rises = later }; crates = omega arith }
 
 -- want of memory and a refused write come of any hearing
 abbrev pub IsFree : Cause → Type 0
@@ -223,9 +220,9 @@ words_refused given content begun after later none =
 pub search_refused : (given : Given) (content : Content) (begun after : ℕ) (request : Request) (first last : ℕ) → begun ≤ after
     → request_of given.words given.cwd ≡ Some request → ReadCounts begun begun after (failed_read first last) → Refused given content begun after (ConfigRead (Failed first last)) []
 search_refused given content begun after request first last later asked counts =
-    let hearing : RunHearing = record { looks = look_failed first last; files = quiet content begun } in
+    let hearing : RunHearing = record { looks = look_failed first last; files = quiet content begun; crates = [] } in
     refused_first given content begun after hearing (ConfigRead (Failed first last)) []
-    (record { looks = counts; files = record { content = refl; begun = refl; rises = later } })
+    (record { looks = counts; middle = after; files = record { content = refl; begun = refl; rises = later }; crates = omega arith })
     (sym (ap told_of (loaded-paths given request asked hearing (ConfigRead (Failed first last)) (paths-failed given (quiet content begun) request first last))))
     (found-paths given request asked hearing (ConfigRead (Failed first last)) (paths-failed given (quiet content begun) request first last))
 
@@ -245,36 +242,6 @@ pub graph_stands : (content : Content) (begun before after : ℕ) (path : List �
 graph_stands content begun before after path (Ok text) graph hears tells = ap graph_heard (hears metadata) ∙ ap or_error tells
 graph_stands content begun before after path (Err fault) graph hears tells = absurd (cc)
 
--- a verdict is given on an expression alone
-judged_some : (policy : Policy) (krate : Record) (expression : Option ExpressionView) (verdict : Verdict) → IsVerdictOf policy krate expression verdict → IsSome expression
-judged_some policy krate None Accepted is = absurd is.1
-judged_some policy krate None Rejected is = absurd is.1
-judged_some policy krate None Skipped is = is.1
-judged_some policy krate (Some expression) verdict is = refl
-
--- a crate that is judged has an expression, and its report is the one that is asked for
-module _ (given : Given) (found : PolicyFound) (policy : Policy) (hearing : RunHearing) where
-  expressions_of : (crates : List Record) (reports : List CrateReport) → AllZip (IsJudged given.lists policy) crates reports
-      → AllByRecursion (HasExpression given found hearing) crates
-  expressions_of [] reports judged = tt
-  expressions_of (krate ∷ crates) [] judged = absurd judged
-  expressions_of (krate ∷ crates) (report ∷ reports) judged =
-      (has_expression given found hearing krate report.expression judged.0.expression (judged_some policy krate report.expression report.verdict judged.0.verdict), expressions_of crates reports judged.1)
-
-  verdicts_of : (crates : List Record) (reports : List CrateReport) → AllZip (IsJudged given.lists policy) crates reports
-      → AllZip (IsReportOf given found policy hearing) crates reports
-  verdicts_of [] [] judged = tt
-  verdicts_of [] (report ∷ reports) judged = absurd judged
-  verdicts_of (krate ∷ crates) [] judged = absurd judged
-  verdicts_of (krate ∷ crates) (report ∷ reports) judged = (
-    record {
-      id = judged.0.id;
-      expression = reads_reported given found hearing krate report.expression judged.0.expression (judged_some policy krate report.expression report.verdict judged.0.verdict);
-      verdict = judged.0.verdict;
-    },
-    verdicts_of crates reports judged.1,
-  )
-
 -- ---- after the words and the looks
 
 -- what is told of a load that comes of these reads
@@ -288,25 +255,25 @@ load_tells given content request files asked same paths at heard is =
 
 module _ (given : Given) (content : Content) (begun : ℕ) (request : Request) (asked : request_of given.words given.cwd ≡ Some request) where
   -- the load's refusal
-  module _ (files : Hearing) (after : ℕ) (heard : IsHearing content begun after files) (text : List ℕ) (tells : text ≡ told_before given (record { looks = all_told; files = files })) where
+  module _ (files : Hearing) (after : ℕ) (heard : IsHearing content begun after files) (text : List ℕ) (tells : text ≡ told_before given (looked files)) where
     told_refused : (error : LoadError)
         → (load_of given.lists [] (paths_by content given.cwd request.config_path) (load_heard files (paths_by content given.cwd request.config_path))).answer ≡ Err error
         → Refused given content begun after (error_of_load error) text
     told_refused error is =
-        refused_first given content begun after (looked files) (error_of_load error) text (record { looks = tt; files = heard }) tells
+        refused_first given content begun after (looked files) (error_of_load error) text (record { looks = tt; middle = after; files = heard; crates = omega arith }) tells
         (found-load given request asked (looked files) (paths_by content given.cwd request.config_path) (paths-told given content files request heard.content) (error_of_load error) (ap or_load_error is))
 
     pub load_refused : (error : LoadError)
         → Answers (load_of given.lists [] (paths_by content given.cwd request.config_path) (load_heard files (paths_by content given.cwd request.config_path))).answer (Err error)
         → Refused given content begun after (error_of_load error) text
-    load_refused load.Memory answers = freely_refused given content begun after (looked files) (error_of_load load.Memory) text (record { looks = tt; files = heard }) tells tt
+    load_refused load.Memory answers = freely_refused given content begun after (looked files) (error_of_load load.Memory) text (record { looks = tt; middle = after; files = heard; crates = omega arith }) tells tt
     load_refused (load.ConfigRead fault) answers = told_refused (load.ConfigRead fault) answers
     load_refused (load.ConfigSyntax fault) answers = told_refused (load.ConfigSyntax fault) answers
     load_refused (load.ConfigShape faults) answers = told_refused (load.ConfigShape faults) answers
     load_refused load.NotCarried answers = told_refused load.NotCarried answers
     load_refused (load.ConfigInvalid found) answers = told_refused (load.ConfigInvalid found) answers
     load_refused (load.WriteFault before last) answers =
-        freely_refused given content begun after (looked files) (error_of_load (load.WriteFault before last)) text (record { looks = tt; files = heard }) tells tt
+        freely_refused given content begun after (looked files) (error_of_load (load.WriteFault before last)) text (record { looks = tt; middle = after; files = heard; crates = omega arith }) tells tt
 
   -- ---- after the load
 
@@ -325,7 +292,7 @@ module _ (given : Given) (content : Content) (begun : ℕ) (request : Request) (
           let at = paths_by content given.cwd request.config_path in
           let same = metadata_alike content begun at request.metadata_path before after heard in
           refused_first given content begun after (looked files) (error_of_krates error) text
-          (record { looks = tt; files = heard_one content begun read after heard first later (omega arith) counts })
+          (record { looks = tt; middle = after; files = heard_one content begun read after heard first later (omega arith) counts; crates = omega arith })
           (tells ∙ load_tells given content request files asked (of_content content begun read heard) at refl _ (sym same))
           (found-graph given request asked (looked files) at (paths-told given content files request (of_content content begun read heard)) policy (Err (error_of_krates error))
           (ap (λ own. (load_of given.lists [] at own).answer) same ∙ loads)
@@ -349,59 +316,109 @@ module _ (given : Given) (content : Content) (begun : ℕ) (request : Request) (
 
     -- ---- after the metadata
 
-    module _ (graph : Graph) (after : ℕ) (later : begun ≤ after) (root : HasRoot graph (choice_in policy))
-        (drawn : graph_heard (text_heard (record { content = content; begun = begun; failed = [] }) metadata request.metadata_path) ≡ Ok graph) where
-      is-found : found_of given (all_heard content begun) ≡ Ok (record { request = request; policy = policy; graph = graph })
-      is-found =
-          found-graph given request asked (all_heard content begun) (paths_by content given.cwd request.config_path) (paths-told given content (quiet content begun) request refl) policy (Ok graph) loads drawn
+    -- the files of the crates are heard behind the metadata
+    module _ (graph : Graph) (middle after : ℕ) (first : begun ≤ middle) (later : begun ≤ after) (root : HasRoot graph (choice_in policy))
+        (drawn : graph_heard (text_heard (record { content = content; begun = begun; failed = [] }) metadata request.metadata_path) ≡ Ok graph)
+        (valid : ValidConfig) (order : PutsPolicyInOrder policy.licenses valid) (flags : included_by valid ≡ included_in policy) where
+      -- what is heard where no file but some of the crates' failed to be read
+      abbrev gathered : List KrateLicense → RunHearing
+      gathered licenses = record { looks = all_told; files = quiet content begun; crates = heards_of licenses }
+
+      is-found : (licenses : List KrateLicense) → found_of given (gathered licenses) ≡ Ok (record { request = request; policy = policy; graph = graph })
+      is-found licenses =
+          found-graph given request asked (gathered licenses) (paths_by content given.cwd request.config_path) (paths-told given content (quiet content begun) request refl) policy (Ok graph) loads drawn
+
+      tells_alike : (licenses : List KrateLicense) → text ≡ told_before given (gathered licenses)
+      tells_alike licenses = quietly
+
+      is_gathered : (licenses : List KrateLicense) → RiseInOrder middle (all_reads licenses) after → IsRunHearing content begun after (gathered licenses)
+      is_gathered licenses rises = record {
+        looks = tt;
+        middle = middle;
+        files = record { content = refl; begun = refl; rises = first };
+        crates = subst (λ reads. RiseInOrder middle reads after) (sym (heards_reads licenses)) rises;
+      }
+
+      -- the crates that are heard are those that are checked
+      are_selected : (licenses : List KrateLicense) → IsListOf graph (Selected graph (choice_in policy) (included_by valid)) (map krate_of licenses)
+          → AreSelected policy graph (crates_heard (gathered licenses))
+      are_selected licenses selected =
+          subst (AreSelected policy graph) (sym (heards_krates licenses))
+          (subst (λ include. IsListOf graph (Selected graph (choice_in policy) include) (map krate_of licenses)) flags selected)
 
       -- the refusal of a crate
-      unread_refused : (crates : List Record) (refused : Refusal) → AreSelected policy graph crates → (refused ≡ refusal.Memory) ⊎ IsFirstUnread given.lists crates refused
-          → Refused given content begun after (error_of refused) text
-      unread_refused crates refused selected (inl memory) =
+      many_refused : (refused : Refusal) → (checked : IsChecked (scanner_in given valid) valid content middle after graph (choice_in policy) (Err refused))
+          → (refused ≡ refusal.Memory) ⊎ IsFirstMany checked.licenses refused → Refused given content begun after (error_of refused) text
+      many_refused refused checked (inl memory) =
           subst (λ one. Refused given content begun after (error_of one) text) (sym memory)
-          (freely_refused given content begun after (all_heard content begun) (error_of refusal.Memory) text (quiet_run content begun after later) quietly tt)
-      unread_refused crates refused selected (inr unread) =
-          subst (λ one. Refused given content begun after (error_of one) text) (sym unread.named)
-          (refused_last given content begun after (all_heard content begun) (record { request = request; policy = policy; graph = graph })
-          (NotYet (Crate unread.krate.id)) text (quiet_run content begun after later) quietly is-found
-          (record { root = root; crates = crates; selected = selected; krate = unread.krate; first = unread.first; named = refl }))
+          (freely_refused given content begun after (gathered checked.licenses) (error_of refusal.Memory) text (is_gathered checked.licenses checked.rises) (tells_alike checked.licenses) tt)
+      many_refused refused checked (inr many) =
+          subst (λ one. Refused given content begun after (error_of one) text) (sym many.named)
+          (refused_last given content begun after (gathered checked.licenses) (record { request = request; policy = policy; graph = graph })
+          (NotYet (Crate (krate_of many.license).id)) text (is_gathered checked.licenses checked.rises) (tells_alike checked.licenses) (is-found checked.licenses)
+          (record {
+            root = root;
+            selected = are_selected checked.licenses checked.selected;
+            policy = valid;
+            order = order;
+            reads = own_reads given valid (gathered checked.licenses) checked.licenses checked.reads;
+            one = heard_of many.license;
+            first = first_many given valid (gathered checked.licenses) checked.licenses many.license checked.priorities many.first;
+            named = refl;
+          }))
 
-      pub check_refused : (valid : Policy) (refused : Refusal) → Checks given.lists valid (included_in policy) graph (choice_in policy) (Err refused)
+      pub check_refused : (refused : Refusal) → Checks (scanner_in given valid) valid content middle after graph (choice_in policy) (Err refused)
           → Refused given content begun after (error_of refused) text
-      check_refused valid refusal.Memory checks =
+      check_refused refusal.Memory checks =
           freely_refused given content begun after (all_heard content begun) (error_of refusal.Memory) text (quiet_run content begun after later) quietly tt
-      check_refused valid refusal.Words checks = unread_refused checks.crates refusal.Words checks.selected checks.judged
-      check_refused valid (refusal.Search error) checks = unread_refused checks.crates (refusal.Search error) checks.selected checks.judged
-      check_refused valid (refusal.Load error) checks = unread_refused checks.crates (refusal.Load error) checks.selected checks.judged
-      check_refused valid (refusal.Krates error) checks = unread_refused checks.crates (refusal.Krates error) checks.selected checks.judged
-      check_refused valid (refusal.CrateForm id) checks = unread_refused checks.crates (refusal.CrateForm id) checks.selected checks.judged
+      check_refused refusal.Words checks = many_refused refusal.Words checks checks.judged
+      check_refused (refusal.Search error) checks = many_refused (refusal.Search error) checks checks.judged
+      check_refused (refusal.Load error) checks = many_refused (refusal.Load error) checks checks.judged
+      check_refused (refusal.Krates error) checks = many_refused (refusal.Krates error) checks checks.judged
+      check_refused (refusal.CrateForm id) checks = many_refused (refusal.CrateForm id) checks checks.judged
 
       -- the report is the one that is asked for
-      pub all_reported : (report : Report) → PutsPolicyInOrder policy.licenses report.policy → policy.licenses.file_id ≡ 0
-          → Checks given.lists (policy_of report.policy) (included_in policy) graph (choice_in policy) (Ok report.crates) → report.stats ≡ counts_of report.crates
-          → IsReport given content begun after report
-      all_reported report order file checks stats =
-          let hearing = all_heard content begun in
-          let at = paths_by content given.cwd request.config_path in
-          let (bytes, heard, is_told) = graph_heard-Ok (text_heard (quiet content begun) metadata request.metadata_path) graph drawn in
-          record {
-            hearing = hearing;
-            heard = quiet_run content begun after later;
-            failed = refl;
-            asked = record { request = request; policy = policy; graph = graph; crates = checks.crates };
-            asks = record {
-              request = asked;
-              policy = record { exceptions = at.exceptions; found = refl; is = policy_is given.lists at (load_heard (quiet content begun) at) policy loads };
-              metadata = record { text = bytes; heard = heard; tells = is_told };
-              root = root;
-              selected = checks.selected;
-              expressions = All-from_recursion (HasExpression given policy hearing) checks.crates (expressions_of given policy (policy_of report.policy) hearing checks.crates report.crates checks.judged);
-            };
-            gives = record {
-              policy = order;
-              file = ap (λ (one : ValidConfig). one.file_id) order.rest ∙ file;
-              verdicts = verdicts_of given policy (policy_of report.policy) hearing checks.crates report.crates checks.judged;
-              stats = stats;
-            };
-          }
+      module _ (report : Report) (is : report.policy ≡ valid) (checked : IsChecked (scanner_in given valid) valid content middle after graph (choice_in policy) (Ok report.crates)) where
+        given_verdicts : AllZip (IsReportOf given report.policy (gathered checked.licenses)) (map krate_of checked.licenses) report.crates
+        given_verdicts =
+            subst (λ own. AllZip (IsReportOf given own (gathered checked.licenses)) (map krate_of checked.licenses) report.crates) (sym is)
+            (reported given valid (gathered checked.licenses) checked.licenses report.crates checked.priorities checked.reads checked.judged)
+
+        reads_are : map (λ one. one.reads) (gathered checked.licenses).crates ≡ reads_told report
+        reads_are = reads_reported (policy_of valid) checked.licenses report.crates checked.judged
+
+        pub all_reported : policy.licenses.file_id ≡ 0 → report.stats ≡ counts_of report.crates → IsReport given content begun after report
+        all_reported file stats =
+            let hearing = gathered checked.licenses in
+            let at = paths_by content given.cwd request.config_path in
+            let (bytes, heard, is_told) = graph_heard-Ok (text_heard (quiet content begun) metadata request.metadata_path) graph drawn in
+            record {
+              hearing = hearing;
+              heard = is_gathered checked.licenses checked.rises;
+              failed = refl;
+              asked = record { request = request; policy = policy; graph = graph; crates = map krate_of checked.licenses };
+              asks = record {
+                request = asked;
+                policy = record { exceptions = at.exceptions; found = refl; is = policy_is given.lists at (load_heard (quiet content begun) at) policy loads };
+                metadata = record { text = bytes; heard = heard; tells = is_told };
+                root = root;
+                selected = subst (λ include. IsListOf graph (Selected graph (choice_in policy) include) (map krate_of checked.licenses)) flags checked.selected;
+              };
+              crates = heards_krates checked.licenses;
+              reads = reads_are;
+              gives = record {
+                policy = subst (PutsPolicyInOrder policy.licenses) (sym is) order;
+                file = ap (λ (one : ValidConfig). one.file_id) (is ∙ order.rest) ∙ file;
+                verdicts = given_verdicts;
+                stats = stats;
+              };
+            }
+
+        -- what is heard of the report's own reads
+        pub report_tells : TellsLoad given content begun after (Ok report) text
+        report_tells = record {
+          hearing = gathered checked.licenses;
+          heard = is_gathered checked.licenses checked.rises;
+          answers = (refl, refl, reads_are);
+          is = tells_alike checked.licenses;
+        }

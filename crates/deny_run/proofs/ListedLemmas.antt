@@ -1,6 +1,5 @@
 -- Crates in the order of their ids: where ids rise, one id has one crate, and a list of crates that have a property is one.
-use Rattle.std.proofs.Common.{◌≡◌, ℕ, zero, suc, ◌<◌, List, [], ◌∷◌, map, length, slice_index_or, Contains, Bool, true, false, cond, Some, refl, sym, ◌∙◌, ap, subst, nat_cmp, arith}
-use Rattle.std.specs.Prelude.{find}
+use Rattle.std.proofs.Common.{◌≡◌, ℕ, zero, suc, ◌<◌, List, [], ◌∷◌, map, length, slice_index_or, Contains, refl, sym, ◌∙◌, ap, subst, nat_cmp, arith}
 use Rattle.std.specs.List.{AllByRecursion}
 use Rattle.std.specs.List.Sorted.{IsStrictlySortedBy}
 use Rattle.std.specs.declared.cmp.Ordering.TheVariants.{Less, Equal}
@@ -89,17 +88,3 @@ stands-too graph Has crates others krate rising one other stands =
     (All-contains (Contains (crates_of graph)) others named.krate other.records named.stands)
     (All-contains (Contains (crates_of graph)) crates krate one.records stands) named.named in
     subst (Contains others) same named.stands
-
--- ---- the first that passes a test
-
-pub find-stands : (test : Record → Bool) (crates : List Record) (krate : Record) → find test crates ≡ Some krate
-    → Contains crates krate × (test krate ≡ true)
-find-stands test [] krate e = absurd (cc)
-find-stands test (first ∷ crates) krate e =
-    elim (test first) as (λ b. test first ≡ b → cond b (Some first) (find test crates) ≡ Some krate → Contains (first ∷ crates) krate × (test krate ≡ true)) [
-      | true ↦ λ is found. let same : first ≡ krate = cc in ((0, omega arith, same), ap test (sym same) ∙ is)
-      | false ↦ λ is found.
-          let (rest, passes) = find-stands test crates krate found in
-          let (place, below, at) = rest in
-          ((suc place, omega arith, at), passes)
-    ] refl e

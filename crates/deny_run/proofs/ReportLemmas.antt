@@ -11,8 +11,6 @@ use Rattle.search_core.specs.declared.search.SearchError.{SearchError}
 use Rattle.search_core.specs.declared.search.SearchError.TheVariants as search
 use Rattle.selection_core.specs.Roots.{HasRoot}
 use Rattle.workspace_core.specs.Krates.{Gathers}
-use Rattle.validate_core.specs.Order.{PutsPolicyInOrder}
-use Rattle.valid_policy.specs.View.{policy_of}
 use Rattle.valid_policy.specs.declared.policy.ValidConfig.{ValidConfig}
 use Rattle.diag_core.specs.File.{File}
 use Rattle.print_core.specs.declared.context.LogContext.{LogContext}
@@ -32,13 +30,15 @@ use Rattle.deny_run.specs.declared.words.Request.{Request}
 use Rattle.deny_run.specs.Counts.{counts_of}
 use Rattle.deny_run.specs.Error.{cause_of, error_of, error_of_load, error_of_search, FreeOr}
 use Rattle.deny_run.specs.Given.{Given}
+use Rattle.deny_run.specs.Heard.{scanner_in}
+use Rattle.expression_core.specs.Scanned.{Scanner}
 use Rattle.deny_run.specs.Hearing.{all_heard}
 use Rattle.deny_run.specs.Report.{IsReport, IsRefusal}
-use Rattle.deny_run.specs.Script.{WritesLoad, plain_log, told_before, told_of}
+use Rattle.deny_run.specs.Script.{TellsLoad, WritesLoad, plain_log, told_before, told_of}
 use Rattle.deny_run.specs.Selection.{choice_by, choice_in, included_by, included_in}
 use Rattle.deny_run.specs.Steps.{AreCheckedAt, Checks, ChecksAt, IsAfterLoad, paths_by}
 use Rattle.deny_run.specs.Words.{request_of}
-use Rattle.deny_run.proofs.AnswerLemmas.{Refused, all_reported, check_refused, freely_refused, graph_stands, is_refusal, krates_refused, load_refused, load_tells, quiet_run, search_refused, words_refused}
+use Rattle.deny_run.proofs.AnswerLemmas.{Refused, all_reported, report_tells, check_refused, freely_refused, graph_stands, is_refusal, krates_refused, load_refused, load_tells, quiet_run, search_refused, words_refused}
 use Rattle.deny_run.proofs.LoadedLemmas.{quiet, stands_quiet}
 use Rattle.deny_run.proofs.PolicyLemmas.{policy_is}
 use Rattle.deny_run.proofs.ScriptLemmas.{after_written, load_written, refused_tells, silent}
@@ -57,13 +57,13 @@ loads_at lists context paths content held begun own after old new before behind 
     (subst (λ there. Loads lists plain_log paths there own after old new before behind result) same
     (subst (λ log. Loads lists log paths held own after old new before behind result) plain loads)))
 
-pub checks_at : (lists : CatalogLists) (policy : LoadedPolicy) (content held : Option Content) (begun own : ℕ) (path other : List ℕ) (before after : ℕ)
+pub checks_at : (scanner : Scanner) (policy : LoadedPolicy) (content held : Option Content) (begun own : ℕ) (path other : List ℕ) (before after : ℕ)
     (result : Result (List CrateReport) Refusal) → held ≡ content → own ≡ begun → other ≡ path
-    → ForSome held (λ one. ChecksAt lists policy one own other before after result) → ForSome content (λ one. ChecksAt lists policy one begun path before after result)
-checks_at lists policy content held begun own path other before after result same since at checks =
-    subst (λ own_path. ForSome content (λ one. ChecksAt lists policy one begun own_path before after result)) at
-    (subst (λ n. ForSome content (λ one. ChecksAt lists policy one n other before after result)) since
-    (subst (λ there. ForSome there (λ one. ChecksAt lists policy one own other before after result)) same checks))
+    → ForSome held (λ one. ChecksAt scanner policy one own other before after result) → ForSome content (λ one. ChecksAt scanner policy one begun path before after result)
+checks_at scanner policy content held begun own path other before after result same since at checks =
+    subst (λ own_path. ForSome content (λ one. ChecksAt scanner policy one begun own_path before after result)) at
+    (subst (λ n. ForSome content (λ one. ChecksAt scanner policy one n other before after result)) since
+    (subst (λ there. ForSome there (λ one. ChecksAt scanner policy one own other before after result)) same checks))
 
 -- ---- before the load
 
@@ -170,22 +170,27 @@ module _ (given : Given) (content : Content) (begun mid after : ℕ) (first : be
     (found : PolicyFound) (loaded : LoadedPolicy) (is : IsPolicyOf found loaded)
     (answers : (load_of given.lists [] (paths_by content given.cwd request.config_path) (load_heard (record { content = content; begun = begun; failed = [] }) (paths_by content given.cwd request.config_path))).answer ≡ Ok found)
     (text : List ℕ) (tells : text ≡ told_of (Ok (load_of given.lists [] (paths_by content given.cwd request.config_path) (load_heard (record { content = content; begun = begun; failed = [] }) (paths_by content given.cwd request.config_path))))) where
-  -- the reports on the crates, by the choice and the flags of the policy that was found
-  checked_by : (graph : Graph) (result : Result (List CrateReport) Refusal) → Checks given.lists (policy_of loaded.licenses) (included_by loaded.licenses) graph (choice_by loaded.graph.exclude) result
-      → Checks given.lists (policy_of loaded.licenses) (included_in found) graph (choice_in found) result
-  checked_by graph result checks =
-      subst (λ include. Checks given.lists (policy_of loaded.licenses) include graph (choice_in found) result) (same_flags found loaded is)
-      (subst (λ choice. Checks given.lists (policy_of loaded.licenses) (included_by loaded.licenses) graph choice result) (same_choice found loaded is) checks)
+  -- the reports on the crates, by the choice of the policy that was found
+  checked_by : (graph : Graph) (middle : ℕ) (result : Result (List CrateReport) Refusal)
+      → Checks (scanner_in given loaded.licenses) loaded.licenses content middle after graph (choice_by loaded.graph.exclude) result
+      → Checks (scanner_in given loaded.licenses) loaded.licenses content middle after graph (choice_in found) result
+  checked_by graph middle result checks =
+      subst (λ choice. Checks (scanner_in given loaded.licenses) loaded.licenses content middle after graph choice result) (same_choice found loaded is) checks
 
   rooted_by : (graph : Graph) → HasRoot graph (choice_by loaded.graph.exclude) → HasRoot graph (choice_in found)
   rooted_by graph root = subst (HasRoot graph) (same_choice found loaded is) root
 
-  form_refused : (refused : Refusal) → AreCheckedAt given.lists loaded content begun request.metadata_path mid after (Err refused) → Refused given content begun after (error_of refused) text
-  form_refused refused at =
-      check_refused given content begun request asked found answers text tells at.graph after (omega arith) (rooted_by at.graph at.rooted)
-      (graph_stands content begun mid after request.metadata_path at.heard at.graph at.hears at.tells) (policy_of loaded.licenses) refused (checked_by at.graph (Err refused) at.checked)
+  begun_first : (middle : ℕ) → mid ≤ middle → begun ≤ middle
+  begun_first middle next = omega arith
 
-  by_refusal : (refused : Refusal) → IsAfterLoad refused → ChecksAt given.lists loaded content begun request.metadata_path mid after (Err refused)
+  form_refused : (refused : Refusal) → AreCheckedAt (scanner_in given loaded.licenses) loaded content begun request.metadata_path mid after (Err refused)
+      → Refused given content begun after (error_of refused) text
+  form_refused refused at =
+      check_refused given content begun request asked found answers text tells at.graph at.middle after (begun_first at.middle at.first) (omega arith) (rooted_by at.graph at.rooted)
+      (graph_stands content begun mid at.middle request.metadata_path at.heard at.graph at.hears at.tells) loaded.licenses is.licenses (same_flags found loaded is)
+      refused (checked_by at.graph at.middle (Err refused) at.checked)
+
+  by_refusal : (refused : Refusal) → IsAfterLoad refused → ChecksAt (scanner_in given loaded.licenses) loaded content begun request.metadata_path mid after (Err refused)
       → Refused given content begun after (error_of refused) text
   by_refusal refusal.Memory cause checks =
       freely_refused given content begun after (all_heard content begun) (error_of refusal.Memory) text (quiet_run content begun after (omega arith))
@@ -205,20 +210,26 @@ module _ (given : Given) (content : Content) (begun mid after : ℕ) (first : be
       let own = policy_is given.lists at (load_heard (quiet content begun) at) found answers in
       ap (λ (one : PolicyFound). one.licenses.file_id) own.is
 
-  by_report : (report : Report) → report.policy ≡ loaded.licenses → ChecksAt given.lists loaded content begun request.metadata_path mid after (Ok report.crates)
-      → report.stats ≡ counts_of report.crates → IsReport given content begun after report
-  by_report report policy at stats =
-      all_reported given content begun request asked found answers text tells at.graph after (omega arith) (rooted_by at.graph at.rooted)
-      (graph_stands content begun mid after request.metadata_path at.heard at.graph at.hears at.tells) report
-      (subst (PutsPolicyInOrder found.licenses) (sym policy) is.licenses) file_of
-      (subst (λ own. Checks given.lists (policy_of own) (included_in found) at.graph (choice_in found) (Ok report.crates)) (sym policy) (checked_by at.graph (Ok report.crates) at.checked)) stats
+  module _ (report : Report) (policy : report.policy ≡ loaded.licenses)
+      (at : AreCheckedAt (scanner_in given loaded.licenses) loaded content begun request.metadata_path mid after (Ok report.crates)) where
+    by_report : report.stats ≡ counts_of report.crates → IsReport given content begun after report
+    by_report stats =
+        all_reported given content begun request asked found answers text tells at.graph at.middle after (begun_first at.middle at.first) (omega arith) (rooted_by at.graph at.rooted)
+        (graph_stands content begun mid at.middle request.metadata_path at.heard at.graph at.hears at.tells) loaded.licenses is.licenses (same_flags found loaded is)
+        report policy (checked_by at.graph at.middle (Ok report.crates) at.checked) file_of stats
+
+    by_reads : TellsLoad given content begun after (Ok report) text
+    by_reads =
+        report_tells given content begun request asked found answers text tells at.graph at.middle after (begun_first at.middle at.first) (omega arith) (rooted_by at.graph at.rooted)
+        (graph_stands content begun mid at.middle request.metadata_path at.heard at.graph at.hears at.tells) loaded.licenses is.licenses (same_flags found loaded is)
+        report policy (checked_by at.graph at.middle (Ok report.crates) at.checked)
 
 module _ (given : Given) (content : Option Content) (begun mid after : ℕ) (first : begun ≤ mid) (later : mid ≤ after)
     (request : Request) (asked : request_of given.words given.cwd ≡ Some request) (paths : PolicyPaths)
     (new : List File) (old_err new_err : Option (List ℕ)) (err_before err_after : ℕ) (loaded : LoadedPolicy)
     (loads : Loads given.lists plain_log paths content begun mid [] new old_err new_err (Ok loaded)) where
   crates_refused : (one : Content) → content ≡ Some one → paths ≡ paths_by one given.cwd request.config_path → (refused : Refusal) → IsAfterLoad refused
-      → ChecksAt given.lists loaded one begun request.metadata_path mid after (Err refused)
+      → ChecksAt (scanner_in given loaded.licenses) loaded one begun request.metadata_path mid after (Err refused)
       → Refused given one begun after (error_of refused) (told_of (Ok (load_of given.lists [] paths loads.heard)))
   crates_refused one is at refused cause checks =
       let answers = loads.comes.answers in
@@ -227,13 +238,13 @@ module _ (given : Given) (content : Option Content) (begun mid after : ℕ) (fir
       (sym (ap (λ (it : Loaded). it.answer) same) ∙ answers.is) (told_of (Ok (load_of given.lists [] paths loads.heard))) (ap (λ it. told_of (Ok it)) same) refused cause checks
 
   pub crates_answer : (one : Content) → content ≡ Some one → paths ≡ paths_by one given.cwd request.config_path → (refused : Refusal) → IsAfterLoad refused
-      → ChecksAt given.lists loaded one begun request.metadata_path mid after (Err refused)
+      → ChecksAt (scanner_in given loaded.licenses) loaded one begun request.metadata_path mid after (Err refused)
       → FreeOr (cause_of (error_of refused)) (IsRefusal given one begun after (error_of refused))
   crates_answer one is at refused cause checks =
       is_refusal given one begun after (error_of refused) (told_of (Ok (load_of given.lists [] paths loads.heard))) (crates_refused one is at refused cause checks)
 
   pub crates_writes : ForSome content (λ one. paths ≡ paths_by one given.cwd request.config_path) → (refused : Refusal) → IsAfterLoad refused
-      → ForSome content (λ one. ChecksAt given.lists loaded one begun request.metadata_path mid after (Err refused))
+      → ForSome content (λ one. ChecksAt (scanner_in given loaded.licenses) loaded one begun request.metadata_path mid after (Err refused))
       → WritesLoad given content begun after old_err new_err err_before err_after (Err (error_of refused))
   crates_writes at refused cause checks = record {
     text = told_of (Ok (load_of given.lists [] paths loads.heard));
@@ -243,28 +254,25 @@ module _ (given : Given) (content : Option Content) (begun mid after : ℕ) (fir
 
   -- ---- at the report
 
-  pub report_answer : (one : Content) → content ≡ Some one → paths ≡ paths_by one given.cwd request.config_path → (report : Report) → report.policy ≡ loaded.licenses
-      → ChecksAt given.lists loaded one begun request.metadata_path mid after (Ok report.crates) → report.stats ≡ counts_of report.crates
-      → IsReport given one begun after report
-  report_answer one is at report policy checks stats =
-      let answers = loads.comes.answers in
-      let same = quiet_load given one begun request asked paths at loads.heard answers.found mid (loads.hears one is) answers.is in
-      by_report given one begun mid after first later request asked answers.found loaded answers.valid_of
-      (sym (ap (λ (it : Loaded). it.answer) same) ∙ answers.is) (told_of (Ok (load_of given.lists [] paths loads.heard))) (ap (λ it. told_of (Ok it)) same) report policy checks stats
-
-  pub report_writes : ForSome content (λ one. paths ≡ paths_by one given.cwd request.config_path) → (report : Report)
-      → WritesLoad given content begun after old_err new_err err_before err_after (Ok report)
-  report_writes at report = record {
-    text = told_of (Ok (load_of given.lists [] paths loads.heard));
-    tells = λ one is.
+  module _ (report : Report) (policy : report.policy ≡ loaded.licenses) where
+    pub report_answer : (one : Content) → content ≡ Some one → paths ≡ paths_by one given.cwd request.config_path
+        → ChecksAt (scanner_in given loaded.licenses) loaded one begun request.metadata_path mid after (Ok report.crates) → report.stats ≡ counts_of report.crates
+        → IsReport given one begun after report
+    report_answer one is at checks stats =
         let answers = loads.comes.answers in
-        let same = quiet_load given one begun request asked paths (at one is) loads.heard answers.found mid (loads.hears one is) answers.is in
-        let own = paths_by one given.cwd request.config_path in
-        record {
-          hearing = all_heard one begun;
-          heard = quiet_run one begun after (omega arith);
-          answers = (refl, refl);
-          is = ap (λ it. told_of (Ok it)) same ∙ load_tells given one request (quiet one begun) asked refl own refl _ refl;
-        };
-    written = loads.comes.prints;
-  }
+        let same = quiet_load given one begun request asked paths at loads.heard answers.found mid (loads.hears one is) answers.is in
+        by_report given one begun mid after first later request asked answers.found loaded answers.valid_of
+        (sym (ap (λ (it : Loaded). it.answer) same) ∙ answers.is) (told_of (Ok (load_of given.lists [] paths loads.heard))) (ap (λ it. told_of (Ok it)) same) report policy checks stats
+
+    pub report_writes : ForSome content (λ one. paths ≡ paths_by one given.cwd request.config_path)
+        → ForSome content (λ one. ChecksAt (scanner_in given loaded.licenses) loaded one begun request.metadata_path mid after (Ok report.crates))
+        → WritesLoad given content begun after old_err new_err err_before err_after (Ok report)
+    report_writes at checks = record {
+      text = told_of (Ok (load_of given.lists [] paths loads.heard));
+      tells = λ one is.
+          let answers = loads.comes.answers in
+          let same = quiet_load given one begun request asked paths (at one is) loads.heard answers.found mid (loads.hears one is) answers.is in
+          by_reads given one begun mid after first later request asked answers.found loaded answers.valid_of
+          (sym (ap (λ (it : Loaded). it.answer) same) ∙ answers.is) (told_of (Ok (load_of given.lists [] paths loads.heard))) (ap (λ it. told_of (Ok it)) same) report policy (checks one is);
+      written = loads.comes.prints;
+    }
