@@ -10,7 +10,7 @@ use Rattle.deny_run.proofs.judge.judge_all.Goals as goal
 pub returns-in_err-report-clause-judged : goal.returns-in_err-report-clause-judged
 returns-in_err-report-clause-judged c =
     let all = YieldsList-from_vec {s = c.into_iter-license-iterator.result} c.args.licenses (cc) (cc) in
-    let turn = YieldsList-turn all c.licenses.yielded _ c.licenses.yielded_by _ _ c.in-Some.license c.in-Some.is c.next.ensures.steps in
+    let turn = YieldsList-turn all c.licenses.yielded c.licenses.license-iterator c.licenses.yielded_by c.next.result c.next.new.self c.in-Some.license c.in-Some.is c.next.ensures.steps in
     let p = err_from_is_err_and c.from_residual.result c.from_residual.ensures.1 in
     rw (p.1, p.2)
     (refused_by (policy_of c.args.policy.now) c.args.licenses (length c.licenses.yielded) c.licenses.reports c.in-Some.license c.in_err-report.field-0.0
@@ -20,7 +20,7 @@ pub licenses-preserved : goal.licenses-preserved
 licenses-preserved c =
     let policy = policy_of c.args.policy.now in
     let all = YieldsList-from_vec {s = c.into_iter-license-iterator.result} c.args.licenses (cc) (cc) in
-    let turn = YieldsList-turn all c.licenses.yielded _ c.licenses.yielded_by _ _ c.in-Some.license c.in-Some.is c.next.ensures.steps in
+    let turn = YieldsList-turn all c.licenses.yielded c.licenses.license-iterator c.licenses.yielded_by c.next.result c.next.new.self c.in-Some.license c.in-Some.is c.next.ensures.steps in
     record {
       made = c.in_ok-report.ensures.made;
       so_far =
@@ -33,5 +33,5 @@ licenses-preserved c =
 pub returns-clause-judged : goal.returns-clause-judged
 returns-clause-judged c =
     let all = YieldsList-from_vec {s = c.into_iter-license-iterator.result} c.args.licenses (cc) (cc) in
-    let end = YieldsList-end all c.licenses.yielded _ c.licenses.yielded_by _ _ c.in-None.is c.next.ensures.steps in
+    let end = YieldsList-end all c.licenses.yielded c.licenses.license-iterator c.licenses.yielded_by c.next.result c.next.new.self c.in-None.is c.next.ensures.steps in
     all_judged (policy_of c.args.policy.now) c.args.licenses (length c.licenses.yielded) c.licenses.reports (omega (arith, end.1)) c.licenses.invariant.so_far
