@@ -10,8 +10,6 @@ use Rattle.selection_core.specs.Listed.{IsListOf}
 use Rattle.selection_core.specs.Walks.{Selected}
 use Rattle.valid_policy.specs.Policy.{Policy}
 use Rattle.heard_core.specs.Cause.{Cause, no_memory, told, failed_read, refused_write, ReadCounts}
-use Rattle.deny_run.specs.declared.error.Part.TheVariants.{Words}
-use Rattle.deny_run.specs.declared.error.Error.TheVariants.{Memory}
 use Rattle.deny_run.specs.declared.error.Refusal.{Refusal}
 use Rattle.deny_run.specs.declared.error.Refusal.TheVariants as refusal
 use Rattle.deny_run.specs.declared.report.CrateReport.{CrateReport}
