@@ -19,7 +19,7 @@ use Rattle.expression_core.specs.declared.files.Scanned.TheVariants.{Bad, Unname
 use Rattle.expression_core.specs.declared.files.ScannedFile.{ScannedFile}
 use Rattle.expression_core.specs.Scanned.{Scanner, file_scanned, joined_name, names_given}
 use Rattle.expression_core.specs.Taken.{field_read, joined_read, or_else}
-use Rattle.priority_core.specs.Clarification.{Clarification, files_of}
+use Rattle.priority_core.specs.Clarification.{Clarification, files_of, named_in}
 
 -- where an expression comes from; licence files are told by the paths of those that give a name
 pub data Source : Type 0 where
@@ -38,10 +38,13 @@ unnoted source expression = record { expression = expression; source = source; n
 
 -- ---- the first case: a clarification
 
--- the expression of the first that holds, as it stands in the policy
+-- the first that holds
+abbrev pub holding : Ears → List Clarification → Option Clarification
+holding ears clarifications = find (λ clarification. holds ears (named_in clarification)) clarifications
+
+-- its expression, as it stands in the policy
 abbrev pub clarified_of : Ears → List Clarification → Option ExpressionView
-clarified_of ears clarifications =
-    option_map (λ clarification. clarification.expression) (find (λ clarification. holds ears clarification.files) clarifications)
+clarified_of ears clarifications = option_map (λ clarification. clarification.expression) (holding ears clarifications)
 
 -- ---- the second case: the crate's field
 
