@@ -1,9 +1,8 @@
 -- Licences of crates, one after another.
 use Rattle.std.proofs.Common.{◌≡◌, ◌∙◌, ℕ, List, [], ◌∷◌, ◌++◌, map, refl, sym, ap, subst, append-nil}
-use Rattle.std.specs.List.{AllByRecursion, flat_map}
+use Rattle.std.specs.List.{AllByRecursion}
 use Rattle.std.proofs.lemmas.List.Concat.{flat_map-append}
 use Rattle.tree_core.specs.Content.{Content}
-use Rattle.tree_core.specs.declared.reads.ReadRecord.{ReadRecord}
 use Rattle.reads_core.specs.Rising.{RiseInOrder}
 use Rattle.reads_core.proofs.RisingLemmas.{rises_compose}
 use Rattle.pack_core.specs.Ears.{Ears}

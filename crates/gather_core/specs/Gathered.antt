@@ -1,5 +1,5 @@
 -- The licences of all crates that are selected.
-use Rattle.std.specs.Prelude.{◌≡◌, ℕ, ℤ, pos, negsuc, nat_le, List, None, map, option_copied, if◌then◌else◌}
+use Rattle.std.specs.Prelude.{◌≡◌, ℕ, ℤ, pos, negsuc, nat_le, List, None, option_copied, if◌then◌else◌}
 use Rattle.std.specs.List.{AllByRecursion, flat_map}
 use Rattle.catalog_core.specs.Catalog.{CatalogLists}
 use Rattle.catalog_core.specs.declared.identifier.Match.{Match}

@@ -1,5 +1,5 @@
 -- Crates and where their licences come from, worked out by hand from the rules.
-use Rattle.std.proofs.Common.{◌≡◌, ℕ, true, false, cond, List, [], ◌∷◌, ◌++◌, Option, Some, None, codes, refl, option_map}
+use Rattle.std.proofs.Common.{◌≡◌, ℕ, true, cond, List, [], ◌∷◌, Option, Some, None, codes, refl}
 use Rattle.std.specs.Path.{path_components, path_names, path_parent, rsplit_once, split_last_component, trim_trailing}
 use Rattle.std.specs.Str.{bytes_eq}
 use Rattle.std.specs.Cmp.Lexicographic.{pointwise}
@@ -11,13 +11,11 @@ use Rattle.tree_core.specs.declared.reads.ReadAnswer.{ReadAnswer}
 use Rattle.tree_core.specs.declared.reads.ReadAnswer.TheVariants as answer
 use Rattle.tree_core.specs.declared.reads.ReadKind.TheVariants.{Listing, LicenseFile}
 use Rattle.tree_core.specs.declared.reads.ReadRecord.{ReadRecord}
-use Rattle.catalog_core.specs.Catalog.{CatalogLists}
 use Rattle.spdx_core.specs.Grammar.{leaf}
 use Rattle.spdx_core.specs.Reading.{ExpressionView}
 use Rattle.graph_core.specs.Krate.{Record}
 use Rattle.reads_core.specs.Heard.{Heard, failed, absent, not_utf8, text, entries}
 use Rattle.pack_core.specs.Ears.{Ears}
-use Rattle.pack_core.specs.NamedFile.{Named}
 use Rattle.expression_core.specs.Scanned.{Scanner}
 use Rattle.priority_core.specs.Clarification.{Clarification}
 use Rattle.priority_core.specs.Priority.{Answer, user_override, priority_of, records_of}

@@ -1,20 +1,19 @@
 -- From what was looked at for a crate to what settles its licence.
-use Rattle.std.proofs.Common.{◌≡◌, ◌∙◌, ℕ, ◌++◌, ◌≤◌, Bool, true, false, cond, List, [], ◌∷◌, map, Option, None, Some, is_none, refl, sym, ap, subst}
+use Rattle.std.proofs.Common.{◌≡◌, ◌∙◌, ℕ, ◌++◌, true, false, cond, List, [], ◌∷◌, map, Option, None, Some, is_none, refl, sym, ap, subst}
 use Rattle.std.specs.Prelude.{option_map, unwrap_or}
 use Rattle.std.specs.List.{flat_map, fold}
 use Rattle.std.proofs.lemmas.List.Sums.{fold-append}
 use Rattle.deny_text.specs.Path.{components_of}
 use Rattle.deny_text.specs.declared.span.Span.{Span}
 use Rattle.tree_core.specs.Content.{Content}
-use Rattle.tree_core.specs.declared.reads.ReadRecord.{ReadRecord}
 use Rattle.spdx_core.specs.Reading.{ExpressionView}
 use Rattle.graph_core.specs.Krate.{Record}
 use Rattle.reads_core.specs.Heard.{Heard, absent}
-use Rattle.pack_core.specs.Ears.{Ears, ears_of, looked_of, tried_of}
+use Rattle.pack_core.specs.Ears.{Ears, looked_of, tried_of}
 use Rattle.pack_core.specs.NamedFile.{Named}
 use Rattle.pack_core.specs.Pack.{found_of, in_path_order, pack_of, reads_of, wanted_of}
 use Rattle.pack_core.specs.Steps.{Advances, Agrees, Begins, records_by, with_path}
-use Rattle.pack_core.specs.View.{AreNormal, PackView, file_at, is_listed, normal_heard, paths_of, paths_read}
+use Rattle.pack_core.specs.View.{AreNormal, PackView, is_listed, normal_heard, paths_of, paths_read}
 use Rattle.pack_core.proofs.PackLemmas.{agrees_earlier}
 use Rattle.pack_core.proofs.PathLemmas.{look_ups_keep_first_spellings}
 use Rattle.expression_core.specs.Scanned.{Scanner, file_scanned}

@@ -2,7 +2,6 @@
 use Rattle.std.proofs.Common.{◌≡◌, ◌∙◌, ℕ, cond, List, [], map, Option, None, Some, is_none, refl, sym, ap}
 use Rattle.std.specs.Prelude.{option_map}
 use Rattle.std.specs.List.{flat_map}
-use Rattle.catalog_core.specs.Catalog.{CatalogLists}
 use Rattle.spdx_core.specs.Reading.{ExpressionView}
 use Rattle.graph_core.specs.Krate.{Record}
 use Rattle.reads_core.specs.declared.bad_read.BadRead.{BadRead}

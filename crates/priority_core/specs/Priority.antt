@@ -1,6 +1,6 @@
 -- Which licence a crate is under, in one fixed order: a clarification of the policy whose files have the stated hashes, else
 -- the crate's own field, else what its licence files are identified as, else nothing.
-use Rattle.std.specs.Prelude.{ℕ, Bool, true, false, ◌||◌, not, List, [], ◌∷◌, ◌++◌, map, find, codes, Option, Some, None, is_none, unwrap_or, if◌then◌else◌}
+use Rattle.std.specs.Prelude.{ℕ, Bool, true, false, ◌||◌, not, List, [], ◌∷◌, ◌++◌, map, find, codes, Option, is_none, unwrap_or, if◌then◌else◌}
 use Rattle.std.specs.Prelude.{option_map, option_and_then}
 use Rattle.std.specs.List.{filter_map, flat_map}
 use Rattle.deny_text.specs.Path.{components_of, parent_of}
@@ -13,7 +13,6 @@ use Rattle.pack_core.specs.Ears.{Ears, holds}
 use Rattle.pack_core.specs.Pack.{pack_of, reads_of}
 use Rattle.pack_core.specs.Steps.{records_by}
 use Rattle.pack_core.specs.View.{is_listed, normal_heard}
-use Rattle.expression_core.specs.declared.files.Name.{Name}
 use Rattle.expression_core.specs.declared.files.Scanned.{Scanned}
 use Rattle.expression_core.specs.declared.files.Scanned.TheVariants.{Bad, Unnamed, Low, Unknown, Joined}
 use Rattle.expression_core.specs.declared.files.ScannedFile.{ScannedFile}

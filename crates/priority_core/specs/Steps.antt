@@ -6,13 +6,12 @@ use Rattle.std.specs.Cmp.Lexicographic.{slice_cmp}
 use Rattle.deny_text.specs.Path.{components_of, part_cmp}
 use Rattle.deny_text.specs.declared.span.Span.{Span}
 use Rattle.tree_core.specs.Content.{Content}
-use Rattle.tree_core.specs.declared.reads.ReadRecord.{ReadRecord}
 use Rattle.graph_core.specs.Krate.{Record}
 use Rattle.reads_core.specs.Heard.{Heard, absent}
 use Rattle.reads_core.specs.Rising.{RiseInOrder}
 use Rattle.pack_core.specs.Ears.{Ears}
 use Rattle.pack_core.specs.Pack.{reads_of}
-use Rattle.pack_core.specs.Steps.{Agrees, IsHeardIn, records_by}
+use Rattle.pack_core.specs.Steps.{Agrees, IsHeardIn}
 use Rattle.pack_core.specs.View.{AreNormal, PackView, is_listed, paths_read}
 use Rattle.expression_core.specs.Scanned.{Scanner, file_scanned}
 use Rattle.priority_core.specs.declared.clarification.Held.{Held}

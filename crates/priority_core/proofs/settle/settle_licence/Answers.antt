@@ -4,7 +4,6 @@ use Rattle.graph_core.specs.Krate.{record_of}
 use Rattle.reads_core.specs.Heard.{absent}
 use Rattle.pack_core.specs.Ears.{Ears, ears_of}
 use Rattle.priority_core.specs.Clarification.{behind}
-use Rattle.priority_core.specs.Priority as spec
 use Rattle.priority_core.specs.Priority.{folder_of}
 use Rattle.priority_core.specs.Settled.{scanner_with}
 use Rattle.priority_core.proofs.LookedLemmas.{looks_for_none, looks_for_some, settled_by_field, settled_by_files}

@@ -1,4 +1,4 @@
-use Rattle.std.proofs.Common.{◌≡◌, ◌≤◌, ◌+◌, ◌∷◌, ◌++◌, List, Option, true, false, Some, map, drop, sym, ap, subst, ◌∙◌, arith, rules}
+use Rattle.std.proofs.Common.{◌≡◌, ◌≤◌, ◌+◌, ◌∷◌, ◌++◌, List, true, false, Some, map, drop, sym, ap, subst, ◌∙◌, arith, rules}
 use Rattle.std.specs.Prelude.{option_and_then, option_map}
 use Rattle.std.proofs.lemmas.List.{at_drop_more}
 use Rattle.std.specs.List.{fold}
@@ -11,7 +11,7 @@ use Rattle.pack_core.proofs.PackLemmas.{advances_then, agrees_earlier}
 use Rattle.priority_core.specs.declared.clarification.Held.{Held}
 use Rattle.priority_core.specs.Clarification.{PlacedFile, behind, held_in}
 use Rattle.priority_core.specs.Priority.{holding}
-use Rattle.priority_core.specs.Settled.{missing_in, missing_of, span_at}
+use Rattle.priority_core.specs.Settled.{missing_of, span_at}
 use Rattle.priority_core.proofs.TriedLemmas.{held_here, held_on, looks, looks_last, looks_on, missing_last, missing_on}
 use Rattle.priority_core.proofs.settle.try_all.Goals as goal
 

@@ -1,7 +1,7 @@
 use Rattle.std.proofs.Common.{◌≡◌, ◌≤◌, true, false, cond, Some, None, ◌∷◌, map, drop, ap, sym, subst, ◌∙◌, ◌+◌, rules, arith}
 use Rattle.std.specs.List.{fold}
 use Rattle.std.proofs.lemmas.List.{at_drop_more}
-use Rattle.pack_core.specs.Ears.{holds, is_absent, looked_of, missing_from}
+use Rattle.pack_core.specs.Ears.{holds, looked_of, missing_from}
 use Rattle.pack_core.specs.Steps.{Advances, with_path}
 use Rattle.pack_core.specs.View.{paths_read}
 use Rattle.pack_core.proofs.PackLemmas.{advances_then, agrees_earlier, holds_on, holds_not, looks_on, looks_not, missing_here, missing_on}
