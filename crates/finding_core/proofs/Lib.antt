@@ -1,0 +1,5 @@
+pub mod CutLemmas
+pub mod FieldLemmas
+pub mod FindingLemmas
+pub mod MarkLemmas
+pub mod PieceLemmas
