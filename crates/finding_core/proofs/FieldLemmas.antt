@@ -1,14 +1,20 @@
 -- What a reading of a text answers.
-use Rattle.std.proofs.Common.{◌≡◌, ◌∙◌, ℕ, Bool, true, false, eqb, cond, List, [], ◌∷◌, length, Some, None, refl, ap}
-use Rattle.catalog_core.specs.Catalog.{CatalogLists}
+use Rattle.std.proofs.Common.{◌≡◌, ◌∙◌, ℕ, Bool, true, false, eqb, cond, List, [], ◌∷◌, length, Option, Some, None, refl, ap}
+use Rattle.std.specs.Option.{IfSome}
+use Rattle.std.specs.Str.{IsUtf8}
+use Rattle.std.proofs.lemmas.List.Elements.{All-cons, All-nil}
+use Rattle.catalog_core.specs.Catalog.{CatalogLists, IsCatalog}
 use Rattle.term_core.specs.declared.mode.ParseMode.{ParseMode}
 use Rattle.term_core.specs.declared.error.ParseError.{ParseError}
 use Rattle.term_core.specs.Faults.{first_fault}
 use Rattle.spdx_core.specs.Expressions.{IsRead}
 use Rattle.spdx_core.specs.Reading.{ExpressionView, expression_of}
+use Rattle.spdx_core.specs.Laws.{LiesIn}
+use Rattle.spdx_core.proofs.FaultSpans.{fault_lies}
 use Rattle.expression_core.proofs.TakenLemmas.{of_fault, of_read}
 use Rattle.expression_core.specs.Taken.{field_read, lax, or_else, strict_with_slash}
-use Rattle.finding_core.specs.Faults.{faults_by, faults_of}
+use Rattle.finding_core.specs.Faults.{faults_by, faults_of, same_span}
+use Rattle.finding_core.specs.Premises.{FaultsLie}
 
 pub read_of : (mode : ParseMode) (lists : CatalogLists) (text : List ℕ) (read : ExpressionView) → IsRead mode lists text read → Some read ≡ expression_of mode lists text
 read_of mode lists text read is = of_read mode lists text read is
@@ -48,3 +54,31 @@ some_faults lists field fault some is =
 pub empty_faults : (lists : CatalogLists) (field : List ℕ) → eqb (length field) 0 ≡ true → faults_of lists field ≡ []
 empty_faults lists field none =
     ap (λ b. cond b [] (faults_by (first_fault strict_with_slash lists field) (first_fault lax lists field))) none
+
+-- ---- where they stand
+
+two_lie : (field : List ℕ) (strict lax : Option ParseError) → IfSome strict (λ fault. LiesIn field fault.span) → IfSome lax (λ fault. LiesIn field fault.span)
+    → FaultsLie field (faults_by strict lax)
+two_lie field None lax first second = All-nil (λ (one : ParseError). LiesIn field one.span)
+two_lie field (Some fault) None first second = All-cons (λ (one : ParseError). LiesIn field one.span) fault [] first (All-nil (λ (one : ParseError). LiesIn field one.span))
+two_lie field (Some fault) (Some other) first second =
+    let lies : ParseError → Type 0 = λ one. LiesIn field one.span in
+    let last = All-cons lies other [] second (All-nil lies) in
+    elim (same_span fault.span other.span) as (λ b. FaultsLie field (cond b (fault ∷ []) (fault ∷ other ∷ []))) [
+      | true ↦ All-cons lies fault [] first (All-nil lies)
+      | false ↦ All-cons lies fault (other ∷ []) first last
+    ]
+
+one_lies : (mode : ParseMode) (lists : CatalogLists) (field : List ℕ) → IsCatalog lists → IsUtf8 field → (found : Option ParseError) → first_fault mode lists field ≡ found
+    → IfSome found (λ fault. LiesIn field fault.span)
+one_lies mode lists field laws utf8 None is = tt
+one_lies mode lists field laws utf8 (Some fault) is = fault_lies mode lists field fault laws utf8 is
+
+pub faults_lie : (lists : CatalogLists) (field : List ℕ) → IsCatalog lists → IsUtf8 field → FaultsLie field (faults_of lists field)
+faults_lie lists field laws utf8 =
+    let strictly = one_lies strict_with_slash lists field laws utf8 (first_fault strict_with_slash lists field) refl in
+    let laxly = one_lies lax lists field laws utf8 (first_fault lax lists field) refl in
+    elim (eqb (length field) 0) as (λ b. FaultsLie field (cond b [] (faults_by (first_fault strict_with_slash lists field) (first_fault lax lists field)))) [
+      | true ↦ All-nil (λ (one : ParseError). LiesIn field one.span)
+      | false ↦ two_lie field (first_fault strict_with_slash lists field) (first_fault lax lists field) strictly laxly
+    ]

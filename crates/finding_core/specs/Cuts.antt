@@ -1,15 +1,19 @@
--- What the labels of a crate's findings cut out of their files.
-use Rattle.std.specs.Prelude.{◌≡◌, ℕ, ◌==◌, ◌≤◌, List, [], ◌∷◌, ◌++◌, length, map, Option, Some, None, unwrap_or, if◌then◌else◌}
+-- What the labels of a crate's findings cut out of their files, and where they stand.
+use Rattle.std.specs.Prelude.{◌≡◌, ℕ, ◌==◌, ◌<◌, ◌≤◌, List, [], ◌∷◌, ◌++◌, length, map, All, Option, Some, None, unwrap_or, if◌then◌else◌, ⊤}
+use Rattle.std.specs.Bool.{OnTrue}
 use Rattle.std.specs.List.{flat_map}
+use Rattle.std.specs.Str.{IsCharBoundary}
 use Rattle.term_core.specs.declared.error.ParseError.{ParseError}
 use Rattle.graph_core.specs.Krate.{Record}
 use Rattle.diag_core.specs.declared.label.Coord.{Coord}
 use Rattle.diag_core.specs.declared.label.Label.{Label}
 use Rattle.diag_core.specs.declared.pack.Diag.{Diag}
 use Rattle.diag_core.specs.File.{File, source_of}
-use Rattle.manifest_core.specs.Synthetic.{cut, marked_of}
-use Rattle.finding_core.specs.Findings.{CaseView, Outcome, by_field, by_files, files_for, marks_by, points_by}
+use Rattle.manifest_core.specs.Synthetic.{LiesBetween, cut, marked_of}
+use Rattle.location_core.specs.Location.{PointsAt}
+use Rattle.finding_core.specs.Findings.{CaseView, Outcome, by_field, by_files, files_for, is_made, kept_by, marks_by, points_by}
 use Rattle.finding_core.specs.Pieces.{Seen, seen_pieces}
+use Rattle.finding_core.specs.Premises.{field_of}
 
 -- the labels of findings, in order
 abbrev pub labels_of : List Diag → List Label
@@ -48,13 +52,37 @@ abbrev pub CutOutBy : CaseView → List File → Outcome → Type 0
 CutOutBy case files outcome =
     map (text_under (files_for case outcome files)) (labels_of (points_by case (marks_by case outcome files) outcome).findings) ≡ texts_by case outcome
 
-abbrev pub LabelsCutOut : CaseView → List File → Type 0
-LabelsCutOut case files = CutOutBy case files case.outcome
+-- ---- where they stand
 
--- the location, where there is one, cuts out the field
-pub record Stands (files : List File) (at : Coord) (field : List ℕ) : Type 0 where
-  pub source : List ℕ
-  pub is_source : source_of files at.file ≡ Some source
-  pub ordered : at.span.start ≤ at.span.end
-  pub inside : at.span.end ≤ length source
-  pub cut_out : cut source at.span ≡ field
+-- the label's file is there, and its range lies in the file's text, between characters
+pub record LabelLies (files : List File) (label : Label) : Type 0 where
+  pub live : label.file_id < length files
+  pub ordered : label.range.start ≤ label.range.end
+  pub starts : IsCharBoundary (unwrap_or (source_of files label.file_id) []) label.range.start
+  pub ends : IsCharBoundary (unwrap_or (source_of files label.file_id) []) label.range.end
+
+-- each label of each finding, in the table as it is afterwards
+abbrev pub LabelsLieBy : CaseView → List File → Outcome → Type 0
+LabelsLieBy case files outcome = All (LabelLies (files_for case outcome files)) (labels_of (points_by case (marks_by case outcome files) outcome).findings)
+
+-- the marks of a synthetic manifest, where it is made, stand between characters of its text
+abbrev pub MarksLie : CaseView → Outcome → Type 0
+MarksLie case outcome = OnTrue (is_made case.location outcome) (All (LiesBetween (kept_by case outcome).text) (kept_by case outcome).spans)
+
+-- ---- where the expression stands
+
+-- the text of the expression, where there is one: the field, or the joined names
+abbrev pub expression_text : CaseView → Outcome → Option (List ℕ)
+expression_text case by_field = Some (field_of case)
+expression_text case (by_files seen joined) = joined
+
+-- a text that is there has a place, which cuts it out
+abbrev pub StandsAt : List File → Option Coord → Option (List ℕ) → Type 0
+StandsAt files None None = ⊤
+StandsAt files None (Some text) = ⊥
+StandsAt files (Some at) None = ⊥
+StandsAt files (Some at) (Some text) = PointsAt files at text
+
+abbrev pub ExpressionStandsBy : CaseView → List File → Outcome → Type 0
+ExpressionStandsBy case files outcome =
+    StandsAt (files_for case outcome files) (points_by case (marks_by case outcome files) outcome).expression (expression_text case outcome)

@@ -5,6 +5,7 @@ ghost use Rattle.spdx_core.specs.Reading.{expression_of};
 ghost use Rattle.expression_core.specs.Taken.{field_read};
 ghost use Rattle.finding_core.specs.Faults as spec;
 ghost use Rattle.finding_core.specs.Faults.{faults_by, faults_of};
+ghost use Rattle.finding_core.specs.Premises.{FaultsLie};
 
 use deny_text::{ListOf, Span};
 use spdx_core::{Catalog, ExprError, Expression, ParseError, ParseMode};
@@ -83,9 +84,7 @@ fn faults(
     Ok(faults)
 }
 
-/// A crate's field, read strictly with the slash on, or else laxly. An empty field is no expression, and
-/// nothing is wrong with it.
-pub fn read_field<C: Catalog>(
+fn read_both<C: Catalog>(
     alloc: Global,
     field: &str,
     catalog: &C,
@@ -114,4 +113,19 @@ pub fn read_field<C: Catalog>(
             })
         }
     }
+}
+
+/// A crate's field, read strictly with the slash on, or else laxly. An empty field is no expression, and
+/// nothing is wrong with it.
+pub fn read_field<C: Catalog>(
+    alloc: Global,
+    field: &str,
+    catalog: &C,
+) -> Result<FieldRead, AllocError>
+    ensures expression { IfOk result (λ read. read.expression ≡ field_read (C.lists catalog.now) field.now) }
+    ensures faults { IfOk result (λ read. read.faults ≡ faults_of (C.lists catalog.now) field.now) }
+    ensures inside { IfOk result (λ read. FaultsLie field.now read.faults) }
+{
+    let read = read_both(alloc, field, catalog)?;
+    Ok(read)
 }

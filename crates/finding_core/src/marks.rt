@@ -23,6 +23,14 @@ impl Model for Marks {
     ghost view = { λ m. record { file = m.file; spans = m.spans.items } };
 }
 
+/// A place in a file; its end is a place of 64 bits.
+fn coord(file: FileId, span: Span) -> Coord
+    ensures at { result ≡ record { file = file; span = span } }
+    ensures fits { span.end < 2 ^ 64 }
+{
+    Coord { file, span }
+}
+
 impl Marks {
     pub(crate) fn new(file: FileId, spans: Vec<Span>) -> Marks
         ensures { result ≡ record { file = file; spans = spans.items } }
@@ -35,10 +43,7 @@ impl Marks {
         ensures fits { IfSome result (λ at. at.span.end < 2 ^ 64) }
     {
         match self.spans.get(place) {
-            Some(span) => Some(Coord {
-                file: self.file,
-                span: *span,
-            }),
+            Some(span) => Some(coord(self.file, *span)),
             None => None,
         }
     }

@@ -1,13 +1,14 @@
 //! What is found of a crate whose licence no clarification settles.
-ghost use Rattle.std.specs.Prelude.{◌≡◌, ◌<◌, ◌^◌, ◌++◌, [], None, Some, unwrap_or, option_copied};
-ghost use Rattle.std.specs.Prelude.{IfOk, IfSome, OnOk, All, map};
+ghost use Rattle.std.specs.Prelude.{◌≡◌, ◌<◌, ◌+◌, ◌^◌, ◌++◌, [], None, Some, length, unwrap_or};
+ghost use Rattle.std.specs.Prelude.{IfOk, IfSome, OnOk, All, map, option_copied};
 ghost use Rattle.graph_core.specs.Krate.{record_of};
 ghost use Rattle.finding_core.specs.Findings as spec;
-ghost use Rattle.finding_core.specs.Findings.{Fits, by_field, by_files, failure_findings, field_mark};
+ghost use Rattle.finding_core.specs.Findings.{by_field, by_files, failure_findings, field_mark};
 ghost use Rattle.finding_core.specs.Findings.{field_place, files_by, joined_place, marks_by, points_by};
 ghost use Rattle.finding_core.specs.Findings.{points_of, unlicensed_findings};
-ghost use Rattle.finding_core.specs.Cuts.{Stands, labels_of, text_under, texts_by};
-ghost use Rattle.finding_core.specs.Premises.{IsPlaced};
+ghost use Rattle.finding_core.specs.Cuts.{LabelLies, MarksLie, StandsAt, expression_text, labels_of};
+ghost use Rattle.finding_core.specs.Cuts.{text_under, texts_by};
+ghost use Rattle.finding_core.specs.Premises.{FaultsLie, IsPlaced};
 ghost use Rattle.finding_core.specs.Views.{case_view, seen_view};
 
 use crate::case::{Case, SeenFiles, Settles};
@@ -28,7 +29,10 @@ pub struct Points {
 
 /// By the field, which gives the expression and stands at its location.
 fn find_at(alloc: Global, case: &Case<'_>, at: Coord) -> Result<Points, AllocError>
-    requires { All (Fits at) case.now.faults.now }
+    requires long { let field = unwrap_or (record_of case.now.krate.now).license [] in
+        at.span.end ≡ at.span.start + length field }
+    requires lie { let field = unwrap_or (record_of case.now.krate.now).license [] in
+        FaultsLie field case.now.faults.now }
     ensures { let krate = record_of case.now.krate.now in IfOk result (λ found. found ≡ record {
       expression = Some at;
       findings = spec.field_findings krate (Some at) case.now.faults.now (Some at) krate.license;
@@ -47,7 +51,7 @@ fn find_without_location(
     files: &mut Files,
     case: &Case<'_>,
 ) -> Result<Points, AllocError>
-    requires { IsPlaced (case_view case.now) }
+    requires { IsPlaced (case_view case.now) files.old }
     ensures points { let case = case_view case.now in
         let mark = field_mark (marks_by case by_field files.old) in
         IfOk result (λ found. found ≡ record {
@@ -55,6 +59,7 @@ fn find_without_location(
           findings = spec.field_findings case.krate None case.faults mark case.krate.license;
         }) }
     ensures files { OnOk result (files.new ≡ files_by (case_view case.now) by_field files.old) }
+    ensures marks { OnOk result (MarksLie (case_view case.now) by_field) }
 {
     let seen = SeenFiles::Listed(&[]);
     let marks = synthesize(alloc, files, case.krate, case.folder, None, seen)?;
@@ -94,15 +99,22 @@ fn push_files(
     }
 }
 
+/// A place, whose end is a place of 64 bits.
+fn there(at: Coord) -> Option<Coord>
+    ensures place { result ≡ Some at }
+    ensures fits { at.span.end < 2 ^ 64 }
+{
+    Some(at)
+}
+
 /// Where a field stands: at its location, or else in the synthetic manifest.
 fn field_place(location: Option<Coord>, marks: &Marks) -> Option<Coord>
     ensures place { result ≡ field_place location (field_mark marks.now) }
-    ensures mark { IfSome (field_mark marks.now) (λ at. at.span.end < 2 ^ 64) }
+    ensures fits { IfSome result (λ at. at.span.end < 2 ^ 64) }
 {
-    let mark = marks.field();
     match location {
-        Some(at) => Some(at),
-        None => mark,
+        Some(at) => there(at),
+        None => marks.field(),
     }
 }
 
@@ -114,12 +126,14 @@ fn find_by_files(
     seen: SeenFiles<'_>,
     joined: Option<&str>,
 ) -> Result<Points, AllocError>
-    requires { IsPlaced (case_view case.now) }
+    requires { IsPlaced (case_view case.now) files.old }
     ensures points { let case = case_view case.now in
         let outcome = by_files (seen_view seen.entry) (option_copied joined.entry) in
         IfOk result (λ found. found ≡ points_by case (marks_by case outcome files.old) outcome) }
     ensures files { let outcome = by_files (seen_view seen.entry) (option_copied joined.entry) in
         OnOk result (files.new ≡ files_by (case_view case.now) outcome files.old) }
+    ensures marks { let outcome = by_files (seen_view seen.entry) (option_copied joined.entry) in
+        OnOk result (MarksLie (case_view case.now) outcome) }
 {
     let marks = synthesize(alloc, files, case.krate, case.folder, joined, seen)?;
     let place = field_place(case.location, &marks);
@@ -137,9 +151,10 @@ fn find_points(
     files: &mut Files,
     case: &Case<'_>,
 ) -> Result<Points, AllocError>
-    requires { IsPlaced (case_view case.now) }
+    requires { IsPlaced (case_view case.now) files.old }
     ensures points { IfOk result (λ found. found ≡ points_of (case_view case.now) files.old) }
     ensures files { OnOk result (files.new ≡ spec.files_with (case_view case.now) files.old) }
+    ensures marks { let case = case_view case.now in OnOk result (MarksLie case case.outcome) }
 {
     match case.settles {
         Settles::Field => match case.location {
@@ -157,14 +172,15 @@ pub fn find(
     files: &mut Files,
     case: &Case<'_>,
 ) -> Result<Points, AllocError>
-    requires placed { IsPlaced (case_view case.now) }
-    requires located { let case = case_view case.now in IfSome case.location (λ at.
-        Stands files.old at (unwrap_or case.krate.license [])) }
+    requires { IsPlaced (case_view case.now) files.old }
     ensures points { IfOk result (λ found. found ≡ points_of (case_view case.now) files.old) }
     ensures files { OnOk result (files.new ≡ spec.files_with (case_view case.now) files.old) }
     // each label cuts out what it says: a fault of the field, what failed, the name
     ensures cuts { let case = case_view case.now in IfOk result (λ found.
         map (text_under files.new) (labels_of found.findings) ≡ texts_by case case.outcome) }
+    ensures inside { IfOk result (λ found. All (LabelLies files.new) (labels_of found.findings)) }
+    ensures expression { let case = case_view case.now in IfOk result (λ found.
+        StandsAt files.new found.expression (expression_text case case.outcome)) }
 {
     let points = find_points(alloc, files, case)?;
     Ok(points)

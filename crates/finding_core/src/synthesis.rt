@@ -1,9 +1,10 @@
 //! The manifest that is written in place of a crate's own.
-ghost use Rattle.std.specs.Prelude.{◌≡◌, ◌∷◌, [], ◌++◌, OnOk, OnErr, IfOk, length, option_copied, unwrap_or};
+ghost use Rattle.std.specs.Prelude.{◌≡◌, ◌∷◌, [], ◌++◌, All, OnOk, OnErr, IfOk, length};
+ghost use Rattle.std.specs.Prelude.{option_copied, unwrap_or};
 ghost use Rattle.std.specs.List.{flat_map};
 ghost use Rattle.graph_core.specs.Krate.{record_of};
 ghost use Rattle.manifest_core.specs.Manifest.{told_pieces};
-ghost use Rattle.manifest_core.specs.Synthetic.{written_all};
+ghost use Rattle.manifest_core.specs.Synthetic.{LiesBetween, written_all};
 ghost use Rattle.finding_core.specs.Pieces as spec;
 ghost use Rattle.finding_core.specs.Pieces.{crate_kept, file_pieces, joined_pieces, list_pieces};
 ghost use Rattle.finding_core.specs.Pieces.{scanned_pieces, seen_pieces, synthetic_file};
@@ -159,7 +160,6 @@ fn write_head(
 }
 
 /// The whole text, with the places of what is marked.
-#[tactic(auto, using(crate::proofs::PieceLemmas::three_written))]
 fn write_crate(
     alloc: Global,
     krate: &Krate,
@@ -192,6 +192,8 @@ pub(crate) fn synthesize(
     ensures files { let kept = crate_kept (record_of krate.now) folder.now (option_copied joined.entry)
         (seen_view seen.entry) in
         OnOk result (files.new ≡ files.old ++ synthetic_file (record_of krate.now) kept ∷ []) }
+    ensures between { let kept = crate_kept (record_of krate.now) folder.now (option_copied joined.entry)
+        (seen_view seen.entry) in OnOk result (All (LiesBetween kept.text) kept.spans) }
     ensures err { OnErr result (files.new ≡ files.old) }
 {
     let synthetic = write_crate(alloc, krate, folder, joined, seen)?;
