@@ -1,5 +1,5 @@
 //! Findings of gathering, with what they say and the places that they point at.
-ghost use Rattle.std.specs.Prelude.{◌≡◌, ◌++◌, ◌∷◌, [], IfOk, IfSome, OnOk, All, map, option_copied};
+ghost use Rattle.std.specs.Prelude.{◌≡◌, ◌++◌, ◌∷◌, [], IfOk, IfSome, OnOk, All, map};
 ghost use Rattle.std.specs.List.{zip};
 ghost use Rattle.std.specs.Option.{option_map, option_to_list};
 ghost use Rattle.graph_core.specs.Krate.{record_of};
@@ -7,6 +7,7 @@ ghost use Rattle.finding_core.specs.Findings as spec;
 ghost use Rattle.finding_core.specs.Findings.{Fits, failure, label_of};
 ghost use Rattle.finding_core.specs.Views.{behind};
 
+use crate::marks::span_at;
 use deny_text::{ListOf, Span};
 use diag_core::licenses::Code;
 use diag_core::{Coord, Diag, Diagnostic, DiagnosticCode, FileId, Label, Severity};
@@ -224,15 +225,14 @@ fn push_failure(
     diags: &mut Diags,
     file: FileId,
     words: &str,
-    span: Option<&Span>,
+    span: Option<Span>,
 ) -> Result<(), AllocError>
     ensures { OnOk result (diags.new ≡ diags.old
-        ++ option_to_list (option_map (λ place. failure file (words.now, place))
-        (option_copied span.entry))) }
+        ++ option_to_list (option_map (λ place. failure file (words.now, place)) span)) }
 {
     match span {
         Some(span) => {
-            let finding = failure(alloc, file, words, *span)?;
+            let finding = failure(alloc, file, words, span)?;
             diags.push(finding)
         }
         None => Ok(()),
@@ -251,7 +251,7 @@ pub(crate) fn push_failures(
         ≡ diags.old ++ map (failure file) (zip (map behind words.now) spans.now)) }
 {
     'words: for (place, said) in words.iter().enumerate() {
-        push_failure(alloc, diags, file, said, spans.get(place))?;
+        push_failure(alloc, diags, file, said, span_at(spans, place))?;
     }
     Ok(())
 }

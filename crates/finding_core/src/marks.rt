@@ -1,5 +1,5 @@
 //! The places that a synthetic manifest marks.
-ghost use Rattle.std.specs.Prelude.{◌≡◌, ◌<◌, ◌^◌, IfSome, drop};
+ghost use Rattle.std.specs.Prelude.{◌≡◌, ◌<◌, ◌^◌, IfSome, drop, slice_get};
 ghost use Rattle.finding_core.specs.Findings as spec;
 ghost use Rattle.finding_core.specs.Findings.{joined_mark, mark_at, name_mark};
 
@@ -23,6 +23,17 @@ impl Model for Marks {
     ghost view = { λ m. record { file = m.file; spans = m.spans.items } };
 }
 
+/// The place of that number, where there is one.
+#[tactic(auto, using(std::proofs::lemmas::Option::slice_get_past))]
+pub(crate) fn span_at(spans: &[Span], place: usize) -> Option<Span>
+    ensures { result ≡ slice_get spans.now place }
+{
+    match spans.get(place) {
+        Some(span) => Some(*span),
+        None => None,
+    }
+}
+
 /// A place in a file; its end is a place of 64 bits.
 fn coord(file: FileId, span: Span) -> Coord
     ensures at { result ≡ record { file = file; span = span } }
@@ -42,8 +53,8 @@ impl Marks {
         ensures mark { result ≡ mark_at self.now place }
         ensures fits { IfSome result (λ at. at.span.end < 2 ^ 64) }
     {
-        match self.spans.get(place) {
-            Some(span) => Some(coord(self.file, *span)),
+        match span_at(&self.spans, place) {
+            Some(span) => Some(coord(self.file, span)),
             None => None,
         }
     }
