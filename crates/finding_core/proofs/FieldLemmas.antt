@@ -1,5 +1,5 @@
 -- What a reading of a text answers.
-use Rattle.std.proofs.Common.{◌≡◌, ◌∙◌, ℕ, Bool, true, false, eqb, cond, List, [], ◌∷◌, length, Option, Some, None, refl, ap}
+use Rattle.std.proofs.Common.{◌≡◌, ◌∙◌, ℕ, Bool, true, false, eqb, cond, List, [], ◌∷◌, length, Option, Some, None, refl, sym, ap}
 use Rattle.std.specs.Option.{IfSome}
 use Rattle.std.specs.Str.{IsUtf8}
 use Rattle.std.proofs.lemmas.List.Elements.{All-cons, All-nil}
@@ -11,6 +11,8 @@ use Rattle.spdx_core.specs.Expressions.{IsRead}
 use Rattle.spdx_core.specs.Reading.{ExpressionView, expression_of}
 use Rattle.spdx_core.specs.Laws.{LiesIn}
 use Rattle.spdx_core.proofs.FaultSpans.{fault_lies}
+use Rattle.spdx_core.proofs.HasTree.{has_tree}
+use Rattle.spdx_core.proofs.SpellingLemmas.{is_read}
 use Rattle.expression_core.proofs.TakenLemmas.{of_fault, of_read}
 use Rattle.expression_core.specs.Taken.{field_read, lax, or_else, strict_with_slash}
 use Rattle.finding_core.specs.Faults.{faults_by, faults_of, same_span}
@@ -30,6 +32,16 @@ strictly_read lists byte bytes read is = ap (λ o. or_else o (expression_of lax 
 pub laxly_read : (lists : CatalogLists) (byte : ℕ) (bytes : List ℕ) → expression_of strict_with_slash lists (byte ∷ bytes) ≡ None
     → field_read lists (byte ∷ bytes) ≡ expression_of lax lists (byte ∷ bytes)
 laxly_read lists byte bytes is = ap (λ o. or_else o (expression_of lax lists (byte ∷ bytes))) is
+
+-- a field without a strict fault is what the strict reading gives
+pub fine_read : (lists : CatalogLists) (field : List ℕ) (found : Option ExpressionView) → eqb (length field) 0 ≡ false → first_fault strict_with_slash lists field ≡ None
+    → found ≡ expression_of strict_with_slash lists field → found ≡ field_read lists field
+fine_read lists [] found some fine is = cc
+fine_read lists (byte ∷ bytes) found some fine is =
+    let spelled = has_tree strict_with_slash lists (byte ∷ bytes) fine in
+    let own : ExpressionView = record { text = byte ∷ bytes; terms = spelled.1; tree = spelled.0 } in
+    let read : expression_of strict_with_slash lists (byte ∷ bytes) ≡ Some own = is_read strict_with_slash lists (byte ∷ bytes) spelled.0 spelled.1 spelled.2 in
+    is ∙ read ∙ sym (strictly_read lists byte bytes own read)
 
 -- ---- the faults that are told
 
@@ -57,9 +69,9 @@ empty_faults lists field none =
 
 -- ---- where they stand
 
-two_lie : (field : List ℕ) (strict lax : Option ParseError) → IfSome strict (λ fault. LiesIn field fault.span) → IfSome lax (λ fault. LiesIn field fault.span)
-    → FaultsLie field (faults_by strict lax)
-two_lie field None lax first second = All-nil (λ (one : ParseError). LiesIn field one.span)
+two_lie : (field : List ℕ) (strict laxly : Option ParseError) → IfSome strict (λ fault. LiesIn field fault.span) → IfSome laxly (λ fault. LiesIn field fault.span)
+    → FaultsLie field (faults_by strict laxly)
+two_lie field None laxly first second = All-nil (λ (one : ParseError). LiesIn field one.span)
 two_lie field (Some fault) None first second = All-cons (λ (one : ParseError). LiesIn field one.span) fault [] first (All-nil (λ (one : ParseError). LiesIn field one.span))
 two_lie field (Some fault) (Some other) first second =
     let lies : ParseError → Type 0 = λ one. LiesIn field one.span in

@@ -4,8 +4,8 @@ use Rattle.finding_core.specs.Premises.{FaultsLie}
 use Rattle.finding_core.proofs.FieldLemmas.{faults_lie}
 use Rattle.finding_core.proofs.field.read_field.Goals as goal
 
-pub returns-in_ok-read-clause-inside : goal.returns-in_ok-read-clause-inside
-returns-in_ok-read-clause-inside g c =
+pub returns-clause-inside : goal.returns-clause-inside
+returns-clause-inside g c =
     let field = c.args.field.now in
     subst (λ (faults : List ParseError). FaultsLie field faults) (sym c.in_ok-read.ensures.faults)
     (faults_lie (g.C.Catalog.lists c.args.catalog.now) field (g.met.C.Catalog.lawful c.args.catalog.now) c.utf8.field)

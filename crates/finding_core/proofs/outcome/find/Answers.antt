@@ -9,15 +9,15 @@ use Rattle.finding_core.specs.Views.{case_view, outcome_view}
 use Rattle.finding_core.proofs.CutLemmas.{cuts_by, lie_by, stands_by}
 use Rattle.finding_core.proofs.outcome.find.Goals as goal
 
-pub returns-in_ok-points-clause-cuts : goal.returns-in_ok-points-clause-cuts
-returns-in_ok-points-clause-cuts c =
+pub returns-clause-cuts : goal.returns-clause-cuts
+returns-clause-cuts c =
     let case = c.args.case.now in
     rw (c.in_ok-points.ensures.points, c.in_ok-points.ensures.files)
     (cuts_by (record_of case.krate.now) case.folder.now case.faults.now (outcome_view case.settles) c.args.files.now case.location (outcome_view case.settles)
     c.requires.located c.requires.faults c.in_ok-points.ensures.marks)
 
-pub returns-in_ok-points-clause-inside : goal.returns-in_ok-points-clause-inside
-returns-in_ok-points-clause-inside c =
+pub returns-clause-inside : goal.returns-clause-inside
+returns-clause-inside c =
     let case = c.args.case.now in
     let view = case_view case in
     let said : All (LabelLies (files_with view c.args.files.now)) (labels_of (points_of view c.args.files.now).findings) =
@@ -26,8 +26,8 @@ returns-in_ok-points-clause-inside c =
     subst (λ (files : List File). All (LabelLies files) (labels_of c.in_ok-points.points.findings)) (sym c.in_ok-points.ensures.files)
     (subst (λ (found : Points). All (LabelLies (files_with view c.args.files.now)) (labels_of found.findings)) (sym c.in_ok-points.ensures.points) said)
 
-pub returns-in_ok-points-clause-expression : goal.returns-in_ok-points-clause-expression
-returns-in_ok-points-clause-expression c =
+pub returns-clause-expression : goal.returns-clause-expression
+returns-clause-expression c =
     let case = c.args.case.now in
     let view = case_view case in
     let said : StandsAt (files_with view c.args.files.now) (points_of view c.args.files.now).expression (expression_text view view.outcome) =
