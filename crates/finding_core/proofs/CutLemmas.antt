@@ -1,5 +1,5 @@
 -- What the labels of all findings of a crate cut out, and where they and the expression stand.
-use Rattle.std.proofs.Common.{◌≡◌, ◌∙◌, ℕ, length, drop, map, List, [], ◌∷◌, ◌++◌, Option, Some, None, unwrap_or, refl, sym, ap, subst}
+use Rattle.std.proofs.Common.{◌≡◌, ◌∙◌, ℕ, length, map, List, [], ◌∷◌, ◌++◌, Option, Some, None, unwrap_or, refl, sym, ap, subst}
 use Rattle.std.specs.List.{All}
 use Rattle.std.specs.Option.{IfSome}
 use Rattle.std.proofs.lemmas.List.{length-map}
@@ -19,7 +19,7 @@ use Rattle.finding_core.specs.Findings.{CaseView, MarksView, Outcome, by_field, 
 use Rattle.finding_core.specs.Pieces.{Seen, listed, crate_kept, joined_pieces, seen_pieces, synthetic_file}
 use Rattle.finding_core.specs.Premises.{FaultsLie}
 use Rattle.finding_core.proofs.LabelLemmas.{as_many, failure_cuts, failure_lies, field_cuts, field_lies, lie-append, texts-append}
-use Rattle.finding_core.proofs.MarkLemmas.{AreMarks, marks}
+use Rattle.finding_core.proofs.MarkLemmas.{marks}
 use Rattle.finding_core.proofs.PlaceLemmas.{grown, last_source, points, points_cut, points_lie}
 
 -- ---- a synthetic manifest in the table

@@ -11,11 +11,9 @@ use Rattle.term_core.specs.declared.error.ParseError.{ParseError}
 use Rattle.term_core.specs.Reasons.{reason_text}
 use Rattle.spdx_core.specs.Laws.{LiesIn}
 use Rattle.diag_core.specs.declared.label.Coord.{Coord}
-use Rattle.diag_core.specs.declared.label.Label.{Label}
-use Rattle.diag_core.specs.declared.label.LabelStyle.TheVariants.{Primary, Secondary}
+use Rattle.diag_core.specs.declared.label.LabelStyle.TheVariants.{Secondary}
 use Rattle.diag_core.specs.declared.pack.Diag.{Diag}
 use Rattle.diag_core.specs.File.{File, source_of}
-use Rattle.diag_core.specs.Label.{label_at}
 use Rattle.graph_core.specs.Krate.{Record}
 use Rattle.manifest_core.specs.Manifest.{closing_pieces, opening_pieces}
 use Rattle.manifest_core.specs.Synthetic.{LiesBetween, cut, marked_of}

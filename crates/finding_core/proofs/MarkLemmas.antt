@@ -1,5 +1,5 @@
 -- The marks of a synthetic manifest: the name's and the field's come first.
-use Rattle.std.proofs.Common.{◌≡◌, ◌∙◌, ℕ, ◌+◌, ◌-◌, ◌^◌, ◌<◌, ◌≤◌, length, take, drop, map, List, [], ◌∷◌, ◌++◌, Option, Some, None, unwrap_or, codes, refl, sym, ap, subst, append-nil, append_assoc, arith}
+use Rattle.std.proofs.Common.{◌≡◌, ◌∙◌, ℕ, ◌+◌, ◌-◌, ◌^◌, ◌<◌, length, drop, map, List, [], ◌∷◌, ◌++◌, Option, Some, None, unwrap_or, codes, refl, sym, ap, subst, append-nil, append_assoc, arith}
 use Rattle.std.specs.Option.{IfSome}
 use Rattle.std.specs.List.{All}
 use Rattle.std.proofs.lemmas.List.{length-drop, length-take-le}
@@ -11,7 +11,7 @@ use Rattle.diag_core.specs.declared.label.Coord.{Coord}
 use Rattle.diag_core.specs.File.{File}
 use Rattle.graph_core.specs.Krate.{Record}
 use Rattle.semver.specs.Identifiers.{parts_text}
-use Rattle.manifest_core.specs.Synthetic.{Bit, plain, marked, Kept, LiesBetween, cut, marked_of, nothing_kept, place_behind, written, written_all}
+use Rattle.manifest_core.specs.Synthetic.{Bit, plain, marked, Kept, cut, marked_of, nothing_kept, place_behind, written, written_all}
 use Rattle.manifest_core.proofs.PlaceLemmas.{places_cut_out}
 use Rattle.location_core.specs.Location.{PointsAt}
 use Rattle.finding_core.specs.Findings.{Fits, field_mark, field_place}

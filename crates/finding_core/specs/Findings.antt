@@ -7,7 +7,6 @@ use Rattle.deny_text.specs.declared.span.Span.{Span}
 use Rattle.term_core.specs.declared.error.ParseError.{ParseError}
 use Rattle.term_core.specs.Reasons.{reason_text}
 use Rattle.graph_core.specs.Krate.{Record}
-use Rattle.diag_core.specs.declared.code.DiagnosticCode.{DiagnosticCode}
 use Rattle.diag_core.specs.declared.code.DiagnosticCode.TheVariants.{License}
 use Rattle.diag_core.specs.declared.label.Coord.{Coord}
 use Rattle.diag_core.specs.declared.label.Label.{Label}

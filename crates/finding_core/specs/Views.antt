@@ -1,5 +1,5 @@
 -- What is handed in, as the definitions take it.
-use Rattle.std.specs.Prelude.{ℕ, List, Option, option_copied}
+use Rattle.std.specs.Prelude.{ℕ, List, option_copied}
 use Rattle.std.specs.Borrow.{Bor}
 use Rattle.graph_core.specs.Krate.{record_of}
 use Rattle.finding_core.specs.declared.case.Case.{Case}

@@ -68,11 +68,7 @@ fn same_span(one: Span, other: Span) -> bool
 }
 
 /// The fault of the lax reading stands behind that of the strict one, but for one at the same place.
-fn faults(
-    alloc: Global,
-    strict: ParseError,
-    lax: Option<ParseError>,
-) -> Result<Faults, AllocError>
+fn faults(alloc: Global, strict: ParseError, lax: Option<ParseError>) -> Result<Faults, AllocError>
     ensures { IfOk result (λ faults. faults ≡ faults_by (Some strict) lax) }
 {
     let mut faults = Faults::new(alloc);
@@ -84,11 +80,7 @@ fn faults(
     Ok(faults)
 }
 
-fn read_both<C: Catalog>(
-    alloc: Global,
-    field: &str,
-    catalog: &C,
-) -> Result<FieldRead, AllocError>
+fn read_both<C: Catalog>(alloc: Global, field: &str, catalog: &C) -> Result<FieldRead, AllocError>
     ensures expression { IfOk result (λ read. read.expression ≡ field_read (C.lists catalog.now) field.now) }
     ensures faults { IfOk result (λ read. read.faults ≡ faults_of (C.lists catalog.now) field.now) }
 {

@@ -146,11 +146,7 @@ fn find_by_files(
 }
 
 /// By what settles the licence.
-fn find_points(
-    alloc: Global,
-    files: &mut Files,
-    case: &Case<'_>,
-) -> Result<Points, AllocError>
+fn find_points(alloc: Global, files: &mut Files, case: &Case<'_>) -> Result<Points, AllocError>
     requires { IsPlaced (case_view case.now) files.old }
     ensures points { IfOk result (λ found. found ≡ points_of (case_view case.now) files.old) }
     ensures files { OnOk result (files.new ≡ spec.files_with (case_view case.now) files.old) }
@@ -167,18 +163,16 @@ fn find_points(
 
 /// What is found of a crate, and where its expression stands. Where something points into it, a manifest is
 /// written in place of the crate's own, and joins the table under a name that no path finds.
-pub fn find(
-    alloc: Global,
-    files: &mut Files,
-    case: &Case<'_>,
-) -> Result<Points, AllocError>
+pub fn find(alloc: Global, files: &mut Files, case: &Case<'_>) -> Result<Points, AllocError>
     requires { IsPlaced (case_view case.now) files.old }
     ensures points { IfOk result (λ found. found ≡ points_of (case_view case.now) files.old) }
     ensures files { OnOk result (files.new ≡ spec.files_with (case_view case.now) files.old) }
     // each label cuts out what it says: a fault of the field, what failed, the name
     ensures cuts { let case = case_view case.now in IfOk result (λ found.
         map (text_under files.new) (labels_of found.findings) ≡ texts_by case case.outcome) }
+    // and lies in its file's text, between characters
     ensures inside { IfOk result (λ found. All (LabelLies files.new) (labels_of found.findings)) }
+    // the expression has a place exactly where there is one, and the place cuts out its text
     ensures expression { let case = case_view case.now in IfOk result (λ found.
         StandsAt files.new found.expression (expression_text case case.outcome)) }
 {

@@ -146,11 +146,7 @@ fn field_text(krate: &Krate) -> &str
 }
 
 /// The head: name, version and field, as they are.
-fn write_head(
-    alloc: Global,
-    synthetic: &mut Synthetic,
-    krate: &Krate,
-) -> Result<(), AllocError>
+fn write_head(alloc: Global, synthetic: &mut Synthetic, krate: &Krate) -> Result<(), AllocError>
     ensures { OnOk result (synthetic.new
         ≡ written_all synthetic.old (spec.head_pieces (record_of krate.now))) }
 {

@@ -2,9 +2,9 @@
 use crate::world::Comes;
 use reads_core::BadRead;
 
-/// A crate: its name and its field, the text of its manifest where the field has its location there, what
-/// comes of its files or why they were not listed, the expression of joined names, whether the field gives
-/// the expression, and the findings, each in a line.
+/// A crate: its name and its field, the text of its manifest, what comes of its files or why they were not
+/// listed, the expression of joined names, whether the field gives the expression, and the findings, each in
+/// a line.
 #[derive(Clone, Copy)]
 pub struct Row {
     pub name: &'static str,
@@ -61,6 +61,7 @@ unlicensed a-synthesized.toml:1:8 `a` !
     // without a location it is pointed at in a synthetic manifest
     Row {
         field: Some("GPL-3.0"),
+        manifest: Some(EMPTY),
         reads: true,
         wanted: "parse-error a-synthesized.toml:3:11 `GPL-3.0` a deprecated license identifier was used
 ",

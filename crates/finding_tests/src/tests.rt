@@ -1,37 +1,28 @@
 //! Each row of what is found.
+ghost use Rattle.std.specs.Prelude.{◌≡◌, [], unwrap_or};
+ghost use Rattle.graph_core.specs.Krate.{record_of};
+
 use crate::lines::{lines_of, messages_of, put_source};
 use crate::rows::{FIELDS, FILES, MESSAGES, Row, WHOLE};
 use crate::world::{krate, scanned};
-use deny_text::{PathBuf, Text};
+use deny_text::{PathBuf, Span, Text};
 use diag_core::{Coord, Files};
 use expression_core::ScannedFile;
-use finding_core::{Case, Faults, Points, SeenFiles, Settles, find, read_field};
+use finding_core::{Case, Points, SeenFiles, Settles, find, missing_file, read_field};
 use graph_core::Krate;
-use manifest_core::license_span;
+use location_core::locate;
 use spdx_core::Table;
 use std::alloc::Global;
 use std::test::Fail;
+use tree_core::MemTree;
 
-/// The table with the manifest, and the location of the field in it.
-fn table_of(alloc: Global, row: &Row) -> Result<(Files, Option<Coord>), Fail> {
-    let mut files = Files::new(alloc);
-    match row.manifest {
-        Some(text) => {
-            let span = license_span(text).ok_or("a field")?;
-            let path = PathBuf::copy(alloc, "/w/Cargo.toml")?;
-            let text = Text::copy(alloc, text)?;
-            let file = files.add(path, text)?;
-            Ok((files, Some(Coord { file, span })))
-        }
-        None => Ok((files, None)),
+/// A tree with the manifest, where there is one.
+fn tree_of(alloc: Global, row: &Row) -> Result<MemTree, Fail> {
+    let mut tree = MemTree::new(alloc);
+    if let Some(text) = row.manifest {
+        tree.put("/w/Cargo.toml", text.as_bytes())?;
     }
-}
-
-fn faults_of(alloc: Global, row: &Row) -> Result<Faults, Fail> {
-    match row.field {
-        Some(field) => Ok(read_field(alloc, field, &Table)?.faults),
-        None => Ok(Faults::new(alloc)),
-    }
+    Ok(tree)
 }
 
 fn settles<'a>(row: &Row, files: &'a [ScannedFile]) -> Settles<'a> {
@@ -48,17 +39,31 @@ fn settles<'a>(row: &Row, files: &'a [ScannedFile]) -> Settles<'a> {
     }
 }
 
+/// The text of a crate's field; the empty text where there is none.
+fn field_of(krate: &Krate) -> &str
+    ensures { result.now ≡ unwrap_or (record_of krate.now).license [] }
+{
+    match &krate.license {
+        Some(field) => field.as_str(),
+        None => "",
+    }
+}
+
 fn found(alloc: Global, row: &Row) -> Result<(Files, Points), Fail> {
-    let krate: Krate = krate(alloc, row.name, row.field)?;
+    let krate = krate(alloc, row.name, row.field)?;
     let scanned = scanned(alloc, row.files)?;
-    let faults = faults_of(alloc, row)?;
-    let (mut files, location) = table_of(alloc, row)?;
+    let field = field_of(&krate);
+    let read = read_field(alloc, field, &Table)?;
+    let mut tree = tree_of(alloc, row)?;
+    let mut files = Files::new(alloc);
+    let located = locate(alloc, &mut tree, &mut files, &krate.manifest_path, field)?;
+    let settles = settles(row, scanned.items());
     let case = Case {
         krate: &krate,
         folder: "/w",
-        location,
-        faults: faults.items(),
-        settles: settles(row, scanned.items()),
+        location: located.location,
+        faults: read.faults.items(),
+        settles,
     };
     let points = find(alloc, &mut files, &case)?;
     Ok((files, points))
@@ -109,5 +114,22 @@ fn messages(rt: HostRuntime) -> Result<(), Fail> {
         let lines = messages_of(rt.alloc(), points.findings.items())?;
         assert_eq!(rt; lines.as_str(), row.wanted);
     }
+    Ok(())
+}
+
+#[test]
+fn absent_file(rt: HostRuntime) -> Result<(), Fail> {
+    let alloc = rt.alloc();
+    let mut files = Files::new(alloc);
+    let path = PathBuf::copy(alloc, "/w/deny.toml")?;
+    let text = Text::copy(alloc, "license-files = [{ path = \"LICENSE\" }]\n")?;
+    let file = files.add(path, text)?;
+    let span = Span { start: 27, end: 34 };
+    let finding = missing_file(alloc, Coord { file, span })?;
+    let line = lines_of(alloc, &files, &[finding])?;
+    assert_eq!(rt;
+        line.as_str(),
+        "missing-clarification-file /w/deny.toml:0:27 `LICENSE` \n"
+    );
     Ok(())
 }

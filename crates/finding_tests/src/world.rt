@@ -83,10 +83,7 @@ fn scanned_of(alloc: Global, comes: Comes) -> Result<Scanned, AllocError> {
     }
 }
 
-pub fn scanned(
-    alloc: Global,
-    files: &[(&str, Comes)],
-) -> Result<ListOf<ScannedFile>, AllocError> {
+pub fn scanned(alloc: Global, files: &[(&str, Comes)]) -> Result<ListOf<ScannedFile>, AllocError> {
     let mut list = ListOf::new(alloc);
     for (path, comes) in files {
         let path = PathBuf::copy(alloc, path)?;

@@ -1,9 +1,9 @@
 use Rattle.std.specs.List.{All}
-use Rattle.std.proofs.Common.{◌≡◌, List, ℕ, map, subst, sym}
+use Rattle.std.proofs.Common.{List, subst, sym}
 use Rattle.graph_core.specs.Krate.{record_of}
 use Rattle.diag_core.specs.File.{File}
 use Rattle.finding_core.specs.declared.outcome.Points.{Points}
-use Rattle.finding_core.specs.Cuts.{LabelLies, StandsAt, expression_text, labels_of, text_under, texts_by}
+use Rattle.finding_core.specs.Cuts.{LabelLies, StandsAt, expression_text, labels_of}
 use Rattle.finding_core.specs.Findings.{files_with, points_of}
 use Rattle.finding_core.specs.Views.{case_view, outcome_view}
 use Rattle.finding_core.proofs.CutLemmas.{cuts_by, lie_by, stands_by}
