@@ -17,8 +17,8 @@ use Rattle.reads_core.specs.Heard.{counts_in, failed_counts, heard, is_read, or_
 use Rattle.reads_core.specs.Rising.{RiseFrom, RiseInOrder}
 use Rattle.pack_core.specs.Ears.{Ears, ears_of}
 use Rattle.priority_core.specs.Priority.{Answer, folder_of, priority_of}
-use Rattle.priority_core.specs.Settled.{info_of}
-use Rattle.priority_core.specs.declared.license.LicenseExprSource.{LicenseExprSource}
+use Rattle.gather_core.specs.Told.{info_of}
+use Rattle.gather_core.specs.declared.license.LicenseExprSource.{LicenseExprSource}
 use Rattle.valid_policy.specs.declared.policy.ValidConfig.{ValidConfig}
 use Rattle.valid_policy.specs.Policy.{Policy}
 use Rattle.valid_policy.specs.View.{policy_of}
@@ -82,15 +82,17 @@ module _ (given : Given) (policy : ValidConfig) (hearing : RunHearing) where
   reported (license ∷ licenses) (report ∷ reports) priorities read judged =
       let own = judged.0 in
       let answer = priority_heard given policy hearing (heard_of license) in
-      let P : List ReadRecord → Type 0 = λ reads. IsReportOf given policy hearing (krate_of license) (record report { reads = reads }) in
-      (subst P (sym own.reads) (record {
-        id = own.id;
-        reads = read.0;
-        expression = own.expression ∙ ap expression_told priorities.0.info ∙ told_expression answer;
-        source = own.source ∙ ap source_told priorities.0.info ∙ told_source answer;
-        notes = own.notes ∙ priorities.0.noted;
-        verdict = own.verdict;
-      }), reported licenses reports priorities.1 read.1 judged.1)
+      let P : List ReadRecord → Type 0 = λ reads. IsReportOf given policy hearing (krate_of license) (record report { reads = reads }) in (
+        subst P (sym own.reads) (record {
+          id = own.id;
+          reads = read.0;
+          expression = own.expression ∙ ap expression_told priorities.0.info ∙ told_expression answer;
+          source = own.source ∙ ap source_told priorities.0.info ∙ told_source answer;
+          notes = own.notes ∙ priorities.0.noted;
+          verdict = own.verdict;
+        }),
+        reported licenses reports priorities.1 read.1 judged.1,
+      )
 
   -- the records of each crate's reads are its own
   pub own_reads : (licenses : List KrateLicense) → Read licenses → AllByRecursion (AreOwnReads given policy hearing) (heards_of licenses)
@@ -120,7 +122,7 @@ module _ (given : Given) (policy : ValidConfig) (hearing : RunHearing) where
 
 -- ---- where no count rose
 
-rose_wider : (low before after high : ℕ) → low ≤ before → after ≤ high → Rose before after → Rose low high
+pub rose_wider : (low before after high : ℕ) → low ≤ before → after ≤ high → Rose before after → Rose low high
 rose_wider low before after high first last (inl less) = inl (omega arith)
 rose_wider low before after high first last (inr end) = inr (omega arith)
 
@@ -133,9 +135,9 @@ later_by low NotUtf8 P high more rises = more low rises
 later_by low (Failed before after) P high more rises =
     let first = rises.0 in let later = rises.1.later in let last = more after rises.2 in omega arith
 
-later : (low : ℕ) (reads : List ReadRecord) (high : ℕ) → RiseInOrder low reads high → low ≤ high
-later low [] high rises = rises
-later low (read ∷ reads) high rises = later_by low read.answer (λ from. RiseInOrder from reads high) high (λ from rest. later from reads high rest) rises
+pub reads_later : (low : ℕ) (reads : List ReadRecord) (high : ℕ) → RiseInOrder low reads high → low ≤ high
+reads_later low [] high rises = rises
+reads_later low (read ∷ reads) high rises = later_by low read.answer (λ from. RiseInOrder from reads high) high (λ from rest. reads_later from reads high rest) rises
 
 -- none of them failed
 abbrev AreQuiet : List ReadRecord → Type 0
@@ -152,7 +154,7 @@ quiet_by low (Failed before after) P high more quiet rises = absurd (quiet (rose
 quiet_reads : (low high : ℕ) (reads : List ReadRecord) → ¬ (Rose low high) → RiseInOrder low reads high → AreQuiet reads
 quiet_reads low high [] quiet rises = tt
 quiet_reads low high (read ∷ reads) quiet rises =
-    let one = quiet_by low read.answer (λ from. RiseInOrder from reads high) high (λ from rest. later from reads high rest) quiet rises in
+    let one = quiet_by low read.answer (λ from. RiseInOrder from reads high) high (λ from rest. reads_later from reads high rest) quiet rises in
     (one.0, quiet_reads low high reads quiet one.1)
 
 quiet_front : (one other : List ReadRecord) → AreQuiet (one ++ other) → AreQuiet one
