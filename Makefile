@@ -1,14 +1,21 @@
 # Everything here stands on the toolchain's command `rt` alone.
 PREFIX ?= /usr/local
 PROJECT ?= examples/first
+POLICY ?= deny.toml
 PROGRAM = crates/cargo_deny/out/cargo_deny
 COMPLETION = crates/completions/stdout
 
-.PHONY: run test bench install
+FIRST = ../../examples/first
 
-# Builds the proved program and runs it on a small project.
-run:
-	@cd crates/cargo_deny && rt run cargo_deny -- --metadata-path ../../$(PROJECT)/metadata.json --config ../../$(PROJECT)/deny.toml check licenses
+.PHONY: build run test bench install
+
+# Builds the proved program, and sees that it accepts a small project.
+build:
+	@cd crates/cargo_deny && rt run cargo_deny -- --metadata-path $(FIRST)/metadata.json --config $(FIRST)/deny.toml check licenses >/dev/null
+
+# Runs it in a project's folder, where it looks for an exceptions file. POLICY names another policy there.
+run: build
+	@cd $(PROJECT) && $(CURDIR)/$(PROGRAM) --metadata-path metadata.json --config $(POLICY) check licenses
 
 # The merge gate.
 test:
@@ -19,6 +26,6 @@ bench:
 	sh bench/compare.sh
 
 # Puts the proved program where `cargo deny ..` finds it, and its completion where the shell looks.
-install: run
+install: build
 	install -D -m 755 $(PROGRAM) $(DESTDIR)$(PREFIX)/bin/cargo-deny
 	install -D -m 644 $(COMPLETION) $(DESTDIR)$(PREFIX)/share/bash-completion/completions/cargo-deny

@@ -66,7 +66,7 @@ module _ (given : Given) (content : Content) (begun middle after : ℕ) (quiet :
       let has_more = λ (own : CrateHeard). has_many (expression_in (priority_heard given first.policy hearing own)) in
       let unread = λ (own : CrateHeard). priority_heard given first.policy hearing own ≡ priority_heard given first.policy hearing (record { krate = own.krate; reads = [] }) in
       let (stands, many, same) = found-first (λ (own : CrateHeard). own.krate) unread has_more crates first.one first.first
-          (quietly_heard given first.policy hearing middle after crates rises quiet) in
+      (quietly_heard given first.policy hearing middle after crates rises quiet) in
       let rising = graph-rising lawful.asks.metadata.text sparse_dir asked.graph lawful.asks.metadata.tells in
       let other = stands-too asked.graph (Selected asked.graph (choice_in asked.policy) (included_in asked.policy)) (crates_heard hearing) asked.crates first.one.krate rising first.selected lawful.asks.selected stands in
       let one = All-contains (HasOneAtMost given first.policy (all_heard content begun)) asked.crates first.one.krate (lawful.forms first.policy first.order) other in

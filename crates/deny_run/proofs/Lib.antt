@@ -1,5 +1,5 @@
 pub mod AnswerLemmas
-pub mod FieldLemmas
+pub mod GatheredLemmas
 pub mod HeadlineLemmas
 pub mod JudgeLemmas
 pub mod ListedLemmas

@@ -1,20 +1,25 @@
 -- The refusals of steps and their counts.
-use Rattle.std.proofs.Common.{ℕ, ◌≤◌, List, Result, Ok, Err, inl, inr, arith}
-use Rattle.catalog_core.specs.Catalog.{CatalogLists}
-use Rattle.graph_core.specs.Krate.{Record}
+use Rattle.std.proofs.Common.{ℕ, ◌≤◌, List, map, Result, Ok, Err, inl, inr, arith}
 use Rattle.graph_core.specs.Metadata.{Graph}
+use Rattle.tree_core.specs.Content.{Content}
 use Rattle.tree_core.specs.Faults.{Rose}
-use Rattle.selection_core.specs.declared.selection.Include.{Include}
 use Rattle.selection_core.specs.Choice.{Choice}
 use Rattle.selection_core.specs.Listed.{IsListOf}
 use Rattle.selection_core.specs.Walks.{Selected}
-use Rattle.valid_policy.specs.Policy.{Policy}
+use Rattle.valid_policy.specs.View.{policy_of}
+use Rattle.valid_policy.specs.declared.policy.ValidConfig.{ValidConfig}
+use Rattle.reads_core.specs.Rising.{RiseInOrder}
+use Rattle.expression_core.specs.Scanned.{Scanner}
+use Rattle.gather_core.specs.Entries.{entries_of}
+use Rattle.gather_core.specs.Gathered.{ArePriorities, AreRead, all_reads, krate_of}
+use Rattle.gather_core.specs.declared.summary.KrateLicense.{KrateLicense}
 use Rattle.heard_core.specs.Cause.{Cause, no_memory, told, failed_read, refused_write, ReadCounts}
 use Rattle.deny_run.specs.declared.error.Refusal.{Refusal}
 use Rattle.deny_run.specs.declared.error.Refusal.TheVariants as refusal
 use Rattle.deny_run.specs.declared.report.CrateReport.{CrateReport}
 use Rattle.deny_run.specs.Error.{cause_of, error_of}
-use Rattle.deny_run.specs.Steps.{AreJudged, Checks, IsAfterLoad, IsOfCrates}
+use Rattle.deny_run.specs.Selection.{included_by}
+use Rattle.deny_run.specs.Steps.{AreJudged, Checks, IsAfterLoad, IsChecked, IsOfCrates}
 
 -- ---- counts
 
@@ -49,13 +54,19 @@ crates_after (refusal.CrateForm id) cause = tt
 
 -- ---- the crates that are judged are those that are checked
 
-module _ (lists : CatalogLists) (policy : Policy) (include : Include) (graph : Graph) (choice : Choice) (crates : List Record) where
-  pub are_checked : (result : Result (List CrateReport) Refusal) → IsListOf graph (Selected graph choice include) crates
-      → AreJudged lists policy crates result → Checks lists policy include graph choice result
-  are_checked (Ok reports) selected judged = record { crates = crates; selected = selected; judged = judged }
-  are_checked (Err refusal.Memory) selected judged = tt
-  are_checked (Err refusal.Words) selected judged = record { crates = crates; selected = selected; judged = judged }
-  are_checked (Err (refusal.Search error)) selected judged = record { crates = crates; selected = selected; judged = judged }
-  are_checked (Err (refusal.Load error)) selected judged = record { crates = crates; selected = selected; judged = judged }
-  are_checked (Err (refusal.Krates error)) selected judged = record { crates = crates; selected = selected; judged = judged }
-  are_checked (Err (refusal.CrateForm id)) selected judged = record { crates = crates; selected = selected; judged = judged }
+module _ (scanner : Scanner) (policy : ValidConfig) (content : Content) (before after : ℕ) (graph : Graph) (choice : Choice) (licenses : List KrateLicense)
+    (selected : IsListOf graph (Selected graph choice (included_by policy)) (map krate_of licenses))
+    (priorities : ArePriorities scanner (entries_of policy) content licenses) (reads : AreRead scanner (entries_of policy) content licenses)
+    (rises : RiseInOrder before (all_reads licenses) after) where
+  checked_by : (result : Result (List CrateReport) Refusal) → AreJudged (policy_of policy) licenses result → IsChecked scanner policy content before after graph choice result
+  checked_by result judged =
+      record { licenses = licenses; selected = selected; priorities = priorities; reads = reads; rises = rises; judged = judged }
+
+  pub are_checked : (result : Result (List CrateReport) Refusal) → AreJudged (policy_of policy) licenses result → Checks scanner policy content before after graph choice result
+  are_checked (Ok reports) judged = checked_by (Ok reports) judged
+  are_checked (Err refusal.Memory) judged = tt
+  are_checked (Err refusal.Words) judged = checked_by (Err refusal.Words) judged
+  are_checked (Err (refusal.Search error)) judged = checked_by (Err (refusal.Search error)) judged
+  are_checked (Err (refusal.Load error)) judged = checked_by (Err (refusal.Load error)) judged
+  are_checked (Err (refusal.Krates error)) judged = checked_by (Err (refusal.Krates error)) judged
+  are_checked (Err (refusal.CrateForm id)) judged = checked_by (Err (refusal.CrateForm id)) judged

@@ -14,8 +14,8 @@ use Rattle.workspace_core.specs.Krates.{graph_in}
 use Rattle.pack_core.specs.Ears.{Ears, ears_of}
 use Rattle.expression_core.specs.Scanned.{Scanner}
 use Rattle.priority_core.specs.Priority.{Answer, folder_of, priority_of, records_of}
-use Rattle.priority_core.specs.Settled.{source_info}
-use Rattle.priority_core.specs.declared.license.LicenseExprSource.{LicenseExprSource}
+use Rattle.gather_core.specs.Told.{source_info}
+use Rattle.gather_core.specs.declared.license.LicenseExprSource.{LicenseExprSource}
 use Rattle.valid_policy.specs.declared.policy.ValidConfig.{ValidConfig}
 use Rattle.gather_core.specs.Entries.{clarifications_of, entries_of}
 use Rattle.gather_core.specs.Gathered.{threshold_of}

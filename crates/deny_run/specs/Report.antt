@@ -17,7 +17,7 @@ use Rattle.workspace_core.specs.Krates.{sparse_dir}
 use Rattle.valid_policy.specs.Policy.{Policy, IsPrivate, hit_of}
 use Rattle.valid_policy.specs.View.{policy_of}
 use Rattle.valid_policy.specs.declared.policy.ValidConfig.{ValidConfig}
-use Rattle.priority_core.specs.Settled.{notes_of}
+use Rattle.gather_core.specs.Told.{notes_of}
 use Rattle.validate_core.specs.Order.{PutsPolicyInOrder}
 use Rattle.policy_core.specs.Policy.{PolicyFound}
 use Rattle.load_core.specs.Heard.{load_heard}

@@ -20,10 +20,10 @@ use Rattle.valid_policy.specs.View.{policy_of}
 use Rattle.valid_policy.specs.declared.policy.ValidConfig.{ValidConfig}
 use Rattle.reads_core.specs.Rising.{RiseInOrder}
 use Rattle.expression_core.specs.Scanned.{Scanner}
-use Rattle.priority_core.specs.declared.license.LicenseExprSource.{LicenseExprSource}
-use Rattle.priority_core.specs.declared.license.LicenseInfo.{LicenseInfo}
-use Rattle.priority_core.specs.declared.license.LicenseInfo.TheVariants.{SpdxExpression}
-use Rattle.priority_core.specs.declared.license.LicenseInfo.TheVariants as license_info
+use Rattle.gather_core.specs.declared.license.LicenseExprSource.{LicenseExprSource}
+use Rattle.gather_core.specs.declared.license.LicenseInfo.{LicenseInfo}
+use Rattle.gather_core.specs.declared.license.LicenseInfo.TheVariants.{SpdxExpression}
+use Rattle.gather_core.specs.declared.license.LicenseInfo.TheVariants as license_info
 use Rattle.gather_core.specs.Entries.{entries_of}
 use Rattle.gather_core.specs.Gathered.{ArePriorities, AreRead, all_reads, krate_of, threshold_of}
 use Rattle.gather_core.specs.declared.summary.KrateLicense.{KrateLicense}

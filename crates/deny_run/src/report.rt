@@ -4,8 +4,8 @@ ghost use Rattle.std.specs.Prelude.{◌≡◌};
 use crate::error::Error;
 use deny_text::{ListOf, Text};
 use diag_core::Notes;
+use gather_core::LicenseExprSource;
 use policy_core::ValidConfig;
-use priority_core::LicenseExprSource;
 use spdx_core::Expression;
 use tree_core::Reads;
 

@@ -2,6 +2,7 @@
 use crate::rows::expect;
 use run_rows::{POLICY, WORDS, Want, accepted, refused, tree};
 use std::test::Fail;
+use tree_core::Tree;
 
 const NO_POLICY: &str = "error: the policy could not be read\n";
 
@@ -64,6 +65,23 @@ fn each_failed_call_is_told_as_its_own(rt: HostRuntime) -> Result<(), Fail> {
             tree.fail_call(call)?;
             expect(&rt, alloc, &WORDS, &mut tree, 1000, &want)?;
         }
+    }
+    Ok(())
+}
+
+// A fault of the tree before the run is none of the run's.
+#[test]
+fn counts_begin_where_the_run_does(rt: HostRuntime) -> Result<(), Fail> {
+    let alloc = rt.alloc();
+    let policy_failed = refused("policy: Failed { before: 1, after: 2 }", NO_POLICY);
+    let metadata_failed = refused("metadata: Failed { before: 1, after: 2 }", NO_METADATA);
+    // The first look for an exceptions file, the policy, the metadata.
+    for (call, want) in [(1, policy_failed), (7, policy_failed), (8, metadata_failed)] {
+        let mut tree = tree(alloc, "MIT", POLICY.as_bytes())?;
+        tree.fail_call(1)?;
+        let _ = tree.is_file(alloc, "/w/p.toml");
+        tree.fail_call(call)?;
+        expect(&rt, alloc, &WORDS, &mut tree, 1000, &want)?;
     }
     Ok(())
 }

@@ -3,7 +3,9 @@ ghost use Rattle.std.specs.Prelude.{◌≤◌, length, IfSome};
 
 use crate::rows::compare;
 use deny_gate::{exit_code, gate_over};
-use run_rows::{OPEN, POLICY, Seen, Want, accepted, notes_of, refused, rejected, text, told, tree};
+use run_rows::{
+    OPEN, POLICY, Seen, Want, accepted, notes_of, refused, rejected, text, told, told_policy, tree,
+};
 use std::alloc::Global;
 use std::env::{Env, FillError};
 use std::io;
@@ -93,13 +95,14 @@ fn watch(alloc: Global, process: Process, tree: &mut MemTree) -> Result<(ExitCod
     let mut err = MemSink::new(alloc, 1000, 1000)?;
     let ended = gate_over(&(process, alloc), tree, &mut out, &mut err);
     let code = exit_code(&ended);
-    let (status, notes, ended) = match &ended {
+    let (status, notes, policy, ended) = match &ended {
         Ok(outcome) => (
             outcome.status,
             notes_of(&outcome.ended),
+            told_policy(alloc, &outcome.ended)?,
             told(alloc, &outcome.ended)?,
         ),
-        Err(error) => (1, 0, format!(in alloc; "{error:?}")?),
+        Err(error) => (1, 0, String::new(alloc), format!(in alloc; "{error:?}")?),
     };
     let out = text(alloc, out.written())?;
     let err = text(alloc, err.written())?;
@@ -108,6 +111,7 @@ fn watch(alloc: Global, process: Process, tree: &mut MemTree) -> Result<(ExitCod
         Seen {
             status,
             notes,
+            policy,
             ended,
             out,
             err,

@@ -1,21 +1,28 @@
 -- Licences of crates, one after another.
 use Rattle.std.proofs.Common.{◌≡◌, ◌∙◌, ℕ, List, [], ◌∷◌, ◌++◌, map, refl, sym, ap, subst, append-nil}
-use Rattle.std.specs.List.{AllByRecursion, flat_map}
+use Rattle.std.specs.List.{AllByRecursion}
 use Rattle.std.proofs.lemmas.List.Concat.{flat_map-append}
 use Rattle.tree_core.specs.Content.{Content}
-use Rattle.tree_core.specs.declared.reads.ReadRecord.{ReadRecord}
 use Rattle.reads_core.specs.Rising.{RiseInOrder}
 use Rattle.reads_core.proofs.RisingLemmas.{rises_compose}
 use Rattle.pack_core.specs.Ears.{Ears}
 use Rattle.expression_core.specs.Scanned.{Scanner}
-use Rattle.priority_core.specs.Settled.{IsSettledBy}
+use Rattle.priority_core.specs.declared.settle.Settled.{Settled}
+use Rattle.priority_core.specs.Settled.{IsSettledBy, answer_in}
+use Rattle.gather_core.specs.declared.told.Told.{Told}
+use Rattle.gather_core.specs.Told.{info_of, notes_of, told_of}
 use Rattle.gather_core.specs.declared.summary.KrateLicense.{KrateLicense}
 use Rattle.gather_core.specs.Entries.{Entry, clarifications_of}
 use Rattle.gather_core.specs.Gathered.{AreByOwn, ArePriorities, AreRead, IsByEars, IsPriorityBy, IsReadBy, all_reads, krate_of, own_ears}
 
-pub by_settled : (scanner : Scanner) (all : List Entry) (ears : Ears) (license : KrateLicense)
-    → IsSettledBy scanner (clarifications_of (krate_of license) all) (krate_of license) ears license.lic_info license.notes license.reads → IsByEars scanner all ears license
-by_settled scanner all ears license is = record { priority = record { info = is.answer; noted = is.notes_are }; read = is.reads_are }
+-- a crate is told to be under what settles its licence
+pub by_settled : (scanner : Scanner) (all : List Entry) (ears : Ears) (license : KrateLicense) (settled : Settled)
+    → IsSettledBy scanner (clarifications_of (krate_of license) all) (krate_of license) ears settled
+    → record { info = license.lic_info; notes = license.notes } ≡ told_of (answer_in settled.by) → license.reads ≡ settled.reads → IsByEars scanner all ears license
+by_settled scanner all ears license settled is tells reads = record {
+  priority = record { info = ap (λ (t : Told). t.info) tells ∙ ap info_of is.answer; noted = ap (λ (t : Told). t.notes) tells ∙ ap notes_of is.answer };
+  read = reads ∙ is.reads_are;
+}
 
 pub all_push : {A : Type 0} (P : A → Type 0) (xs : List A) (x : A) → AllByRecursion P xs → P x → AllByRecursion P (xs ++ x ∷ [])
 all_push P [] x all holds = (holds, tt)

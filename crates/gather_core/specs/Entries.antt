@@ -7,19 +7,26 @@ use Rattle.policy_spec.specs.Matching.{spec_matches}
 use Rattle.policy_spec.specs.Spec.{Spec}
 use Rattle.valid_policy.specs.declared.policy.ValidClarification.{ValidClarification}
 use Rattle.valid_policy.specs.declared.policy.ValidConfig.{ValidConfig}
-use Rattle.pack_core.specs.NamedFile.{Named}
-use Rattle.priority_core.specs.Clarification.{Clarification}
+use Rattle.priority_core.specs.Clarification.{Clarification, PlacedFile}
 
 -- a clarification, and the crates that it is for
 pub record Entry : Type 0 where
   pub spec : Spec
   pub clarification : Clarification
 
-abbrev pub named_of : FileSource → Named
-named_of file = record { path = file.path.value; hash = file.hash }
+abbrev pub placed_of : FileSource → PlacedFile
+placed_of file = record { named = record { path = file.path.value; hash = file.hash }; span = file.path.span }
+
+abbrev pub clarification_of : ValidClarification → Clarification
+clarification_of entry = record {
+  expression = entry.expression;
+  offset = entry.expr_offset;
+  whole = entry.whole;
+  files = map placed_of entry.license_files;
+}
 
 abbrev pub entry_of : ValidClarification → Entry
-entry_of entry = record { spec = entry.spec; clarification = record { expression = entry.expression; files = map named_of entry.license_files } }
+entry_of entry = record { spec = entry.spec; clarification = clarification_of entry }
 
 -- all clarifications of a policy, in its order
 abbrev pub entries_of : ValidConfig → List Entry

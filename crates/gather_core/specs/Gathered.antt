@@ -1,5 +1,5 @@
 -- The licences of all crates that are selected.
-use Rattle.std.specs.Prelude.{◌≡◌, ℕ, ℤ, pos, negsuc, nat_le, List, None, map, option_copied, if◌then◌else◌}
+use Rattle.std.specs.Prelude.{◌≡◌, ℕ, ℤ, pos, negsuc, nat_le, List, None, option_copied, if◌then◌else◌}
 use Rattle.std.specs.List.{AllByRecursion, flat_map}
 use Rattle.catalog_core.specs.Catalog.{CatalogLists}
 use Rattle.catalog_core.specs.declared.identifier.Match.{Match}
@@ -11,10 +11,10 @@ use Rattle.expression_core.specs.Scanned.{Scanner, match_by}
 use Rattle.selection_core.specs.declared.selection.Include.{Include}
 use Rattle.valid_policy.specs.declared.policy.ValidConfig.{ValidConfig}
 use Rattle.priority_core.specs.Priority.{folder_of, priority_of, records_of}
-use Rattle.priority_core.specs.Settled.{info_of, notes_of}
 use Rattle.gather_core.specs.Entries.{Entry, clarifications_of}
 use Rattle.gather_core.specs.declared.gatherer.Gatherer.{Gatherer}
 use Rattle.gather_core.specs.declared.summary.KrateLicense.{KrateLicense}
+use Rattle.gather_core.specs.Told.{info_of, notes_of}
 
 -- the least score of a name that is joined: a number of hundredths, cut to 0..100
 abbrev pub threshold_of : ℤ → ℕ

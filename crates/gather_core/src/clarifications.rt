@@ -3,7 +3,7 @@ ghost use Rattle.std.specs.Prelude.{◌≡◌, ◌++◌, map, option_map, IfOk, 
 ghost use Rattle.std.specs.Option.{option_to_list};
 ghost use Rattle.graph_core.specs.Krate.{record_of};
 ghost use Rattle.priority_core.specs.Clarification.{behind};
-ghost use Rattle.gather_core.specs.Entries.{clarifications_of, entry_of, item_at, items_at, named_of};
+ghost use Rattle.gather_core.specs.Entries.{clarifications_of, entry_of, item_at, items_at, placed_of};
 
 use graph_core::Krate;
 use policy_parts::FileSource;
@@ -67,12 +67,12 @@ impl<'p> Model for Clarifications<'p> {
 }
 
 fn file_refs(alloc: Global, files: &[FileSource]) -> Result<Vec<FileRef<'_>>, AllocError>
-    ensures { IfOk result (λ refs. refs.items ≡ map named_of files.now) }
+    ensures { IfOk result (λ refs. refs.items ≡ map placed_of files.now) }
 {
     let mut refs = Vec::new(alloc);
     'files: for file in files {
-        let named = FileRef::new(&file.path.value, file.hash);
-        refs.push(named)?;
+        let placed = FileRef::new(&file.path.value, file.hash, file.path.span);
+        refs.push(placed)?;
     }
     Ok(refs)
 }
@@ -81,9 +81,15 @@ fn entry_ref(alloc: Global, entry: &ValidClarification) -> Result<EntryRef<'_>, 
     ensures { IfOk result (λ found. found ≡ entry_of entry.now) }
 {
     let files = file_refs(alloc, entry.license_files.items())?;
+    let clarification = ClarificationRef::new(
+        &entry.expression,
+        entry.expr_offset,
+        entry.whole,
+        files,
+    );
     Ok(EntryRef {
         spec: &entry.spec,
-        clarification: ClarificationRef::new(&entry.expression, files),
+        clarification,
     })
 }
 

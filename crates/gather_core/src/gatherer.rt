@@ -3,10 +3,14 @@ ghost use Rattle.std.specs.Prelude.{◌≡◌, IfOk, map, None, Some};
 ghost use Rattle.std.specs.Option.{ForSome};
 ghost use Rattle.tree_core.specs.Hearing.{KeepsTree};
 ghost use Rattle.graph_core.specs.Krate.{record_of};
+ghost use Rattle.graph_core.specs.Metadata.{Graph};
 ghost use Rattle.pack_core.specs.Ears.{Ears};
 ghost use Rattle.reads_core.specs.Rising.{RiseInOrder};
+ghost use Rattle.priority_core.specs.Priority.{field_of};
 ghost use Rattle.priority_core.specs.Settled.{scanner_with};
-ghost use Rattle.selection_core.specs.Listed.{record_behind, selected_in};
+ghost use Rattle.selection_core.specs.Choice.{Choice};
+ghost use Rattle.selection_core.specs.Listed.{IsChosen, IsListOf, record_behind, selected_in};
+ghost use Rattle.selection_core.specs.Walks.{Selected};
 ghost use Rattle.gather_core.specs.Entries.{entries_of};
 ghost use Rattle.gather_core.specs.Gathered.{AreByOwn, AreBySome, ArePriorities, AreRead, IsByEars};
 ghost use Rattle.gather_core.specs.Gathered.{all_reads, include_of, krate_of, own_ears};
@@ -14,10 +18,13 @@ ghost use Rattle.gather_core.specs.Gathered.{scanner_of, threshold_of};
 
 use crate::clarifications::Clarifications;
 use crate::summary::{Diags, KrateLicense, KrateLicenses, Summary};
+use crate::told::told_by;
 use catalog_core::{Catalog, Identifier};
+use expression_core::field;
 use graph_core::Krate;
 use priority_core::{Scan, settle_licence};
 use selection_core::{Include, Krates};
+use spdx_core::Expression;
 use std::alloc::{AllocError, Global};
 use tree_core::Tree;
 use valid_policy::ValidConfig;
@@ -42,6 +49,20 @@ fn threshold(hundredths: i64) -> u8
     hundredths as u8
 }
 
+/// The expression of a crate's field.
+fn field_of<C: Catalog>(
+    alloc: Global,
+    krate: &Krate,
+    catalog: &C,
+) -> Result<Option<Expression>, AllocError>
+    ensures { IfOk result (λ read. read ≡ field_of (C.lists catalog.now) (record_of krate.now)) }
+{
+    match &krate.license {
+        Some(text) => field(alloc, text.as_str(), catalog),
+        None => Ok(None),
+    }
+}
+
 /// The licence of a crate.
 fn license_of<'k, T: Tree, I: Identifier, C: Catalog>(
     alloc: Global,
@@ -62,11 +83,13 @@ fn license_of<'k, T: Tree, I: Identifier, C: Catalog>(
         × IsByEars (scanner_with C.lists I.match_of scan.now) clarifications.now ears license) }
 {
     let matching = clarifications.matching(alloc, krate)?;
-    let settled = settle_licence(alloc, tree, scan, krate, &matching)?;
+    let field = field_of(alloc, krate, scan.catalog)?;
+    let settled = settle_licence(alloc, tree, scan, krate, &matching, field)?;
+    let told = told_by(alloc, settled.by);
     Ok(KrateLicense {
         krate,
-        lic_info: settled.info,
-        notes: settled.notes,
+        lic_info: told.info,
+        notes: told.notes,
         diags: Diags::new(alloc),
         reads: settled.reads,
     })
@@ -135,6 +158,10 @@ impl<'i, I: Identifier> Gatherer<'i, I> {
             (T.fault_count tree.old) (T.fault_count tree.new) }
         ensures krates { IfOk result (λ summary.
             map krate_of summary.nfos ≡ selected_in (include_of policy.now) krates.entry.now) }
+        // of each graph and choice that the crates were built of
+        ensures listed { (graph : Graph) (choice : Choice) → IsChosen graph choice krates.entry.now
+            → IfOk result (λ summary. IsListOf graph (Selected graph choice (include_of policy.now))
+            (map krate_of summary.nfos)) }
         ensures answers { ForSome (T.content tree.old) (λ c. IfOk result (λ summary.
             ArePriorities (scanner_of (C.lists catalog.now) I.match_of self.entry) (entries_of policy.now)
             c summary.nfos)) }

@@ -3,8 +3,10 @@
 
 mod clarifications;
 pub mod gatherer;
+pub mod license;
 pub mod summary;
+mod told;
 
 pub use gatherer::Gatherer;
-pub use priority_core::{LicenseExprInfo, LicenseExprSource, LicenseInfo};
+pub use license::{LicenseExprInfo, LicenseExprSource, LicenseInfo};
 pub use summary::{Diags, KrateLicense, KrateLicenses, Summary};

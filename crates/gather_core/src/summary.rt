@@ -1,8 +1,8 @@
 //! What was gathered.
+use crate::license::LicenseInfo;
 use deny_text::ListOf;
 use diag_core::{Diag, Notes};
 use graph_core::Krate;
-use priority_core::LicenseInfo;
 use tree_core::Reads;
 
 /// Findings in order.

@@ -57,7 +57,7 @@ fn refusal(alloc: Global, error: &LoadError) -> Result<String, AllocError> {
     }
 }
 
-/// What the policy allows, as it is printed, and how many exceptions it has.
+/// What the policy allows, as it is printed, how many exceptions it has, and its settings.
 fn policy(alloc: Global, loaded: &LoadedPolicy) -> Result<String, AllocError> {
     let file = loaded.licenses.file_id;
     let mut said = format!(in alloc; "file {file}:")?;
@@ -65,16 +65,27 @@ fn policy(alloc: Global, loaded: &LoadedPolicy) -> Result<String, AllocError> {
         write!(said, " {}", licensee.0.value)?;
     }
     let exceptions = loaded.licenses.exceptions.items().len();
-    write!(said, ", {exceptions} exceptions")?;
+    write!(said, ", {exceptions} exceptions; ")?;
+    let dev = loaded.licenses.include_dev;
+    let build = loaded.licenses.include_build;
+    let least = loaded.licenses.confidence_threshold;
+    write!(said, "dev {dev}, build {build}, from {least}")?;
     Ok(said)
 }
 
+/// The mark of a text that is empty.
+fn mark(text: &str) -> &'static str {
+    if text.is_empty() { " (empty)" } else { "" }
+}
+
+/// The names of the files that are known, each with the mark of its text.
 fn names(alloc: Global, files: &Files) -> Result<String, AllocError> {
     let mut said = String::new(alloc);
     for id in 0..3 {
-        if let Ok(name) = files.name(id) {
-            said.push_str(name)?;
-            said.push_str(";")?;
+        let name = files.name(id).unwrap_or("");
+        let mark = mark(files.source(id).unwrap_or("x"));
+        if !name.is_empty() {
+            said.push_str(format!(in alloc; "{name}{mark};")?.as_str())?;
         }
     }
     Ok(said)
@@ -146,28 +157,32 @@ fn compare(rt: &impl Abort, seen: &Seen, answer: &str, files: &str, printed: &st
     assert_eq!(rt; seen.printed.as_str(), printed, "findings of {answer}");
 }
 
+/// A policy that says nothing of licences.
+const DEFAULT: &str = "file 0:, 0 exceptions; dev false, build true, from 80";
+
 const TARGET: &str = "warning: no platform filter is applied\n  --> /p:2:13\n";
 
 const ROWS: [Row; 7] = [
     // What is allowed stands in the order of its printed bytes.
     Row {
-        policy: "[licenses]\nallow = [\"MIT\", \"ISC\"]\n",
+        policy: "[licenses]\nallow = [\"MIT\", \"ISC\"]\ninclude-dev = true\n\
+include-build = false\nconfidence-threshold = 0.93\n",
         exceptions: None,
-        answer: "file 0: ISC MIT, 0 exceptions",
+        answer: "file 0: ISC MIT, 0 exceptions; dev true, build false, from 93",
         files: "/p;",
         printed: "",
     },
     Row {
         policy: "[licenses]\nexceptions = [{ crate = \"a\", allow = [] }]\n",
         exceptions: Some("exceptions = [{ crate = \"a\", allow = [\"MIT\"] }]\n"),
-        answer: "file 0:, 2 exceptions",
+        answer: "file 0:, 2 exceptions; dev false, build true, from 80",
         files: "/p;/e;",
         printed: "",
     },
     Row {
         policy: "[graph]\ntargets = [\"t\"]\n",
         exceptions: None,
-        answer: "file 0:, 0 exceptions",
+        answer: DEFAULT,
         files: "/p;",
         printed: TARGET,
     },
@@ -224,14 +239,14 @@ fn an_absent_policy_is_the_empty_one(rt: HostRuntime) -> Result<(), Fail> {
     let none = "warning: unable to find a config path, falling back to default config\n";
     let absent = "warning: config path '/q' doesn't exist, falling back to default config\n";
     for (path, level, files, printed) in [
-        ("", LevelFilter::Warn, "deny.default.toml;", none),
-        ("/q", LevelFilter::Warn, "/q;", absent),
-        ("/q", LevelFilter::Error, "/q;", ""),
-        ("/q", LevelFilter::Off, "/q;", ""),
+        ("", LevelFilter::Warn, "deny.default.toml (empty);", none),
+        ("/q", LevelFilter::Warn, "/q (empty);", absent),
+        ("/q", LevelFilter::Error, "/q (empty);", ""),
+        ("/q", LevelFilter::Off, "/q (empty);", ""),
     ] {
         let mut tree = MemTree::new(alloc);
         let seen = observe(alloc, (path, ""), &mut tree, level, 1000)?;
-        compare(&rt, &seen, "file 0:, 0 exceptions", files, printed);
+        compare(&rt, &seen, DEFAULT, files, printed);
     }
     Ok(())
 }
@@ -243,6 +258,10 @@ fn a_policy_that_is_not_read_is_refused(rt: HostRuntime) -> Result<(), Fail> {
     tree.fail_call(1)?;
     let seen = observe(alloc, ("/p", "/e"), &mut tree, LevelFilter::Warn, 1000)?;
     compare(&rt, &seen, "Failed { before: 0, after: 1 }", "", "");
+    // The run began before that read too.
+    tree.fail_call(1)?;
+    let seen = observe(alloc, ("/p", "/e"), &mut tree, LevelFilter::Warn, 1000)?;
+    compare(&rt, &seen, "Failed { before: 0, after: 2 }", "", "");
     let mut tree = tree_of(alloc, "", None)?;
     let seen = observe(alloc, ("/", ""), &mut tree, LevelFilter::Warn, 1000)?;
     compare(&rt, &seen, "Folder", "", "");
@@ -252,7 +271,7 @@ fn a_policy_that_is_not_read_is_refused(rt: HostRuntime) -> Result<(), Fail> {
     let seen = observe(alloc, ("/p", "/e"), &mut tree, LevelFilter::Warn, 1000)?;
     let unread =
         "error: failed to read exceptions override\n  = path = '/e'\n  = error = read failed\n";
-    compare(&rt, &seen, "invalid 1", "/p;", unread);
+    compare(&rt, &seen, "invalid 1", "/p (empty);", unread);
     Ok(())
 }
 

@@ -1,3 +1,4 @@
+pub mod BorderLemmas
 pub mod PlaceLemmas
 pub mod SlashLemmas
 pub mod SpanLemmas

@@ -1,8 +1,8 @@
 -- The slashes that were passed, one after the other.
-use Rattle.std.proofs.Common.{◌≡◌, ℕ, suc, ◌+◌, ◌-◌, ◌*◌, ◌≤◌, true, false, cond, nat_le, nat_eq, List, [], ◌∷◌, length, drop, refl, sym, ap, inl, inr, ◌∙◌, arith, if◌then◌else◌}
+use Rattle.std.proofs.Common.{◌≡◌, ℕ, ◌+◌, nat_eq, List, [], ◌∷◌, length, refl, sym, ap, inl, inr, ◌∙◌, arith, if◌then◌else◌}
 use Rattle.std.proofs.lemmas.Bool.Decides.{eqb_tells}
 use Rattle.deny_text.specs.declared.span.Span.{Span}
-use Rattle.manifest_core.specs.Slashes.{passed_from, passed_of, slashes_from, corrected, corrected_by, corrected_after, last_of}
+use Rattle.manifest_core.specs.Slashes.{passed_of, corrected, corrected_by, corrected_after, last_of}
 
 -- how many were passed, and the last of them
 abbrev pub tally : ℕ → ℕ → List ℕ → ℕ × ℕ

@@ -1,11 +1,11 @@
 -- The search from one key to the next.
-use Rattle.std.proofs.Common.{◌≡◌, ◌≢◌, ℕ, zero, suc, ◌+◌, ◌-◌, ◌<◌, ◌≤◌, true, false, cond, eqb, List, [], ◌∷◌, ◌++◌, length, drop, Option, Some, None, MatchOption, Bor, codes, refl, sym, ap, ◌∙◌, subst, arith}
+use Rattle.std.proofs.Common.{◌≡◌, ◌≢◌, ℕ, zero, suc, ◌+◌, ◌-◌, ◌<◌, ◌≤◌, true, false, cond, eqb, List, [], ◌∷◌, ◌++◌, length, drop, Option, Some, None, MatchOption, Bor, codes, refl, sym, ap, ◌∙◌, arith}
 use Rattle.std.specs.Option.{option_map, option_or, option_and_then, option_copied}
 use Rattle.std.specs.Str.{trim_start}
 use Rattle.std.specs.Str.Pattern.{FindsText, LacksTextAt}
-use Rattle.std.proofs.lemmas.Bool.{eqb-true, eq-eqb}
+use Rattle.std.proofs.lemmas.Bool.{eqb-true}
 use Rattle.deny_text.specs.declared.span.Span.{Span}
-use Rattle.manifest_core.specs.SpanSearch.{behind, behind_quote, quote_place, license_key, moved, value_behind, value_here, license_span_of}
+use Rattle.manifest_core.specs.SpanSearch.{behind, behind_quote, quote_place, license_key, moved, value_behind, license_span_of}
 
 behind-is : (front text rest : List ℕ) → behind front text ≡ Some rest → text ≡ front ++ rest
 behind-is [] text rest e = cc

@@ -1,5 +1,4 @@
 -- The pieces of a text, as the code has them.
-use Rattle.std.specs.Prelude.{List}
 use Rattle.manifest_core.specs.Synthetic.{Bit, plain, marked}
 use Rattle.manifest_core.specs.declared.synthetic.Piece.{Piece}
 use Rattle.manifest_core.specs.declared.synthetic.Piece.TheVariants.{Plain, Marked}

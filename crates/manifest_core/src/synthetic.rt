@@ -1,7 +1,7 @@
 //! A text that is written in place of a manifest, with the places of what a finding points at.
-ghost use Rattle.std.specs.Prelude.{◌≡◌, OnOk, OnErr};
+ghost use Rattle.std.specs.Prelude.{◌≡◌, All, OnOk, OnErr};
 ghost use Rattle.manifest_core.specs.Pieces.{bit_of};
-ghost use Rattle.manifest_core.specs.Synthetic.{PlacesAlwaysCutOut, nothing_kept, written};
+ghost use Rattle.manifest_core.specs.Synthetic.{LiesBetween, PlacesAlwaysCutOut, nothing_kept, written};
 
 use deny_text::{Span, Text};
 use std::alloc::{AllocError, Global};
@@ -22,12 +22,14 @@ pub struct Synthetic {
 }
 
 impl Model for Synthetic {
-    ghost use Rattle.std.specs.Prelude.{string_bytes};
-    ghost use Rattle.manifest_core.specs.Synthetic.{Kept};
+    ghost use Rattle.std.specs.Prelude.{All, string_bytes};
+    ghost use Rattle.manifest_core.specs.Synthetic.{Kept, LiesBetween};
 
     ghost Value = { Kept };
 
     ghost view = { λ s. record { text = string_bytes s.text; spans = s.spans.items } };
+
+    ghost invariant = { λ s. All (LiesBetween (string_bytes s.text)) s.spans.items };
 }
 
 impl Synthetic {
@@ -68,9 +70,10 @@ impl Synthetic {
         self.text.as_str()
     }
 
-    /// The places of the marked pieces so far.
+    /// The places of the marked pieces so far, each between characters of the text.
     pub fn spans(&self) -> &[Span]
-        ensures { result.now ≡ self.now.spans }
+        ensures spans { result.now ≡ self.now.spans }
+        ensures between { All (LiesBetween self.now.text) self.now.spans }
     {
         &self.spans
     }

@@ -26,11 +26,11 @@ use Rattle.reads_core.specs.Rising.{RiseInOrder}
 use Rattle.reads_core.specs.Told.{CarriesCounts, IsHeardOf}
 use Rattle.reads_core.specs.Views.{heard_bad, heard_file}
 use Rattle.reads_core.proofs.RisingLemmas.{rises_compose, rises_widen}
-use Rattle.pack_core.specs.Ears.{Ears, ears_of, has_hash, matches, holds, looked_of}
+use Rattle.pack_core.specs.Ears.{Ears, ears_of, has_hash, is_absent, matches, missing_from, holds, looked_of}
 use Rattle.pack_core.specs.NamedFile.{Named}
 use Rattle.pack_core.specs.Pack.{found_of, same_path, placed, in_path_order}
 use Rattle.pack_core.specs.Steps.{Advances, Agrees, Begins, IsHeardIn, file_record, records_by, with_file, with_path}
-use Rattle.pack_core.specs.View.{PackView, IsKept, counts_of, file_at, files_of, has_normal_hash, normal_heard, path_read, paths_of, paths_read}
+use Rattle.pack_core.specs.View.{PackView, IsKept, counts_of, file_at, files_of, has_normal_hash, normal_heard, path_read, paths_of, paths_read, unlisted_of}
 use Rattle.pack_core.proofs.PathLemmas.{parts_of_same, same_itself, list_any-in_path_order, in_path_order-push}
 
 by_test : {G : Type 0} (b : Bool) → (b ≡ true → G) → (b ≡ false → G) → G
@@ -341,13 +341,13 @@ map_or : {A B : Type 0} (test : B → Bool) (f : A → B) (o : Option A) → opt
 map_or test f None = refl
 map_or test f (Some x) = refl
 
--- whether what is kept at a path has a hash
-pub found_hash : (hash : ℕ) (held : List (List ℕ × Result (List ℕ) BadRead)) (path : List ℕ) (found : Option (Result (List ℕ) BadRead)) → found ≡ lookup (is_at (path_order path)) held
-    → option_map_or (has_normal_hash hash) (file_at (files_of held) path) false ≡ option_map_or (λ kept. has_normal_hash hash (heard_file kept)) found false
-found_hash hash held path found is =
-    ap (λ o. option_map_or (has_normal_hash hash) o false) (lookup-map_values heard_file (is_at (path_order path)) held)
-    ∙ map_or (has_normal_hash hash) heard_file (lookup (is_at (path_order path)) held)
-    ∙ ap (λ o. option_map_or (λ kept. has_normal_hash hash (heard_file kept)) o false) (sym is)
+-- a test of what is kept at a path
+pub found_test : (test : Heard → Bool) (held : List (List ℕ × Result (List ℕ) BadRead)) (path : List ℕ) (found : Option (Result (List ℕ) BadRead)) → found ≡ lookup (is_at (path_order path)) held
+    → option_map_or test (file_at (files_of held) path) false ≡ option_map_or (λ kept. test (heard_file kept)) found false
+found_test test held path found is =
+    ap (λ o. option_map_or test o false) (lookup-map_values heard_file (is_at (path_order path)) held)
+    ∙ map_or test heard_file (lookup (is_at (path_order path)) held)
+    ∙ ap (λ o. option_map_or (λ kept. test (heard_file kept)) o false) (sym is)
 
 matched_by : (hash : ℕ) (there : Option Heard) (heard : Heard) → ((found : Heard) → there ≡ Some found → normal_heard heard ≡ found) → is_some there ≡ true
     → option_map_or (has_normal_hash hash) there false ≡ has_hash hash heard
@@ -358,6 +358,32 @@ matched_by hash (Some found) heard agrees some = ap (has_normal_hash hash) (sym 
 pub matched : (ears : Ears) (pack : PackView) (path : List ℕ) (hash : ℕ) → Agrees ears pack → is_some (file_at pack.files path) ≡ true
     → option_map_or (has_normal_hash hash) (file_at pack.files path) false ≡ has_hash hash (ears.file (components_of path))
 matched ears pack path hash agrees there = matched_by hash (file_at pack.files path) (ears.file (components_of path)) (agrees.files path) there
+
+-- ---- nothing there
+
+is_absent-normal : (heard : Heard) → is_absent (normal_heard heard) ≡ is_absent heard
+is_absent-normal (failed before after) = refl
+is_absent-normal absent = refl
+is_absent-normal wrong_kind = refl
+is_absent-normal not_utf8 = refl
+is_absent-normal (text bytes) = refl
+is_absent-normal (entries listed) = refl
+
+absent_by : (there : Option Heard) (heard : Heard) → ((found : Heard) → there ≡ Some found → normal_heard heard ≡ found) → is_some there ≡ true
+    → option_map_or is_absent there false ≡ is_absent heard
+absent_by None heard agrees some = cc
+absent_by (Some found) heard agrees some = ap is_absent (sym (agrees found refl)) ∙ is_absent-normal heard
+
+-- nothing is kept of a file exactly where nothing is there by ears that agree with the pack
+pub lacked : (ears : Ears) (pack : PackView) (path : List ℕ) → Agrees ears pack → is_some (file_at pack.files path) ≡ true
+    → option_map_or is_absent (file_at pack.files path) false ≡ is_absent (ears.file (components_of path))
+lacked ears pack path agrees there = absent_by (file_at pack.files path) (ears.file (components_of path)) (agrees.files path) there
+
+pub unlisted_by : (error : BadRead) → unlisted_of (heard_bad error) ≡ Some error
+unlisted_by bad.Absent = refl
+unlisted_by bad.WrongKind = refl
+unlisted_by bad.NotUtf8 = refl
+unlisted_by (bad.Failed before after) = refl
 
 -- ---- a pack that begins
 
@@ -393,6 +419,16 @@ looks_on ears paths named rest here is passed = ap (λ b. fold with_path paths (
 pub looks_not : (ears : Ears) (paths : List (List ℕ)) (named : Named) (rest : List Named) (here : Bool) → here ≡ matches ears named → here ≡ false
     → fold with_path paths (looked_of ears (named ∷ rest)) ≡ with_path paths named.path
 looks_not ears paths named rest here is differs = ap (λ b. fold with_path paths (named.path ∷ cond b (looked_of ears rest) [])) (sym is ∙ differs)
+
+pub missing_on : (ears : Ears) (number : ℕ) (named : Named) (rest : List Named) (here : Bool) → here ≡ matches ears named → here ≡ true
+    → missing_from ears number (named ∷ rest) ≡ missing_from ears (number + 1) rest
+missing_on ears number named rest here is passed =
+    ap (λ b. cond b (missing_from ears (number + 1) rest) (cond (is_absent (ears.file (components_of named.path))) (Some number) None)) (sym is ∙ passed)
+
+pub missing_here : (ears : Ears) (number : ℕ) (named : Named) (rest : List Named) (here : Bool) → here ≡ matches ears named → here ≡ false
+    → missing_from ears number (named ∷ rest) ≡ cond (is_absent (ears.file (components_of named.path))) (Some number) None
+missing_here ears number named rest here is differs =
+    ap (λ b. cond b (missing_from ears (number + 1) rest) (cond (is_absent (ears.file (components_of named.path))) (Some number) None)) (sym is ∙ differs)
 
 -- one more path
 pub fold_more : (start paths : List (List ℕ)) (place : ℕ) (path : List ℕ) → place < length paths → path ≡ get_or paths place path

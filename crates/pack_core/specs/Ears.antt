@@ -1,5 +1,5 @@
 -- What is heard of a crate's files, whatever they are heard by, and which clarification holds by it.
-use Rattle.std.specs.Prelude.{ℕ, ◌==◌, Bool, false, List, [], ◌∷◌, if◌then◌else◌}
+use Rattle.std.specs.Prelude.{ℕ, ◌+◌, ◌==◌, Bool, true, false, List, [], ◌∷◌, Option, Some, None, if◌then◌else◌}
 use Rattle.std.specs.List.{list_all}
 use Rattle.deny_text.specs.Hash.{xxh32_of}
 use Rattle.deny_text.specs.Normal.{normal_of}
@@ -43,6 +43,21 @@ holds ears files = list_all (matches ears) files
 abbrev pub looked_of : Ears → List Named → List (List ℕ)
 looked_of ears [] = []
 looked_of ears (named ∷ files) = named.path ∷ (if matches ears named then looked_of ears files else [])
+
+-- nothing is there
+abbrev pub is_absent : Heard → Bool
+is_absent (failed before after) = false
+is_absent absent = true
+is_absent wrong_kind = false
+is_absent not_utf8 = false
+is_absent (text bytes) = false
+is_absent (entries listed) = false
+
+-- the number of the first file that does not match, where nothing is there; files are counted on from a number
+abbrev pub missing_from : Ears → ℕ → List Named → Option ℕ
+missing_from ears number [] = None
+missing_from ears number (named ∷ files) =
+    if matches ears named then missing_from ears (number + 1) files else (if is_absent (ears.file (components_of named.path)) then Some number else None)
 
 -- the clarifications that are tried: up to and with the first that holds, or all
 abbrev pub tried_of : Ears → List (List Named) → List (List Named)

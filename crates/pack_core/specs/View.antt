@@ -1,5 +1,5 @@
 -- A pack, as contracts see it.
-use Rattle.std.specs.Prelude.{◌≡◌, ℕ, ◌==◌, Bool, true, false, List, map, Option, Some, None, Result, if◌then◌else◌}
+use Rattle.std.specs.Prelude.{◌≡◌, ℕ, ◌==◌, Bool, false, List, map, Option, Some, None, is_none, Result, if◌then◌else◌}
 use Rattle.std.specs.BTreeMap.{is_at}
 use Rattle.std.specs.List.{filter_map}
 use Rattle.std.specs.Map.{lookup}
@@ -10,6 +10,7 @@ use Rattle.deny_text.specs.Path.{components_of, path_order}
 use Rattle.tree_core.specs.declared.reads.ReadKind.TheVariants.{Listing, LicenseFile}
 use Rattle.tree_core.specs.declared.reads.ReadRecord.{ReadRecord}
 use Rattle.reads_core.specs.declared.bad_read.BadRead.{BadRead}
+use Rattle.reads_core.specs.declared.bad_read.BadRead.TheVariants as bad
 use Rattle.reads_core.specs.Heard.{Heard, failed, absent, wrong_kind, not_utf8, text, entries, is_kind, answer_of, counts_in, failed_counts}
 use Rattle.reads_core.specs.Views.{heard_file}
 use Rattle.pack_core.specs.Pack.{in_path_order}
@@ -53,14 +54,18 @@ paths_read reads = filter_map path_read reads
 abbrev pub AreNormal : List (List ℕ × Heard) → Type 0
 AreNormal files = (path : List ℕ) (heard : Heard) → file_at files path ≡ Some heard → normal_heard heard ≡ heard
 
+-- why a listing is not heard as entries; a listing is never heard as a text
+abbrev pub unlisted_of : Heard → Option BadRead
+unlisted_of (failed before after) = Some (bad.Failed before after)
+unlisted_of absent = Some bad.Absent
+unlisted_of wrong_kind = Some bad.WrongKind
+unlisted_of not_utf8 = Some bad.NotUtf8
+unlisted_of (text bytes) = Some bad.WrongKind
+unlisted_of (entries listed) = None
+
 -- whether a listing is heard as entries
 abbrev pub is_listed : Heard → Bool
-is_listed (failed before after) = false
-is_listed absent = false
-is_listed wrong_kind = false
-is_listed not_utf8 = false
-is_listed (text bytes) = false
-is_listed (entries listed) = true
+is_listed listing = is_none (unlisted_of listing)
 
 -- the counts of a read that failed
 abbrev pub counts_of : Heard → Option (ℕ × ℕ)

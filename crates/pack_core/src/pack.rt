@@ -1,5 +1,7 @@
 //! The pack of a crate.
 ghost use Rattle.std.specs.Prelude.{◌≡◌, [], ◌∷◌, IfOk, true, false, is_some, None, Some, map, option_copied};
+ghost use Rattle.std.specs.Prelude.{if◌then◌else◌};
+ghost use Rattle.deny_text.specs.Path.{components_of};
 ghost use Rattle.std.specs.List.{fold, list_any};
 ghost use Rattle.std.specs.Iterator.{YieldsFirstBy, item_count};
 ghost use Rattle.std.specs.Option.{option_map_or};
@@ -7,13 +9,13 @@ ghost use Rattle.tree_core.specs.Content.{Content};
 ghost use Rattle.tree_core.specs.Hearing.{KeepsTree};
 ghost use Rattle.tree_core.specs.declared.reads.ReadKind.TheVariants.{Listing};
 ghost use Rattle.reads_core.specs.Heard.{record_of};
-ghost use Rattle.reads_core.specs.Views.{heard_file, heard_folder};
+ghost use Rattle.reads_core.specs.Views.{heard_bad, heard_file, heard_folder};
 ghost use Rattle.pack_core.specs.Ears as spec;
-ghost use Rattle.pack_core.specs.Ears.{Ears, ears_of, looked_of};
+ghost use Rattle.pack_core.specs.Ears.{Ears, ears_of, looked_of, missing_from};
 ghost use Rattle.pack_core.specs.Pack.{in_path_order, same_path};
 ghost use Rattle.pack_core.specs.Steps.{Advances, Agrees, Begins, IsHeardIn, with_file, with_path};
 ghost use Rattle.pack_core.specs.View.{file_at, has_normal_hash, is_listed, normal_heard, paths_of};
-ghost use Rattle.pack_core.specs.View.{paths_read};
+ghost use Rattle.pack_core.specs.View.{paths_read, unlisted_of};
 
 use crate::found::found;
 use crate::license_text::LicenseText;
@@ -66,6 +68,16 @@ impl Model for Pack {
 pub struct Tried {
     pub pack: Pack,
     pub holds: bool,
+    /// The number of the first file that does not match, where nothing is there.
+    pub missing: Option<usize>,
+}
+
+/// A pack, and what a file that a clarification names is.
+#[derive(Drop)]
+struct Matched {
+    pack: Pack,
+    holds: bool,
+    absent: bool,
 }
 
 /// A text in its normal form; the text as it was read is let go.
@@ -90,6 +102,34 @@ fn kept_has_hash(kept: &PackData, hash: u32) -> bool
         Ok(text) => text.hash() == hash,
         Err(_) => false,
     }
+}
+
+fn is_absent(error: BadRead) -> bool
+    ensures { result ≡ spec.is_absent (heard_bad error) }
+{
+    match error {
+        BadRead::Absent => true,
+        BadRead::WrongKind => false,
+        BadRead::NotUtf8 => false,
+        BadRead::Failed { .. } => false,
+    }
+}
+
+/// Whether nothing was there to be kept of a file.
+fn kept_is_absent(kept: &PackData) -> bool
+    ensures { result ≡ spec.is_absent (heard_file kept.now) }
+{
+    match kept {
+        Ok(_) => false,
+        Err(error) => is_absent(*error),
+    }
+}
+
+/// The number of a file, where nothing is there.
+fn number_where(absent: bool, number: usize) -> Option<usize>
+    ensures { result ≡ (if absent then Some number else None) }
+{
+    if absent { Some(number) } else { None }
 }
 
 impl Pack {
@@ -178,13 +218,23 @@ impl Pack {
         }
     }
 
-    /// Whether a file that a clarification names has its hash; it is read where it was not.
+    /// Whether nothing was there where a file was read.
+    fn lacks(&self, path: &PathBuf) -> bool
+        ensures { result ≡ option_map_or spec.is_absent (file_at self.now.files path.now) false }
+    {
+        match self.files.get(path) {
+            Some(kept) => kept_is_absent(kept),
+            None => false,
+        }
+    }
+
+    /// Whether a file that a clarification names has its hash, or is not there; it is read where it was not.
     fn matches<T: Tree, F: NamedFile>(
         self,
         alloc: Global,
         tree: &mut T,
         file: &F,
-    ) -> Result<Tried, AllocError>
+    ) -> Result<Matched, AllocError>
         ensures kept { KeepsTree (T.content tree.old) (T.content tree.new)
             (T.fault_count tree.old) (T.fault_count tree.new) }
         ensures advances { IfOk result (λ tried.
@@ -193,11 +243,18 @@ impl Pack {
             paths_read tried.pack.reads ≡ with_path (paths_read self.reads) (F.named file.now).path) }
         ensures holds { IfOk result (λ tried. (ears : Ears) → Agrees ears tried.pack
             → tried.holds ≡ spec.matches ears (F.named file.now)) }
+        ensures absent { IfOk result (λ tried. (ears : Ears) → Agrees ears tried.pack
+            → tried.absent ≡ spec.is_absent (ears.file (components_of (F.named file.now).path))) }
     {
         let named = file.path();
         let pack = self.look_up(alloc, tree, named)?;
         let holds = pack.has_hash(named, file.hash());
-        Ok(Tried { pack, holds })
+        let absent = pack.lacks(named);
+        Ok(Matched {
+            pack,
+            holds,
+            absent,
+        })
     }
 
     /// Tries a clarification by its files: each is looked up in order, up to the first that does not match.
@@ -217,16 +274,26 @@ impl Pack {
             ≡ fold with_path (paths_read self.reads) (looked_of ears (map F.named files.now))) }
         ensures holds { IfOk result (λ tried. (ears : Ears) → Agrees ears tried.pack
             → tried.holds ≡ spec.holds ears (map F.named files.now)) }
+        ensures missing { IfOk result (λ tried. (ears : Ears) → Agrees ears tried.pack
+            → tried.missing ≡ missing_from ears 0 (map F.named files.now)) }
     {
         let mut pack = self;
-        'files: for file in files {
+        'files: for (place, file) in files.iter().enumerate() {
             let tried = pack.matches(alloc, tree, file)?;
             pack = tried.pack;
             if !tried.holds {
-                return Ok(Tried { pack, holds: false });
+                return Ok(Tried {
+                    pack,
+                    holds: false,
+                    missing: number_where(tried.absent, place),
+                });
             }
         }
-        Ok(Tried { pack, holds: true })
+        Ok(Tried {
+            pack,
+            holds: true,
+            missing: None,
+        })
     }
 
     /// The pack with the files at some paths, in order.
@@ -274,6 +341,17 @@ impl Pack {
         ensures { result ≡ is_listed self.now.listing }
     {
         self.listing.is_ok()
+    }
+
+    /// Why the folder was not listed.
+    #[tactic(auto, using(crate::proofs::PackLemmas::unlisted_by))]
+    pub fn unlisted(&self) -> Option<BadRead>
+        ensures { result ≡ unlisted_of self.now.listing }
+    {
+        match &self.listing {
+            Ok(_) => None,
+            Err(error) => Some(*error),
+        }
     }
 
     /// The files in path order, each by the spelling that it was first read by.

@@ -1,6 +1,6 @@
 //! Exceptions, of the policy and of its exceptions file, and specs of crates that are left out.
 use crate::rows::expect;
-use run_rows::{POLICY, WORDS, Want, accepted, files, refused, rejected};
+use run_rows::{POLICY, WORDS, Want, accepted, files, observe, refused, rejected};
 use std::alloc::Global;
 use std::process::Abort;
 use std::test::Fail;
@@ -75,6 +75,27 @@ fn an_exceptions_file_is_found_and_used(rt: HostRuntime) -> Result<(), Fail> {
         },
     ] {
         compare_row(&rt, alloc, &row)?;
+    }
+    Ok(())
+}
+
+#[test]
+fn the_policy_is_reported_with_its_exceptions_file(rt: HostRuntime) -> Result<(), Fail> {
+    let alloc = rt.alloc();
+    let two =
+        "[licenses]\nallow = [\"MIT\", \"ISC\"]\nexceptions = [{ crate = \"c\", allow = [] }]\n";
+    for (policy, path, want) in [
+        (POLICY, "/w/x", "file 0: MIT, 0 exceptions"),
+        (POLICY, "/deny.exceptions.toml", "file 0: MIT, 1 exceptions"),
+        (
+            two,
+            "/deny.exceptions.toml",
+            "file 0: ISC MIT, 2 exceptions",
+        ),
+    ] {
+        let mut tree = tree_with(alloc, policy, path, ALLOWS_ISC.as_bytes())?;
+        let seen = observe(alloc, &WORDS, "/w", &mut tree, 1000)?;
+        assert_eq!(rt; seen.policy.as_str(), want);
     }
     Ok(())
 }

@@ -1,6 +1,9 @@
 //! Policies of every form, and what a run with each comes to.
 use crate::rows::{compare, expect};
-use run_rows::{POLICY, Room, WORDS, Want, accepted, files, observe_in, refused, rejected, tree};
+use run_rows::{
+    OPEN, POLICY, Room, WORDS, Want, accepted, files, metadata, observe, observe_in, refused,
+    rejected, tree,
+};
 use std::alloc::Global;
 use std::process::Abort;
 use std::test::Fail;
@@ -154,6 +157,34 @@ fn warnings_stand_before_the_line_of_absent_metadata(rt: HostRuntime) -> Result<
     let mut tree = files(alloc, &[("/w/p.toml", WARNED.as_bytes())])?;
     let want = refused("metadata: Absent", WARNINGS_NO_METADATA);
     expect(&rt, alloc, &WORDS, &mut tree, 1000, &want)
+}
+
+/// The metadata of no crates.
+const NOTHING: &str = "{\"packages\":[],\"workspace_members\":[],\"workspace_root\":\"/w\",\
+\"resolve\":{\"nodes\":[],\"root\":null}}";
+
+#[test]
+fn warnings_stand_before_the_line_of_each_later_refusal(rt: HostRuntime) -> Result<(), Fail> {
+    let alloc = rt.alloc();
+    let two = metadata(alloc, "MIT OR ISC")?;
+    for (bytes, ended, line) in [
+        ("{", "no json", "error: the metadata could not be parsed\n"),
+        (
+            "{}",
+            "shape: /packages Missing",
+            "error: the metadata has not the stated shape\n",
+        ),
+        (NOTHING, "no roots: 0 0 0", "error: no root crate is left\n"),
+        (two.as_str(), "crate a 1.0.0", OPEN),
+    ] {
+        let mut tree = tree(alloc, "MIT", WARNED.as_bytes())?;
+        tree.put("/w/m.json", bytes.as_bytes())?;
+        let seen = observe(alloc, &WORDS, "/w", &mut tree, 1000)?;
+        let want = format!(in alloc; "{ended}; {WARNINGS}{line}")?;
+        let told = format!(in alloc; "{}; {}", seen.ended.as_str(), seen.err.as_str())?;
+        assert_eq!(rt; told.as_str(), want.as_str());
+    }
+    Ok(())
 }
 
 #[test]

@@ -1,6 +1,6 @@
 //! Private crates, and the crates that a policy includes.
 use crate::rows::{compare, expect};
-use run_rows::{Seen, WORDS, Want, accepted, files, observe};
+use run_rows::{OPEN, Seen, WORDS, Want, accepted, files, observe, refused};
 use std::alloc::Global;
 use std::test::Fail;
 
@@ -53,6 +53,18 @@ fn private_crates_are_passed_over_where_the_policy_says_so(rt: HostRuntime) -> R
         let seen = seen_with(alloc, members, lines)?;
         compare(&rt, &seen, &want);
         assert_eq!(rt; seen.notes, 1);
+    }
+    Ok(())
+}
+
+// The field of a crate that is passed over is read too.
+#[test]
+fn private_crates_need_an_expression(rt: HostRuntime) -> Result<(), Fail> {
+    let alloc = rt.alloc();
+    for license in ["null", "\"MIT OR ISC\""] {
+        let members = format!(in alloc; "\"publish\":[],\"license\":{license}")?;
+        let seen = seen_with(alloc, members.as_str(), "private = { ignore = true }")?;
+        compare(&rt, &seen, &refused("crate a", OPEN));
     }
     Ok(())
 }

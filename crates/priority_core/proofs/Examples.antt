@@ -1,25 +1,25 @@
 -- Crates and where their licences come from, worked out by hand from the rules.
-use Rattle.std.proofs.Common.{◌≡◌, ℕ, true, false, cond, List, [], ◌∷◌, ◌++◌, Option, Some, None, codes, refl, option_map}
+use Rattle.std.proofs.Common.{◌≡◌, ℕ, true, cond, List, [], ◌∷◌, Option, Some, None, codes, refl}
 use Rattle.std.specs.Path.{path_components, path_names, path_parent, rsplit_once, split_last_component, trim_trailing}
 use Rattle.std.specs.Str.{bytes_eq}
 use Rattle.std.specs.Cmp.Lexicographic.{pointwise}
 use Rattle.deny_text.specs.Hash.{xxh32_of, mixed, of_groups, with_word, with_byte}
 use Rattle.deny_text.specs.Normal.{normal_of}
 use Rattle.deny_text.specs.Path.{components_of}
+use Rattle.deny_text.specs.declared.span.Span.{Span}
 use Rattle.tree_core.specs.declared.reads.ReadAnswer.{ReadAnswer}
 use Rattle.tree_core.specs.declared.reads.ReadAnswer.TheVariants as answer
 use Rattle.tree_core.specs.declared.reads.ReadKind.TheVariants.{Listing, LicenseFile}
 use Rattle.tree_core.specs.declared.reads.ReadRecord.{ReadRecord}
-use Rattle.catalog_core.specs.Catalog.{CatalogLists}
 use Rattle.spdx_core.specs.Grammar.{leaf}
 use Rattle.spdx_core.specs.Reading.{ExpressionView}
 use Rattle.graph_core.specs.Krate.{Record}
 use Rattle.reads_core.specs.Heard.{Heard, failed, absent, not_utf8, text, entries}
 use Rattle.pack_core.specs.Ears.{Ears}
-use Rattle.pack_core.specs.NamedFile.{Named}
 use Rattle.expression_core.specs.Scanned.{Scanner}
 use Rattle.priority_core.specs.Clarification.{Clarification}
 use Rattle.priority_core.specs.Priority.{Answer, user_override, priority_of, records_of}
+use Rattle.priority_core.specs.Settled.{missing_of}
 
 -- no text is identified
 abbrev scanner : Scanner
@@ -57,9 +57,13 @@ listed = entries ((codes "LICENSE", true) ∷ [])
 abbrev isc : ExpressionView
 isc = record { text = codes "ISC"; terms = []; tree = leaf 0 }
 
+-- where the policy writes the path
+abbrev at_path : Span
+at_path = record { start = 7; end = 9 }
+
 -- a clarification of a file that is to have the hash of one LF, as `xxhsum -H0` has it
 abbrev clarified : List ℕ → List Clarification
-clarified path = record { expression = isc; files = record { path = path; hash = 0x81c9d352 } ∷ [] } ∷ []
+clarified path = record { expression = isc; offset = 0; whole = None; files = record { named = record { path = path; hash = 0x81c9d352 }; span = at_path } ∷ [] } ∷ []
 
 abbrev by_policy : Option Answer
 by_policy = Some (record { expression = isc; source = user_override; notes = [] })
@@ -102,3 +106,19 @@ reads_not_a_text = refl
 reads_no_listing : records_of scanner [] (krate (Some (codes "LICENSE"))) (ears (failed 0 1) (codes "LICENSE") (text [])) ≡ listing_read (answer.Failed 0 1) ∷ []
 unfolding path_components path_names path_parent split_last_component trim_trailing rsplit_once
 reads_no_listing = refl
+
+-- ---- files that are not there
+
+-- nothing is there, and the place of the path is told
+not_there : missing_of (ears listed (codes "COPYING") (text [])) (clarified (codes "LICENSE")) ≡ at_path ∷ []
+unfolding path_components path_names
+not_there = refl
+
+-- a file of another hash, and one whose read failed, are there
+another_hash : missing_of (ears listed (codes "LICENSE") (text [])) (clarified (codes "LICENSE")) ≡ []
+unfolding path_components path_names xxh32_of mixed of_groups with_word with_byte normal_of
+another_hash = refl
+
+read_failed : missing_of (ears listed (codes "LICENSE") (failed 0 1)) (clarified (codes "LICENSE")) ≡ []
+unfolding path_components path_names
+read_failed = refl

@@ -2,4 +2,5 @@ pub mod ApartLemmas
 mod Examples
 pub mod LookedLemmas
 pub mod NotesLemmas
+pub mod SeenLemmas
 pub mod TriedLemmas

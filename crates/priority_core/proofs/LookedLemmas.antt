@@ -1,29 +1,32 @@
--- From what was looked at for a crate to what has priority.
-use Rattle.std.proofs.Common.{◌≡◌, ◌∙◌, ℕ, ◌++◌, ◌≤◌, Bool, true, false, cond, List, [], ◌∷◌, map, Option, None, Some, is_none, refl, sym, ap, subst}
-use Rattle.std.specs.Prelude.{unwrap_or}
+-- From what was looked at for a crate to what settles its licence.
+use Rattle.std.proofs.Common.{◌≡◌, ◌∙◌, ℕ, ◌++◌, true, false, cond, List, [], ◌∷◌, map, Option, None, Some, is_none, refl, sym, ap, subst}
+use Rattle.std.specs.Prelude.{option_map, unwrap_or}
 use Rattle.std.specs.List.{flat_map, fold}
 use Rattle.std.proofs.lemmas.List.Sums.{fold-append}
 use Rattle.deny_text.specs.Path.{components_of}
+use Rattle.deny_text.specs.declared.span.Span.{Span}
 use Rattle.tree_core.specs.Content.{Content}
-use Rattle.tree_core.specs.declared.reads.ReadRecord.{ReadRecord}
 use Rattle.spdx_core.specs.Reading.{ExpressionView}
 use Rattle.graph_core.specs.Krate.{Record}
 use Rattle.reads_core.specs.Heard.{Heard, absent}
-use Rattle.pack_core.specs.Ears.{Ears, ears_of, looked_of, tried_of}
+use Rattle.pack_core.specs.Ears.{Ears, looked_of, tried_of}
 use Rattle.pack_core.specs.NamedFile.{Named}
 use Rattle.pack_core.specs.Pack.{found_of, in_path_order, pack_of, reads_of, wanted_of}
 use Rattle.pack_core.specs.Steps.{Advances, Agrees, Begins, records_by, with_path}
-use Rattle.pack_core.specs.View.{AreNormal, PackView, file_at, is_listed, normal_heard, paths_of, paths_read}
+use Rattle.pack_core.specs.View.{AreNormal, PackView, is_listed, normal_heard, paths_of, paths_read}
 use Rattle.pack_core.proofs.PackLemmas.{agrees_earlier}
 use Rattle.pack_core.proofs.PathLemmas.{look_ups_keep_first_spellings}
 use Rattle.expression_core.specs.Scanned.{Scanner, file_scanned}
+use Rattle.priority_core.specs.declared.clarification.Held.{Held}
 use Rattle.priority_core.specs.declared.settle.Settled.{Settled}
-use Rattle.priority_core.specs.declared.told.Told.{Told}
-use Rattle.priority_core.specs.Clarification.{Clarification, files_of}
-use Rattle.priority_core.specs.Priority.{Answer, answer_by, by_cases, priority_of, clarified_of, field_of, files_heard, files_scanned, folder_of, is_nothing, looks_at_files, records_with}
-use Rattle.priority_core.specs.Settled.{IsSettledBy, info_of, notes_of}
-use Rattle.priority_core.specs.Steps.{IsLooked, IsOrderedBy, ears_in, files_in, told_of}
+use Rattle.priority_core.specs.declared.settling.FilesSeen.{FilesSeen}
+use Rattle.priority_core.specs.declared.settling.Settling.TheVariants.{Field}
+use Rattle.priority_core.specs.Clarification.{Clarification, files_of, held_in}
+use Rattle.priority_core.specs.Priority.{field_of, files_heard, files_scanned, folder_of, holding, is_nothing, looks_at_files, records_with}
+use Rattle.priority_core.specs.Settled.{IsSettledBy, answer_in, by_seen, missing_of, seen_by, settling_by, settling_of}
+use Rattle.priority_core.specs.Steps.{IsLooked, IsOrderedBy, ears_in, looked_at, seen_in}
 use Rattle.priority_core.proofs.ApartLemmas.{AreApart, apart_in_order, apart_spellings, heard_at_paths}
+use Rattle.priority_core.proofs.SeenLemmas.{answer_is}
 
 -- what was found and then looked up was read in the order of the reads
 paths_looked : (ears : Ears) (license_file : Option (List ℕ)) (clarifications : List (List Named)) (listing : Heard) (begun last : List (List ℕ))
@@ -37,13 +40,14 @@ paths_looked ears license_file clarifications listing begun last same begins loo
     ∙ ap (λ heard. fold with_path [] (found_of heard license_file ++ more)) (sym same)
     ∙ look_ups_keep_first_spellings (found_of ears.listing license_file ++ more)
 
-pub looked : (told : Option Content) (first middle last : ℕ) (krate : Record) (clarifications : List Clarification) (begun new : PackView) (clarified : Option ExpressionView)
+pub looked : (told : Option Content) (first middle last : ℕ) (krate : Record) (clarifications : List Clarification) (begun new : PackView) (held : Option Held) (missing : List Span)
     → Begins told first middle (folder_of krate) krate.license_file begun
     → Advances told middle last begun new
     → ((ears : Ears) → Agrees ears new → paths_read new.reads ≡ fold with_path (paths_read begun.reads) (flat_map (looked_of ears) (tried_of ears (files_of clarifications))))
-    → ((ears : Ears) → Agrees ears new → clarified ≡ clarified_of ears clarifications)
-    → IsLooked told first last krate clarifications new clarified
-looked told first middle last krate clarifications begun new clarified begins goes paths holds =
+    → ((ears : Ears) → Agrees ears new → held ≡ option_map held_in (holding ears clarifications))
+    → ((ears : Ears) → Agrees ears new → missing ≡ missing_of ears clarifications)
+    → IsLooked told first last krate clarifications new held missing
+looked told first middle last krate clarifications begun new held missing begins goes paths holds lacks =
     let read : (ears : Ears) → Agrees ears new → paths_read new.reads ≡ reads_of ears krate.license_file (files_of clarifications) =
     λ ears agrees. paths_looked ears krate.license_file (files_of clarifications) begun.listing (paths_read begun.reads) (paths_read new.reads)
     (agrees_earlier told middle last begun new ears goes agrees).listing begins.paths (paths ears agrees) in
@@ -57,12 +61,13 @@ looked told first middle last krate clarifications begun new clarified begins go
           goes.records ears agrees (begins.records ears (agrees_earlier told middle last begun new ears goes agrees))
           ∙ ap (λ folder. records_by ears folder (paths_read new.reads)) (goes.folder ∙ begins.folder_is)
           ∙ ap (records_by ears (folder_of krate)) (read ears agrees);
-      clarified_is = holds;
+      held_is = holds;
+      missing_is = lacks;
     }
 
 -- the files of the pack are what is heard of the paths of the pack
 files_looked : (ears : Ears) (pack : PackView) (paths : List (List ℕ)) → Agrees ears pack → paths_of pack.files ≡ in_path_order paths → AreApart paths
-    → files_in pack ≡ files_heard ears (in_path_order paths)
+    → looked_at pack ≡ files_heard ears (in_path_order paths)
 files_looked ears pack paths agrees sorted apart =
     let hears = λ (at : List ℕ). normal_heard (ears.file (components_of at)) in
     ap (λ (files : List (List ℕ × Heard)). cond (is_listed pack.listing) files [])
@@ -70,23 +75,25 @@ files_looked ears pack paths agrees sorted apart =
     ∙ ap (map (λ path. (path, normal_heard (ears.file (components_of path))))) sorted)
     ∙ ap (λ listing. cond (is_listed listing) (map (λ path. (path, normal_heard (ears.file (components_of path)))) (in_path_order paths)) []) (sym agrees.listing)
 
-pub ordered : (scanner : Scanner) (told : Option Content) (first last : ℕ) (krate : Record) (clarifications : List Clarification) (pack : PackView) (clarified field : Option ExpressionView)
-    → (settled : Settled) (ears : Ears) → IsLooked told first last krate clarifications pack clarified
+pub ordered : (scanner : Scanner) (told : Option Content) (first last : ℕ) (krate : Record) (clarifications : List Clarification) (pack : PackView)
+    → (held : Option Held) (missing : List Span) (field : Option ExpressionView) (settled : Settled) (ears : Ears) → IsLooked told first last krate clarifications pack held missing
     → paths_of pack.files ≡ in_path_order (paths_read settled.reads) → field ≡ field_of scanner.lists krate
-    → record { info = settled.info; notes = settled.notes } ≡ told_of (by_cases clarified field (answer_by scanner.lists (map (file_scanned scanner) (files_in pack))))
-    → settled.reads ≡ pack.reads
+    → settled.by ≡ settling_by held field (by_seen scanner.lists (seen_in scanner pack)) → settled.missing ≡ missing → settled.reads ≡ pack.reads
     → Agrees ears pack → IsOrderedBy scanner clarifications krate ears settled
-ordered scanner told first last krate clarifications pack clarified field settled ears is sorted field_is tells reads agrees =
+ordered scanner told first last krate clarifications pack held missing field settled ears is sorted field_is by_is missing_is reads agrees =
     let wanted = wanted_of ears krate.license_file (files_of clarifications) in
-    let files : files_in pack ≡ files_heard ears (pack_of ears krate.license_file (files_of clarifications)) =
+    let files : looked_at pack ≡ files_heard ears (pack_of ears krate.license_file (files_of clarifications)) =
     files_looked ears pack (reads_of ears krate.license_file (files_of clarifications)) agrees (sorted ∙ ap (λ reads. in_path_order (paths_read reads)) reads ∙ ap in_path_order (is.paths ears agrees)) (apart_spellings wanted) in
-    let answer : by_cases clarified field (answer_by scanner.lists (map (file_scanned scanner) (files_in pack))) ≡ priority_of scanner clarifications krate ears =
-    ap (λ (files : List (List ℕ × Heard)). by_cases clarified field (answer_by scanner.lists (map (file_scanned scanner) files))) files
-    ∙ ap (λ (one : Option ExpressionView). by_cases one field (answer_by scanner.lists (map (file_scanned scanner) (files_heard ears (pack_of ears krate.license_file (files_of clarifications)))))) (is.clarified_is ears agrees)
-    ∙ ap (λ (one : Option ExpressionView). by_cases (clarified_of ears clarifications) one (answer_by scanner.lists (map (file_scanned scanner) (files_heard ears (pack_of ears krate.license_file (files_of clarifications)))))) field_is in
+    let seen : seen_in scanner pack ≡ seen_by ears.listing (files_scanned scanner clarifications krate ears) =
+    ap (λ (files : List (List ℕ × Heard)). seen_by pack.listing (map (file_scanned scanner) files)) files
+    ∙ ap (λ listing. seen_by listing (files_scanned scanner clarifications krate ears)) (sym agrees.listing) in
     record {
-      info = ap (λ (t : Told). t.info) tells ∙ ap info_of answer;
-      notes = ap (λ (t : Told). t.notes) tells ∙ ap notes_of answer;
+      by =
+          by_is
+          ∙ ap (λ (one : Option Held). settling_by one field (by_seen scanner.lists (seen_in scanner pack))) (is.held_is ears agrees)
+          ∙ ap (λ (one : Option ExpressionView). settling_by (option_map held_in (holding ears clarifications)) one (by_seen scanner.lists (seen_in scanner pack))) field_is
+          ∙ ap (λ (seen : FilesSeen). settling_by (option_map held_in (holding ears clarifications)) (field_of scanner.lists krate) (by_seen scanner.lists seen)) seen;
+      missing = missing_is ∙ is.missing_is ears agrees;
       reads = reads ∙ is.reads ears agrees;
     }
 
@@ -100,24 +107,28 @@ agrees_itself pack normal = record {
 -- ---- the files were looked at, or were not
 
 pub settled_by_files : (scanner : Scanner) (clarifications : List Clarification) (krate : Record) (ears : Ears) (settled : Settled)
-    → looks_at_files scanner clarifications krate ≡ true → IsOrderedBy scanner clarifications krate ears settled
-    → IsSettledBy scanner clarifications krate ears settled.info settled.notes settled.reads
+    → looks_at_files scanner clarifications krate ≡ true → IsOrderedBy scanner clarifications krate ears settled → IsSettledBy scanner clarifications krate ears settled
 settled_by_files scanner clarifications krate ears settled looks is = record {
-  answer = is.info;
-  notes_are = is.notes;
+  by_is = is.by;
+  answer = ap answer_in is.by ∙ answer_is scanner clarifications krate ears;
+  missing_is = is.missing;
   reads_are = is.reads ∙ sym (ap (λ b. cond b (records_with clarifications krate ears) []) looks);
 }
 
 pub settled_by_field : (scanner : Scanner) (clarifications : List Clarification) (krate : Record) (ears : Ears) (settled : Settled) (expression : ExpressionView)
-    → is_nothing clarifications ≡ true → Some expression ≡ field_of scanner.lists krate
-    → settled.info ≡ info_of (by_cases None (Some expression) None) → settled.notes ≡ [] → settled.reads ≡ []
-    → IsSettledBy scanner clarifications krate ears settled.info settled.notes settled.reads
-settled_by_field scanner [] krate ears settled expression none field info notes reads = record {
-  answer = info ∙ ap (λ (one : Option ExpressionView). info_of (by_cases None one (answer_by scanner.lists (files_scanned scanner [] krate ears)))) field;
-  notes_are = notes ∙ ap (λ (one : Option ExpressionView). notes_of (by_cases None one (answer_by scanner.lists (files_scanned scanner [] krate ears)))) field;
-  reads_are = reads ∙ ap (λ (one : Option ExpressionView). cond (is_none one) (records_with [] krate ears) []) field;
-}
-settled_by_field scanner (first ∷ rest) krate ears settled expression none field info notes reads = cc
+    → is_nothing clarifications ≡ true → Some expression ≡ field_of scanner.lists krate → settled ≡ record { by = Field expression; missing = []; reads = [] }
+    → IsSettledBy scanner clarifications krate ears settled
+settled_by_field scanner [] krate ears settled expression none field is =
+    let by : settled.by ≡ settling_of scanner [] krate ears =
+    ap (λ (s : Settled). s.by) is
+    ∙ ap (λ (one : Option ExpressionView). settling_by None one (by_seen scanner.lists (seen_by ears.listing (files_scanned scanner [] krate ears)))) field in
+    record {
+      by_is = by;
+      answer = ap answer_in by ∙ answer_is scanner [] krate ears;
+      missing_is = ap (λ (s : Settled). s.missing) is;
+      reads_are = ap (λ (s : Settled). s.reads) is ∙ ap (λ (one : Option ExpressionView). cond (is_none one) (records_with [] krate ears) []) field;
+    }
+settled_by_field scanner (first ∷ rest) krate ears settled expression none field is = cc
 
 pub looks_for_some : (scanner : Scanner) (clarifications : List Clarification) (krate : Record) → is_nothing clarifications ≡ false → looks_at_files scanner clarifications krate ≡ true
 looks_for_some scanner [] krate some = cc

@@ -1,6 +1,6 @@
 -- Which licence a crate is under, in one fixed order: a clarification of the policy whose files have the stated hashes, else
 -- the crate's own field, else what its licence files are identified as, else nothing.
-use Rattle.std.specs.Prelude.{ℕ, Bool, true, false, ◌||◌, not, List, [], ◌∷◌, ◌++◌, map, find, codes, Option, Some, None, is_none, unwrap_or, if◌then◌else◌}
+use Rattle.std.specs.Prelude.{ℕ, Bool, true, false, ◌||◌, not, List, [], ◌∷◌, ◌++◌, map, find, codes, Option, is_none, unwrap_or, if◌then◌else◌}
 use Rattle.std.specs.Prelude.{option_map, option_and_then}
 use Rattle.std.specs.List.{filter_map, flat_map}
 use Rattle.deny_text.specs.Path.{components_of, parent_of}
@@ -13,13 +13,12 @@ use Rattle.pack_core.specs.Ears.{Ears, holds}
 use Rattle.pack_core.specs.Pack.{pack_of, reads_of}
 use Rattle.pack_core.specs.Steps.{records_by}
 use Rattle.pack_core.specs.View.{is_listed, normal_heard}
-use Rattle.expression_core.specs.declared.files.Name.{Name}
 use Rattle.expression_core.specs.declared.files.Scanned.{Scanned}
 use Rattle.expression_core.specs.declared.files.Scanned.TheVariants.{Bad, Unnamed, Low, Unknown, Joined}
 use Rattle.expression_core.specs.declared.files.ScannedFile.{ScannedFile}
 use Rattle.expression_core.specs.Scanned.{Scanner, file_scanned, joined_name, names_given}
 use Rattle.expression_core.specs.Taken.{field_read, joined_read, or_else}
-use Rattle.priority_core.specs.Clarification.{Clarification, files_of}
+use Rattle.priority_core.specs.Clarification.{Clarification, files_of, named_in}
 
 -- where an expression comes from; licence files are told by the paths of those that give a name
 pub data Source : Type 0 where
@@ -38,10 +37,13 @@ unnoted source expression = record { expression = expression; source = source; n
 
 -- ---- the first case: a clarification
 
--- the expression of the first that holds, as it stands in the policy
+-- the first that holds
+abbrev pub holding : Ears → List Clarification → Option Clarification
+holding ears clarifications = find (λ clarification. holds ears (named_in clarification)) clarifications
+
+-- its expression, as it stands in the policy
 abbrev pub clarified_of : Ears → List Clarification → Option ExpressionView
-clarified_of ears clarifications =
-    option_map (λ clarification. clarification.expression) (find (λ clarification. holds ears clarification.files) clarifications)
+clarified_of ears clarifications = option_map (λ clarification. clarification.expression) (holding ears clarifications)
 
 -- ---- the second case: the crate's field
 

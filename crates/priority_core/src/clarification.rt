@@ -1,9 +1,11 @@
 //! Clarifications as a crate's pack takes them.
-ghost use Rattle.std.specs.Prelude.{◌≡◌};
+ghost use Rattle.std.specs.Prelude.{◌≡◌, IfOk};
+ghost use Rattle.priority_core.specs.Clarification.{held_in};
 
-use deny_text::PathBuf;
+use deny_text::{PathBuf, Span};
 use pack_core::NamedFile;
 use spdx_core::Expression;
+use std::alloc::{AllocError, Global};
 use std::marker::Model;
 
 /// A file that a clarification names.
@@ -11,27 +13,38 @@ use std::marker::Model;
 pub struct FileRef<'p> {
     path: &'p PathBuf,
     hash: u32,
+    span: Span,
 }
 
 impl<'p> Model for FileRef<'p> {
-    ghost use Rattle.pack_core.specs.NamedFile.{Named};
+    ghost use Rattle.priority_core.specs.Clarification.{PlacedFile, placed_code};
 
-    ghost Value = { Named };
+    ghost Value = { PlacedFile };
 
-    ghost view = { λ f. record { path = f.path.now; hash = f.hash } };
+    ghost coded = { placed_code };
+
+    ghost view = { λ f. record { named = record { path = f.path.now; hash = f.hash }; span = f.span } };
 }
 
 impl<'p> FileRef<'p> {
-    /// A path from the crate's folder, and the hash that the file's normal form is to have.
-    pub fn new(path: &'p PathBuf, hash: u32) -> FileRef<'p>
-        ensures { result ≡ record { path = path.entry.now; hash = hash } }
+    /// A path from the crate's folder, the hash that the file's normal form is to have, and the place of the
+    /// path in the policy's file.
+    pub fn new(path: &'p PathBuf, hash: u32, span: Span) -> FileRef<'p>
+        ensures { result ≡ record { named = record { path = path.entry.now; hash = hash }; span = span } }
     {
-        FileRef { path, hash }
+        FileRef { path, hash, span }
+    }
+
+    /// The place of the path in the policy's file.
+    pub fn span(&self) -> Span
+        ensures { result ≡ self.now.span }
+    {
+        self.span
     }
 }
 
 impl<'p> NamedFile for FileRef<'p> {
-    ghost named = { λ file. file };
+    ghost named = { λ file. file.named };
 
     fn path(&self) -> &PathBuf {
         self.path
@@ -42,10 +55,23 @@ impl<'p> NamedFile for FileRef<'p> {
     }
 }
 
-/// A clarification: the expression that a policy gives a crate, and the files that it was read from.
+/// The expression of a clarification that holds, and where it stands in the policy's file.
+#[derive(Drop)]
+pub struct Held {
+    pub expression: Expression,
+    /// Where the expression's text begins.
+    pub offset: usize,
+    /// The place of the expression's string, where that has escapes; the offset means nothing then.
+    pub whole: Option<Span>,
+}
+
+/// A clarification: the expression that a policy gives a crate, where that stands in the policy's file, and
+/// the files that it was read from.
 #[derive(Drop)]
 pub struct ClarificationRef<'p> {
     expression: &'p Expression,
+    offset: usize,
+    whole: Option<Span>,
     files: Vec<FileRef<'p>>,
 }
 
@@ -56,20 +82,46 @@ impl<'p> Model for ClarificationRef<'p> {
 
     ghost coded = { clarification_code };
 
-    ghost view = { λ c. record { expression = c.expression.now; files = c.files.items } };
+    ghost view = { λ c. record {
+      expression = c.expression.now;
+      offset = c.offset;
+      whole = c.whole;
+      files = c.files.items;
+    } };
 }
 
 impl<'p> ClarificationRef<'p> {
-    pub fn new(expression: &'p Expression, files: Vec<FileRef<'p>>) -> ClarificationRef<'p>
-        ensures { result ≡ record { expression = expression.entry.now; files = files.entry.items } }
+    pub fn new(
+        expression: &'p Expression,
+        offset: usize,
+        whole: Option<Span>,
+        files: Vec<FileRef<'p>>,
+    ) -> ClarificationRef<'p>
+        ensures { result ≡ record {
+          expression = expression.entry.now;
+          offset = offset;
+          whole = whole;
+          files = files.entry.items;
+        } }
     {
-        ClarificationRef { expression, files }
+        ClarificationRef {
+            expression,
+            offset,
+            whole,
+            files,
+        }
     }
 
-    pub fn expression(&self) -> &Expression
-        ensures { result.now ≡ self.now.expression }
+    /// The expression and where it stands.
+    pub fn held(&self, alloc: Global) -> Result<Held, AllocError>
+        ensures { IfOk result (λ held. held ≡ held_in self.now) }
     {
-        self.expression
+        let expression = self.expression.copy(alloc)?;
+        Ok(Held {
+            expression,
+            offset: self.offset,
+            whole: self.whole,
+        })
     }
 
     /// The files, in the order in which they are tried.

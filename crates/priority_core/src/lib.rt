@@ -1,14 +1,14 @@
-//! The licence that a crate is under, by the policy's clarifications, its own field and its licence files.
+//! What settles the licence that a crate is under: the policy's clarifications, its own field and its licence
+//! files.
 #![tactic(auto)]
 
 pub mod clarification;
-pub mod license;
 mod notes;
 pub mod scan;
 pub mod settle;
-mod told;
+pub mod settling;
 
-pub use clarification::{ClarificationRef, FileRef};
-pub use license::{LicenseExprInfo, LicenseExprSource, LicenseInfo};
+pub use clarification::{ClarificationRef, FileRef, Held};
 pub use scan::Scan;
-pub use settle::{Settled, settle_licence};
+pub use settle::{Settled, Spans, folder, settle_licence};
+pub use settling::{FilesSeen, JoinedNames, Settling};

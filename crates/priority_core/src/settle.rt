@@ -1,66 +1,84 @@
 //! The licence of one crate.
-ghost use Rattle.std.specs.Prelude.{◌≡◌, IfOk, [], map};
+ghost use Rattle.std.specs.Prelude.{◌≡◌, ◌++◌, IfOk, OnOk, None, Some, [], map, option_map, option_and_then};
 ghost use Rattle.std.specs.List.{flat_map, fold};
-ghost use Rattle.std.specs.Option.{ForSome};
+ghost use Rattle.std.specs.Option.{ForSome, option_to_list};
 ghost use Rattle.tree_core.specs.Hearing.{KeepsTree};
 ghost use Rattle.graph_core.specs.Krate.{record_of};
 ghost use Rattle.reads_core.specs.Rising.{RiseInOrder};
 ghost use Rattle.pack_core.specs.Ears.{Ears, ears_of, looked_of, tried_of};
 ghost use Rattle.pack_core.specs.Steps.{Advances, Agrees, with_path};
 ghost use Rattle.pack_core.specs.View.{paths_read};
-ghost use Rattle.priority_core.specs.Clarification.{behind, files_of};
+ghost use Rattle.priority_core.specs.Clarification.{behind, files_of, held_in};
 ghost use Rattle.priority_core.specs.Priority as spec;
-ghost use Rattle.priority_core.specs.Priority.{by_cases, clarified_of, folder_of};
-ghost use Rattle.priority_core.specs.Settled.{IsSettledBy, info_of, scanner_with};
+ghost use Rattle.priority_core.specs.Priority.{field_of, folder_of, holding};
+ghost use Rattle.priority_core.specs.Settled.{IsSettledBy, missing_of, scanner_with, settling_by, span_at};
 ghost use Rattle.priority_core.specs.Steps.{IsLooked, IsOrderedBy};
 
-use crate::clarification::ClarificationRef;
-use crate::license::LicenseInfo;
+use crate::clarification::{ClarificationRef, FileRef, Held};
 use crate::scan::Scan;
-use crate::told::{told_by_cases, told_by_field};
+use crate::settling::{Settling, settle_by_cases};
 use catalog_core::Identifier;
 use deny_text::path::parent;
-use diag_core::Notes;
-use expression_core::field;
+use deny_text::{ListOf, Span};
 use graph_core::Krate;
 use pack_core::Pack;
 use spdx_core::{Catalog, Expression};
 use std::alloc::{AllocError, Global};
 use tree_core::{Reads, Tree};
 
-/// What is told of a crate's licence, and the records of the reads that it was made of.
+/// Places in order.
+pub type Spans = ListOf<Span>;
+
+/// What settles a crate's licence, and the records of the reads that it was made of.
 #[derive(Drop)]
 pub struct Settled {
-    pub info: LicenseInfo,
-    pub notes: Notes,
+    pub by: Settling,
+    /// The places, in the policy's file, of the paths of files that are not there: of each clarification that
+    /// was tried, that of the first file that does not match, where nothing is there.
+    pub missing: Spans,
     pub reads: Reads,
 }
 
-/// A crate's pack, and the expression of the first clarification that holds by it.
+/// A crate's pack, the first clarification that holds by it, and the places of files that are not there.
 #[derive(Drop)]
 struct Clarified {
     pack: Pack,
-    expression: Option<Expression>,
+    held: Option<Held>,
+    missing: Spans,
 }
 
 /// The folder of a crate's manifest.
-fn folder(krate: &Krate) -> &str
+pub fn folder(krate: &Krate) -> &str
     ensures { result.now ≡ folder_of (record_of krate.now) }
 {
     parent(krate.manifest_path.as_path()).unwrap_or("")
 }
 
-/// The expression of a crate's field.
-fn field_of<C: Catalog>(
-    alloc: Global,
-    krate: &Krate,
-    catalog: &C,
-) -> Result<Option<Expression>, AllocError>
-    ensures { IfOk result (λ read. read ≡ spec.field_of (C.lists catalog.now) (record_of krate.now)) }
+/// The place of a file's path, where there is a file of the number.
+fn span_at(files: &[FileRef<'_>], number: usize) -> Option<Span>
+    ensures { result ≡ span_at files.now number }
 {
-    match &krate.license {
-        Some(text) => field(alloc, text.as_str(), catalog),
-        None => Ok(None),
+    match files.get(number) {
+        Some(file) => Some(file.span()),
+        None => None,
+    }
+}
+
+/// Appends the place of the file that is not there, where there is one.
+fn push_missing(
+    missing: &mut Spans,
+    files: &[FileRef<'_>],
+    number: Option<usize>,
+) -> Result<(), AllocError>
+    ensures { OnOk result (missing.new
+        ≡ missing.old ++ option_to_list (option_and_then (span_at files.now) number)) }
+{
+    let Some(number) = number else {
+        return Ok(());
+    };
+    match span_at(files, number) {
+        Some(span) => missing.push(span),
+        None => Ok(()),
     }
 }
 
@@ -78,24 +96,30 @@ fn try_all<T: Tree>(
     ensures paths { IfOk result (λ clarified. (ears : Ears) → Agrees ears clarified.pack
         → paths_read clarified.pack.reads ≡ fold with_path (paths_read pack.reads)
         (flat_map (looked_of ears) (tried_of ears (files_of (map behind clarifications.now))))) }
-    ensures expression { IfOk result (λ clarified. (ears : Ears) → Agrees ears clarified.pack
-        → clarified.expression ≡ clarified_of ears (map behind clarifications.now)) }
+    ensures held { IfOk result (λ clarified. (ears : Ears) → Agrees ears clarified.pack
+        → clarified.held ≡ option_map held_in (holding ears (map behind clarifications.now))) }
+    ensures missing { IfOk result (λ clarified. (ears : Ears) → Agrees ears clarified.pack
+        → clarified.missing ≡ missing_of ears (map behind clarifications.now)) }
 {
     let mut pack = pack;
+    let mut missing = Spans::new(alloc);
     'all: for clarification in clarifications {
         let tried = pack.tries(alloc, tree, clarification.files())?;
         pack = tried.pack;
+        push_missing(&mut missing, clarification.files(), tried.missing)?;
         if tried.holds {
-            let expression = clarification.expression().copy(alloc)?;
+            let held = clarification.held(alloc)?;
             return Ok(Clarified {
                 pack,
-                expression: Some(expression),
+                held: Some(held),
+                missing,
             });
         }
     }
     Ok(Clarified {
         pack,
-        expression: None,
+        held: None,
+        missing,
     })
 }
 
@@ -110,7 +134,7 @@ fn look<T: Tree>(
         (T.fault_count tree.old) (T.fault_count tree.new) }
     ensures looked { IfOk result (λ clarified.
         IsLooked (T.content tree.old) (T.fault_count tree.old) (T.fault_count tree.new) (record_of krate.now)
-        (map behind clarifications.now) clarified.pack clarified.expression) }
+        (map behind clarifications.now) clarified.pack clarified.held clarified.missing) }
 {
     let pack = Pack::read(alloc, tree, folder(krate), krate.license_file.as_ref())?;
     let clarified = try_all(alloc, tree, pack, clarifications)?;
@@ -118,15 +142,12 @@ fn look<T: Tree>(
 }
 
 /// By the field alone, where no clarification is for the crate.
-fn settle_by_field(alloc: Global, expr: Expression) -> Settled
-    ensures info { result.info ≡ info_of (by_cases None (Some expr) None) }
-    ensures notes { result.notes ≡ [] }
-    ensures reads { result.reads ≡ [] }
+fn settle_by_field(alloc: Global, expression: Expression) -> Settled
+    ensures { result ≡ record { by = Settling.Field expression; missing = []; reads = [] } }
 {
-    let told = told_by_field(alloc, expr);
     Settled {
-        info: told.info,
-        notes: told.notes,
+        by: Settling::Field(expression),
+        missing: Spans::new(alloc),
         reads: Reads::new(alloc),
     }
 }
@@ -140,7 +161,7 @@ fn settle_by_files<T: Tree, I: Identifier, C: Catalog>(
     clarifications: &[&ClarificationRef<'_>],
     field: Option<Expression>,
 ) -> Result<Settled, AllocError>
-    requires { field ≡ spec.field_of (C.lists scan.now.catalog.now) (record_of krate.now) }
+    requires { field ≡ field_of (C.lists scan.now.catalog.now) (record_of krate.now) }
     ensures kept { KeepsTree (T.content tree.old) (T.content tree.new)
         (T.fault_count tree.old) (T.fault_count tree.new) }
     ensures rises { IfOk result (λ settled.
@@ -154,13 +175,10 @@ fn settle_by_files<T: Tree, I: Identifier, C: Catalog>(
         (record_of krate.now) ears settled) }
 {
     let clarified = look(alloc, tree, krate, clarifications)?;
-    let told = told_by_cases(alloc, scan, clarified.expression, field, &clarified.pack)?;
+    let by = settle_by_cases(alloc, scan, clarified.held, field, &clarified.pack)?;
+    let missing = clarified.missing;
     let reads = clarified.pack.into_reads();
-    Ok(Settled {
-        info: told.info,
-        notes: told.notes,
-        reads,
-    })
+    Ok(Settled { by, missing, reads })
 }
 
 /// Whether no clarification is for a crate.
@@ -170,17 +188,19 @@ fn is_nothing(clarifications: &[&ClarificationRef<'_>]) -> bool
     clarifications.is_empty()
 }
 
-/// The licence of a crate, which is settled by the first that holds: a clarification that is for it, with the
-/// expression as it stands there; its field, read strictly with the slash on, or else laxly; the names of its
-/// licence files, joined; else nothing. Its folder is listed, and licence files are read, where a
-/// clarification is for it, and where its field gives no expression.
+/// What settles the licence of a crate: the first that holds of a clarification that is for it, with the
+/// expression as it stands there; its field, which is handed in as it was read; the names of its licence
+/// files, joined; else nothing. Its folder is listed, and licence files are read, where a clarification is
+/// for it, and where its field gives no expression.
 pub fn settle_licence<T: Tree, I: Identifier, C: Catalog>(
     alloc: Global,
     tree: &mut T,
     scan: &Scan<'_, I, C>,
     krate: &Krate,
     clarifications: &[&ClarificationRef<'_>],
+    field: Option<Expression>,
 ) -> Result<Settled, AllocError>
+    requires { field ≡ field_of (C.lists scan.now.catalog.now) (record_of krate.now) }
     ensures kept { KeepsTree (T.content tree.old) (T.content tree.new)
         (T.fault_count tree.old) (T.fault_count tree.new) }
     ensures rises { IfOk result (λ settled.
@@ -188,18 +208,17 @@ pub fn settle_licence<T: Tree, I: Identifier, C: Catalog>(
     ensures told { let krate = record_of krate.now in
         ForSome (T.content tree.old) (λ c. IfOk result (λ settled.
         IsSettledBy (scanner_with C.lists I.match_of scan.now) (map behind clarifications.now) krate
-        (ears_of c (folder_of krate) settled.reads) settled.info settled.notes settled.reads)) }
+        (ears_of c (folder_of krate) settled.reads) settled)) }
     // over any tree, by some ears
     ensures some { IfOk result (λ settled. (ears : Ears)
         × IsSettledBy (scanner_with C.lists I.match_of scan.now) (map behind clarifications.now)
-        (record_of krate.now) ears settled.info settled.notes settled.reads) }
+        (record_of krate.now) ears settled) }
 {
-    let field = field_of(alloc, krate, scan.catalog)?;
     if !is_nothing(clarifications) {
         return settle_by_files(alloc, tree, scan, krate, clarifications, field);
     }
     match field {
-        Some(expr) => Ok(settle_by_field(alloc, expr)),
+        Some(expression) => Ok(settle_by_field(alloc, expression)),
         None => settle_by_files(alloc, tree, scan, krate, clarifications, None),
     }
 }

@@ -59,6 +59,8 @@ pub struct Seen {
     pub status: u8,
     /// How many notes the report counts.
     pub notes: u64,
+    /// The reported policy.
+    pub policy: String,
     pub ended: String,
     pub out: String,
     pub err: String,
@@ -73,6 +75,21 @@ pub fn notes_of(ended: &Ended) -> u64 {
         },
         Ended::Refused(_) => 0,
     }
+}
+
+/// The reported policy: its file, what it allows, and how many exceptions it has.
+pub fn told_policy(alloc: Global, ended: &Ended) -> Result<String, AllocError> {
+    let Ended::Checked(report) = ended else {
+        return Ok(String::new(alloc));
+    };
+    let file = report.policy.file_id;
+    let mut said = format!(in alloc; "file {file}:")?;
+    for licensee in report.policy.allowed.items() {
+        write!(said, " {}", licensee.0.value)?;
+    }
+    let exceptions = report.policy.exceptions.items().len();
+    write!(said, ", {exceptions} exceptions")?;
+    Ok(said)
 }
 
 /// How a run ended, in words.
@@ -204,6 +221,7 @@ pub fn observe_in(
     Ok(Seen {
         status: outcome.status,
         notes: notes_of(&outcome.ended),
+        policy: told_policy(alloc, &outcome.ended)?,
         ended: told(alloc, &outcome.ended)?,
         out: text(alloc, out.written())?,
         err: text(alloc, err.written())?,

@@ -1,15 +1,27 @@
-use Rattle.std.proofs.Common.{map, subst}
-use Rattle.selection_core.specs.Listed.{IsListOf, record_behind}
-use Rattle.selection_core.specs.Walks.{Selected}
-use Rattle.valid_policy.specs.View.{policy_of}
-use Rattle.deny_run.specs.Selection.{included_by}
-use Rattle.deny_run.specs.Steps.{AreJudged}
+use Rattle.std.proofs.Common.{◌≡◌, ◌∙◌, ap, subst, rules}
+use Rattle.std.proofs.lemmas.Int.{to_z-of_z}
+use mir.Syntax.{w64}
+use mir.Val.{SFits}
+use Rattle.expression_core.specs.Scanned.{Scanner}
+use Rattle.gather_core.specs.Entries.{entries_of}
+use Rattle.gather_core.specs.Gathered.{ArePriorities, AreRead, scanner_of, threshold_of}
+use Rattle.deny_run.specs.Steps.{scanner_by}
 use Rattle.deny_run.proofs.StepLemmas.{are_checked}
 use Rattle.deny_run.proofs.judge.check_all.Goals as goal
 
 pub returns-clause-checked : goal.returns-clause-checked
-returns-clause-checked g c = λ graph choice chosen.
+returns-clause-checked g c = λ content told. λ graph choice chosen.
+    let policy = c.args.policy.now in
     let lists = g.C.Catalog.lists c.args.catalog.now in
-    are_checked lists (policy_of c.args.policy.now) (included_by c.args.policy.now) graph choice (map record_behind c.in_ok-crates.crates) c.judge_all.result
-    (subst (λ include. IsListOf graph (Selected graph choice include) (map record_behind c.in_ok-crates.crates)) c.included.ensures (c.in_ok-crates.ensures.listed graph choice chosen))
-    (subst (λ crates. AreJudged lists (policy_of c.args.policy.now) (map record_behind crates) c.judge_all.result) c.items.ensures c.judge_all.ensures.judged)
+    let own = scanner_by lists (g.I.Identifier.match_of c.args.identifier.now) policy in
+    let nfos = c.in_ok-gathered.gathered.nfos in
+    let fits : SFits w64 c.args.policy.now.confidence_threshold = search rules in
+    let cut = simp to_z-of_z at c.with_confidence_threshold-gatherer.ensures in
+    let same : ◌≡◌ {A = Scanner} (scanner_of lists g.I.Identifier.match_of c.with_confidence_threshold-gatherer.result) own =
+    ap (scanner_of lists g.I.Identifier.match_of) cut
+    ∙ ap (λ one. scanner_of lists g.I.Identifier.match_of (record one { threshold = threshold_of policy.confidence_threshold })) c.with_store.ensures in
+    are_checked own policy content (g.T.Tree.fault_count c.args.tree.now) (g.T.Tree.fault_count c.gather.new.tree) graph choice nfos
+    (c.in_ok-gathered.ensures.listed graph choice chosen)
+    (subst (λ scanner. ArePriorities scanner (entries_of policy) content nfos) same (c.in_ok-gathered.ensures.answers content told))
+    (subst (λ scanner. AreRead scanner (entries_of policy) content nfos) same (c.in_ok-gathered.ensures.reads content told))
+    c.in_ok-gathered.ensures.rises c.judge_all.result c.judge_all.ensures.judged

@@ -208,7 +208,7 @@ returns-clause-written g c =
     let loads = loads_at given.lists c.plain_log.result c.in_ok-paths.paths there (g.T.Tree.content c.policy_paths.new.tree) begun c.faults-begun.result middle c.new-files.result c.load.new.files old new (Ok policy)
     c.plain_log.ensures c.in_ok-paths.ensures.kept.content c.faults-begun.ensures c.new-files.ensures c.in_ok-policy.ensures.loads in
     let checks = checks_at (scanner_in given policy.licenses) policy there (g.T.Tree.content c.load.new.tree) begun c.faults-begun.result c.in-Some.request.metadata_path c.as_path.result.now middle after (Ok c.in_ok-crates.crates)
-        same c.faults-begun.ensures c.as_path.ensures c.in_ok-crates.ensures.answer in
+    same c.faults-begun.ensures c.as_path.ensures c.in_ok-crates.ensures.answer in
     report_writes given there begun middle after (omega arith) c.in_ok-crates.ensures.kept.later c.in-Some.request asked c.in_ok-paths.paths c.load.new.files old new first last policy loads
     c.report_of.result c.report_of.ensures.policy c.in_ok-paths.ensures.answer
     (subst (λ crates. ForSome there (λ one. ChecksAt (scanner_in given policy.licenses) policy one begun c.in-Some.request.metadata_path middle after (Ok crates))) (sym c.report_of.ensures.crates) checks)

@@ -1,4 +1,4 @@
-use Rattle.std.proofs.Common.{◌≡◌, List, ℕ, [], length, drop, sym, ap, ◌∙◌, arith}
+use Rattle.std.proofs.Common.{◌≡◌, List, ℕ, [], drop, sym, ap, ◌∙◌, arith}
 use Rattle.std.proofs.lemmas.List.{drop_all}
 use Rattle.manifest_core.specs.Slashes.{passed_from, passed_of, slashes_from}
 use Rattle.manifest_core.proofs.SlashLemmas.{tally, corrected-tally}

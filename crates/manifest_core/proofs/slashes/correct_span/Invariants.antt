@@ -1,4 +1,4 @@
-use Rattle.std.proofs.Common.{◌≡◌, ◌≤◌, ◌<◌, ◌⊎◌, length, drop}
+use Rattle.std.proofs.Common.{◌≡◌, ◌≤◌, drop}
 use Rattle.manifest_core.specs.Slashes.{passed_from, passed_of, slashes_from}
 use Rattle.manifest_core.proofs.SlashLemmas.{tally}
 use Rattle.manifest_core.proofs.slashes.correct_span.Given as goal

@@ -15,9 +15,10 @@ returns-clause-looked g c =
     let file_is : option_copied c.as_ref.result ≡ krate.license_file = search rules in
     let begun = c.in_ok-pack.pack in
     let new = c.in_ok-clarified.clarified.pack in
-    looked told first middle last krate (map behind c.args.clarifications.now) begun new c.in_ok-clarified.clarified.expression
+    looked told first middle last krate (map behind c.args.clarifications.now) begun new c.in_ok-clarified.clarified.held c.in_ok-clarified.clarified.missing
     (subst (λ folder. Begins told first middle folder krate.license_file begun) c.folder.ensures
     (subst (λ file. Begins told first middle c.folder.result.now file begun) file_is c.in_ok-pack.ensures.begins))
     (subst (λ told. Advances told middle last begun new) c.read.ensures.kept.content c.in_ok-clarified.ensures.advances)
     c.in_ok-clarified.ensures.paths
-    c.in_ok-clarified.ensures.expression
+    c.in_ok-clarified.ensures.held
+    c.in_ok-clarified.ensures.missing

@@ -1,4 +1,4 @@
-use Rattle.std.proofs.Common.{◌∙◌, sym, ap, subst, map}
+use Rattle.std.proofs.Common.{refl, sym, subst, map}
 use Rattle.graph_core.specs.Krate.{record_of}
 use Rattle.reads_core.specs.Rising.{RiseInOrder}
 use Rattle.pack_core.specs.Ears.{ears_of}
@@ -22,10 +22,10 @@ returns-clause-told g c = λ content is.
     let pack = c.in_ok-clarified.clarified.pack in
     let looked = c.in_ok-clarified.ensures.looked in
     let reads = c.into_reads-reads.result in
-    let settled : Settled = record { info = c.in_ok-told.told.info; notes = c.in_ok-told.told.notes; reads = reads } in
+    let settled : Settled = record { by = c.in_ok-by.by; missing = c.in_ok-clarified.clarified.missing; reads = reads } in
     ordered (scanner_with g.C.Catalog.lists g.I.Identifier.match_of c.args.scan.now) _ _ _ krate (map behind c.args.clarifications.now) pack
-    c.in_ok-clarified.clarified.expression c.args.field settled (ears_of content (folder_of krate) reads) looked
-    c.into_reads-reads.ensures.sorted c.requires c.in_ok-told.ensures c.into_reads-reads.ensures.reads
+    c.in_ok-clarified.clarified.held c.in_ok-clarified.clarified.missing c.args.field settled (ears_of content (folder_of krate) reads) looked
+    c.into_reads-reads.ensures.sorted c.requires c.in_ok-by.ensures refl c.into_reads-reads.ensures.reads
     (subst (λ folder. Agrees (ears_of content folder reads) pack) looked.folder (c.into_reads-reads.ensures.agrees content (looked.heard content is)))
 
 pub returns-clause-some : goal.returns-clause-some
@@ -34,10 +34,10 @@ returns-clause-some g c =
     let pack = c.in_ok-clarified.clarified.pack in
     let looked = c.in_ok-clarified.ensures.looked in
     let reads = c.into_reads-reads.result in
-    let settled : Settled = record { info = c.in_ok-told.told.info; notes = c.in_ok-told.told.notes; reads = reads } in (
+    let settled : Settled = record { by = c.in_ok-by.by; missing = c.in_ok-clarified.clarified.missing; reads = reads } in (
       ears_in pack,
       ordered (scanner_with g.C.Catalog.lists g.I.Identifier.match_of c.args.scan.now) _ _ _ krate (map behind c.args.clarifications.now) pack
-          c.in_ok-clarified.clarified.expression c.args.field settled (ears_in pack) looked
-          c.into_reads-reads.ensures.sorted c.requires c.in_ok-told.ensures c.into_reads-reads.ensures.reads
+          c.in_ok-clarified.clarified.held c.in_ok-clarified.clarified.missing c.args.field settled (ears_in pack) looked
+          c.into_reads-reads.ensures.sorted c.requires c.in_ok-by.ensures refl c.into_reads-reads.ensures.reads
           (agrees_itself pack looked.normal),
     )

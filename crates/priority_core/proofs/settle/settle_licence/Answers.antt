@@ -4,7 +4,6 @@ use Rattle.graph_core.specs.Krate.{record_of}
 use Rattle.reads_core.specs.Heard.{absent}
 use Rattle.pack_core.specs.Ears.{Ears, ears_of}
 use Rattle.priority_core.specs.Clarification.{behind}
-use Rattle.priority_core.specs.Priority as spec
 use Rattle.priority_core.specs.Priority.{folder_of}
 use Rattle.priority_core.specs.Settled.{scanner_with}
 use Rattle.priority_core.proofs.LookedLemmas.{looks_for_none, looks_for_some, settled_by_field, settled_by_files}
@@ -38,7 +37,7 @@ returns-in-None-clause-told g c = λ content is.
     let all = map behind c.args.clarifications.now in
     IfOk-weaker c.settle_by_files-in-None.result _ _
     (λ settled by. settled_by_files scanner all krate (ears_of content (folder_of krate) settled.reads) settled
-    (looks_for_none scanner all krate (sym c.in-None.is ∙ c.in_ok-field.ensures)) by)
+    (looks_for_none scanner all krate (sym c.in-None.is ∙ c.requires)) by)
     (c.settle_by_files-in-None.ensures.told content is)
 
 pub returns-in-None-clause-some : goal.returns-in-None-clause-some
@@ -47,7 +46,7 @@ returns-in-None-clause-some g c =
     let krate = record_of c.args.krate.now in
     let all = map behind c.args.clarifications.now in
     IfOk-weaker c.settle_by_files-in-None.result _ _
-    (λ settled by. (by.0, settled_by_files scanner all krate by.0 settled (looks_for_none scanner all krate (sym c.in-None.is ∙ c.in_ok-field.ensures)) by.1))
+    (λ settled by. (by.0, settled_by_files scanner all krate by.0 settled (looks_for_none scanner all krate (sym c.in-None.is ∙ c.requires)) by.1))
     c.settle_by_files-in-None.ensures.some
 
 pub returns-in-Some-clause-told : goal.returns-in-Some-clause-told
@@ -56,8 +55,8 @@ returns-in-Some-clause-told g c = λ content is.
     let settled = c.settle_by_field.result in
     let on : c.is_nothing.result ≡ true = search rules in
     settled_by_field (scanner_with g.C.Catalog.lists g.I.Identifier.match_of c.args.scan.now) (map behind c.args.clarifications.now) krate
-    (ears_of content (folder_of krate) settled.reads) settled c.in-Some.expr (sym c.is_nothing.ensures ∙ on) (sym c.in-Some.is ∙ c.in_ok-field.ensures)
-    c.settle_by_field.ensures.info c.settle_by_field.ensures.notes c.settle_by_field.ensures.reads
+    (ears_of content (folder_of krate) settled.reads) settled c.in-Some.expression (sym c.is_nothing.ensures ∙ on) (sym c.in-Some.is ∙ c.requires)
+    c.settle_by_field.ensures
 
 -- no file is looked at, so any ears do
 pub returns-in-Some-clause-some : goal.returns-in-Some-clause-some
@@ -67,6 +66,6 @@ returns-in-Some-clause-some g c =
     let on : c.is_nothing.result ≡ true = search rules in (
       ears,
       settled_by_field (scanner_with g.C.Catalog.lists g.I.Identifier.match_of c.args.scan.now) (map behind c.args.clarifications.now) krate
-          ears c.settle_by_field.result c.in-Some.expr (sym c.is_nothing.ensures ∙ on) (sym c.in-Some.is ∙ c.in_ok-field.ensures)
-          c.settle_by_field.ensures.info c.settle_by_field.ensures.notes c.settle_by_field.ensures.reads,
+          ears c.settle_by_field.result c.in-Some.expression (sym c.is_nothing.ensures ∙ on) (sym c.in-Some.is ∙ c.requires)
+          c.settle_by_field.ensures,
     )

@@ -1,14 +1,18 @@
-use Rattle.std.proofs.Common.{◌≡◌, ◌≤◌, ◌+◌, ◌∷◌, true, false, Some, map, drop, sym, ap, subst, ◌∙◌, arith, rules}
+use Rattle.std.proofs.Common.{◌≡◌, ◌≤◌, ◌+◌, ◌∷◌, ◌++◌, List, true, false, Some, map, drop, sym, ap, subst, ◌∙◌, arith, rules}
+use Rattle.std.specs.Prelude.{option_and_then, option_map}
 use Rattle.std.proofs.lemmas.List.{at_drop_more}
 use Rattle.std.specs.List.{fold}
-use Rattle.spdx_core.specs.Reading.{ExpressionView}
-use Rattle.pack_core.specs.Ears.{holds, looked_of}
+use Rattle.std.specs.Option.{option_to_list}
+use Rattle.deny_text.specs.declared.span.Span.{Span}
+use Rattle.pack_core.specs.Ears.{holds, looked_of, missing_from}
 use Rattle.pack_core.specs.Steps.{Advances, with_path}
 use Rattle.pack_core.specs.View.{paths_read}
 use Rattle.pack_core.proofs.PackLemmas.{advances_then, agrees_earlier}
-use Rattle.priority_core.specs.Priority.{clarified_of}
-use Rattle.priority_core.specs.Clarification.{behind}
-use Rattle.priority_core.proofs.TriedLemmas.{clarified_here, clarified_on, looks, looks_last, looks_on, map_itself}
+use Rattle.priority_core.specs.declared.clarification.Held.{Held}
+use Rattle.priority_core.specs.Clarification.{PlacedFile, behind, held_in}
+use Rattle.priority_core.specs.Priority.{holding}
+use Rattle.priority_core.specs.Settled.{missing_of, span_at}
+use Rattle.priority_core.proofs.TriedLemmas.{held_here, held_on, looks, looks_last, looks_on, missing_last, missing_on}
 use Rattle.priority_core.proofs.settle.try_all.Goals as goal
 
 pub all-preserved : goal.all-preserved
@@ -23,8 +27,9 @@ all-preserved g c =
     let item = c.clarification-item.result in
     let rest = drop (place + 1) c.args.clarifications.now in
     let new = c.in_ok-tried.tried.pack in
-    let files_are = map_itself c.files.result.now ∙ c.files.ensures in
+    let files_are = ap (map (λ (file : PlacedFile). file.named)) c.files.ensures in
     let differs : c.in_ok-tried.tried.holds ≡ false = search rules in
+    let so_long : List Span = c.all.missing in
     record {
       kept = record { content = c.tries.ensures.kept.content ∙ so_far.kept.content; later = omega arith };
       goes = advances_then (g.T.Tree.content c.args.tree.now) first middle last c.args.pack c.all.pack new so_far.goes
@@ -37,12 +42,23 @@ all-preserved g c =
           (c.in_ok-tried.ensures.holds ears agrees ∙ ap (holds ears) files_are) differs
           ∙ ap (λ paths. looks ears paths (map behind rest))
           (ap (λ files. fold with_path (paths_read c.all.pack.reads) (looked_of ears files)) (sym files_are) ∙ sym (c.in_ok-tried.ensures.paths ears agrees));
-      clarified_rest = λ ears agrees.
-          so_far.clarified_rest ears (agrees_earlier _ _ _ _ _ ears c.in_ok-tried.ensures.advances agrees)
-          ∙ at_drop_more (λ all. clarified_of ears (map behind all)) c.args.clarifications.now place item c.all-test.true
-          ∙ ap (λ one. clarified_of ears (map behind (one ∷ rest))) (sym c.clarification-item.is)
-          ∙ clarified_on ears (behind item) (map behind rest) c.in_ok-tried.tried.holds
+      held_rest = λ ears agrees.
+          so_far.held_rest ears (agrees_earlier _ _ _ _ _ ears c.in_ok-tried.ensures.advances agrees)
+          ∙ at_drop_more (λ all. option_map held_in (holding ears (map behind all))) c.args.clarifications.now place item c.all-test.true
+          ∙ ap (λ one. option_map held_in (holding ears (map behind (one ∷ rest)))) (sym c.clarification-item.is)
+          ∙ held_on ears (behind item) (map behind rest) c.in_ok-tried.tried.holds
           (c.in_ok-tried.ensures.holds ears agrees ∙ ap (holds ears) files_are) differs;
+      missing_rest = λ ears agrees.
+          so_far.missing_rest ears (agrees_earlier _ _ _ _ _ ears c.in_ok-tried.ensures.advances agrees)
+          ∙ at_drop_more (λ all. so_long ++ missing_of ears (map behind all)) c.args.clarifications.now place item c.all-test.true
+          ∙ ap (λ one. so_long ++ missing_of ears (map behind (one ∷ rest))) (sym c.clarification-item.is)
+          ∙ missing_on ears so_long (behind item) (map behind rest) c.in_ok-tried.tried.holds
+          (c.in_ok-tried.ensures.holds ears agrees ∙ ap (holds ears) files_are) differs
+          ∙ ap (λ (front : List Span). front ++ missing_of ears (map behind rest))
+          (sym (c.in_ok-push_missing.ensures
+          ∙ ap (λ files. so_long ++ option_to_list (option_and_then (span_at files) c.in_ok-tried.tried.missing)) c.files-in-all.ensures
+          ∙ ap (λ number. so_long ++ option_to_list (option_and_then (span_at (behind item).files) number))
+          (c.in_ok-tried.ensures.missing ears agrees ∙ ap (missing_from ears 0) files_are)));
     }
 
 pub returns-then-tried-clause-advances : goal.returns-then-tried-clause-advances
@@ -56,7 +72,7 @@ returns-then-tried-clause-paths g c = λ ears agrees.
     let place = c.all.clarification-index in
     let item = c.clarification-item.result in
     let rest = drop (place + 1) c.args.clarifications.now in
-    let files_are = map_itself c.files.result.now ∙ c.files.ensures in
+    let files_are = ap (map (λ (file : PlacedFile). file.named)) c.files.ensures in
     let passed : c.in_ok-tried.tried.holds ≡ true = search rules in
     c.in_ok-tried.ensures.paths ears agrees
     ∙ ap (λ files. fold with_path (paths_read c.all.pack.reads) (looked_of ears files)) files_are
@@ -66,16 +82,34 @@ returns-then-tried-clause-paths g c = λ ears agrees.
     ∙ looks_last ears (paths_read c.all.pack.reads) (behind item) (map behind rest) c.in_ok-tried.tried.holds
     (c.in_ok-tried.ensures.holds ears agrees ∙ ap (holds ears) files_are) passed)
 
-pub returns-then-tried-clause-expression : goal.returns-then-tried-clause-expression
-returns-then-tried-clause-expression g c = λ ears agrees.
+pub returns-then-tried-clause-held : goal.returns-then-tried-clause-held
+returns-then-tried-clause-held g c = λ ears agrees.
     let place = c.all.clarification-index in
     let item = c.clarification-item.result in
     let rest = drop (place + 1) c.args.clarifications.now in
-    let files_are = map_itself c.files.result.now ∙ c.files.ensures in
+    let files_are = ap (map (λ (file : PlacedFile). file.named)) c.files.ensures in
     let passed : c.in_ok-tried.tried.holds ≡ true = search rules in
-    ap (λ (one : ExpressionView). Some one) (c.in_ok-expression.ensures ∙ c.expression.ensures)
-    ∙ sym (c.all.invariant.clarified_rest ears (agrees_earlier _ _ _ _ _ ears c.in_ok-tried.ensures.advances agrees)
-    ∙ at_drop_more (λ all. clarified_of ears (map behind all)) c.args.clarifications.now place item c.all-test.true
-    ∙ ap (λ one. clarified_of ears (map behind (one ∷ rest))) (sym c.clarification-item.is)
-    ∙ clarified_here ears (behind item) (map behind rest) c.in_ok-tried.tried.holds
+    ap (λ (one : Held). Some one) c.in_ok-held.ensures
+    ∙ sym (c.all.invariant.held_rest ears (agrees_earlier _ _ _ _ _ ears c.in_ok-tried.ensures.advances agrees)
+    ∙ at_drop_more (λ all. option_map held_in (holding ears (map behind all))) c.args.clarifications.now place item c.all-test.true
+    ∙ ap (λ one. option_map held_in (holding ears (map behind (one ∷ rest)))) (sym c.clarification-item.is)
+    ∙ held_here ears (behind item) (map behind rest) c.in_ok-tried.tried.holds
+    (c.in_ok-tried.ensures.holds ears agrees ∙ ap (holds ears) files_are) passed)
+
+pub returns-then-tried-clause-missing : goal.returns-then-tried-clause-missing
+returns-then-tried-clause-missing g c = λ ears agrees.
+    let place = c.all.clarification-index in
+    let item = c.clarification-item.result in
+    let rest = drop (place + 1) c.args.clarifications.now in
+    let files_are = ap (map (λ (file : PlacedFile). file.named)) c.files.ensures in
+    let passed : c.in_ok-tried.tried.holds ≡ true = search rules in
+    let so_long : List Span = c.all.missing in
+    c.in_ok-push_missing.ensures
+    ∙ ap (λ files. so_long ++ option_to_list (option_and_then (span_at files) c.in_ok-tried.tried.missing)) c.files-in-all.ensures
+    ∙ ap (λ number. so_long ++ option_to_list (option_and_then (span_at (behind item).files) number))
+    (c.in_ok-tried.ensures.missing ears agrees ∙ ap (missing_from ears 0) files_are)
+    ∙ sym (c.all.invariant.missing_rest ears (agrees_earlier _ _ _ _ _ ears c.in_ok-tried.ensures.advances agrees)
+    ∙ at_drop_more (λ all. so_long ++ missing_of ears (map behind all)) c.args.clarifications.now place item c.all-test.true
+    ∙ ap (λ one. so_long ++ missing_of ears (map behind (one ∷ rest))) (sym c.clarification-item.is)
+    ∙ missing_last ears so_long (behind item) (map behind rest) c.in_ok-tried.tried.holds
     (c.in_ok-tried.ensures.holds ears agrees ∙ ap (holds ears) files_are) passed)

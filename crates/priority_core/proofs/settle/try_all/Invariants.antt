@@ -1,11 +1,13 @@
 -- All the clarifications are tried as the rest of them, with the pack that is there.
-use Rattle.std.proofs.Common.{◌≡◌, map, drop}
+use Rattle.std.proofs.Common.{◌≡◌, ◌++◌, map, drop}
+use Rattle.std.specs.Prelude.{option_map}
 use Rattle.tree_core.specs.Hearing.{KeepsTree}
 use Rattle.pack_core.specs.Ears.{Ears}
 use Rattle.pack_core.specs.Steps.{Advances, Agrees}
 use Rattle.pack_core.specs.View.{paths_read}
-use Rattle.priority_core.specs.Priority.{clarified_of}
-use Rattle.priority_core.specs.Clarification.{behind}
+use Rattle.priority_core.specs.Clarification.{behind, held_in}
+use Rattle.priority_core.specs.Priority.{holding}
+use Rattle.priority_core.specs.Settled.{missing_of}
 use Rattle.priority_core.proofs.TriedLemmas.{looks}
 use Rattle.priority_core.proofs.settle.try_all.Given as goal
 
@@ -17,5 +19,6 @@ invariant-all g l =
       kept : KeepsTree (g.T.Tree.content l.fn.tree) (g.T.Tree.content l.tree) (g.T.Tree.fault_count l.fn.tree) (g.T.Tree.fault_count l.tree);
       goes : Advances (g.T.Tree.content l.fn.tree) (g.T.Tree.fault_count l.fn.tree) (g.T.Tree.fault_count l.tree) l.fn.pack l.pack;
       looks_rest : (ears : Ears) → Agrees ears l.pack → looks ears (paths_read l.fn.pack.reads) all ≡ looks ears (paths_read l.pack.reads) rest;
-      clarified_rest : (ears : Ears) → Agrees ears l.pack → clarified_of ears all ≡ clarified_of ears rest;
+      held_rest : (ears : Ears) → Agrees ears l.pack → option_map held_in (holding ears all) ≡ option_map held_in (holding ears rest);
+      missing_rest : (ears : Ears) → Agrees ears l.pack → missing_of ears all ≡ l.missing ++ missing_of ears rest;
     }

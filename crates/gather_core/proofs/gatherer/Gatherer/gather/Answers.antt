@@ -1,8 +1,15 @@
-use Rattle.std.proofs.Common.{◌≡◌, ◌∙◌, map, ap, subst}
+use Rattle.std.proofs.Common.{◌≡◌, ◌∙◌, map, sym, ap, subst}
+use Rattle.selection_core.specs.Listed.{IsListOf, record_behind}
+use Rattle.selection_core.specs.Walks.{Selected}
 use Rattle.gather_core.specs.Entries.{entries_of, entry_of}
-use Rattle.gather_core.specs.Gathered.{AreByOwn, AreBySome, scanner_of}
+use Rattle.gather_core.specs.Gathered.{AreByOwn, AreBySome, include_of, scanner_of}
 use Rattle.gather_core.proofs.GatheredLemmas.{priorities, read_by_own}
 use Rattle.gather_core.proofs.gatherer.Gatherer.gather.Goals as goal
+
+pub returns-clause-listed : goal.returns-clause-listed
+returns-clause-listed g c = λ graph choice chosen.
+    subst (IsListOf graph (Selected graph choice (include_of c.args.policy.now))) (sym (c.in_ok-nfos.ensures.krates ∙ ap (map record_behind) c.items-2.ensures))
+    (c.in_ok-selected.ensures.listed graph choice chosen)
 
 pub returns-clause-answers : goal.returns-clause-answers
 returns-clause-answers g c = λ content is.

@@ -1,7 +1,7 @@
 use Rattle.std.proofs.Common.{ℕ, List, ap, ◌∙◌}
 use Rattle.deny_text.specs.Path.{components_of}
-use Rattle.pack_core.specs.Ears.{has_hash}
-use Rattle.pack_core.proofs.PackLemmas.{matched}
+use Rattle.pack_core.specs.Ears.{has_hash, is_absent}
+use Rattle.pack_core.proofs.PackLemmas.{lacked, matched}
 use Rattle.pack_core.proofs.pack.Pack.matches.Goals as goal
 
 pub returns-clause-holds : goal.returns-clause-holds
@@ -11,3 +11,9 @@ returns-clause-holds g c = λ ears agrees.
     ∙ matched ears c.in_ok-pack.pack c.path-named.result.now c.hash.result agrees c.in_ok-pack.ensures.there
     ∙ ap (λ (hash : ℕ). has_hash hash (ears.file (components_of c.path-named.result.now))) c.hash.ensures
     ∙ ap (λ (path : List ℕ). has_hash named.hash (ears.file (components_of path))) c.path-named.ensures
+
+pub returns-clause-absent : goal.returns-clause-absent
+returns-clause-absent g c = λ ears agrees.
+    c.lacks-absent.ensures
+    ∙ lacked ears c.in_ok-pack.pack c.path-named.result.now agrees c.in_ok-pack.ensures.there
+    ∙ ap (λ (path : List ℕ). is_absent (ears.file (components_of path))) c.path-named.ensures

@@ -1,10 +1,10 @@
-use Rattle.std.proofs.Common.{◌≡◌, ◌≤◌, true, false, ◌∷◌, map, drop, ap, sym, subst, ◌∙◌, ◌+◌, rules, arith}
+use Rattle.std.proofs.Common.{◌≡◌, ◌≤◌, true, false, cond, Some, None, ◌∷◌, map, drop, ap, sym, subst, ◌∙◌, ◌+◌, rules, arith}
 use Rattle.std.specs.List.{fold}
 use Rattle.std.proofs.lemmas.List.{at_drop_more}
-use Rattle.pack_core.specs.Ears.{holds, looked_of}
+use Rattle.pack_core.specs.Ears.{holds, looked_of, missing_from}
 use Rattle.pack_core.specs.Steps.{Advances, with_path}
 use Rattle.pack_core.specs.View.{paths_read}
-use Rattle.pack_core.proofs.PackLemmas.{advances_then, agrees_earlier, holds_on, holds_not, looks_on, looks_not}
+use Rattle.pack_core.proofs.PackLemmas.{advances_then, agrees_earlier, holds_on, holds_not, looks_on, looks_not, missing_here, missing_on}
 use Rattle.pack_core.proofs.pack.Pack.tries.Goals as goal
 
 pub returns-then-not-tried-clause-advances : goal.returns-then-not-tried-clause-advances
@@ -16,27 +16,41 @@ returns-then-not-tried-clause-advances g c =
 pub returns-then-not-tried-clause-paths : goal.returns-then-not-tried-clause-paths
 returns-then-not-tried-clause-paths g c = λ ears agrees.
     let named_of = g.F.NamedFile.named in
-    let place = c.files.file-index in
-    let item = c.file-item.result in
+    let place = c.files.place in
+    let item = c.index-files-place.result in
     let rest = drop (place + 1) c.args.files.now in
     let failed : c.in_ok-tried.tried.holds ≡ false = search rules in
     sym (c.files.invariant.looks_rest ears (agrees_earlier _ _ _ _ _ ears c.in_ok-tried.ensures.advances agrees)
     ∙ at_drop_more (λ files. fold with_path (paths_read c.files.pack.reads) (looked_of ears (map named_of files))) c.args.files.now place item c.files-test.true
-    ∙ ap (λ one. fold with_path (paths_read c.files.pack.reads) (looked_of ears (map named_of (one ∷ rest)))) (sym c.file-item.is)
+    ∙ ap (λ one. fold with_path (paths_read c.files.pack.reads) (looked_of ears (map named_of (one ∷ rest)))) (sym c.index-files-place.is)
     ∙ looks_not ears (paths_read c.files.pack.reads) (named_of item) (map named_of rest) c.in_ok-tried.tried.holds (c.in_ok-tried.ensures.holds ears agrees) failed
     ∙ sym c.in_ok-tried.ensures.paths)
 
 pub returns-then-not-tried-clause-holds : goal.returns-then-not-tried-clause-holds
 returns-then-not-tried-clause-holds g c = λ ears agrees.
     let named_of = g.F.NamedFile.named in
-    let place = c.files.file-index in
-    let item = c.file-item.result in
+    let place = c.files.place in
+    let item = c.index-files-place.result in
     let rest = drop (place + 1) c.args.files.now in
     let failed : c.in_ok-tried.tried.holds ≡ false = search rules in
     sym (c.files.invariant.holds_rest ears (agrees_earlier _ _ _ _ _ ears c.in_ok-tried.ensures.advances agrees)
     ∙ at_drop_more (λ files. holds ears (map named_of files)) c.args.files.now place item c.files-test.true
-    ∙ ap (λ one. holds ears (map named_of (one ∷ rest))) (sym c.file-item.is)
+    ∙ ap (λ one. holds ears (map named_of (one ∷ rest))) (sym c.index-files-place.is)
     ∙ holds_not ears (named_of item) (map named_of rest) c.in_ok-tried.tried.holds (c.in_ok-tried.ensures.holds ears agrees) failed)
+
+pub returns-then-not-tried-clause-missing : goal.returns-then-not-tried-clause-missing
+returns-then-not-tried-clause-missing g c = λ ears agrees.
+    let named_of = g.F.NamedFile.named in
+    let place = c.files.place in
+    let item = c.index-files-place.result in
+    let rest = drop (place + 1) c.args.files.now in
+    let failed : c.in_ok-tried.tried.holds ≡ false = search rules in
+    c.number_where.ensures
+    ∙ sym (c.files.invariant.missing_rest ears (agrees_earlier _ _ _ _ _ ears c.in_ok-tried.ensures.advances agrees)
+    ∙ at_drop_more (λ files. missing_from ears place (map named_of files)) c.args.files.now place item c.files-test.true
+    ∙ ap (λ one. missing_from ears place (map named_of (one ∷ rest))) (sym c.index-files-place.is)
+    ∙ missing_here ears place (named_of item) (map named_of rest) c.in_ok-tried.tried.holds (c.in_ok-tried.ensures.holds ears agrees) failed
+    ∙ ap (λ b. cond b (Some place) None) (sym (c.in_ok-tried.ensures.absent ears agrees)))
 
 pub files-preserved : goal.files-preserved
 files-preserved g c =
@@ -47,8 +61,8 @@ files-preserved g c =
     let before : first ≤ middle = so_far.kept.later in
     let after : middle ≤ last = c.matches.ensures.kept.later in
     let named_of = g.F.NamedFile.named in
-    let place = c.files.file-index in
-    let item = c.file-item.result in
+    let place = c.files.place in
+    let item = c.index-files-place.result in
     let rest = drop (place + 1) c.args.files.now in
     let new = c.in_ok-tried.tried.pack in
     let passed : c.in_ok-tried.tried.holds ≡ true = search rules in
@@ -59,12 +73,17 @@ files-preserved g c =
       holds_rest = λ ears agrees.
           so_far.holds_rest ears (agrees_earlier _ _ _ _ _ ears c.in_ok-tried.ensures.advances agrees)
           ∙ at_drop_more (λ files. holds ears (map named_of files)) c.args.files.now place item c.files-test.true
-          ∙ ap (λ one. holds ears (map named_of (one ∷ rest))) (sym c.file-item.is)
+          ∙ ap (λ one. holds ears (map named_of (one ∷ rest))) (sym c.index-files-place.is)
           ∙ holds_on ears (named_of item) (map named_of rest) c.in_ok-tried.tried.holds (c.in_ok-tried.ensures.holds ears agrees) passed;
       looks_rest = λ ears agrees.
           so_far.looks_rest ears (agrees_earlier _ _ _ _ _ ears c.in_ok-tried.ensures.advances agrees)
           ∙ at_drop_more (λ files. fold with_path (paths_read c.files.pack.reads) (looked_of ears (map named_of files))) c.args.files.now place item c.files-test.true
-          ∙ ap (λ one. fold with_path (paths_read c.files.pack.reads) (looked_of ears (map named_of (one ∷ rest)))) (sym c.file-item.is)
+          ∙ ap (λ one. fold with_path (paths_read c.files.pack.reads) (looked_of ears (map named_of (one ∷ rest)))) (sym c.index-files-place.is)
           ∙ looks_on ears (paths_read c.files.pack.reads) (named_of item) (map named_of rest) c.in_ok-tried.tried.holds (c.in_ok-tried.ensures.holds ears agrees) passed
           ∙ ap (λ paths. fold with_path paths (looked_of ears (map named_of rest))) (sym c.in_ok-tried.ensures.paths);
+      missing_rest = λ ears agrees.
+          so_far.missing_rest ears (agrees_earlier _ _ _ _ _ ears c.in_ok-tried.ensures.advances agrees)
+          ∙ at_drop_more (λ files. missing_from ears place (map named_of files)) c.args.files.now place item c.files-test.true
+          ∙ ap (λ one. missing_from ears place (map named_of (one ∷ rest))) (sym c.index-files-place.is)
+          ∙ missing_on ears place (named_of item) (map named_of rest) c.in_ok-tried.tried.holds (c.in_ok-tried.ensures.holds ears agrees) passed;
     }

@@ -1,0 +1,7 @@
+pub mod CutLemmas
+pub mod FieldLemmas
+pub mod FindingLemmas
+pub mod LabelLemmas
+pub mod MarkLemmas
+pub mod PieceLemmas
+pub mod PlaceLemmas

@@ -1,0 +1,14 @@
+use Rattle.std.proofs.Common.{◌∙◌, ap, length, option_copied}
+use Rattle.graph_core.specs.Krate.{record_of}
+use Rattle.finding_core.specs.Findings.{MarksView, field_mark, field_place}
+use Rattle.finding_core.specs.Views.{seen_view}
+use Rattle.finding_core.proofs.MarkLemmas.{place_fits}
+use Rattle.finding_core.proofs.outcome.find_by_files.Goals as goal
+
+pub field_findings-requires : goal.field_findings-requires
+field_findings-requires c =
+    let case = c.args.case.now in
+    place_fits (record_of case.krate.now) case.folder.now (option_copied c.args.joined) (seen_view c.args.seen) c.args.files.now (length c.args.files.now)
+    case.faults.now case.location c.field_place-place.result
+    (c.field_place-place.ensures.place ∙ ap (λ (marks : MarksView). field_place case.location (field_mark marks)) c.in_ok-marks.ensures.marks)
+    c.field_place-place.ensures.fits c.requires.located c.requires.faults

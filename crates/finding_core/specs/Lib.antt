@@ -1,0 +1,6 @@
+pub mod Cuts
+pub mod Faults
+pub mod Findings
+pub mod Pieces
+pub mod Premises
+pub mod Views

@@ -1,0 +1,32 @@
+-- What is handed in, as the definitions take it.
+use Rattle.std.specs.Prelude.{ℕ, List, option_copied}
+use Rattle.std.specs.Borrow.{Bor}
+use Rattle.graph_core.specs.Krate.{record_of}
+use Rattle.finding_core.specs.declared.case.Case.{Case}
+use Rattle.finding_core.specs.declared.case.Settles.{Settles}
+use Rattle.finding_core.specs.declared.case.Settles.TheVariants.{Field, Files}
+use Rattle.finding_core.specs.declared.case.SeenFiles.{SeenFiles}
+use Rattle.finding_core.specs.declared.case.SeenFiles.TheVariants.{Unlisted, Listed}
+use Rattle.finding_core.specs.Findings.{CaseView, Outcome, by_field, by_files}
+use Rattle.finding_core.specs.Pieces.{Seen, unlisted, listed}
+
+abbrev pub seen_view : SeenFiles → Seen
+seen_view (Unlisted error) = unlisted error
+seen_view (Listed files) = listed files.now
+
+abbrev pub outcome_view : Settles → Outcome
+outcome_view Field = by_field
+outcome_view (Files seen joined) = by_files (seen_view seen) (option_copied joined)
+
+abbrev pub case_view : Case → CaseView
+case_view case = record {
+  krate = record_of case.krate.now;
+  folder = case.folder.now;
+  location = case.location;
+  faults = case.faults.now;
+  outcome = outcome_view case.settles;
+}
+
+-- a text that is lent
+abbrev pub behind : Bor (List ℕ) → List ℕ
+behind text = text.now

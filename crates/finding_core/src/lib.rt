@@ -1,0 +1,16 @@
+//! What is found on the way to a crate's licence: its findings, the places that they point at, and the
+//! manifest that is written in place of its own.
+#![tactic(auto)]
+
+pub mod case;
+mod failures;
+pub mod field;
+mod findings;
+mod marks;
+pub mod outcome;
+mod synthesis;
+
+pub use case::{Case, SeenFiles, Settles};
+pub use field::{Faults, FieldRead, read_field};
+pub use findings::{Diags, missing_file};
+pub use outcome::{Points, find};
