@@ -16,7 +16,12 @@ const TWO: &str = r#"{"packages":[
 const ALLOWS_ISC: &str = "exceptions = [{ crate = \"b\", allow = [\"ISC\"] }]\n";
 
 /// The two crates, a policy, and one file more.
-fn tree_with(alloc: Global, policy: &str, path: &str, bytes: &[u8]) -> Result<MemTree, Fail> {
+fn tree_with<'x>(
+    alloc: Global,
+    policy: &'x str,
+    path: &'x str,
+    bytes: &'x [u8],
+) -> Result<MemTree, Fail> {
     files(
         alloc,
         &[
