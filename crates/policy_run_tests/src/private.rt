@@ -57,14 +57,17 @@ fn private_crates_are_passed_over_where_the_policy_says_so(rt: HostRuntime) -> R
     Ok(())
 }
 
-// The field of a crate that is passed over is read too.
+// The licence of a crate that is passed over is settled too.
 #[test]
-fn private_crates_need_an_expression(rt: HostRuntime) -> Result<(), Fail> {
+fn private_crates_may_lack_an_expression(rt: HostRuntime) -> Result<(), Fail> {
     let alloc = rt.alloc();
-    for license in ["null", "\"MIT OR ISC\""] {
+    for (license, want) in [
+        ("null", accepted("a: none Skipped")),
+        ("\"MIT OR ISC\"", refused("crate a", OPEN)),
+    ] {
         let members = format!(in alloc; "\"publish\":[],\"license\":{license}")?;
         let seen = seen_with(alloc, members.as_str(), "private = { ignore = true }")?;
-        compare(&rt, &seen, &refused("crate a", OPEN));
+        compare(&rt, &seen, &want);
     }
     Ok(())
 }
