@@ -3,6 +3,7 @@ PREFIX ?= /usr/local
 PROJECT ?= examples/first
 POLICY ?= deny.toml
 PROGRAM = crates/cargo_deny/out/cargo_deny
+METADATA = $(CURDIR)/crates/cargo_deny/out/metadata.json
 COMPLETION = crates/completions/stdout
 
 FIRST = ../../examples/first
@@ -13,9 +14,11 @@ FIRST = ../../examples/first
 build:
 	@cd crates/cargo_deny && rt run cargo_deny -- --metadata-path $(FIRST)/metadata.json --config $(FIRST)/deny.toml check licenses >/dev/null
 
-# Runs it in a project's folder, where it looks for an exceptions file. POLICY names another policy there.
+# Runs it in a project's folder, where it looks for an exceptions file. POLICY names another policy there. The metadata of
+# the examples tell of a folder /project, in whose place that folder is put.
 run: build
-	@cd $(PROJECT) && $(CURDIR)/$(PROGRAM) --metadata-path metadata.json --config $(POLICY) check licenses
+	@cd $(PROJECT) && sed -e "s|\"/project|\"$$(pwd)|g" -e "s|file:///project|file://$$(pwd)|g" metadata.json > $(METADATA)
+	@cd $(PROJECT) && $(CURDIR)/$(PROGRAM) --metadata-path $(METADATA) --config $(POLICY) check licenses
 
 # The merge gate.
 test:
