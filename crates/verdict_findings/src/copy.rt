@@ -2,9 +2,7 @@
 ghost use Rattle.std.specs.Prelude.{◌≡◌, IfOk};
 
 use deny_text::Text;
-use diag_core::{
-    Diag, Diagnostic, GraphNode, GraphNodes, Label, LabelStyle, Labels, Notes,
-};
+use diag_core::{Diag, Diagnostic, GraphNode, GraphNodes, Label, LabelStyle, Labels, Notes};
 use std::alloc::{AllocError, Global};
 
 /// A copy of a text that may be there.

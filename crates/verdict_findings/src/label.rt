@@ -65,12 +65,7 @@ fn push_terms(
     Ok(())
 }
 
-fn whole_label(
-    alloc: Global,
-    at: ExprPlace,
-    words: &str,
-    source: &str,
-) -> Result<Label, AllocError>
+fn whole_label(alloc: Global, at: ExprPlace, words: &str, source: &str) -> Result<Label, AllocError>
     requires { Fits at (length words.now) }
     ensures { IfOk result (λ label. label ≡ spec.whole_label at words.now source.now) }
 {

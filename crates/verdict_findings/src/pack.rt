@@ -13,7 +13,8 @@ use std::alloc::{AllocError, Global};
 /// Appends copies of findings.
 fn push_copies(alloc: Global, pack: &mut Pack, findings: &[Diag]) -> Result<(), AllocError>
     ensures { OnOk result (pack.new ≡ record pack.old {
-        findings = pack.old.findings ++ map (with_crate pack.old.kid) findings.now }) }
+      findings = pack.old.findings ++ map (with_crate pack.old.kid) findings.now;
+    }) }
 {
     'findings: for finding in findings {
         let copy = copied(alloc, finding)?;
