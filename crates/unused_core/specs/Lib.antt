@@ -1,0 +1,4 @@
+pub mod Flags
+pub mod Laws
+pub mod Rows
+pub mod Unused

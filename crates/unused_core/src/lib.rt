@@ -1,0 +1,9 @@
+//! What of a policy no crate needed: the allowed licensees and the exceptions that allow no term.
+#![tactic(auto)]
+
+pub mod encountered;
+pub mod laws;
+pub mod unused;
+
+pub use encountered::Encountered;
+pub use unused::last_pack;

@@ -1,0 +1,4 @@
+pub mod LabelLemmas
+pub mod PackLemmas
+pub mod PlaceLemmas
+pub mod PointLemmas

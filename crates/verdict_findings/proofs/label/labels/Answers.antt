@@ -1,0 +1,12 @@
+use Rattle.std.proofs.Common.{List, subst, sym}
+use Rattle.std.specs.List.{All}
+use Rattle.term_core.specs.declared.term.ExpressionReq.{ExpressionReq}
+use Rattle.verdict_findings.specs.Places.{TermHasRoom}
+use Rattle.verdict_findings.proofs.PlaceLemmas.{terms_have_room}
+use Rattle.verdict_findings.proofs.label.labels.Goals as goal
+
+pub push_terms-requires : goal.push_terms-requires
+push_terms-requires c =
+    let expression = c.args.expression.now in
+    subst (λ (terms : List ExpressionReq). All (TermHasRoom c.args.at) terms) (sym c.requirements.ensures.terms)
+    (terms_have_room c.args.at expression.text expression.terms c.requirements.ensures.facts.spans c.requires)

@@ -1,0 +1,153 @@
+-- Rows of expressions and crates, with what is told of them, worked out by hand from the rules.
+use Rattle.std.specs.Prelude.{ℕ, Bool, true, false, List, [], ◌∷◌, codes, Option, Some, None}
+use Rattle.deny_text.specs.declared.span.Span.{Span}
+use Rattle.term_core.specs.declared.term.ExpressionReq.{ExpressionReq}
+use Rattle.term_core.specs.declared.term.LicenseItem.TheVariants.{Spdx}
+use Rattle.spdx_core.specs.Grammar.{leaf, both, either}
+use Rattle.spdx_core.specs.Reading.{ExpressionView}
+use Rattle.certificate_core.specs.declared.verdict.Hit.{Hit}
+use Rattle.certificate_core.specs.declared.verdict.Hit.TheVariants.{Allowed, Exception}
+use Rattle.graph_core.specs.Krate.{Record}
+use Rattle.diag_core.specs.declared.label.Label.{Label}
+use Rattle.diag_core.specs.declared.label.LabelStyle.{LabelStyle}
+use Rattle.diag_core.specs.declared.label.LabelStyle.TheVariants.{Primary, Secondary}
+use Rattle.diag_core.specs.declared.severity.Severity.{Severity}
+use Rattle.diag_core.specs.declared.severity.Severity.TheVariants.{Note, Error}
+use Rattle.diag_core.specs.declared.pack.Diag.{Diag}
+use Rattle.diag_core.specs.Label.{label_at}
+use Rattle.verdict_findings.specs.declared.place.ExprPlace.{ExprPlace}
+use Rattle.verdict_findings.specs.Findings.{judged, labels_of, skipped, unlicensed}
+
+-- ---- labels
+
+abbrev from_to : ℕ → ℕ → Span
+from_to start end = record { start = start; end = end }
+
+abbrev term : List ℕ → ℕ → ℕ → ℕ → ExpressionReq
+term name family start end = record { req = record { item = Spdx name family 0 false false; exception = None }; span = from_to start end }
+
+abbrev mit : ExpressionView
+mit = record { text = codes "MIT"; terms = term (codes "MIT") 1 0 3 ∷ []; tree = leaf 0 }
+
+abbrev slash : ExpressionView
+slash = record { text = codes "Apache-2.0/MIT"; terms = term (codes "Apache-2.0") 2 0 10 ∷ term (codes "MIT") 1 11 14 ∷ []; tree = either (leaf 0) (leaf 1) }
+
+abbrev both_of : ExpressionView
+both_of = record { text = codes "MIT AND ISC"; terms = term (codes "MIT") 1 0 3 ∷ term (codes "ISC") 3 8 11 ∷ []; tree = both (leaf 0) (leaf 1) }
+
+-- in the first file, from a byte on
+abbrev at_byte : ℕ → ExprPlace
+at_byte offset = record { file_id = 0; offset = offset; whole = None }
+
+-- in the second file, as a string with escapes
+abbrev escaped : ℕ → ℕ → ExprPlace
+escaped start end = record { file_id = 1; offset = start; whole = Some (from_to start end) }
+
+-- a label without the file
+pub record Seen : Type 0 where
+  pub style : LabelStyle
+  pub start : ℕ
+  pub end : ℕ
+  pub message : List ℕ
+
+abbrev seen : LabelStyle → ℕ → ℕ → List ℕ → Seen
+seen style start end message = record { style = style; start = start; end = end; message = message }
+
+abbrev all_seen : ℕ → List Seen → List Label
+all_seen file [] = []
+all_seen file (one ∷ more) = label_at one.style file (from_to one.start one.end) one.message ∷ all_seen file more
+
+pub record LabelRow : Type 0 where
+  pub at : ExprPlace
+  pub source : List ℕ
+  pub expression : ExpressionView
+  pub hits : List (Option Hit)
+  pub labels : List Label
+
+-- what the definition makes of a row
+abbrev pub labelled : LabelRow → LabelRow
+labelled row = record { at = row.at; source = row.source; expression = row.expression; hits = row.hits; labels = labels_of row.at row.source row.expression row.hits }
+
+abbrev row : ExprPlace → List ℕ → ExpressionView → List (Option Hit) → List Seen → LabelRow
+row at source expression hits labels = record { at = at; source = source; expression = expression; hits = hits; labels = all_seen at.file_id labels }
+
+abbrev allowed : List ℕ
+allowed = codes "accepted: license is explicitly allowed"
+
+abbrev excepted : List ℕ
+excepted = codes "accepted: allowed by exception"
+
+abbrev not_allowed : List ℕ
+not_allowed = codes "rejected: license is not explicitly allowed"
+
+abbrev manifest : List ℕ
+manifest = codes "Cargo.toml `license`"
+
+abbrev pub label_rows : List LabelRow
+label_rows =
+    -- the field of a manifest, whose text begins at byte 50
+    row (at_byte 50) manifest mit (Some (Allowed 0) ∷ [])
+    (seen Secondary 50 53 (codes "license expression retrieved via Cargo.toml `license`") ∷ seen Primary 50 53 allowed ∷ [])
+    ∷ row (at_byte 50) manifest mit (None ∷ [])
+    (seen Secondary 50 53 (codes "license expression retrieved via Cargo.toml `license`") ∷ seen Primary 50 53 not_allowed ∷ [])
+    -- an accepted expression has a term that is not allowed
+    ∷ row (at_byte 50) manifest slash (None ∷ Some (Allowed 0) ∷ [])
+    (seen Secondary 50 64 (codes "license expression retrieved via Cargo.toml `license`") ∷ seen Primary 50 60 not_allowed ∷ seen Primary 61 64 allowed ∷ [])
+    -- at the start of a file, by an exception
+    ∷ row (at_byte 0) (codes "user override") both_of (Some (Exception 2 1) ∷ Some (Allowed 3) ∷ [])
+    (seen Secondary 0 11 (codes "license expression retrieved via user override") ∷ seen Primary 0 3 excepted ∷ seen Primary 8 11 allowed ∷ [])
+    -- written with escapes: each label is the whole string
+    ∷ row (escaped 30 38) (codes "user override") both_of (None ∷ Some (Exception 0 0) ∷ [])
+    (seen Secondary 30 38 (codes "license expression retrieved via user override") ∷ seen Primary 30 38 not_allowed ∷ seen Primary 30 38 excepted ∷ [])
+    -- a term behind the end of the hits has none
+    ∷ row (at_byte 7) (codes "license files: COPYING, LICENSE") both_of (Some (Allowed 0) ∷ [])
+    (seen Secondary 7 18 (codes "license expression retrieved via license files: COPYING, LICENSE") ∷ seen Primary 7 10 allowed ∷ seen Primary 15 18 not_allowed ∷ [])
+    ∷ []
+
+-- ---- findings
+
+abbrev pub crate_a : Record
+crate_a = record {
+  name = codes "a";
+  id = codes "a 1.0.0";
+  version = (1, 0, 0, [], []);
+  source = None;
+  authors = [];
+  repository = None;
+  description = None;
+  manifest_path = codes "/w/Cargo.toml";
+  license = None;
+  license_file = None;
+  features = [];
+  publish = None;
+  rust_version = None;
+}
+
+-- what a finding says, without its labels
+pub record Said : Type 0 where
+  pub severity : Severity
+  pub code : Option (List ℕ)
+  pub message : List ℕ
+  pub notes : List (List ℕ)
+
+abbrev said_by : Diag → Said
+said_by told = record { severity = told.diag.severity; code = told.diag.code; message = told.diag.message; notes = told.diag.notes }
+
+abbrev said : Severity → List ℕ → List ℕ → List (List ℕ) → Said
+said severity code message notes = record { severity = severity; code = Some code; message = message; notes = notes }
+
+abbrev pub findings_said : List Said
+findings_said =
+    said_by (judged true [] (codes "a note" ∷ codes "another" ∷ []))
+    ∷ said_by (judged false [] [])
+    ∷ said_by (unlicensed crate_a (codes "a note" ∷ []))
+    ∷ said_by (skipped crate_a)
+    ∷ []
+
+abbrev pub findings_meant : List Said
+findings_meant =
+    said Note (codes "accepted") (codes "license requirements satisfied") (codes "a note" ∷ codes "another" ∷ [])
+    ∷ said Error (codes "rejected") (codes "failed to satisfy license requirements") []
+    ∷ said Error (codes "unlicensed") (codes "a = 1.0.0 is unlicensed") (codes "a note" ∷ [])
+    ∷ said Note (codes "skipped-private-workspace-crate") (codes "skipping private workspace crate 'a = 1.0.0'") []
+    ∷ []

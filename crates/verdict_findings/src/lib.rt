@@ -1,0 +1,14 @@
+//! The verdict on a crate as a finding: what it says, and the terms of the crate's expression at their places.
+#![tactic(auto)]
+
+pub mod copy;
+pub mod label;
+pub mod laws;
+pub mod pack;
+pub mod place;
+pub mod told;
+
+pub use copy::copied;
+pub use pack::pack_of;
+pub use place::ExprPlace;
+pub use told::{Retrieved, finding, judged, skipped, unlicensed};
