@@ -1,4 +1,6 @@
 //! Exceptions, of the policy and of its exceptions file, and specs of crates that are left out.
+ghost use Rattle.std.specs.Prelude.{◌≤◌};
+
 use crate::rows::expect;
 use run_rows::{POLICY, WORDS, Want, accepted, files, observe, refused, rejected};
 use std::alloc::Global;
@@ -202,14 +204,10 @@ fn excluded_crates_are_not_checked(rt: HostRuntime) -> Result<(), Fail> {
 
 const UNREAD: &str = "error: the policy could not be read\n";
 
-/// Compares what a run comes to where one call of the tree fails.
-fn fail_one(
-    rt: &impl Abort,
-    alloc: Global,
-    path: &str,
-    call: u64,
-    want: &Want,
-) -> Result<(), Fail> {
+/// Compares what a run comes to where one call of the tree fails. Calls are counted from 1.
+fn fail_one(rt: &impl Abort, alloc: Global, path: &str, call: u64, want: &Want) -> Result<(), Fail>
+    requires { 1 ≤ call }
+{
     let mut tree = tree_with(alloc, POLICY, path, ALLOWS_ISC.as_bytes())?;
     tree.fail_call(call)?;
     expect(rt, alloc, &WORDS, &mut tree, 1000, want)
