@@ -35,7 +35,9 @@ fn tree_of(alloc: Global, world: &World<'_>) -> Result<MemTree, Fail> {
         tree.put(path, bytes)?;
     }
     if world.failing > 0 {
-        tree.fail_call(EARLIER_CALLS + world.failing)?;
+        if let Some(call) = EARLIER_CALLS.checked_add(world.failing) {
+            tree.fail_call(call)?;
+        }
     }
     Ok(tree)
 }
