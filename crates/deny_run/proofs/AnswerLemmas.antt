@@ -2,6 +2,7 @@
 use Rattle.std.proofs.Common.{◌≡◌, ℕ, ◌≤◌, ◌⊎◌, List, [], map, Option, Some, None, Result, Ok, Err, refl, sym, ap, subst, ◌∙◌, inl, inr, arith}
 use Rattle.std.specs.List.{AllZip}
 use Rattle.tree_core.specs.Content.{Content}
+use Rattle.diag_core.specs.File.{File}
 use Rattle.tree_core.specs.Hearing.{metadata, FailedRead, Hearing, IsHearing}
 use Rattle.graph_core.specs.Metadata.{Graph}
 use Rattle.records_core.specs.Records.{records_of}
@@ -36,19 +37,20 @@ use Rattle.deny_run.specs.declared.error.Error.{Error}
 use Rattle.deny_run.specs.declared.error.Error.TheVariants.{ConfigRead, NotYet}
 use Rattle.deny_run.specs.declared.error.Refusal.{Refusal}
 use Rattle.deny_run.specs.declared.error.Refusal.TheVariants as refusal
+use Rattle.deny_run.specs.declared.report.CrateReport.{CrateReport}
 use Rattle.deny_run.specs.declared.report.Report.{Report}
 use Rattle.deny_run.specs.declared.words.Request.{Request}
 use Rattle.deny_run.specs.Counts.{counts_of}
 use Rattle.deny_run.specs.Error.{cause_of, error_of, error_of_krates, error_of_load, FreeOr}
 use Rattle.deny_run.specs.Given.{Given}
-use Rattle.deny_run.specs.Heard.{◌>>=◌, Found, exceptions_by, exceptions_in, found_of, load_at, loaded_of, manifest_in, or_error, or_load_error, or_refused, graph_heard, paths_of, scanner_in}
+use Rattle.deny_run.specs.Heard.{◌>>=◌, AreOwnReads, Found, exceptions_by, exceptions_in, files_in, files_loaded, found_of, load_at, loaded_of, manifest_in, or_error, or_load_error, or_refused, graph_heard, paths_of, scanner_in}
 use Rattle.deny_run.specs.Hearing.{look_failed, all_told, RunHearing, IsRunHearing, all_heard, crates_heard}
-use Rattle.deny_run.specs.Report.{Asked, Asks, IsReportOf, IsReport, IsRefusal, paths_at, reads_told}
+use Rattle.deny_run.specs.Report.{AreSourcesTold, Asked, Asks, IsReportOf, IsReport, IsRefusal, paths_at, reads_told}
 use Rattle.deny_run.specs.Script.{TellsLoad, told_before, told_of}
 use Rattle.deny_run.specs.Selection.{choice_in, included_by, included_in, AreSelected, Refuses}
 use Rattle.deny_run.specs.Steps.{Checks, IsChecked, IsFirstMany, paths_by}
 use Rattle.deny_run.specs.Words.{request_of}
-use Rattle.deny_run.proofs.GatheredLemmas.{first_many, heard_of, heards_of, heards_krates, own_reads, reads_reported, heards_reads, reported}
+use Rattle.deny_run.proofs.GatheredLemmas.{first_many, heard_of, heards_of, heards_krates, own_reads, reads_reported, heards_reads, reported, sources_told}
 use Rattle.deny_run.proofs.LoadedLemmas.{quiet, metadata_alike}
 use Rattle.deny_run.proofs.PolicyLemmas.{load_is, policy_is}
 
@@ -279,6 +281,10 @@ module _ (given : Given) (content : Content) (begun : ℕ) (request : Request) (
 
   module _ (policy : PolicyFound) (loads : (load_of given.lists [] (paths_by content given.cwd request.config_path) (load_heard (record { content = content; begun = begun; failed = [] }) (paths_by content given.cwd request.config_path))).answer ≡ Ok policy)
       (text : List ℕ) (tells : text ≡ told_of (Ok (load_of given.lists [] (paths_by content given.cwd request.config_path) (load_heard (record { content = content; begun = begun; failed = [] }) (paths_by content given.cwd request.config_path))))) where
+    -- the file table that the load has left
+    abbrev table : List File
+    table = (load_of given.lists [] (paths_by content given.cwd request.config_path) (load_heard (record { content = content; begun = begun; failed = [] }) (paths_by content given.cwd request.config_path))).files
+
     quietly : text ≡ told_before given (all_heard content begun)
     quietly = tells ∙ load_tells given content request (quiet content begun) asked refl (paths_by content given.cwd request.config_path) refl _ refl
 
@@ -339,6 +345,17 @@ module _ (given : Given) (content : Content) (begun : ℕ) (request : Request) (
         crates = subst (λ reads. RiseInOrder middle reads after) (sym (heards_reads licenses)) rises;
       }
 
+      -- the reads are those of the turns, from the table that the load has left
+      table_loaded : (licenses : List KrateLicense) → files_loaded given (gathered licenses) ≡ table
+      table_loaded licenses =
+          ap files_in (loaded-Ok given request asked (gathered licenses) (paths_by content given.cwd request.config_path) (paths-told given content (quiet content begun) request refl))
+
+      own_of : {result : Result (List CrateReport) Refusal} → (checked : IsChecked (scanner_in given valid) valid content table middle after graph (choice_in policy) result)
+          → AreOwnReads given valid (gathered checked.licenses) (files_loaded given (gathered checked.licenses)) (heards_of checked.licenses)
+      own_of checked =
+          subst (λ files. AreOwnReads given valid (gathered checked.licenses) files (heards_of checked.licenses)) (sym (table_loaded checked.licenses))
+          (own_reads given valid (gathered checked.licenses) table checked.licenses checked.last checked.turns)
+
       -- the crates that are heard are those that are checked
       are_selected : (licenses : List KrateLicense) → IsListOf graph (Selected graph (choice_in policy) (included_by valid)) (map krate_of licenses)
           → AreSelected policy graph (crates_heard (gathered licenses))
@@ -347,7 +364,7 @@ module _ (given : Given) (content : Content) (begun : ℕ) (request : Request) (
           (subst (λ include. IsListOf graph (Selected graph (choice_in policy) include) (map krate_of licenses)) flags selected)
 
       -- the refusal of a crate
-      many_refused : (refused : Refusal) → (checked : IsChecked (scanner_in given valid) valid content middle after graph (choice_in policy) (Err refused))
+      many_refused : (refused : Refusal) → (checked : IsChecked (scanner_in given valid) valid content table middle after graph (choice_in policy) (Err refused))
           → (refused ≡ refusal.Memory) ⊎ IsFirstMany checked.licenses refused → Refused given content begun after (error_of refused) text
       many_refused refused checked (inl memory) =
           subst (λ one. Refused given content begun after (error_of one) text) (sym memory)
@@ -361,13 +378,13 @@ module _ (given : Given) (content : Content) (begun : ℕ) (request : Request) (
             selected = are_selected checked.licenses checked.selected;
             policy = valid;
             order = order;
-            reads = own_reads given valid (gathered checked.licenses) checked.licenses checked.reads;
+            reads = own_of checked;
             one = heard_of many.license;
             first = first_many given valid (gathered checked.licenses) checked.licenses many.license checked.priorities many.first;
             named = refl;
           }))
 
-      pub check_refused : (refused : Refusal) → Checks (scanner_in given valid) valid content middle after graph (choice_in policy) (Err refused)
+      pub check_refused : (refused : Refusal) → Checks (scanner_in given valid) valid content table middle after graph (choice_in policy) (Err refused)
           → Refused given content begun after (error_of refused) text
       check_refused refusal.Memory checks =
           freely_refused given content begun after (all_heard content begun) (error_of refusal.Memory) text (quiet_run content begun after later) quietly tt
@@ -378,14 +395,20 @@ module _ (given : Given) (content : Content) (begun : ℕ) (request : Request) (
       check_refused (refusal.CrateForm id) checks = many_refused (refusal.CrateForm id) checks checks.judged
 
       -- the report is the one that is asked for
-      module _ (report : Report) (is : report.policy ≡ valid) (checked : IsChecked (scanner_in given valid) valid content middle after graph (choice_in policy) (Ok report.crates)) where
+      module _ (report : Report) (is : report.policy ≡ valid) (checked : IsChecked (scanner_in given valid) valid content table middle after graph (choice_in policy) (Ok report.crates)) where
         given_verdicts : AllZip (IsReportOf given report.policy (gathered checked.licenses)) (map krate_of checked.licenses) report.crates
         given_verdicts =
             subst (λ own. AllZip (IsReportOf given own (gathered checked.licenses)) (map krate_of checked.licenses) report.crates) (sym is)
-            (reported given valid (gathered checked.licenses) checked.licenses report.crates checked.priorities checked.reads checked.judged)
+            (reported given valid (gathered checked.licenses) table checked.licenses checked.last report.crates checked.priorities checked.turns checked.judged)
 
         reads_are : map (λ one. one.reads) (gathered checked.licenses).crates ≡ reads_told report
         reads_are = reads_reported (policy_of valid) checked.licenses report.crates checked.judged
+
+        sources_are : AreSourcesTold given report.policy (gathered checked.licenses) (files_loaded given (gathered checked.licenses)) (heards_of checked.licenses) report.crates
+        sources_are =
+            subst (λ own. AreSourcesTold given own (gathered checked.licenses) (files_loaded given (gathered checked.licenses)) (heards_of checked.licenses) report.crates) (sym is)
+            (subst (λ files. AreSourcesTold given valid (gathered checked.licenses) files (heards_of checked.licenses) report.crates) (sym (table_loaded checked.licenses))
+            (sources_told given valid (gathered checked.licenses) table checked.licenses checked.last report.crates checked.turns checked.judged))
 
         pub all_reported : policy.licenses.file_id ≡ 0 → report.stats ≡ counts_of report.crates → IsReport given content begun after report
         all_reported file stats =
@@ -406,6 +429,8 @@ module _ (given : Given) (content : Content) (begun : ℕ) (request : Request) (
               };
               crates = heards_krates checked.licenses;
               reads = reads_are;
+              own = subst (λ one. AreOwnReads given one hearing (files_loaded given hearing) (heards_of checked.licenses)) (sym is) (own_of checked);
+              sources = sources_are;
               gives = record {
                 policy = subst (PutsPolicyInOrder policy.licenses) (sym is) order;
                 file = ap (λ (one : ValidConfig). one.file_id) (is ∙ order.rest) ∙ file;

@@ -1,36 +1,41 @@
 -- The licences that were gathered, as what is heard of crates and as what is told of them.
-use Rattle.std.proofs.Common.{◌≡◌, ◌∙◌, ◌⊎◌, refl, sym, ap, ap₂, subst, ℕ, ◌≤◌, ◌<◌, Bool, true, false, cond, List, [], ◌∷◌, ◌++◌, map, Option, Some, None, inl, inr, arith}
-use Rattle.std.specs.Prelude.{find}
+use Rattle.std.proofs.Common.{◌≡◌, ◌∙◌, refl, sym, ap, ap₂, subst, ℕ, ◌≤◌, true, false, cond, List, [], ◌∷◌, ◌++◌, map, Option, Some, None, inl, inr, arith}
+use Rattle.std.specs.Prelude.{find, unwrap_or}
 use Rattle.std.specs.List.{AllByRecursion, AllZip}
 use Rattle.deny_text.specs.Path.{components_of}
 use Rattle.tree_core.specs.Content.{Content, Place, resolve}
 use Rattle.tree_core.specs.Faults.{Rose}
-use Rattle.tree_core.specs.Hearing.{Hearing}
 use Rattle.tree_core.specs.declared.reads.ReadAnswer.{ReadAnswer}
 use Rattle.tree_core.specs.declared.reads.ReadAnswer.TheVariants.{Got, Absent, WrongKind, NotUtf8, Failed}
 use Rattle.tree_core.specs.declared.reads.ReadKind.{ReadKind}
 use Rattle.tree_core.specs.declared.reads.ReadKind.TheVariants.{Listing, LicenseFile}
 use Rattle.tree_core.specs.declared.reads.ReadRecord.{ReadRecord}
-use Rattle.spdx_core.specs.Reading.{ExpressionView}
-use Rattle.graph_core.specs.Krate.{Record}
 use Rattle.reads_core.specs.Heard.{counts_in, failed_counts, heard, is_read, or_counts, or_there, place_of, there_heard}
 use Rattle.reads_core.specs.Rising.{RiseFrom, RiseInOrder}
 use Rattle.pack_core.specs.Ears.{Ears, ears_of}
-use Rattle.priority_core.specs.Priority.{Answer, folder_of, priority_of}
-use Rattle.gather_core.specs.Told.{info_of}
-use Rattle.gather_core.specs.declared.license.LicenseExprSource.{LicenseExprSource}
+use Rattle.priority_core.specs.Priority.{folder_of, priority_of}
+use Rattle.diag_core.specs.File.{File}
+use Rattle.diag_core.specs.declared.label.Coord.{Coord}
+use Rattle.priority_core.specs.Settled.{answer_in}
+use Rattle.priority_core.specs.declared.settling.JoinedNames.{JoinedNames}
+use Rattle.priority_core.specs.declared.settling.Settling.{Settling}
+use Rattle.priority_core.specs.declared.settling.Settling.TheVariants.{Clarified, Field, Files}
+use Rattle.gather_core.specs.Told.{answer_told, info_by, joined_info, joined_notes, notes_of, nowhere}
+use Rattle.gather_core.specs.Turns.{Turn, files_behind, info_in, located_in, notes_in, points_in, settling_in}
+use Rattle.gather_core.specs.declared.license.LicenseInfo.{LicenseInfo}
+use Rattle.gather_core.specs.declared.license.LicenseInfo.TheVariants.{SpdxExpression, Unlicensed}
 use Rattle.valid_policy.specs.declared.policy.ValidConfig.{ValidConfig}
 use Rattle.valid_policy.specs.Policy.{Policy}
 use Rattle.valid_policy.specs.View.{policy_of}
 use Rattle.gather_core.specs.Entries.{clarifications_of, entries_of}
-use Rattle.gather_core.specs.Gathered.{ArePriorities, AreRead, all_reads, krate_of}
+use Rattle.gather_core.specs.Gathered.{ArePriorities, AreTurns, all_reads, krate_of}
 use Rattle.gather_core.specs.declared.summary.KrateLicense.{KrateLicense}
 use Rattle.deny_run.specs.declared.report.CrateReport.{CrateReport}
 use Rattle.deny_run.specs.Given.{Given}
 use Rattle.deny_run.specs.Hearing.{CrateHeard, RunHearing, reads_of}
-use Rattle.deny_run.specs.Heard.{AreOwnReads, expression_in, has_many, priority_heard, scanner_in, source_in}
-use Rattle.deny_run.specs.Report.{IsReportOf}
-use Rattle.deny_run.specs.Steps.{IsJudged, expression_told, is_many, source_told}
+use Rattle.deny_run.specs.Heard.{AreOwnReads, expression_in, has_many, priority_heard, scanner_in, turn_heard}
+use Rattle.deny_run.specs.Report.{AreSourcesTold, IsReportOf, answer_by, source_of}
+use Rattle.deny_run.specs.Steps.{IsJudged, expression_told, is_many}
 
 -- ---- crates, each heard by its own reads
 
@@ -58,51 +63,83 @@ reads_reported policy (license ∷ licenses) (report ∷ reports) judged = ap₂
 
 -- ---- what is told of a licence
 
-told_expression : (answer : Option Answer) → expression_told (info_of answer) ≡ expression_in answer
-told_expression None = refl
-told_expression (Some answer) = refl
+told_expression : (info : LicenseInfo) (notes : List (List ℕ)) → expression_told info ≡ expression_in (answer_told info notes)
+told_expression Unlicensed notes = refl
+told_expression (SpdxExpression expression nfo) notes = refl
 
-told_source : (answer : Option Answer) → source_told (info_of answer) ≡ source_in answer
-told_source None = refl
-told_source (Some answer) = refl
+told_answer : (info : LicenseInfo) (notes : List (List ℕ)) → answer_by (expression_told info) (source_of info) notes ≡ answer_told info notes
+told_answer Unlicensed notes = refl
+told_answer (SpdxExpression expression nfo) notes = refl
+
+-- nothing is noted where there is no expression
+joined_nothing : (place : Coord) (joined : Option JoinedNames) → Unlicensed ≡ joined_info place joined → joined_notes joined ≡ []
+joined_nothing place None is = refl
+joined_nothing place (Some joined) is = absurd (cc)
+
+settled_nothing : (policy : ℕ) (location : Option Coord) (place : Coord) (by : Settling) → Unlicensed ≡ info_by policy location place by → notes_of (answer_in by) ≡ []
+settled_nothing policy location place (Clarified held) is = absurd (cc)
+settled_nothing policy location place (Field expression) is = absurd (cc)
+settled_nothing policy location place (Files seen None) is = refl
+settled_nothing policy location place (Files seen (Some joined)) is = absurd (cc)
+
+told_notes : (turn : Turn) (info : LicenseInfo) (notes : List (List ℕ)) → info ≡ info_in turn → notes ≡ notes_in turn → notes ≡ notes_of (answer_told info notes)
+told_notes turn Unlicensed notes is noted =
+    noted ∙ settled_nothing turn.policy (located_in turn).location (unwrap_or (points_in turn).expression nowhere) (settling_in turn) is
+told_notes turn (SpdxExpression expression nfo) notes is noted = refl
 
 module _ (given : Given) (policy : ValidConfig) (hearing : RunHearing) where
   abbrev pub Priorities : List KrateLicense → Type 0
   Priorities licenses = ArePriorities (scanner_in given policy) (entries_of policy) hearing.files.content licenses
 
-  abbrev pub Read : List KrateLicense → Type 0
-  Read licenses = AreRead (scanner_in given policy) (entries_of policy) hearing.files.content licenses
+  abbrev pub Turns : List File → List KrateLicense → List File → Type 0
+  Turns files licenses last = AreTurns (scanner_in given policy) policy.file_id (entries_of policy) hearing.files.content files licenses last
 
   -- each report is on the crate of its licence
-  pub reported : (licenses : List KrateLicense) (reports : List CrateReport) → Priorities licenses → Read licenses → AllZip (IsJudged (policy_of policy)) licenses reports
-      → AllZip (IsReportOf given policy hearing) (map krate_of licenses) reports
-  reported [] [] priorities read judged = tt
-  reported [] (report ∷ reports) priorities read judged = absurd judged
-  reported (license ∷ licenses) [] priorities read judged = absurd judged
-  reported (license ∷ licenses) (report ∷ reports) priorities read judged =
+  pub reported : (files : List File) (licenses : List KrateLicense) (last : List File) (reports : List CrateReport) → Priorities licenses → Turns files licenses last
+      → AllZip (IsJudged (policy_of policy)) licenses reports → AllZip (IsReportOf given policy hearing) (map krate_of licenses) reports
+  reported files [] last [] priorities turns judged = tt
+  reported files [] last (report ∷ reports) priorities turns judged = absurd judged
+  reported files (license ∷ licenses) last [] priorities turns judged = absurd judged
+  reported files (license ∷ licenses) last (report ∷ reports) priorities turns judged =
       let own = judged.0 in
-      let answer = priority_heard given policy hearing (heard_of license) in
+      let turn = turn_heard given policy hearing files (heard_of license) in
       let P : List ReadRecord → Type 0 = λ reads. IsReportOf given policy hearing (krate_of license) (record report { reads = reads }) in (
         subst P (sym own.reads) (record {
           id = own.id;
-          reads = read.0;
-          expression = own.expression ∙ ap expression_told priorities.0.info ∙ told_expression answer;
-          source = own.source ∙ ap source_told priorities.0.info ∙ told_source answer;
-          notes = own.notes ∙ priorities.0.noted;
+          expression = own.expression ∙ told_expression license.lic_info license.notes ∙ ap expression_in priorities.0;
+          answer =
+              ap (λ one. answer_by one report.source report.notes) own.expression
+              ∙ ap (λ one. answer_by (expression_told license.lic_info) one report.notes) own.source
+              ∙ ap (answer_by (expression_told license.lic_info) (source_of license.lic_info)) own.notes
+              ∙ told_answer license.lic_info license.notes
+              ∙ priorities.0;
+          notes = own.notes ∙ told_notes turn license.lic_info license.notes turns.0.info turns.0.noted ∙ ap notes_of priorities.0;
           verdict = own.verdict;
         }),
-        reported licenses reports priorities.1 read.1 judged.1,
+        reported (files_behind turn) licenses last reports priorities.1 turns.1 judged.1,
       )
 
   -- the records of each crate's reads are its own
-  pub own_reads : (licenses : List KrateLicense) → Read licenses → AllByRecursion (AreOwnReads given policy hearing) (heards_of licenses)
-  own_reads [] read = tt
-  own_reads (license ∷ licenses) read = (read.0, own_reads licenses read.1)
+  pub own_reads : (files : List File) (licenses : List KrateLicense) (last : List File) → Turns files licenses last → AreOwnReads given policy hearing files (heards_of licenses)
+  own_reads files [] last turns = tt
+  own_reads files (license ∷ licenses) last turns =
+      (turns.0.read, own_reads (files_behind (turn_heard given policy hearing files (heard_of license))) licenses last turns.1)
+
+  -- each report tells the source of its licence
+  pub sources_told : (files : List File) (licenses : List KrateLicense) (last : List File) (reports : List CrateReport) → Turns files licenses last
+      → AllZip (IsJudged (policy_of policy)) licenses reports → AreSourcesTold given policy hearing files (heards_of licenses) reports
+  sources_told files [] last [] turns judged = tt
+  sources_told files [] last (report ∷ reports) turns judged = absurd judged
+  sources_told files (license ∷ licenses) last [] turns judged = absurd judged
+  sources_told files (license ∷ licenses) last (report ∷ reports) turns judged = (
+    judged.0.source ∙ ap source_of turns.0.info,
+    sources_told (files_behind (turn_heard given policy hearing files (heard_of license))) licenses last reports turns.1 judged.1,
+  )
 
   -- the first crate whose expression has more than one term
-  many_same : (license : KrateLicense) → license.lic_info ≡ info_of (priority_heard given policy hearing (heard_of license))
+  many_same : (license : KrateLicense) → answer_told license.lic_info license.notes ≡ priority_heard given policy hearing (heard_of license)
       → is_many license ≡ has_many (expression_in (priority_heard given policy hearing (heard_of license)))
-  many_same license info = ap has_many (ap expression_told info ∙ told_expression (priority_heard given policy hearing (heard_of license)))
+  many_same license is = ap has_many (told_expression license.lic_info license.notes ∙ ap expression_in is)
 
   pub first_many : (licenses : List KrateLicense) (license : KrateLicense) → Priorities licenses → find is_many licenses ≡ Some license
       → find (λ own. has_many (expression_in (priority_heard given policy hearing own))) (heards_of licenses) ≡ Some (heard_of license)
@@ -118,7 +155,7 @@ module _ (given : Given) (policy : ValidConfig) (hearing : RunHearing) where
         | false ↦ λ same is.
             ap (λ b. cond b (Some (heard_of first)) (find (λ own. has_many (expression_in (priority_heard given policy hearing own))) (heards_of licenses))) same
             ∙ first_many licenses license priorities.1 is
-      ] (sym (many_same first priorities.0.info)) found
+      ] (sym (many_same first priorities.0)) found
 
 -- ---- where no count rose
 

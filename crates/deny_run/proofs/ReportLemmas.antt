@@ -57,13 +57,13 @@ loads_at lists context paths content held begun own after old new before behind 
     (subst (λ there. Loads lists plain_log paths there own after old new before behind result) same
     (subst (λ log. Loads lists log paths held own after old new before behind result) plain loads)))
 
-pub checks_at : (scanner : Scanner) (policy : LoadedPolicy) (content held : Option Content) (begun own : ℕ) (path other : List ℕ) (before after : ℕ)
+pub checks_at : (scanner : Scanner) (policy : LoadedPolicy) (files : List File) (content held : Option Content) (begun own : ℕ) (path other : List ℕ) (before after : ℕ)
     (result : Result (List CrateReport) Refusal) → held ≡ content → own ≡ begun → other ≡ path
-    → ForSome held (λ one. ChecksAt scanner policy one own other before after result) → ForSome content (λ one. ChecksAt scanner policy one begun path before after result)
-checks_at scanner policy content held begun own path other before after result same since at checks =
-    subst (λ own_path. ForSome content (λ one. ChecksAt scanner policy one begun own_path before after result)) at
-    (subst (λ n. ForSome content (λ one. ChecksAt scanner policy one n other before after result)) since
-    (subst (λ there. ForSome there (λ one. ChecksAt scanner policy one own other before after result)) same checks))
+    → ForSome held (λ one. ChecksAt scanner policy one files own other before after result) → ForSome content (λ one. ChecksAt scanner policy one files begun path before after result)
+checks_at scanner policy files content held begun own path other before after result same since at checks =
+    subst (λ own_path. ForSome content (λ one. ChecksAt scanner policy one files begun own_path before after result)) at
+    (subst (λ n. ForSome content (λ one. ChecksAt scanner policy one files n other before after result)) since
+    (subst (λ there. ForSome there (λ one. ChecksAt scanner policy one files own other before after result)) same checks))
 
 -- ---- before the load
 
@@ -170,12 +170,16 @@ module _ (given : Given) (content : Content) (begun mid after : ℕ) (first : be
     (found : PolicyFound) (loaded : LoadedPolicy) (is : IsPolicyOf found loaded)
     (answers : (load_of given.lists [] (paths_by content given.cwd request.config_path) (load_heard (record { content = content; begun = begun; failed = [] }) (paths_by content given.cwd request.config_path))).answer ≡ Ok found)
     (text : List ℕ) (tells : text ≡ told_of (Ok (load_of given.lists [] (paths_by content given.cwd request.config_path) (load_heard (record { content = content; begun = begun; failed = [] }) (paths_by content given.cwd request.config_path))))) where
+  -- the file table that the load has left
+  abbrev table : List File
+  table = (load_of given.lists [] (paths_by content given.cwd request.config_path) (load_heard (record { content = content; begun = begun; failed = [] }) (paths_by content given.cwd request.config_path))).files
+
   -- the reports on the crates, by the choice of the policy that was found
   checked_by : (graph : Graph) (middle : ℕ) (result : Result (List CrateReport) Refusal)
-      → Checks (scanner_in given loaded.licenses) loaded.licenses content middle after graph (choice_by loaded.graph.exclude) result
-      → Checks (scanner_in given loaded.licenses) loaded.licenses content middle after graph (choice_in found) result
+      → Checks (scanner_in given loaded.licenses) loaded.licenses content table middle after graph (choice_by loaded.graph.exclude) result
+      → Checks (scanner_in given loaded.licenses) loaded.licenses content table middle after graph (choice_in found) result
   checked_by graph middle result checks =
-      subst (λ choice. Checks (scanner_in given loaded.licenses) loaded.licenses content middle after graph choice result) (same_choice found loaded is) checks
+      subst (λ choice. Checks (scanner_in given loaded.licenses) loaded.licenses content table middle after graph choice result) (same_choice found loaded is) checks
 
   rooted_by : (graph : Graph) → HasRoot graph (choice_by loaded.graph.exclude) → HasRoot graph (choice_in found)
   rooted_by graph root = subst (HasRoot graph) (same_choice found loaded is) root
@@ -183,14 +187,14 @@ module _ (given : Given) (content : Content) (begun mid after : ℕ) (first : be
   begun_first : (middle : ℕ) → mid ≤ middle → begun ≤ middle
   begun_first middle next = omega arith
 
-  form_refused : (refused : Refusal) → AreCheckedAt (scanner_in given loaded.licenses) loaded content begun request.metadata_path mid after (Err refused)
+  form_refused : (refused : Refusal) → AreCheckedAt (scanner_in given loaded.licenses) loaded content table begun request.metadata_path mid after (Err refused)
       → Refused given content begun after (error_of refused) text
   form_refused refused at =
       check_refused given content begun request asked found answers text tells at.graph at.middle after (begun_first at.middle at.first) (omega arith) (rooted_by at.graph at.rooted)
       (graph_stands content begun mid at.middle request.metadata_path at.heard at.graph at.hears at.tells) loaded.licenses is.licenses (same_flags found loaded is)
       refused (checked_by at.graph at.middle (Err refused) at.checked)
 
-  by_refusal : (refused : Refusal) → IsAfterLoad refused → ChecksAt (scanner_in given loaded.licenses) loaded content begun request.metadata_path mid after (Err refused)
+  by_refusal : (refused : Refusal) → IsAfterLoad refused → ChecksAt (scanner_in given loaded.licenses) loaded content table begun request.metadata_path mid after (Err refused)
       → Refused given content begun after (error_of refused) text
   by_refusal refusal.Memory cause checks =
       freely_refused given content begun after (all_heard content begun) (error_of refusal.Memory) text (quiet_run content begun after (omega arith))
@@ -211,7 +215,7 @@ module _ (given : Given) (content : Content) (begun mid after : ℕ) (first : be
       ap (λ (one : PolicyFound). one.licenses.file_id) own.is
 
   module _ (report : Report) (policy : report.policy ≡ loaded.licenses)
-      (at : AreCheckedAt (scanner_in given loaded.licenses) loaded content begun request.metadata_path mid after (Ok report.crates)) where
+      (at : AreCheckedAt (scanner_in given loaded.licenses) loaded content table begun request.metadata_path mid after (Ok report.crates)) where
     by_report : report.stats ≡ counts_of report.crates → IsReport given content begun after report
     by_report stats =
         all_reported given content begun request asked found answers text tells at.graph at.middle after (begun_first at.middle at.first) (omega arith) (rooted_by at.graph at.rooted)
@@ -229,22 +233,23 @@ module _ (given : Given) (content : Option Content) (begun mid after : ℕ) (fir
     (new : List File) (old_err new_err : Option (List ℕ)) (err_before err_after : ℕ) (loaded : LoadedPolicy)
     (loads : Loads given.lists plain_log paths content begun mid [] new old_err new_err (Ok loaded)) where
   crates_refused : (one : Content) → content ≡ Some one → paths ≡ paths_by one given.cwd request.config_path → (refused : Refusal) → IsAfterLoad refused
-      → ChecksAt (scanner_in given loaded.licenses) loaded one begun request.metadata_path mid after (Err refused)
+      → ChecksAt (scanner_in given loaded.licenses) loaded one new begun request.metadata_path mid after (Err refused)
       → Refused given one begun after (error_of refused) (told_of (Ok (load_of given.lists [] paths loads.heard)))
   crates_refused one is at refused cause checks =
       let answers = loads.comes.answers in
       let same = quiet_load given one begun request asked paths at loads.heard answers.found mid (loads.hears one is) answers.is in
       by_refusal given one begun mid after first later request asked answers.found loaded answers.valid_of
-      (sym (ap (λ (it : Loaded). it.answer) same) ∙ answers.is) (told_of (Ok (load_of given.lists [] paths loads.heard))) (ap (λ it. told_of (Ok it)) same) refused cause checks
+      (sym (ap (λ (it : Loaded). it.answer) same) ∙ answers.is) (told_of (Ok (load_of given.lists [] paths loads.heard))) (ap (λ it. told_of (Ok it)) same) refused cause
+      (subst (λ files. ChecksAt (scanner_in given loaded.licenses) loaded one files begun request.metadata_path mid after (Err refused)) (loads.comes.files ∙ ap (λ (it : Loaded). it.files) same) checks)
 
   pub crates_answer : (one : Content) → content ≡ Some one → paths ≡ paths_by one given.cwd request.config_path → (refused : Refusal) → IsAfterLoad refused
-      → ChecksAt (scanner_in given loaded.licenses) loaded one begun request.metadata_path mid after (Err refused)
+      → ChecksAt (scanner_in given loaded.licenses) loaded one new begun request.metadata_path mid after (Err refused)
       → FreeOr (cause_of (error_of refused)) (IsRefusal given one begun after (error_of refused))
   crates_answer one is at refused cause checks =
       is_refusal given one begun after (error_of refused) (told_of (Ok (load_of given.lists [] paths loads.heard))) (crates_refused one is at refused cause checks)
 
   pub crates_writes : ForSome content (λ one. paths ≡ paths_by one given.cwd request.config_path) → (refused : Refusal) → IsAfterLoad refused
-      → ForSome content (λ one. ChecksAt (scanner_in given loaded.licenses) loaded one begun request.metadata_path mid after (Err refused))
+      → ForSome content (λ one. ChecksAt (scanner_in given loaded.licenses) loaded one new begun request.metadata_path mid after (Err refused))
       → WritesLoad given content begun after old_err new_err err_before err_after (Err (error_of refused))
   crates_writes at refused cause checks = record {
     text = told_of (Ok (load_of given.lists [] paths loads.heard));
@@ -256,16 +261,17 @@ module _ (given : Given) (content : Option Content) (begun mid after : ℕ) (fir
 
   module _ (report : Report) (policy : report.policy ≡ loaded.licenses) where
     pub report_answer : (one : Content) → content ≡ Some one → paths ≡ paths_by one given.cwd request.config_path
-        → ChecksAt (scanner_in given loaded.licenses) loaded one begun request.metadata_path mid after (Ok report.crates) → report.stats ≡ counts_of report.crates
+        → ChecksAt (scanner_in given loaded.licenses) loaded one new begun request.metadata_path mid after (Ok report.crates) → report.stats ≡ counts_of report.crates
         → IsReport given one begun after report
     report_answer one is at checks stats =
         let answers = loads.comes.answers in
         let same = quiet_load given one begun request asked paths at loads.heard answers.found mid (loads.hears one is) answers.is in
         by_report given one begun mid after first later request asked answers.found loaded answers.valid_of
-        (sym (ap (λ (it : Loaded). it.answer) same) ∙ answers.is) (told_of (Ok (load_of given.lists [] paths loads.heard))) (ap (λ it. told_of (Ok it)) same) report policy checks stats
+        (sym (ap (λ (it : Loaded). it.answer) same) ∙ answers.is) (told_of (Ok (load_of given.lists [] paths loads.heard))) (ap (λ it. told_of (Ok it)) same) report policy
+        (subst (λ files. ChecksAt (scanner_in given loaded.licenses) loaded one files begun request.metadata_path mid after (Ok report.crates)) (loads.comes.files ∙ ap (λ (it : Loaded). it.files) same) checks) stats
 
     pub report_writes : ForSome content (λ one. paths ≡ paths_by one given.cwd request.config_path)
-        → ForSome content (λ one. ChecksAt (scanner_in given loaded.licenses) loaded one begun request.metadata_path mid after (Ok report.crates))
+        → ForSome content (λ one. ChecksAt (scanner_in given loaded.licenses) loaded one new begun request.metadata_path mid after (Ok report.crates))
         → WritesLoad given content begun after old_err new_err err_before err_after (Ok report)
     report_writes at checks = record {
       text = told_of (Ok (load_of given.lists [] paths loads.heard));
@@ -273,6 +279,7 @@ module _ (given : Given) (content : Option Content) (begun mid after : ℕ) (fir
           let answers = loads.comes.answers in
           let same = quiet_load given one begun request asked paths (at one is) loads.heard answers.found mid (loads.hears one is) answers.is in
           by_reads given one begun mid after first later request asked answers.found loaded answers.valid_of
-          (sym (ap (λ (it : Loaded). it.answer) same) ∙ answers.is) (told_of (Ok (load_of given.lists [] paths loads.heard))) (ap (λ it. told_of (Ok it)) same) report policy (checks one is);
+          (sym (ap (λ (it : Loaded). it.answer) same) ∙ answers.is) (told_of (Ok (load_of given.lists [] paths loads.heard))) (ap (λ it. told_of (Ok it)) same) report policy
+          (subst (λ files. ChecksAt (scanner_in given loaded.licenses) loaded one files begun request.metadata_path mid after (Ok report.crates)) (loads.comes.files ∙ ap (λ (it : Loaded). it.files) same) (checks one is));
       written = loads.comes.prints;
     }

@@ -2,6 +2,7 @@
 use Rattle.std.proofs.Common.{ℕ, ◌≤◌, List, map, Result, Ok, Err, inl, inr, arith}
 use Rattle.graph_core.specs.Metadata.{Graph}
 use Rattle.tree_core.specs.Content.{Content}
+use Rattle.diag_core.specs.File.{File}
 use Rattle.tree_core.specs.Faults.{Rose}
 use Rattle.selection_core.specs.Choice.{Choice}
 use Rattle.selection_core.specs.Listed.{IsListOf}
@@ -11,7 +12,7 @@ use Rattle.valid_policy.specs.declared.policy.ValidConfig.{ValidConfig}
 use Rattle.reads_core.specs.Rising.{RiseInOrder}
 use Rattle.expression_core.specs.Scanned.{Scanner}
 use Rattle.gather_core.specs.Entries.{entries_of}
-use Rattle.gather_core.specs.Gathered.{ArePriorities, AreRead, all_reads, krate_of}
+use Rattle.gather_core.specs.Gathered.{ArePriorities, AreTurns, all_reads, krate_of}
 use Rattle.gather_core.specs.declared.summary.KrateLicense.{KrateLicense}
 use Rattle.heard_core.specs.Cause.{Cause, no_memory, told, failed_read, refused_write, ReadCounts}
 use Rattle.deny_run.specs.declared.error.Refusal.{Refusal}
@@ -54,15 +55,15 @@ crates_after (refusal.CrateForm id) cause = tt
 
 -- ---- the crates that are judged are those that are checked
 
-module _ (scanner : Scanner) (policy : ValidConfig) (content : Content) (before after : ℕ) (graph : Graph) (choice : Choice) (licenses : List KrateLicense)
+module _ (scanner : Scanner) (policy : ValidConfig) (content : Content) (files : List File) (before after : ℕ) (graph : Graph) (choice : Choice) (licenses : List KrateLicense)
     (selected : IsListOf graph (Selected graph choice (included_by policy)) (map krate_of licenses))
-    (priorities : ArePriorities scanner (entries_of policy) content licenses) (reads : AreRead scanner (entries_of policy) content licenses)
+    (priorities : ArePriorities scanner (entries_of policy) content licenses) (last : List File) (turns : AreTurns scanner policy.file_id (entries_of policy) content files licenses last)
     (rises : RiseInOrder before (all_reads licenses) after) where
-  checked_by : (result : Result (List CrateReport) Refusal) → AreJudged (policy_of policy) licenses result → IsChecked scanner policy content before after graph choice result
+  checked_by : (result : Result (List CrateReport) Refusal) → AreJudged (policy_of policy) licenses result → IsChecked scanner policy content files before after graph choice result
   checked_by result judged =
-      record { licenses = licenses; selected = selected; priorities = priorities; reads = reads; rises = rises; judged = judged }
+      record { licenses = licenses; selected = selected; priorities = priorities; last = last; turns = turns; rises = rises; judged = judged }
 
-  pub are_checked : (result : Result (List CrateReport) Refusal) → AreJudged (policy_of policy) licenses result → Checks scanner policy content before after graph choice result
+  pub are_checked : (result : Result (List CrateReport) Refusal) → AreJudged (policy_of policy) licenses result → Checks scanner policy content files before after graph choice result
   are_checked (Ok reports) judged = checked_by (Ok reports) judged
   are_checked (Err refusal.Memory) judged = tt
   are_checked (Err refusal.Words) judged = checked_by (Err refusal.Words) judged

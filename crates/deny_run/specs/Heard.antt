@@ -1,5 +1,5 @@
 -- What is heard of the files, and what the words and the files ask to check.
-use Rattle.std.specs.Prelude.{◌≡◌, ℕ, Bool, false, nat_lt, List, [], codes, length, Option, Some, None, option_map, Result, Ok, Err}
+use Rattle.std.specs.Prelude.{◌≡◌, ℕ, Bool, false, nat_lt, List, [], ◌∷◌, codes, length, Option, Some, None, option_map, Result, Ok, Err, ⊤}
 use Rattle.deny_text.specs.Path.{join_of}
 use Rattle.tree_core.specs.Hearing.{metadata}
 use Rattle.spdx_core.specs.Reading.{ExpressionView}
@@ -13,12 +13,14 @@ use Rattle.workspace_core.specs.declared.error.KratesError.{KratesError}
 use Rattle.workspace_core.specs.Krates.{graph_in}
 use Rattle.pack_core.specs.Ears.{Ears, ears_of}
 use Rattle.expression_core.specs.Scanned.{Scanner}
-use Rattle.priority_core.specs.Priority.{Answer, folder_of, priority_of, records_of}
-use Rattle.gather_core.specs.Told.{source_info}
-use Rattle.gather_core.specs.declared.license.LicenseExprSource.{LicenseExprSource}
+use Rattle.priority_core.specs.Priority.{Answer, folder_of, priority_of}
+use Rattle.diag_core.specs.File.{File}
+use Rattle.location_core.specs.Location.{manifest_heard}
 use Rattle.valid_policy.specs.declared.policy.ValidConfig.{ValidConfig}
 use Rattle.gather_core.specs.Entries.{clarifications_of, entries_of}
 use Rattle.gather_core.specs.Gathered.{threshold_of}
+use Rattle.gather_core.specs.Taken.{turn_with}
+use Rattle.gather_core.specs.Turns.{Turn, files_behind, records_in}
 use Rattle.policy_core.specs.Policy.{PolicyFound}
 use Rattle.load_core.specs.Heard.{load_heard}
 use Rattle.load_core.specs.Load.{Loaded, load_of}
@@ -117,19 +119,35 @@ abbrev pub priority_heard : Given → ValidConfig → RunHearing → CrateHeard 
 priority_heard given policy hearing one =
     priority_of (scanner_in given policy) (clarifications_of one.krate (entries_of policy)) one.krate (ears_heard hearing one)
 
--- the expression, and where it comes from
+-- its expression
 abbrev pub expression_in : Option Answer → Option ExpressionView
 expression_in answer = option_map (λ own. own.expression) answer
-
-abbrev pub source_in : Option Answer → Option LicenseExprSource
-source_in answer = option_map (λ own. source_info own.source) answer
 
 -- an expression of more than one term; it is not judged yet
 abbrev pub has_many : Option ExpressionView → Bool
 has_many None = false
 has_many (Some read) = nat_lt 1 (length read.terms)
 
--- the records of a crate's reads are those that its clarifications, its field and its files ask for
-abbrev pub AreOwnReads : Given → ValidConfig → RunHearing → CrateHeard → Type 0
-AreOwnReads given policy hearing one =
-    one.reads ≡ records_of (scanner_in given policy) (clarifications_of one.krate (entries_of policy)) one.krate (ears_heard hearing one)
+-- ---- turn after turn
+
+-- the file table once the policy was loaded
+abbrev pub files_in : Result Loaded Error → List File
+files_in (Ok loaded) = loaded.files
+files_in (Err error) = []
+
+abbrev pub files_loaded : Given → RunHearing → List File
+files_loaded given hearing = files_in (loaded_of given hearing)
+
+-- the turn of a crate, by its own reads, with the table that the crates before have left
+abbrev pub turn_heard : Given → ValidConfig → RunHearing → List File → CrateHeard → Turn
+turn_heard given policy hearing files one =
+    turn_with (scanner_in given policy) policy.file_id (clarifications_of one.krate (entries_of policy)) one.krate (ears_heard hearing one)
+    (manifest_heard hearing.files.content one.krate.manifest_path one.reads) files
+
+-- Crate after crate, the records of its reads are those that its turn asks for: by its clarifications, its field and its files,
+-- and of its manifest where the field is to be located.
+abbrev pub AreOwnReads : Given → ValidConfig → RunHearing → List File → List CrateHeard → Type 0
+AreOwnReads given policy hearing files [] = ⊤
+AreOwnReads given policy hearing files (one ∷ crates) =
+    (one.reads ≡ records_in (turn_heard given policy hearing files one))
+    × AreOwnReads given policy hearing (files_behind (turn_heard given policy hearing files one)) crates

@@ -1,5 +1,5 @@
 -- When a report is the one that the words and the files ask for.
-use Rattle.std.specs.Prelude.{◌≡◌, ℕ, Bool, true, false, List, [], ◌∷◌, map, Option, Some, None, is_some, Result, Ok, Err, All, IsSomeAnd}
+use Rattle.std.specs.Prelude.{◌≡◌, ℕ, Bool, true, false, List, [], ◌∷◌, map, Option, Some, None, is_some, Result, Ok, Err, ⊤, All, IsSomeAnd}
 use Rattle.std.specs.List.{AllZip}
 use Rattle.tree_core.specs.Content.{Content}
 use Rattle.tree_core.specs.Hearing.{metadata}
@@ -17,7 +17,14 @@ use Rattle.workspace_core.specs.Krates.{sparse_dir}
 use Rattle.valid_policy.specs.Policy.{Policy, IsPrivate, hit_of}
 use Rattle.valid_policy.specs.View.{policy_of}
 use Rattle.valid_policy.specs.declared.policy.ValidConfig.{ValidConfig}
-use Rattle.gather_core.specs.Told.{notes_of}
+use Rattle.priority_core.specs.Priority.{Answer}
+use Rattle.diag_core.specs.File.{File}
+use Rattle.gather_core.specs.Told.{notes_of, source_told}
+use Rattle.gather_core.specs.Turns.{files_behind, info_in}
+use Rattle.gather_core.specs.declared.license.LicenseExprSource.{LicenseExprSource}
+use Rattle.gather_core.specs.declared.license.LicenseInfo.{LicenseInfo}
+use Rattle.gather_core.specs.declared.license.LicenseInfo.TheVariants.{SpdxExpression}
+use Rattle.gather_core.specs.declared.license.LicenseInfo.TheVariants as license_info
 use Rattle.validate_core.specs.Order.{PutsPolicyInOrder}
 use Rattle.policy_core.specs.Policy.{PolicyFound}
 use Rattle.load_core.specs.Heard.{load_heard}
@@ -31,7 +38,7 @@ use Rattle.deny_run.specs.declared.words.Request.{Request}
 use Rattle.deny_run.specs.Counts.{counts_of}
 use Rattle.deny_run.specs.Error.{cause_of, FreeOr}
 use Rattle.deny_run.specs.Given.{Given}
-use Rattle.deny_run.specs.Heard.{AreOwnReads, exceptions_in, expression_in, found_of, has_many, manifest_in, priority_heard, source_in}
+use Rattle.deny_run.specs.Heard.{AreOwnReads, exceptions_in, expression_in, files_loaded, found_of, has_many, manifest_in, priority_heard, turn_heard}
 use Rattle.deny_run.specs.Hearing.{CrateHeard, RunHearing, IsRunHearing, crates_heard}
 use Rattle.deny_run.specs.Policy.{IsPolicyAt}
 use Rattle.deny_run.specs.Selection.{choice_in, AreSelected, Refuses}
@@ -100,19 +107,41 @@ IsVerdictOf policy krate expression Rejected =
     ¬ (IsPrivate policy krate)
     × IsSomeAnd expression (λ read. (has_many (Some read) ≡ false) × (has_hit policy krate read.terms ≡ false))
 
+-- the answer of an expression, where it comes from and what is noted; where the field stands is left out
+abbrev pub answer_by : Option ExpressionView → Option LicenseExprSource → List (List ℕ) → Option Answer
+answer_by (Some expression) (Some source) notes = Some (record { expression = expression; source = source_told source; notes = notes })
+answer_by _ _ notes = None
+
 -- a crate, heard by its own reads
 abbrev pub heard_by : Record → CrateReport → CrateHeard
 heard_by krate report = record { krate = krate; reads = report.reads }
 
--- The report on a crate, by a valid policy: what has priority, by what the content and the crate's own reads let hear, and the
--- verdict on that.
+-- the answer that a report tells
+abbrev pub answer_reported : CrateReport → Option Answer
+answer_reported report = answer_by report.expression report.source report.notes
+
+-- The report on a crate, by a valid policy: it tells what has priority, by what the content and the crate's own reads let
+-- hear, and the verdict on that.
 pub record IsReportOf (given : Given) (policy : ValidConfig) (hearing : RunHearing) (krate : Record) (report : CrateReport) : Type 0 where
   pub id : report.id ≡ krate.id
-  pub reads : AreOwnReads given policy hearing (heard_by krate report)
   pub expression : report.expression ≡ expression_in (priority_heard given policy hearing (heard_by krate report))
-  pub source : report.source ≡ source_in (priority_heard given policy hearing (heard_by krate report))
+  pub answer : answer_reported report ≡ priority_heard given policy hearing (heard_by krate report)
   pub notes : report.notes ≡ notes_of (priority_heard given policy hearing (heard_by krate report))
   pub verdict : IsVerdictOf (policy_of policy) krate report.expression report.verdict
+
+-- where the expression of a licence comes from
+abbrev pub source_of : LicenseInfo → Option LicenseExprSource
+source_of (SpdxExpression expression info) = Some info.source
+source_of license_info.Unlicensed = None
+
+-- Crate after crate, the report tells the source that the crate's turn says: of a field with the place where its manifest
+-- writes it, where that counts.
+abbrev pub AreSourcesTold : Given → ValidConfig → RunHearing → List File → List CrateHeard → List CrateReport → Type 0
+AreSourcesTold given policy hearing files [] [] = ⊤
+AreSourcesTold given policy hearing files (one ∷ crates) (report ∷ reports) =
+    (report.source ≡ source_of (info_in (turn_heard given policy hearing files one)))
+    × AreSourcesTold given policy hearing (files_behind (turn_heard given policy hearing files one)) crates reports
+AreSourcesTold given policy hearing files _ _ = ⊥
 
 -- The policy that was found is reported, its lists put in order. Each crate that is checked has its one report by it, in the
 -- same order, and the verdicts are counted.
@@ -137,6 +166,8 @@ pub record IsReport (given : Given) (content : Content) (before after : ℕ) (re
   pub asks : Asks given hearing asked
   pub crates : crates_heard hearing ≡ asked.crates
   pub reads : map (λ one. one.reads) hearing.crates ≡ reads_told report
+  pub own : AreOwnReads given report.policy hearing (files_loaded given hearing) hearing.crates
+  pub sources : AreSourcesTold given report.policy hearing (files_loaded given hearing) hearing.crates report.crates
   pub gives : GivesVerdicts given hearing asked report
 
 -- the refusal is the first one, by the content less some reads that failed

@@ -1,6 +1,6 @@
 -- The crates that are checked, and why none are.
 use Rattle.std.specs.Prelude.{◌≡◌, ℕ, List, false, find, Some, Result, Ok, Err}
-use Rattle.std.specs.List.{AllByRecursion, filter_map}
+use Rattle.std.specs.List.{filter_map}
 use Rattle.graph_core.specs.Krate.{Record}
 use Rattle.graph_core.specs.Metadata.{Graph}
 use Rattle.selection_core.specs.declared.selection.Include.{Include}
@@ -16,7 +16,7 @@ use Rattle.deny_run.specs.declared.error.Error.{Error}
 use Rattle.deny_run.specs.declared.error.Error.TheVariants.{NoRoots, NotYet}
 use Rattle.deny_run.specs.Given.{Given}
 use Rattle.deny_run.specs.Hearing.{CrateHeard, RunHearing, crates_heard}
-use Rattle.deny_run.specs.Heard.{AreOwnReads, Found, expression_in, has_many, priority_heard}
+use Rattle.deny_run.specs.Heard.{AreOwnReads, Found, expression_in, files_loaded, has_many, priority_heard}
 
 -- the crates that these specs leave out; the words leave none out yet
 abbrev pub choice_by : List (List ℕ) → Choice
@@ -45,7 +45,7 @@ pub record IsFirstWithMany (given : Given) (hearing : RunHearing) (found : Found
   pub selected : AreSelected found.policy found.graph (crates_heard hearing)
   pub policy : ValidConfig
   pub order : PutsPolicyInOrder found.policy.licenses policy
-  pub reads : AllByRecursion (AreOwnReads given policy hearing) hearing.crates
+  pub reads : AreOwnReads given policy hearing (files_loaded given hearing) hearing.crates
   pub one : CrateHeard
   pub first : find (λ own. has_many (expression_in (priority_heard given policy hearing own))) hearing.crates ≡ Some one
   pub named : one.krate.id ≡ id

@@ -6,6 +6,7 @@ use Rattle.catalog_core.specs.Catalog.{CatalogLists}
 use Rattle.catalog_core.specs.declared.identifier.Match.{Match}
 use Rattle.spdx_core.specs.Reading.{ExpressionView}
 use Rattle.graph_core.specs.Metadata.{Graph}
+use Rattle.diag_core.specs.File.{File}
 use Rattle.heard_core.specs.Heard.{IsHeard}
 use Rattle.heard_core.specs.declared.fault.ReadFault.{ReadFault}
 use Rattle.search_core.specs.Search.{candidates, first_existing}
@@ -20,12 +21,11 @@ use Rattle.valid_policy.specs.View.{policy_of}
 use Rattle.valid_policy.specs.declared.policy.ValidConfig.{ValidConfig}
 use Rattle.reads_core.specs.Rising.{RiseInOrder}
 use Rattle.expression_core.specs.Scanned.{Scanner}
-use Rattle.gather_core.specs.declared.license.LicenseExprSource.{LicenseExprSource}
 use Rattle.gather_core.specs.declared.license.LicenseInfo.{LicenseInfo}
 use Rattle.gather_core.specs.declared.license.LicenseInfo.TheVariants.{SpdxExpression}
 use Rattle.gather_core.specs.declared.license.LicenseInfo.TheVariants as license_info
 use Rattle.gather_core.specs.Entries.{entries_of}
-use Rattle.gather_core.specs.Gathered.{ArePriorities, AreRead, all_reads, krate_of, threshold_of}
+use Rattle.gather_core.specs.Gathered.{ArePriorities, AreTurns, all_reads, krate_of, threshold_of}
 use Rattle.gather_core.specs.declared.summary.KrateLicense.{KrateLicense}
 use Rattle.evaluate_core.specs.Evaluation.{Evaluation, exception_names}
 use Rattle.policy_core.specs.declared.load.LoadedPolicy.{LoadedPolicy}
@@ -34,7 +34,7 @@ use Rattle.deny_run.specs.declared.error.Refusal.{Refusal}
 use Rattle.deny_run.specs.declared.error.Refusal.TheVariants.{Memory, Krates, CrateForm}
 use Rattle.deny_run.specs.declared.report.CrateReport.{CrateReport}
 use Rattle.deny_run.specs.Heard.{has_many, manifest_in}
-use Rattle.deny_run.specs.Report.{IsVerdictOf, paths_at}
+use Rattle.deny_run.specs.Report.{IsVerdictOf, paths_at, source_of}
 use Rattle.deny_run.specs.Selection.{choice_by, included_by}
 
 -- An evaluator has room for an expression of one term, and was made for the exceptions of a policy.
@@ -50,21 +50,17 @@ IsOfCrates _ = ⊥
 
 -- ---- one crate after another
 
--- the expression of a licence that was settled, and where it comes from
+-- the expression of a licence that was settled
 abbrev pub expression_told : LicenseInfo → Option ExpressionView
 expression_told (SpdxExpression expression info) = Some expression
 expression_told license_info.Unlicensed = None
-
-abbrev pub source_told : LicenseInfo → Option LicenseExprSource
-source_told (SpdxExpression expression info) = Some info.source
-source_told license_info.Unlicensed = None
 
 -- a crate's report, by its licence
 pub record IsJudged (policy : Policy) (license : KrateLicense) (report : CrateReport) : Type 0 where
   pub id : report.id ≡ (krate_of license).id
   pub reads : report.reads ≡ license.reads
   pub expression : report.expression ≡ expression_told license.lic_info
-  pub source : report.source ≡ source_told license.lic_info
+  pub source : report.source ≡ source_of license.lic_info
   pub notes : report.notes ≡ license.notes
   pub verdict : IsVerdictOf policy (krate_of license) report.expression report.verdict
 
@@ -87,20 +83,22 @@ AreJudged policy licenses (Err refused) = (refused ≡ Memory) ⊎ IsFirstMany l
 abbrev pub scanner_by : CatalogLists → (List ℕ → Match) → ValidConfig → Scanner
 scanner_by lists match_of policy = record { lists = lists; match_of = match_of; threshold = threshold_of policy.confidence_threshold }
 
--- the licences of the crates that are checked, what they were settled by, and the reports on them
-pub record IsChecked (scanner : Scanner) (policy : ValidConfig) (content : Content) (before after : ℕ) (graph : Graph) (choice : Choice)
+-- the licences of the crates that are checked, what they were settled by, turn after turn from a file table on, and the
+-- reports on them
+pub record IsChecked (scanner : Scanner) (policy : ValidConfig) (content : Content) (files : List File) (before after : ℕ) (graph : Graph) (choice : Choice)
     (result : Result (List CrateReport) Refusal) : Type 0 where
   pub licenses : List KrateLicense
   pub selected : IsListOf graph (Selected graph choice (included_by policy)) (map krate_of licenses)
   pub priorities : ArePriorities scanner (entries_of policy) content licenses
-  pub reads : AreRead scanner (entries_of policy) content licenses
+  pub last : List File
+  pub turns : AreTurns scanner policy.file_id (entries_of policy) content files licenses last
   pub rises : RiseInOrder before (all_reads licenses) after
   pub judged : AreJudged (policy_of policy) licenses result
 
 -- the same, unless memory was refused before they were judged
-abbrev pub Checks : Scanner → ValidConfig → Content → ℕ → ℕ → Graph → Choice → Result (List CrateReport) Refusal → Type 0
-Checks scanner policy content before after graph choice (Err Memory) = Unit {0}
-Checks scanner policy content before after graph choice result = IsChecked scanner policy content before after graph choice result
+abbrev pub Checks : Scanner → ValidConfig → Content → List File → ℕ → ℕ → Graph → Choice → Result (List CrateReport) Refusal → Type 0
+Checks scanner policy content files before after graph choice (Err Memory) = Unit {0}
+Checks scanner policy content files before after graph choice result = IsChecked scanner policy content files before after graph choice result
 
 -- where the two files of a policy are, where the policy's path is given
 abbrev pub paths_by : Content → List ℕ → List ℕ → PolicyPaths
@@ -114,7 +112,7 @@ IsAfterLoad (CrateForm id) = Unit {0}
 IsAfterLoad _ = ⊥
 
 -- what was heard of the metadata's file, the graph that it tells, and then the reports on its crates
-pub record AreCheckedAt (scanner : Scanner) (policy : LoadedPolicy) (content : Content) (begun : ℕ) (path : List ℕ) (before after : ℕ) (result : Result (List CrateReport) Refusal) : Type 0 where
+pub record AreCheckedAt (scanner : Scanner) (policy : LoadedPolicy) (content : Content) (files : List File) (begun : ℕ) (path : List ℕ) (before after : ℕ) (result : Result (List CrateReport) Refusal) : Type 0 where
   pub heard : Result (List ℕ) ReadFault
   pub middle : ℕ
   pub first : before ≤ middle
@@ -122,11 +120,11 @@ pub record AreCheckedAt (scanner : Scanner) (policy : LoadedPolicy) (content : C
   pub graph : Graph
   pub tells : graph_in heard ≡ Ok graph
   pub rooted : HasRoot graph (choice_by policy.graph.exclude)
-  pub checked : Checks scanner policy.licenses content middle after graph (choice_by policy.graph.exclude) result
+  pub checked : Checks scanner policy.licenses content files middle after graph (choice_by policy.graph.exclude) result
 
 -- the same, or why there are no crates, unless memory was refused
-abbrev pub ChecksAt : Scanner → LoadedPolicy → Content → ℕ → List ℕ → ℕ → ℕ → Result (List CrateReport) Refusal → Type 0
-ChecksAt scanner policy content begun path before after (Err Memory) = Unit {0}
-ChecksAt scanner policy content begun path before after (Err (Krates error)) =
+abbrev pub ChecksAt : Scanner → LoadedPolicy → Content → List File → ℕ → List ℕ → ℕ → ℕ → Result (List CrateReport) Refusal → Type 0
+ChecksAt scanner policy content files begun path before after (Err Memory) = Unit {0}
+ChecksAt scanner policy content files begun path before after (Err (Krates error)) =
     Gathers (choice_by policy.graph.exclude) content begun path before after (Err error)
-ChecksAt scanner policy content begun path before after result = AreCheckedAt scanner policy content begun path before after result
+ChecksAt scanner policy content files begun path before after result = AreCheckedAt scanner policy content files begun path before after result

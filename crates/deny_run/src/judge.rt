@@ -15,6 +15,7 @@ ghost use Rattle.deny_run.specs.Steps.{is_many, scanner_by};
 use crate::error::Refusal;
 use crate::report::{CrateReport, Verdict};
 use deny_text::{ListOf, Steps, Text};
+use diag_core::Files;
 use evaluate_core::Evaluator;
 use gather_core::{Gatherer, KrateLicense, KrateLicenses, LicenseInfo};
 use spdx_core::{Catalog, Expression, Identifier};
@@ -169,6 +170,7 @@ pub(crate) fn check_all<T: Tree, C: Catalog, I: Identifier>(
     alloc: Global,
     policy: &ValidConfig,
     krates: &Krates,
+    files: &mut Files,
     tree: &mut T,
     catalog: &C,
     identifier: &I,
@@ -177,7 +179,7 @@ pub(crate) fn check_all<T: Tree, C: Catalog, I: Identifier>(
     ensures checked { ForSome (T.content tree.old) (λ c.
         (graph : Graph) (choice : Choice) → IsChosen graph choice krates.now
         → Checks (scanner_by (C.lists catalog.now) (I.match_of identifier.now) policy.now) policy.now c
-        (T.fault_count tree.old) (T.fault_count tree.new) graph choice result) }
+        files.old (T.fault_count tree.old) (T.fault_count tree.new) graph choice result) }
     ensures cause { IfErr result IsOfCrates }
     ensures kept { KeepsTree (T.content tree.old) (T.content tree.new)
         (T.fault_count tree.old) (T.fault_count tree.new) }
@@ -186,7 +188,7 @@ pub(crate) fn check_all<T: Tree, C: Catalog, I: Identifier>(
     let gatherer = gatherer
         .with_store(identifier)
         .with_confidence_threshold(policy.confidence_threshold);
-    let gathered = gatherer.gather(alloc, krates, policy, tree, catalog)?;
+    let gathered = gatherer.gather(alloc, krates, files, policy, tree, catalog)?;
     let mut evaluator = Evaluator::with_room(alloc, 1, policy)?;
     judge_all(alloc, &mut evaluator, policy, gathered.nfos)
 }

@@ -104,6 +104,7 @@ fn report<T: Tree, E: Sink, C: Catalog, I: Identifier>(
         alloc,
         &policy,
         metadata_path.as_path(),
+        &mut files,
         tree,
         catalog,
         identifier,

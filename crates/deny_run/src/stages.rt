@@ -16,6 +16,7 @@ use crate::judge::check_all;
 use crate::report::CrateReport;
 use deny_text::path::join;
 use deny_text::{ListOf, PathBuf, Text, Texts};
+use diag_core::Files;
 use load_core::{LoadedPolicy, PolicyPaths};
 use search_core::{SearchError, Sought, find_upwards};
 use spdx_core::{Catalog, Identifier};
@@ -87,6 +88,7 @@ pub(crate) fn check_crates<T: Tree, C: Catalog, I: Identifier>(
     alloc: Global,
     policy: &LoadedPolicy,
     metadata_path: &str,
+    files: &mut Files,
     tree: &mut T,
     catalog: &C,
     identifier: &I,
@@ -94,7 +96,7 @@ pub(crate) fn check_crates<T: Tree, C: Catalog, I: Identifier>(
 ) -> Result<ListOf<CrateReport>, Refusal>
     requires { begun ≤ T.fault_count tree.old }
     ensures answer { ForSome (T.content tree.old) (λ c. ChecksAt
-        (scanner_by (C.lists catalog.now) (I.match_of identifier.now) policy.now.licenses) policy.now c begun
+        (scanner_by (C.lists catalog.now) (I.match_of identifier.now) policy.now.licenses) policy.now c files.old begun
         metadata_path.now (T.fault_count tree.old) (T.fault_count tree.new) result) }
     ensures cause { IfErr result IsAfterLoad }
     ensures kept { KeepsTree (T.content tree.old) (T.content tree.new)
@@ -104,5 +106,13 @@ pub(crate) fn check_crates<T: Tree, C: Catalog, I: Identifier>(
 {
     let selection = selection_by(alloc, &policy.graph.exclude)?;
     let krates = krates_at(alloc, tree, metadata_path, &selection, begun)?;
-    check_all(alloc, &policy.licenses, &krates, tree, catalog, identifier)
+    check_all(
+        alloc,
+        &policy.licenses,
+        &krates,
+        files,
+        tree,
+        catalog,
+        identifier,
+    )
 }

@@ -92,27 +92,35 @@ pub static CLARIFIED: [Case; 8] = [
         files: &[("/w/LICENSE", b"\n")],
         policy: BY_LICENSE,
         failing: 2,
-        wanted: "0\na: MIT Accepted by the field; Listing /w Got; LicenseFile LICENSE Failed { before: 0, after: 1 }\n",
+        wanted: "0\na: MIT Accepted by the field; Listing /w Got; LicenseFile LICENSE Failed { before: 0, after: 1 }; Manifest /w/Cargo.toml Got\n",
         ..BARE
     },
 ];
 
-/// Then comes the field, strictly or else laxly; then the licence files, and else there is none.
-pub static FILES: [Case; 18] = [
+/// Then comes the field, strictly or else laxly, and it is looked for in the manifest; then the licence files, and
+/// else there is none.
+pub static FILES: [Case; 19] = [
     Case {
         license: "\"GPL-3.0\"",
-        wanted: "0\na: GPL-3.0 Accepted by the field\n",
+        wanted: "0\na: GPL-3.0 Accepted by the field; Manifest /w/Cargo.toml Got\n",
         ..BARE
     },
     Case {
         license: "\"mit license\"",
-        wanted: "0\na: mit license Accepted by the field\n",
+        wanted: "0\na: mit license Accepted by the field; Manifest /w/Cargo.toml Got\n",
+        ..BARE
+    },
+    // in the manifest, where that writes it so
+    Case {
+        license: "\"MIT\"",
+        files: &[("/w/Cargo.toml", b"license = \"MIT\"\n")],
+        wanted: "0\na: MIT Accepted by the field in file 1 at 11..14; Manifest /w/Cargo.toml Got\n",
         ..BARE
     },
     Case {
         license: "\"\"",
         files: &[("/w/LICENSE", b"MIT")],
-        wanted: "0\na: MIT Accepted by files LICENSE; Listing /w Got; LicenseFile LICENSE Got\n",
+        wanted: "0\na: MIT Accepted by files LICENSE; Manifest /w/Cargo.toml Got; Listing /w Got; LicenseFile LICENSE Got\n",
         ..BARE
     },
     Case {

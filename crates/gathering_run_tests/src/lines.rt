@@ -1,7 +1,8 @@
 //! What was reported of a crate, in one line.
 use deny_run::LicenseExprSource;
 use deny_run::report::{CrateReport, Report};
-use deny_text::Text;
+use deny_text::{Span, Text};
+use diag_core::FileId;
 use std::alloc::{AllocError, Global};
 use tree_core::ReadRecord;
 
@@ -14,9 +15,31 @@ fn put_texts(line: &mut String, mark: &str, texts: &[Text]) -> Result<(), AllocE
     Ok(())
 }
 
-fn put_source(line: &mut String, source: &LicenseExprSource) -> Result<(), AllocError> {
+/// The file and the bytes of a place.
+fn put_place(
+    alloc: Global,
+    line: &mut String,
+    place: &Option<(FileId, Span)>,
+) -> Result<(), AllocError> {
+    let Some((file, span)) = place else {
+        return Ok(());
+    };
+    let start = span.start;
+    let end = span.end;
+    let text = format!(in alloc; " in file {file} at {start}..{end}")?;
+    line.push_str(text.as_str())
+}
+
+fn put_source(
+    alloc: Global,
+    line: &mut String,
+    source: &LicenseExprSource,
+) -> Result<(), AllocError> {
     match source {
-        LicenseExprSource::Metadata(_) => line.push_str(" by the field"),
+        LicenseExprSource::Metadata(place) => {
+            line.push_str(" by the field")?;
+            put_place(alloc, line, place)
+        }
         LicenseExprSource::UserOverride => line.push_str(" by the policy"),
         LicenseExprSource::LicenseFiles(paths) => {
             line.push_str(" by files")?;
@@ -47,7 +70,7 @@ fn put_crate(alloc: Global, line: &mut String, checked: &CrateReport) -> Result<
     let verdict = checked.verdict;
     line.push_str(format!(in alloc; "{id}: {expression} {verdict:?}")?.as_str())?;
     if let Some(source) = &checked.source {
-        put_source(line, source)?;
+        put_source(alloc, line, source)?;
     }
     put_texts(line, " # ", checked.notes.items())?;
     put_reads(alloc, line, checked.reads.items())

@@ -129,7 +129,7 @@ returns-in_err-crates-clause-answer g c = λ content told.
     let then = c.in_ok-policy.ensures.kept.later in
     let loads = loads_at given.lists c.plain_log.result c.in_ok-paths.paths there (g.T.Tree.content c.policy_paths.new.tree) begun c.faults-begun.result middle c.new-files.result c.load.new.files old new (Ok policy)
     c.plain_log.ensures c.in_ok-paths.ensures.kept.content c.faults-begun.ensures c.new-files.ensures c.in_ok-policy.ensures.loads in
-    let checks = checks_at (scanner_in given policy.licenses) policy there (g.T.Tree.content c.load.new.tree) begun c.faults-begun.result c.in-Some.request.metadata_path c.as_path.result.now middle after (Err refused)
+    let checks = checks_at (scanner_in given policy.licenses) policy c.load.new.files there (g.T.Tree.content c.load.new.tree) begun c.faults-begun.result c.in-Some.request.metadata_path c.as_path.result.now middle after (Err refused)
     same c.faults-begun.ensures c.as_path.ensures c.in_err-crates.ensures.answer in
     let p = err_from_is_err_and c.from_residual-in_err-crates.result c.from_residual-in_err-crates.ensures.1 in
     rw (p.1, p.2)
@@ -155,7 +155,7 @@ returns-in_err-crates-clause-written g c =
     let then = c.in_ok-policy.ensures.kept.later in
     let loads = loads_at given.lists c.plain_log.result c.in_ok-paths.paths there (g.T.Tree.content c.policy_paths.new.tree) begun c.faults-begun.result middle c.new-files.result c.load.new.files old new (Ok policy)
     c.plain_log.ensures c.in_ok-paths.ensures.kept.content c.faults-begun.ensures c.new-files.ensures c.in_ok-policy.ensures.loads in
-    let checks = checks_at (scanner_in given policy.licenses) policy there (g.T.Tree.content c.load.new.tree) begun c.faults-begun.result c.in-Some.request.metadata_path c.as_path.result.now middle after (Err refused)
+    let checks = checks_at (scanner_in given policy.licenses) policy c.load.new.files there (g.T.Tree.content c.load.new.tree) begun c.faults-begun.result c.in-Some.request.metadata_path c.as_path.result.now middle after (Err refused)
     same c.faults-begun.ensures c.as_path.ensures c.in_err-crates.ensures.answer in
     let p = err_from_is_err_and c.from_residual-in_err-crates.result c.from_residual-in_err-crates.ensures.1 in
     rw (p.1, p.2)
@@ -182,11 +182,11 @@ returns-clause-answer g c = λ content told.
     let then = c.in_ok-policy.ensures.kept.later in
     let loads = loads_at given.lists c.plain_log.result c.in_ok-paths.paths there (g.T.Tree.content c.policy_paths.new.tree) begun c.faults-begun.result middle c.new-files.result c.load.new.files old new (Ok policy)
     c.plain_log.ensures c.in_ok-paths.ensures.kept.content c.faults-begun.ensures c.new-files.ensures c.in_ok-policy.ensures.loads in
-    let checks = checks_at (scanner_in given policy.licenses) policy there (g.T.Tree.content c.load.new.tree) begun c.faults-begun.result c.in-Some.request.metadata_path c.as_path.result.now middle after (Ok c.in_ok-crates.crates)
+    let checks = checks_at (scanner_in given policy.licenses) policy c.load.new.files there (g.T.Tree.content c.load.new.tree) begun c.faults-begun.result c.in-Some.request.metadata_path c.as_path.result.now middle after (Ok c.in_ok-crates.crates)
     same c.faults-begun.ensures c.as_path.ensures c.in_ok-crates.ensures.answer in
     report_answer given there begun middle after (omega arith) c.in_ok-crates.ensures.kept.later c.in-Some.request asked c.in_ok-paths.paths c.load.new.files old new first last policy loads
     c.report_of.result c.report_of.ensures.policy content told (c.in_ok-paths.ensures.answer content told)
-    (subst (λ crates. ChecksAt (scanner_in given policy.licenses) policy content begun c.in-Some.request.metadata_path middle after (Ok crates)) (sym c.report_of.ensures.crates) (checks content told))
+    (subst (λ crates. ChecksAt (scanner_in given policy.licenses) policy content c.load.new.files begun c.in-Some.request.metadata_path middle after (Ok crates)) (sym c.report_of.ensures.crates) (checks content told))
     (c.report_of.ensures.stats ∙ ap counts_of (sym c.report_of.ensures.crates))
 
 pub returns-clause-written : goal.returns-clause-written
@@ -207,11 +207,11 @@ returns-clause-written g c =
     let then = c.in_ok-policy.ensures.kept.later in
     let loads = loads_at given.lists c.plain_log.result c.in_ok-paths.paths there (g.T.Tree.content c.policy_paths.new.tree) begun c.faults-begun.result middle c.new-files.result c.load.new.files old new (Ok policy)
     c.plain_log.ensures c.in_ok-paths.ensures.kept.content c.faults-begun.ensures c.new-files.ensures c.in_ok-policy.ensures.loads in
-    let checks = checks_at (scanner_in given policy.licenses) policy there (g.T.Tree.content c.load.new.tree) begun c.faults-begun.result c.in-Some.request.metadata_path c.as_path.result.now middle after (Ok c.in_ok-crates.crates)
+    let checks = checks_at (scanner_in given policy.licenses) policy c.load.new.files there (g.T.Tree.content c.load.new.tree) begun c.faults-begun.result c.in-Some.request.metadata_path c.as_path.result.now middle after (Ok c.in_ok-crates.crates)
     same c.faults-begun.ensures c.as_path.ensures c.in_ok-crates.ensures.answer in
     report_writes given there begun middle after (omega arith) c.in_ok-crates.ensures.kept.later c.in-Some.request asked c.in_ok-paths.paths c.load.new.files old new first last policy loads
     c.report_of.result c.report_of.ensures.policy c.in_ok-paths.ensures.answer
-    (subst (λ crates. ForSome there (λ one. ChecksAt (scanner_in given policy.licenses) policy one begun c.in-Some.request.metadata_path middle after (Ok crates))) (sym c.report_of.ensures.crates) checks)
+    (subst (λ crates. ForSome there (λ one. ChecksAt (scanner_in given policy.licenses) policy one c.load.new.files begun c.in-Some.request.metadata_path middle after (Ok crates))) (sym c.report_of.ensures.crates) checks)
 
 -- ---- the counts are those since the run began
 
