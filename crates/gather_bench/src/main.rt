@@ -1,8 +1,8 @@
 //! Gathers the licences of crates that are made in memory, and prints how many of them the policy gives one.
 //! With the argument `bench` it prints how long 5,000, 10,000 and 20,000 crates take, and how many MB of
-//! licence files a second that is. With the words `crates N`, or `files N M`, it does one thing, for tools
-//! that count instructions: it gathers N crates with a licence file each, or N crates of M clarified files
-//! each; with the word `made` as well it makes these, and gathers nothing.
+//! files a second that is; and how long the search for a licence field takes over texts of 64 MiB. With the words `crates N`, or `files N M`, it does one thing, for tools
+//! that count instructions: it gathers N crates with a licence file and a manifest each, or N crates of M
+//! clarified files each; with the word `made` as well it makes these, and gathers nothing.
 #![tactic(auto)]
 
 mod policy;
@@ -11,6 +11,8 @@ mod world;
 
 use catalog_core::LicenseStore;
 use gather_core::{Gatherer, LicenseInfo, Summary};
+use manifest_core::license_span;
+use policy::table;
 use spdx_core::Table;
 use std::alloc::{AllocError, Global};
 use std::io::Print;
@@ -21,6 +23,9 @@ use world::{World, with_files, with_licences};
 const COUNT: u32 = 20_000;
 
 const ROUNDS: u64 = 5;
+
+/// 64 MiB.
+const SEARCHED: usize = 67_108_864;
 
 /// What is asked for by words.
 #[derive(Clone, Copy)]
@@ -48,7 +53,15 @@ fn gathered(alloc: Global, world: &mut World) -> Result<usize, AllocError> {
     let store = LicenseStore::from_cache(alloc)?;
     let gatherer: Gatherer<'_, LicenseStore> = Gatherer::default();
     let gatherer = gatherer.with_store(&store);
-    let summary = gatherer.gather(alloc, &world.krates, &world.policy, &mut world.tree, &Table)?;
+    let mut files = table(alloc)?;
+    let summary = gatherer.gather(
+        alloc,
+        &world.krates,
+        &mut files,
+        &world.policy,
+        &mut world.tree,
+        &Table,
+    )?;
     Ok(licensed(&summary))
 }
 
@@ -65,6 +78,18 @@ fn tell<R: Print>(rt: &R, alloc: Global, world: Option<World>, is_made: bool) ->
         }
         None => println!(rt; "no crates"),
     }
+}
+
+/// Prints how long a text of one piece, again and again, is searched for a licence field.
+fn bench_search(rt: &HostRuntime, piece: &str) -> io::Result<()> {
+    let mut text = String::new(rt.alloc());
+    while text.len() < SEARCHED {
+        text.push_str(piece)?;
+    }
+    let start = Instant::now(rt)?;
+    let found = license_span(text.as_str()).is_some();
+    let took = start.elapsed(rt)?.as_micros();
+    println!(rt; "{piece}: {took} us, {found}")
 }
 
 /// Prints the least time of some rounds.
@@ -85,6 +110,9 @@ fn bench(rt: &HostRuntime) -> io::Result<()> {
             };
             println!(rt; "{} crates: {least} us, {speed} MB/s", COUNT / part)?;
         }
+    }
+    for piece in ["license ", "license=\"", "license=", " "] {
+        bench_search(rt, piece)?;
     }
     Ok(())
 }

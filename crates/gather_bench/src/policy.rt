@@ -1,5 +1,6 @@
 //! Policies of many clarifications.
 use deny_text::{PathBuf, Span, Spanned, Text, Texts};
+use diag_core::Files;
 use pack_core::LicenseText;
 use policy_entries::Licensees;
 use policy_parts::{FileSource, FileSources, LintLevel, Private, SpannedTexts};
@@ -9,6 +10,9 @@ use std::alloc::{AllocError, Global};
 use valid_policy::{Urls, ValidClarification, ValidClarifications, ValidConfig, ValidExceptions};
 
 const NOWHERE: Span = Span { start: 0, end: 0 };
+
+/// The expression of each clarification, which is the text of the policy's file.
+const EXPRESSION: &str = "MIT";
 
 /// A file with the hash of the normal form of a text.
 pub(crate) fn source(alloc: Global, path: &str, text: &str) -> Result<FileSource, AllocError> {
@@ -33,7 +37,7 @@ pub(crate) fn clarification(
         value: Text::from(name),
         span: NOWHERE,
     };
-    match Expression::parse_mode(alloc, "MIT", ParseMode::STRICT, &Table) {
+    match Expression::parse_mode(alloc, EXPRESSION, ParseMode::STRICT, &Table) {
         Ok(expression) => Ok(ValidClarification {
             spec: PackageSpec {
                 name,
@@ -66,5 +70,16 @@ pub(crate) fn policy(alloc: Global, clarifications: ValidClarifications) -> Vali
         ignore_sources: Urls::new(alloc),
         include_dev: false,
         include_build: true,
+    }
+}
+
+/// The table with the policy's file.
+pub(crate) fn table(alloc: Global) -> Result<Files, AllocError> {
+    let path = PathBuf::copy(alloc, "/w/deny.toml")?;
+    let text = Text::copy(alloc, EXPRESSION)?;
+    let mut files = Files::new(alloc);
+    match files.add(path, text) {
+        Ok(_) => Ok(files),
+        Err(_) => Err(AllocError),
     }
 }

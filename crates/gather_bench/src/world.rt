@@ -1,6 +1,6 @@
 //! Crates with their files, and a policy that clarifies some.
 use crate::policy::{clarification, policy, source};
-use crate::text::{licence, metadata};
+use crate::text::{licence, manifest, metadata};
 use policy_parts::FileSources;
 use records_core::records;
 use selection_core::{ExcludeSpecs, Krates, Selection};
@@ -14,7 +14,7 @@ pub(crate) struct World {
     pub(crate) krates: Krates,
     pub(crate) policy: ValidConfig,
     pub(crate) tree: MemTree,
-    /// How many bytes all licence files have.
+    /// How many bytes all files have.
     pub(crate) bytes: u64,
 }
 
@@ -53,12 +53,19 @@ impl Made {
         self.clarifications.push(one)
     }
 
-    /// A crate with a licence file of 1 to 11 KiB. Each third is clarified by the hash of that; for each other
+    fn add_manifest(&mut self, alloc: Global, index: u32) -> Result<(), AllocError> {
+        let text = manifest(alloc, index)?;
+        let path = format!(in alloc; "/w/c{index}/Cargo.toml")?;
+        self.put(path.as_str(), text.as_str())
+    }
+
+    /// A crate with a manifest, and with a licence file of 1 to 11 KiB. Each third is clarified by the hash of that; for each other
     /// one the policy has a clarification of a crate that is not there.
     fn add_licensed(&mut self, alloc: Global, index: u32) -> Result<(), AllocError> {
         let text = licence(alloc, index, index.wrapping_mul(7_919) % 160 + 16)?;
         let path = format!(in alloc; "/w/c{index}/LICENSE")?;
         self.put(path.as_str(), text.as_str())?;
+        self.add_manifest(alloc, index)?;
         let mut files = FileSources::new(alloc);
         files.push(source(alloc, "LICENSE", text.as_str())?)?;
         let name = if index % 3 == 0 {
@@ -112,7 +119,7 @@ fn krates(alloc: Global, count: u32) -> Result<Option<Krates>, AllocError> {
     }
 }
 
-/// So many crates with a licence file each, and as many clarifications, a third of which are for them.
+/// So many crates with a manifest and a licence file each, and as many clarifications, a third of which are for them.
 pub(crate) fn with_licences(alloc: Global, count: u32) -> Result<Option<World>, AllocError> {
     let mut made = Made::new(alloc);
     for index in 0..count {

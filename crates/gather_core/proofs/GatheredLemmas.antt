@@ -1,36 +1,30 @@
 -- Licences of crates, one after another.
-use Rattle.std.proofs.Common.{◌≡◌, ◌∙◌, ℕ, List, [], ◌∷◌, ◌++◌, map, refl, sym, ap, subst, append-nil}
-use Rattle.std.specs.List.{AllByRecursion}
+use Rattle.std.proofs.Common.{◌≡◌, ◌∙◌, ℕ, List, [], ◌∷◌, ◌++◌, map, Option, None, Some, refl, sym, ap, subst, append-nil}
+use Rattle.std.specs.Prelude.{unwrap_or}
+use Rattle.std.specs.List.{flat_map}
 use Rattle.std.proofs.lemmas.List.Concat.{flat_map-append}
 use Rattle.tree_core.specs.Content.{Content}
+use Rattle.tree_core.specs.declared.reads.ReadRecord.{ReadRecord}
+use Rattle.reads_core.specs.Heard.{Heard}
 use Rattle.reads_core.specs.Rising.{RiseInOrder}
 use Rattle.reads_core.proofs.RisingLemmas.{rises_compose}
+use Rattle.diag_core.specs.declared.label.Coord.{Coord}
+use Rattle.diag_core.specs.File.{File}
 use Rattle.pack_core.specs.Ears.{Ears}
 use Rattle.expression_core.specs.Scanned.{Scanner}
-use Rattle.priority_core.specs.declared.settle.Settled.{Settled}
-use Rattle.priority_core.specs.Settled.{IsSettledBy, answer_in}
-use Rattle.gather_core.specs.declared.told.Told.{Told}
-use Rattle.gather_core.specs.Told.{info_of, notes_of, told_of}
+use Rattle.priority_core.specs.declared.settling.Settling.{Settling}
+use Rattle.priority_core.specs.declared.settling.Settling.TheVariants.{Clarified, Field, Files}
+use Rattle.priority_core.specs.Priority.{priority_of}
+use Rattle.priority_core.specs.Settled.{answer_in}
+use Rattle.priority_core.proofs.SeenLemmas.{answer_is}
+use Rattle.gather_core.specs.declared.license.LicenseInfo.{LicenseInfo}
 use Rattle.gather_core.specs.declared.summary.KrateLicense.{KrateLicense}
-use Rattle.gather_core.specs.Entries.{Entry, clarifications_of}
-use Rattle.gather_core.specs.Gathered.{AreByOwn, ArePriorities, AreRead, IsByEars, IsPriorityBy, IsReadBy, all_reads, krate_of, own_ears}
-
--- a crate is told to be under what settles its licence
-pub by_settled : (scanner : Scanner) (all : List Entry) (ears : Ears) (license : KrateLicense) (settled : Settled)
-    → IsSettledBy scanner (clarifications_of (krate_of license) all) (krate_of license) ears settled
-    → record { info = license.lic_info; notes = license.notes } ≡ told_of (answer_in settled.by) → license.reads ≡ settled.reads → IsByEars scanner all ears license
-by_settled scanner all ears license settled is tells reads = record {
-  priority = record { info = ap (λ (t : Told). t.info) tells ∙ ap info_of is.answer; noted = ap (λ (t : Told). t.notes) tells ∙ ap notes_of is.answer };
-  read = reads ∙ is.reads_are;
-}
-
-pub all_push : {A : Type 0} (P : A → Type 0) (xs : List A) (x : A) → AllByRecursion P xs → P x → AllByRecursion P (xs ++ x ∷ [])
-all_push P [] x all holds = (holds, tt)
-all_push P (y ∷ xs) x all holds = (all.0, all_push P xs x all.1 holds)
-
-pub all_weaker : {A : Type 0} (P Q : A → Type 0) → ((x : A) → P x → Q x) → (xs : List A) → AllByRecursion P xs → AllByRecursion Q xs
-all_weaker P Q weaker [] all = tt
-all_weaker P Q weaker (x ∷ xs) all = (weaker x all.0, all_weaker P Q weaker xs all.1)
+use Rattle.gather_core.specs.Entries.{Entry}
+use Rattle.gather_core.specs.Gathered.{AreCutOut, ArePriorities, AreTurns, AreTurnsBySome, all_reads, own_turn, turn_of}
+use Rattle.gather_core.specs.Premises.{Grows}
+use Rattle.gather_core.specs.Told.{answer_told, info_by, notes_of, nowhere}
+use Rattle.gather_core.specs.Turns.{IsCutOut, IsTurn, Turn, files_behind, info_in, located_in, points_in, settling_in}
+use Rattle.gather_core.proofs.PlacedLemmas.{cut_grown, grows_behind, grows_then}
 
 -- one more crate's reads rise behind those before
 pub rises_push : (first middle last : ℕ) (licenses : List KrateLicense) (license : KrateLicense)
@@ -40,17 +34,78 @@ rises_push first middle last licenses license before after =
     (sym (flat_map-append (λ (one : KrateLicense). one.reads) licenses (license ∷ []) ∙ ap (λ reads. all_reads licenses ++ reads) (append-nil license.reads)))
     (rises_compose first middle last (all_reads licenses) license.reads before after)
 
-pub priorities : (scanner : Scanner) (all : List Entry) (content : Content) (licenses : List KrateLicense)
-    → AreByOwn scanner all content licenses → ArePriorities scanner all content licenses
-priorities scanner all content licenses own =
-    all_weaker (λ license. IsByEars scanner all (own_ears content license) license) (λ license. IsPriorityBy scanner all (own_ears content license) license)
-    (λ license is. is.priority) licenses own
+-- ---- turn after turn
 
-pub read_by_own : (scanner : Scanner) (all : List Entry) (content : Content) (licenses : List KrateLicense)
-    → AreByOwn scanner all content licenses → AreRead scanner all content licenses
-read_by_own scanner all content licenses own =
-    all_weaker (λ license. IsByEars scanner all (own_ears content license) license) (λ license. IsReadBy scanner all (own_ears content license) license)
-    (λ license is. is.read) licenses own
+-- one more crate
+pub turns_push : (scanner : Scanner) (policy : ℕ) (all : List Entry) (content : Content) (files : List File) (licenses : List KrateLicense) (license : KrateLicense) (middle last : List File)
+    → AreTurns scanner policy all content files licenses middle → IsTurn (own_turn scanner policy all content middle license) license last
+    → AreTurns scanner policy all content files (licenses ++ license ∷ []) last
+turns_push scanner policy all content files [] license middle last same is =
+    let here = subst (λ (files : List File). IsTurn (own_turn scanner policy all content files license) license last) same is in
+    (subst (IsTurn (own_turn scanner policy all content files license) license) here.table here, here.table)
+turns_push scanner policy all content files (first ∷ licenses) license middle last turns is = (
+  turns.0,
+  turns_push scanner policy all content (files_behind (own_turn scanner policy all content files first)) licenses license middle last turns.1 is,
+)
+
+pub turns_push_some : (scanner : Scanner) (policy : ℕ) (all : List Entry) (ears : Ears) (manifest : Heard) (files : List File) (licenses : List KrateLicense) (license : KrateLicense) (middle last : List File)
+    → AreTurnsBySome scanner policy all files licenses middle → IsTurn (turn_of scanner policy all ears manifest middle license) license last
+    → AreTurnsBySome scanner policy all files (licenses ++ license ∷ []) last
+turns_push_some scanner policy all ears manifest files [] license middle last same is =
+    let here = subst (λ (files : List File). IsTurn (turn_of scanner policy all ears manifest files license) license last) same is in
+    (ears, (manifest, (subst (IsTurn (turn_of scanner policy all ears manifest files license) license) here.table here, here.table)))
+turns_push_some scanner policy all ears manifest files (first ∷ licenses) license middle last turns is = (
+  turns.0,
+  (
+    turns.1.0,
+    (
+      turns.1.1.0,
+      turns_push_some scanner policy all ears manifest (files_behind (turn_of scanner policy all turns.0 turns.1.0 files first)) licenses license middle last turns.1.1.1 is,
+    ),
+  ),
+)
+
+-- what the labels cut out stays
+pub cuts_push : (scanner : Scanner) (policy : ℕ) (all : List Entry) (content : Content) (files : List File) (licenses : List KrateLicense) (license : KrateLicense) (middle last : List File)
+    → AreTurns scanner policy all content files licenses middle → Grows middle last → AreCutOut scanner policy all content files licenses middle
+    → IsCutOut last (own_turn scanner policy all content middle license) → AreCutOut scanner policy all content files (licenses ++ license ∷ []) last
+cuts_push scanner policy all content files [] license middle last same grows cuts is =
+    (subst (λ (files : List File). IsCutOut last (own_turn scanner policy all content files license)) same is, tt)
+cuts_push scanner policy all content files (first ∷ licenses) license middle last turns grows cuts is = (
+  cut_grown middle last (own_turn scanner policy all content files first) grows cuts.0,
+  cuts_push scanner policy all content (files_behind (own_turn scanner policy all content files first)) licenses license middle last turns.1 grows cuts.1 is,
+)
+
+-- the table grows from turn to turn
+pub turns_grow : (scanner : Scanner) (policy : ℕ) (all : List Entry) (files : List File) (licenses : List KrateLicense) (last : List File) → AreTurnsBySome scanner policy all files licenses last → Grows files last
+turns_grow scanner policy all files [] last turns = ([], turns ∙ sym (append-nil files))
+turns_grow scanner policy all files (license ∷ licenses) last turns =
+    let turn = turn_of scanner policy all turns.0 turns.1.0 files license in
+    grows_then files (files_behind turn) last (grows_behind turn) (turns_grow scanner policy all (files_behind turn) licenses last turns.1.1.1)
+
+-- ---- what is told has priority
+
+told_answer : (policy : ℕ) (location : Option Coord) (place : Coord) (by : Settling) → answer_told (info_by policy location place by) (notes_of (answer_in by)) ≡ answer_in by
+told_answer policy location place (Clarified held) = refl
+told_answer policy location place (Field expression) = refl
+told_answer policy location place (Files seen None) = refl
+told_answer policy location place (Files seen (Some joined)) = refl
+
+pub priority_turn : (turn : Turn) (license : KrateLicense) (files : List File) → IsTurn turn license files
+    → answer_told license.lic_info license.notes ≡ priority_of turn.scanner turn.clarifications turn.krate turn.ears
+priority_turn turn license files is =
+    ap (λ (info : LicenseInfo). answer_told info license.notes) is.info
+    ∙ ap (answer_told (info_in turn)) is.noted
+    ∙ told_answer turn.policy (located_in turn).location (unwrap_or (points_in turn).expression nowhere) (settling_in turn)
+    ∙ answer_is turn.scanner turn.clarifications turn.krate turn.ears
+
+pub priorities : (scanner : Scanner) (policy : ℕ) (all : List Entry) (content : Content) (files : List File) (licenses : List KrateLicense) (last : List File)
+    → AreTurns scanner policy all content files licenses last → ArePriorities scanner all content licenses
+priorities scanner policy all content files [] last turns = tt
+priorities scanner policy all content files (license ∷ more) last turns = (
+  priority_turn (own_turn scanner policy all content files license) license (files_behind (own_turn scanner policy all content files license)) turns.0,
+  priorities scanner policy all content (files_behind (own_turn scanner policy all content files license)) more last turns.1,
+)
 
 pub map_push : {A B : Type 0} (f : A → B) (xs : List A) (x : A) → map f (xs ++ x ∷ []) ≡ map f xs ++ f x ∷ []
 map_push f [] x = refl

@@ -1,25 +1,58 @@
 -- What is told of a crate's licence.
-use Rattle.std.specs.Prelude.{ℕ, List, [], Option, Some, None}
+use Rattle.std.specs.Prelude.{ℕ, List, [], Option, Some, None, option_map}
 use Rattle.std.specs.Option.{option_map_or}
+use Rattle.diag_core.specs.declared.label.Coord.{Coord}
+use Rattle.priority_core.specs.declared.settling.Settling.{Settling}
+use Rattle.priority_core.specs.declared.settling.Settling.TheVariants.{Clarified, Field, Files}
+use Rattle.priority_core.specs.declared.settling.FilesSeen.{FilesSeen}
+use Rattle.priority_core.specs.declared.settling.JoinedNames.{JoinedNames}
 use Rattle.priority_core.specs.Priority.{Answer, Source, metadata, user_override, license_files}
+use Rattle.priority_core.specs.Settled.{answer_in}
+use Rattle.gather_core.specs.declared.license.LicenseExprInfo.{LicenseExprInfo}
 use Rattle.gather_core.specs.declared.license.LicenseExprSource.{LicenseExprSource}
 use Rattle.gather_core.specs.declared.license.LicenseExprSource.TheVariants.{Metadata, UserOverride, LicenseFiles}
 use Rattle.gather_core.specs.declared.license.LicenseInfo.{LicenseInfo}
 use Rattle.gather_core.specs.declared.license.LicenseInfo.TheVariants.{SpdxExpression, Unlicensed}
-use Rattle.gather_core.specs.declared.told.Told.{Told}
 
--- no place of a field is told yet
-abbrev pub source_info : Source → LicenseExprSource
-source_info metadata = Metadata None
-source_info user_override = UserOverride
-source_info (license_files paths) = LicenseFiles paths
+-- ---- where an expression's text stands
 
-abbrev pub info_of : Option Answer → LicenseInfo
-info_of None = Unlicensed
-info_of (Some answer) = SpdxExpression answer.expression (record { source = source_info answer.source })
+-- at a place of a file of the table
+abbrev pub info_at : Coord → LicenseExprSource → LicenseExprInfo
+info_at at source = record { file_id = at.file; offset = at.span.start; whole = None; source = source }
+
+abbrev pub nowhere : Coord
+nowhere = record { file = 0; span = record { start = 0; end = 0 } }
+
+-- a field by its location, where that counts
+abbrev pub field_source : Option Coord → LicenseExprSource
+field_source location = Metadata (option_map (λ at. (at.file, at.span)) location)
+
+-- The licence that is told: of a clarification, its expression with its place in the policy's file; of a field and of joined
+-- names, the place that finding has given them.
+abbrev pub joined_info : Coord → Option JoinedNames → LicenseInfo
+joined_info place None = Unlicensed
+joined_info place (Some joined) = SpdxExpression joined.expression (info_at place (LicenseFiles joined.paths))
+
+abbrev pub info_by : ℕ → Option Coord → Coord → Settling → LicenseInfo
+info_by policy location place (Clarified held) =
+    SpdxExpression held.expression (record { file_id = policy; offset = held.offset; whole = held.whole; source = UserOverride })
+info_by policy location place (Field expression) = SpdxExpression expression (info_at place (field_source location))
+info_by policy location place (Files seen joined) = joined_info place joined
+
+abbrev pub joined_notes : Option JoinedNames → List (List ℕ)
+joined_notes None = []
+joined_notes (Some joined) = joined.notes
+
+-- ---- the answer that has priority, as it is told
+
+abbrev pub source_told : LicenseExprSource → Source
+source_told (Metadata location) = metadata
+source_told UserOverride = user_override
+source_told (LicenseFiles paths) = license_files paths
+
+abbrev pub answer_told : LicenseInfo → List (List ℕ) → Option Answer
+answer_told Unlicensed notes = None
+answer_told (SpdxExpression expression nfo) notes = Some (record { expression = expression; source = source_told nfo.source; notes = notes })
 
 abbrev pub notes_of : Option Answer → List (List ℕ)
 notes_of answer = option_map_or (λ answer. answer.notes) answer []
-
-abbrev pub told_of : Option Answer → Told
-told_of answer = record { info = info_of answer; notes = notes_of answer }

@@ -1,30 +1,34 @@
 //! Gathering.
-ghost use Rattle.std.specs.Prelude.{◌≡◌, IfOk, map, None, Some};
-ghost use Rattle.std.specs.Option.{ForSome};
+ghost use Rattle.std.specs.Prelude.{◌≡◌, [], IfOk, OnOk, All, map, None, Some};
+ghost use Rattle.std.specs.Option.{ForSome, option_map_or};
 ghost use Rattle.tree_core.specs.Hearing.{KeepsTree};
 ghost use Rattle.graph_core.specs.Krate.{record_of};
 ghost use Rattle.graph_core.specs.Metadata.{Graph};
-ghost use Rattle.pack_core.specs.Ears.{Ears};
 ghost use Rattle.reads_core.specs.Rising.{RiseInOrder};
 ghost use Rattle.priority_core.specs.Priority.{field_of};
 ghost use Rattle.priority_core.specs.Settled.{scanner_with};
 ghost use Rattle.selection_core.specs.Choice.{Choice};
 ghost use Rattle.selection_core.specs.Listed.{IsChosen, IsListOf, record_behind, selected_in};
 ghost use Rattle.selection_core.specs.Walks.{Selected};
+ghost use Rattle.finding_core.specs.Faults.{faults_of};
+ghost use Rattle.finding_core.specs.Premises.{FaultsLie};
 ghost use Rattle.gather_core.specs.Entries.{entries_of};
-ghost use Rattle.gather_core.specs.Gathered.{AreByOwn, AreBySome, ArePriorities, AreRead, IsByEars};
-ghost use Rattle.gather_core.specs.Gathered.{all_reads, include_of, krate_of, own_ears};
+ghost use Rattle.gather_core.specs.Gathered.{AreCutOut, ArePriorities, AreTurns, AreTurnsBySome, IsTurnBySome};
+ghost use Rattle.gather_core.specs.Gathered.{all_reads, include_of, krate_of, own_turn};
 ghost use Rattle.gather_core.specs.Gathered.{scanner_of, threshold_of};
+ghost use Rattle.gather_core.specs.Premises.{ArePlacedIn, Grows, IsPlacedAt};
+ghost use Rattle.gather_core.specs.Turns.{IsCutOut, IsTurn, field_text};
 
 use crate::clarifications::Clarifications;
-use crate::summary::{Diags, KrateLicense, KrateLicenses, Summary};
-use crate::told::told_by;
+use crate::summary::{KrateLicense, KrateLicenses, Summary};
+use crate::tell::tell;
+use crate::turn::take;
 use catalog_core::{Catalog, Identifier};
-use expression_core::field;
+use diag_core::{FileId, Files};
+use finding_core::{Faults, FieldRead, read_field};
 use graph_core::Krate;
-use priority_core::{Scan, settle_licence};
+use priority_core::Scan;
 use selection_core::{Include, Krates};
-use spdx_core::Expression;
 use std::alloc::{AllocError, Global};
 use tree_core::Tree;
 use valid_policy::ValidConfig;
@@ -49,25 +53,34 @@ fn threshold(hundredths: i64) -> u8
     hundredths as u8
 }
 
-/// The expression of a crate's field.
-fn field_of<C: Catalog>(
+/// A crate's field, with what is wrong with it; nothing is, where there is none.
+fn read_krate<C: Catalog>(
     alloc: Global,
     krate: &Krate,
     catalog: &C,
-) -> Result<Option<Expression>, AllocError>
-    ensures { IfOk result (λ read. read ≡ field_of (C.lists catalog.now) (record_of krate.now)) }
+) -> Result<FieldRead, AllocError>
+    ensures expression { IfOk result (λ read.
+        read.expression ≡ field_of (C.lists catalog.now) (record_of krate.now)) }
+    ensures faults { IfOk result (λ read.
+        read.faults ≡ option_map_or (faults_of (C.lists catalog.now)) (record_of krate.now).license []) }
+    ensures inside { IfOk result (λ read. FaultsLie (field_text (record_of krate.now)) read.faults) }
 {
     match &krate.license {
-        Some(text) => field(alloc, text.as_str(), catalog),
-        None => Ok(None),
+        Some(text) => read_field(alloc, text.as_str(), catalog),
+        None => Ok(FieldRead {
+            expression: None,
+            faults: Faults::new(alloc),
+        }),
     }
 }
 
-/// The licence of a crate.
+/// The licence of a crate, and what is found of it.
 fn license_of<'k, T: Tree, I: Identifier, C: Catalog>(
     alloc: Global,
     tree: &mut T,
+    files: &mut Files,
     scan: &Scan<'_, I, C>,
+    policy: FileId,
     clarifications: &Clarifications<'_>,
     krate: &'k Krate,
 ) -> Result<KrateLicense<'k>, AllocError>
@@ -77,29 +90,29 @@ fn license_of<'k, T: Tree, I: Identifier, C: Catalog>(
     ensures rises { IfOk result (λ license.
         RiseInOrder (T.fault_count tree.old) license.reads (T.fault_count tree.new)) }
     ensures told { ForSome (T.content tree.old) (λ c. IfOk result (λ license.
-        IsByEars (scanner_with C.lists I.match_of scan.now) clarifications.now
-        (own_ears c license) license)) }
-    ensures some { IfOk result (λ license. (ears : Ears)
-        × IsByEars (scanner_with C.lists I.match_of scan.now) clarifications.now ears license) }
+        IsTurn (own_turn (scanner_with C.lists I.match_of scan.now) policy clarifications.now c files.old license)
+        license files.new)) }
+    ensures some { IfOk result (λ license.
+        IsTurnBySome (scanner_with C.lists I.match_of scan.now) policy clarifications.now files.old license
+        files.new) }
+    ensures cuts { ForSome (T.content tree.old) (λ c. IfOk result (λ license. IsCutOut files.new
+        (own_turn (scanner_with C.lists I.match_of scan.now) policy clarifications.now c files.old license))) }
+    ensures placed { ArePlacedIn files.old policy clarifications.now
+        → IfOk result (λ license. IsPlacedAt files.new license) }
 {
     let matching = clarifications.matching(alloc, krate)?;
-    let field = field_of(alloc, krate, scan.catalog)?;
-    let settled = settle_licence(alloc, tree, scan, krate, &matching, field)?;
-    let told = told_by(alloc, settled.by);
-    Ok(KrateLicense {
-        krate,
-        lic_info: told.info,
-        notes: told.notes,
-        diags: Diags::new(alloc),
-        reads: settled.reads,
-    })
+    let field = read_krate(alloc, krate, scan.catalog)?;
+    let taken = take(alloc, tree, files, scan, krate, &matching, field.expression)?;
+    tell(alloc, files, policy, krate, &field.faults, taken)
 }
 
 /// The licences of crates, in order.
 fn gather_all<'k, T: Tree, I: Identifier, C: Catalog>(
     alloc: Global,
     tree: &mut T,
+    files: &mut Files,
     scan: &Scan<'_, I, C>,
+    policy: FileId,
     clarifications: &Clarifications<'_>,
     krates: &[&'k Krate],
 ) -> Result<KrateLicenses<'k>, AllocError>
@@ -109,13 +122,21 @@ fn gather_all<'k, T: Tree, I: Identifier, C: Catalog>(
     ensures rises { IfOk result (λ licenses.
         RiseInOrder (T.fault_count tree.old) (all_reads licenses) (T.fault_count tree.new)) }
     ensures told { ForSome (T.content tree.old) (λ c. IfOk result (λ licenses.
-        AreByOwn (scanner_with C.lists I.match_of scan.now) clarifications.now c licenses)) }
+        AreTurns (scanner_with C.lists I.match_of scan.now) policy clarifications.now c files.old licenses
+        files.new)) }
     ensures some { IfOk result (λ licenses.
-        AreBySome (scanner_with C.lists I.match_of scan.now) clarifications.now licenses) }
+        AreTurnsBySome (scanner_with C.lists I.match_of scan.now) policy clarifications.now files.old licenses
+        files.new) }
+    ensures cuts { ForSome (T.content tree.old) (λ c. IfOk result (λ licenses.
+        AreCutOut (scanner_with C.lists I.match_of scan.now) policy clarifications.now c files.old licenses
+        files.new)) }
+    ensures grows { OnOk result (Grows files.old files.new) }
+    ensures placed { ArePlacedIn files.old policy clarifications.now
+        → IfOk result (λ licenses. All (IsPlacedAt files.new) licenses) }
 {
     let mut licenses = KrateLicenses::new(alloc);
     'krates: for krate in krates {
-        let license = license_of(alloc, tree, scan, clarifications, krate)?;
+        let license = license_of(alloc, tree, files, scan, policy, clarifications, krate)?;
         licenses.push(license)?;
     }
     Ok(licenses)
@@ -145,11 +166,14 @@ impl<'i, I> Gatherer<'i, I> {
 
 impl<'i, I: Identifier> Gatherer<'i, I> {
     /// The licences of the crates that the policy's flags select, in the order of their ids. Each is settled
-    /// by the first that holds: a clarification, the crate's field, its licence files, nothing.
+    /// by the first that holds: a clarification, the crate's field, its licence files, nothing. The manifests
+    /// of crates whose fields have their locations there join the files, and the manifests that are written
+    /// in place of others. Where memory is refused the files may have grown.
     pub fn gather<'k, T: Tree, C: Catalog>(
         self,
         alloc: Global,
         krates: &'k Krates,
+        files: &mut Files,
         policy: &ValidConfig,
         tree: &mut T,
         catalog: &C,
@@ -165,13 +189,22 @@ impl<'i, I: Identifier> Gatherer<'i, I> {
         ensures answers { ForSome (T.content tree.old) (λ c. IfOk result (λ summary.
             ArePriorities (scanner_of (C.lists catalog.now) I.match_of self.entry) (entries_of policy.now)
             c summary.nfos)) }
-        ensures reads { ForSome (T.content tree.old) (λ c. IfOk result (λ summary.
-            AreRead (scanner_of (C.lists catalog.now) I.match_of self.entry) (entries_of policy.now)
-            c summary.nfos)) }
-        // over any tree, by some ears
-        ensures by_ears { IfOk result (λ summary.
-            AreBySome (scanner_of (C.lists catalog.now) I.match_of self.entry) (entries_of policy.now)
-            summary.nfos) }
+        ensures turns { ForSome (T.content tree.old) (λ c. IfOk result (λ summary.
+            AreTurns (scanner_of (C.lists catalog.now) I.match_of self.entry) policy.now.file_id
+            (entries_of policy.now) c files.old summary.nfos files.new)) }
+        // over any tree, by something that is heard
+        ensures by_some { IfOk result (λ summary.
+            AreTurnsBySome (scanner_of (C.lists catalog.now) I.match_of self.entry) policy.now.file_id
+            (entries_of policy.now) files.old summary.nfos files.new) }
+        // the labels of what is found cut out what they say, in the table that is left
+        ensures cuts { ForSome (T.content tree.old) (λ c. IfOk result (λ summary.
+            AreCutOut (scanner_of (C.lists catalog.now) I.match_of self.entry) policy.now.file_id
+            (entries_of policy.now) c files.old summary.nfos files.new)) }
+        // where the policy's places stand in its file, each label and each expression stands in its own, in the
+        // table that is left; files that were there stay
+        ensures placed { ArePlacedIn files.old policy.now.file_id (entries_of policy.now)
+            → IfOk result (λ summary. All (IsPlacedAt files.new) summary.nfos) }
+        ensures grows { OnOk result (Grows files.old files.new) }
         ensures rises { IfOk result (λ summary.
             RiseInOrder (T.fault_count tree.old) (all_reads summary.nfos) (T.fault_count tree.new)) }
     {
@@ -186,7 +219,15 @@ impl<'i, I: Identifier> Gatherer<'i, I> {
             threshold: self.threshold,
             catalog,
         };
-        let nfos = gather_all(alloc, tree, &scan, &clarifications, selected.items())?;
+        let nfos = gather_all(
+            alloc,
+            tree,
+            files,
+            &scan,
+            policy.file_id,
+            &clarifications,
+            selected.items(),
+        )?;
         Ok(Summary { nfos })
     }
 }

@@ -5,7 +5,9 @@ mod clarifications;
 pub mod gatherer;
 pub mod license;
 pub mod summary;
+mod tell;
 mod told;
+mod turn;
 
 pub use gatherer::Gatherer;
 pub use license::{LicenseExprInfo, LicenseExprSource, LicenseInfo};

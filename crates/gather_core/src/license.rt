@@ -6,7 +6,7 @@ use spdx_core::Expression;
 /// Where a licence expression comes from.
 #[derive(Drop)]
 pub enum LicenseExprSource {
-    /// The crate's own field, and its place in the manifest where that is known.
+    /// The crate's own field, and the place in its manifest where that writes it.
     Metadata(Option<(FileId, Span)>),
     /// A clarification of the policy.
     UserOverride,
@@ -17,6 +17,12 @@ pub enum LicenseExprSource {
 /// What is told of a licence expression.
 #[derive(Drop)]
 pub struct LicenseExprInfo {
+    /// The file that the expression stands in.
+    pub file_id: FileId,
+    /// Where the expression's text begins there.
+    pub offset: usize,
+    /// The place of the expression's string, where that has escapes; the offset means nothing then.
+    pub whole: Option<Span>,
     pub source: LicenseExprSource,
 }
 

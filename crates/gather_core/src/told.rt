@@ -1,11 +1,13 @@
 //! What is told of a crate's licence, by what settles it.
-ghost use Rattle.std.specs.Prelude.{◌≡◌, option_map};
-ghost use Rattle.priority_core.specs.Settled.{answer_in, joined_answer};
-ghost use Rattle.gather_core.specs.Told.{told_of};
+ghost use Rattle.std.specs.Prelude.{◌≡◌, None, unwrap_or};
+ghost use Rattle.priority_core.specs.Settled.{answer_in};
+ghost use Rattle.gather_core.specs.Told.{field_source, info_at, info_by, joined_info, joined_notes, notes_of};
+ghost use Rattle.gather_core.specs.Told.{nowhere};
 
 use crate::license::{LicenseExprInfo, LicenseExprSource, LicenseInfo};
-use diag_core::Notes;
-use priority_core::{JoinedNames, Settling};
+use deny_text::Span;
+use diag_core::{Coord, FileId, Notes};
+use priority_core::{Held, JoinedNames, Settling};
 use spdx_core::Expression;
 use std::alloc::Global;
 
@@ -16,23 +18,62 @@ pub(crate) struct Told {
     pub(crate) notes: Notes,
 }
 
-/// An expression and where it comes from.
-fn told_from(expr: Expression, source: LicenseExprSource, notes: Notes) -> Told
-    ensures { result ≡ record {
-      info = LicenseInfo.SpdxExpression expr (record { source = source });
-      notes = notes;
-    } }
+/// Where finding gave no place. It gives one wherever there is an expression.
+fn place_or_nowhere(place: Option<Coord>) -> Coord
+    ensures { result ≡ unwrap_or place nowhere }
 {
-    let nfo = LicenseExprInfo { source };
-    Told {
-        info: LicenseInfo::SpdxExpression { expr, nfo },
-        notes,
+    match place {
+        Some(at) => at,
+        None => Coord {
+            file: 0,
+            span: Span { start: 0, end: 0 },
+        },
+    }
+}
+
+/// An expression that stands at a place.
+fn told_at(expr: Expression, at: Coord, source: LicenseExprSource) -> LicenseInfo
+    ensures { result ≡ LicenseInfo.SpdxExpression expr (info_at at source) }
+{
+    let nfo = LicenseExprInfo {
+        file_id: at.file,
+        offset: at.span.start,
+        whole: None,
+        source,
+    };
+    LicenseInfo::SpdxExpression { expr, nfo }
+}
+
+/// The source of a field.
+fn source_of(location: Option<Coord>) -> LicenseExprSource
+    ensures { result ≡ field_source location }
+{
+    match location {
+        Some(at) => LicenseExprSource::Metadata(Some((at.file, at.span))),
+        None => LicenseExprSource::Metadata(None),
+    }
+}
+
+/// By a clarification.
+fn told_by_policy(policy: FileId, held: Held) -> LicenseInfo
+    ensures { result ≡ info_by policy None nowhere (Settling.Clarified held) }
+{
+    let nfo = LicenseExprInfo {
+        file_id: policy,
+        offset: held.offset,
+        whole: held.whole,
+        source: LicenseExprSource::UserOverride,
+    };
+    LicenseInfo::SpdxExpression {
+        expr: held.expression,
+        nfo,
     }
 }
 
 /// By the licence files.
-fn told_by_files(alloc: Global, joined: Option<JoinedNames>) -> Told
-    ensures { result ≡ told_of (option_map joined_answer joined) }
+fn told_by_files(alloc: Global, place: Coord, joined: Option<JoinedNames>) -> Told
+    ensures info { result.info ≡ joined_info place joined }
+    ensures notes { result.notes ≡ joined_notes joined }
 {
     match joined {
         Some(joined) => {
@@ -41,7 +82,10 @@ fn told_by_files(alloc: Global, joined: Option<JoinedNames>) -> Told
                 paths,
                 notes,
             } = joined;
-            told_from(expression, LicenseExprSource::LicenseFiles(paths), notes)
+            Told {
+                info: told_at(expression, place, LicenseExprSource::LicenseFiles(paths)),
+                notes,
+            }
         }
         None => Told {
             info: LicenseInfo::Unlicensed,
@@ -50,19 +94,27 @@ fn told_by_files(alloc: Global, joined: Option<JoinedNames>) -> Told
     }
 }
 
-/// By what settles the licence.
-pub(crate) fn told_by(alloc: Global, by: Settling) -> Told
-    ensures { result ≡ told_of (answer_in by) }
+/// By what settles the licence, the location of the field and the place of the expression.
+pub(crate) fn told_by(
+    alloc: Global,
+    policy: FileId,
+    location: Option<Coord>,
+    place: Option<Coord>,
+    by: Settling,
+) -> Told
+    ensures info { result.info ≡ info_by policy location (unwrap_or place nowhere) by }
+    ensures notes { result.notes ≡ notes_of (answer_in by) }
 {
+    let place = place_or_nowhere(place);
     match by {
-        Settling::Clarified(held) => {
-            let notes = Notes::new(alloc);
-            told_from(held.expression, LicenseExprSource::UserOverride, notes)
-        }
-        Settling::Field(expression) => {
-            let notes = Notes::new(alloc);
-            told_from(expression, LicenseExprSource::Metadata(None), notes)
-        }
-        Settling::Files { joined, .. } => told_by_files(alloc, joined),
+        Settling::Clarified(held) => Told {
+            info: told_by_policy(policy, held),
+            notes: Notes::new(alloc),
+        },
+        Settling::Field(expression) => Told {
+            info: told_at(expression, place, source_of(location)),
+            notes: Notes::new(alloc),
+        },
+        Settling::Files { joined, .. } => told_by_files(alloc, place, joined),
     }
 }

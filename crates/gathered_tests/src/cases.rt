@@ -14,11 +14,11 @@ pub struct Case {
     pub wanted: &'static str,
 }
 
-/// Without a field, a file or a clarification.
-const BARE: Case = Case {
+/// Without a field, a licence file or a clarification; its manifest is empty.
+pub const BARE: Case = Case {
     license: "null",
     license_file: "null",
-    files: &[],
+    files: &[("/w/Cargo.toml", b"")],
     clarified: &[],
     threshold: 80,
     failing: 0,
@@ -64,7 +64,7 @@ pub static CLARIFIED: [Case; 9] = [
         license: "\"MIT\"",
         files: &[("/w/T", b"\n")],
         clarified: &[("b", "Zlib", &[])],
-        wanted: "MIT by the field\n",
+        wanted: "MIT by the field; Manifest /w/Cargo.toml Absent\n",
         ..BARE
     },
     Case {
@@ -93,32 +93,45 @@ pub static CLARIFIED: [Case; 9] = [
         files: &[("/w/T", b"\n")],
         clarified: &[("a", "ISC", &["T"])],
         failing: 2,
-        wanted: "MIT by the field; Listing /w Got; LicenseFile T Failed { before: 0, after: 1 }\n",
+        wanted: "MIT by the field; Listing /w Got; LicenseFile T Failed { before: 0, after: 1 }\
+            ; Manifest /w/Cargo.toml Absent\n",
         ..BARE
     },
 ];
 
-/// Then comes the field, strictly or else laxly; no file is read for it.
-pub static FIELDS: [Case; 4] = [
+/// Then comes the field, strictly or else laxly; its manifest is read, and no licence file.
+pub static FIELDS: [Case; 6] = [
     Case {
         license: "\"MIT/ISC\"",
-        wanted: "MIT/ISC by the field\n",
+        wanted: "MIT/ISC by the field; Manifest /w/Cargo.toml Got\n",
         ..BARE
     },
     Case {
         license: "\"GPL-3.0\"",
-        wanted: "GPL-3.0 by the field\n",
+        wanted: "GPL-3.0 by the field; Manifest /w/Cargo.toml Got\n",
         ..BARE
     },
     Case {
         license: "\"\"",
         files: &[("/w/LICENSE", b"MIT")],
-        wanted: "MIT by files LICENSE; Listing /w Got; LicenseFile LICENSE Got\n",
+        wanted: "MIT by files LICENSE; Manifest /w/Cargo.toml Absent; Listing /w Got; LicenseFile LICENSE Got\n",
         ..BARE
     },
     Case {
         license: "\"no licence\"",
-        wanted: "unlicensed; Listing /w Got\n",
+        wanted: "unlicensed; Manifest /w/Cargo.toml Got; Listing /w Got\n",
+        ..BARE
+    },
+    Case {
+        license: "\"MIT\"",
+        files: &[("/w/Cargo.toml", b"license = \"MIT\"")],
+        wanted: "MIT by the field at a place; Manifest /w/Cargo.toml Got\n",
+        ..BARE
+    },
+    Case {
+        license: "\"MIT\"",
+        files: &[("/w/Cargo.toml", b"license = \"MIT\"\xff")],
+        wanted: "MIT by the field; Manifest /w/Cargo.toml NotUtf8\n",
         ..BARE
     },
 ];

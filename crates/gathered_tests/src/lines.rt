@@ -1,5 +1,6 @@
 //! What was gathered of a crate, in one line.
 use deny_text::Text;
+use diag_core::{Diag, Files, Label};
 use gather_core::{KrateLicense, LicenseExprSource, LicenseInfo, Summary};
 use std::alloc::{AllocError, Global};
 use std::test::Fail;
@@ -68,6 +69,76 @@ pub fn lines_of(alloc: Global, summary: &Summary<'_>) -> Result<String, Fail> {
         }
         put_license(alloc, &mut lines, license)?;
         lines.push_str("\n")?;
+    }
+    Ok(lines)
+}
+
+/// The text that a label cuts out of its file.
+fn cut<'f>(files: &'f Files, label: &Label) -> Result<&'f str, Fail> {
+    let source = files.source(label.file_id).ok().ok_or("a file")?;
+    let there = source.get(label.range.start..label.range.end);
+    Ok(there.ok_or("a place")?)
+}
+
+fn put_label(alloc: Global, line: &mut String, files: &Files, label: &Label) -> Result<(), Fail> {
+    let name = files.name(label.file_id).ok().ok_or("a file")?;
+    let place = files
+        .location(label.file_id, label.range.start)
+        .ok()
+        .ok_or("a place")?;
+    let there = cut(files, label)?;
+    let message = &label.message;
+    let (row, column) = (place.line, place.column);
+    let text = format!(in alloc; " {name}:{row}:{column} `{there}` {message}")?;
+    line.push_str(text.as_str())?;
+    Ok(())
+}
+
+fn put_finding(
+    alloc: Global,
+    lines: &mut String,
+    files: &Files,
+    finding: &Diag,
+) -> Result<(), Fail> {
+    let code = finding.code.ok_or("a code")?;
+    let text = format!(in alloc; "{code}")?;
+    lines.push_str(text.as_str())?;
+    for label in finding.diag.labels.items() {
+        put_label(alloc, lines, files, label)?;
+    }
+    lines.push_str("\n")?;
+    Ok(())
+}
+
+/// The file and the offset of an expression whose text stands there.
+fn put_place(
+    alloc: Global,
+    lines: &mut String,
+    files: &Files,
+    info: &LicenseInfo,
+) -> Result<(), Fail> {
+    let LicenseInfo::SpdxExpression { expr, nfo } = info else {
+        return Ok(());
+    };
+    let name = files.name(nfo.file_id).ok().ok_or("a file")?;
+    let source = files.source(nfo.file_id).ok().ok_or("a text")?;
+    let rest = source.get(nfo.offset..).ok_or("a place")?;
+    if rest.starts_with(expr.as_ref()) {
+        let offset = nfo.offset;
+        let text = format!(in alloc; "> {name} {offset}\n")?;
+        lines.push_str(text.as_str())?;
+    }
+    Ok(())
+}
+
+/// What is found of each crate, and where its expression stands.
+pub fn found_of(alloc: Global, files: &Files, summary: &Summary<'_>) -> Result<String, Fail> {
+    let mut lines = String::new(alloc);
+    for license in summary.nfos.items() {
+        for finding in license.diags.items() {
+            put_finding(alloc, &mut lines, files, finding)?;
+        }
+        put_place(alloc, &mut lines, files, &license.lic_info)?;
     }
     Ok(lines)
 }

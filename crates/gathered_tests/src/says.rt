@@ -1,18 +1,23 @@
 //! An identifier of texts that are the name of a licence.
 ghost use Rattle.std.specs.Prelude.{◌≡◌, option_copied};
-ghost use Rattle.gathered_tests.specs.Said.{is_within, match_with, name_in};
+ghost use Rattle.gathered_tests.specs.Said.{is_within, match_with, name_in, score_in};
 
 use catalog_core::{Identifier, Match};
 use deny_text::Text;
 use std::alloc::{AllocError, Global};
 
-/// Says of a text of one line, which is the name of a licence, that it is that one, at 80.
+/// Says of a text of one line, which is the name of a licence, that it is that one, at 80 or at the score that
+/// stands behind the name.
 pub struct Says;
 
 fn name_in(text: &str) -> Option<&'static str>
     ensures { option_copied result ≡ name_in text.now }
 {
     if text == "MIT\n" {
+        Some("MIT")
+    } else if text == "MIT at 79\n" {
+        Some("MIT")
+    } else if text == "MIT at 49\n" {
         Some("MIT")
     } else if text == "ISC\n" {
         Some("ISC")
@@ -27,10 +32,22 @@ fn name_in(text: &str) -> Option<&'static str>
     }
 }
 
-impl Identifier for Says {
-    ghost match_of = { λ _ text. match_with (name_in text) };
+fn score_in(text: &str) -> u8
+    ensures { result ≡ score_in text.now }
+{
+    if text == "MIT at 79\n" {
+        79
+    } else if text == "MIT at 49\n" {
+        49
+    } else {
+        80
+    }
+}
 
-    ghost within_hundred = { λ _ text. is_within (name_in text) };
+impl Identifier for Says {
+    ghost match_of = { λ _ text. match_with (name_in text) (score_in text) };
+
+    ghost within_hundred = { λ _ text. is_within (name_in text) text };
 
     fn scan(&self, alloc: Global, text: &str) -> Result<Match, AllocError> {
         match name_in(text) {
@@ -38,7 +55,7 @@ impl Identifier for Says {
                 let name = Text::copy(alloc, name)?;
                 Ok(Match {
                     name: Some(name),
-                    score: 80,
+                    score: score_in(text),
                 })
             }
             None => Ok(Match {

@@ -22,14 +22,14 @@ pub static CLARIFIED: [Clarified; 1] = [("a", "ISC", &["LICENSE"])];
 
 const A: &str = "a: ISC by the policy; Listing /w/a Got; LicenseFile LICENSE Got\n";
 
-const B: &str = "b: MIT by the field\n";
+const B: &str = "b: MIT by the field; Manifest /w/b/Cargo.toml Absent\n";
 
 const C: &str = "c: MIT by files LICENSE; Listing /w/c Got; LicenseFile LICENSE Got\n";
 
 const D: &str = "d: ISC by files T; Listing /w/d Got; LicenseFile T Got\n";
 
 /// The lines where no call fails, and where the first, the second and so on does.
-pub static WANTED: [[&str; 4]; 7] = [
+pub static WANTED: [[&str; 4]; 8] = [
     [A, B, C, D],
     [
         "a: ISC by the policy; Listing /w/a Failed { before: 0, after: 1 }; LicenseFile LICENSE Got\n",
@@ -40,6 +40,12 @@ pub static WANTED: [[&str; 4]; 7] = [
     [
         "a: unlicensed; Listing /w/a Got; LicenseFile LICENSE Failed { before: 0, after: 1 }\n",
         B,
+        C,
+        D,
+    ],
+    [
+        A,
+        "b: MIT by the field; Manifest /w/b/Cargo.toml Failed { before: 0, after: 1 }\n",
         C,
         D,
     ],

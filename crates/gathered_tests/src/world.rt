@@ -1,6 +1,7 @@
 //! Crates, policies and trees of cases.
 use crate::cases::Case;
 use deny_text::{PathBuf, Span, Spanned, Text, Texts};
+use diag_core::Files;
 use graph_core::Metadata;
 use policy_entries::Licensees;
 use policy_parts::{FileSource, FileSources, LintLevel, Private, SpannedTexts};
@@ -17,6 +18,15 @@ use valid_policy::{Urls, ValidClarification, ValidClarifications, ValidConfig, V
 const OF_FEED: u32 = 0x81c9_d352;
 
 const NOWHERE: Span = Span { start: 0, end: 0 };
+
+/// The text of a policy's file. Each clarification of a case has its one path and its expression there.
+pub const POLICY: &str = "files = [\"LICENSE\"] # ISC";
+
+/// The place of the path.
+const PATH: Span = Span { start: 10, end: 17 };
+
+/// The place at which the expression begins.
+const OFFSET: usize = 22;
 
 /// A clarification: a crate, an expression, and files with the hash of one LF.
 pub type Clarified = (&'static str, &'static str, &'static [&'static str]);
@@ -40,10 +50,7 @@ pub fn krates(alloc: Global, text: &str) -> Result<Krates, Fail> {
 fn source(alloc: Global, path: &str) -> Result<FileSource, Fail> {
     let value = PathBuf::copy(alloc, path)?;
     Ok(FileSource {
-        path: Spanned {
-            value,
-            span: NOWHERE,
-        },
+        path: Spanned { value, span: PATH },
         hash: OF_FEED,
     })
 }
@@ -72,7 +79,7 @@ fn clarification(alloc: Global, clarified: &Clarified) -> Result<ValidClarificat
             name,
             version_req: None,
         },
-        expr_offset: 0,
+        expr_offset: OFFSET,
         whole: None,
         expression,
         license_files,
@@ -89,7 +96,7 @@ fn clarifications(alloc: Global, entries: &[Clarified]) -> Result<ValidClarifica
 }
 
 /// A policy with clarifications and nothing else.
-pub fn policy(alloc: Global, entries: &[Clarified]) -> Result<ValidConfig, Fail> {
+fn policy(alloc: Global, entries: &[Clarified]) -> Result<ValidConfig, Fail> {
     let clarifications = clarifications(alloc, entries)?;
     Ok(ValidConfig {
         file_id: 0,
@@ -110,10 +117,37 @@ pub fn policy(alloc: Global, entries: &[Clarified]) -> Result<ValidConfig, Fail>
     })
 }
 
+/// What crates are gathered over: a policy, a tree, and the table, in which the policy's file is the first.
+#[derive(Drop)]
+pub struct World {
+    pub policy: ValidConfig,
+    pub tree: MemTree,
+    pub files: Files,
+}
+
+/// That of a case.
+pub fn world_of(alloc: Global, case: &Case, files: Files) -> Result<World, Fail> {
+    let policy = policy(alloc, case.clarified)?;
+    let tree = tree(alloc, case.files, case.failing)?;
+    Ok(World {
+        policy,
+        tree,
+        files,
+    })
+}
+
+/// A table with one file, whose number is that of the policy's.
+pub fn table(alloc: Global, path: &str, text: &str) -> Result<Files, Fail> {
+    let mut files = Files::new(alloc);
+    let path = PathBuf::copy(alloc, path)?;
+    let text = Text::copy(alloc, text)?;
+    files.add(path, text).ok().ok_or("a table")?;
+    Ok(files)
+}
+
 /// A tree of files, a call of which fails where the number, counted from 1, is not 0.
-pub fn tree(alloc: Global, files: &[(&str, &[u8])], failing: u64) -> Result<MemTree, Fail> {
+fn tree(alloc: Global, files: &[(&str, &[u8])], failing: u64) -> Result<MemTree, Fail> {
     let mut tree = MemTree::new(alloc);
-    tree.put("/w/Cargo.toml", b"")?;
     for (path, bytes) in files {
         tree.put(path, bytes)?;
     }

@@ -1,11 +1,14 @@
-use Rattle.std.proofs.Common.{◌≤◌, ◌∷◌, [], ◌++◌, map, take, sym, ap, subst, ◌∙◌, arith}
+use Rattle.std.proofs.Common.{◌≡◌, ◌≤◌, ◌∷◌, [], ◌++◌, map, take, sym, ap, subst, ◌∙◌, arith}
+use Rattle.std.specs.List.{All}
 use Rattle.std.proofs.lemmas.List.{take_more}
+use Rattle.std.proofs.lemmas.List.Elements.{All-push}
 use Rattle.reads_core.specs.Rising.{RiseInOrder}
-use Rattle.pack_core.specs.Ears.{Ears}
 use Rattle.priority_core.specs.Settled.{scanner_with}
 use Rattle.selection_core.specs.Listed.{record_behind}
-use Rattle.gather_core.specs.Gathered.{AreByOwn, AreBySome, IsByEars, all_reads, krate_of, own_ears}
-use Rattle.gather_core.proofs.GatheredLemmas.{all_push, map_push, rises_push}
+use Rattle.gather_core.specs.Gathered.{AreCutOut, AreTurns, AreTurnsBySome, all_reads, krate_of, turn_of}
+use Rattle.gather_core.specs.Premises.{Grows, IsPlacedAt}
+use Rattle.gather_core.proofs.GatheredLemmas.{cuts_push, map_push, rises_push, turns_grow, turns_push, turns_push_some}
+use Rattle.gather_core.proofs.PlacedLemmas.{entries_grown, grows_behind, licenses_grown}
 use Rattle.gather_core.proofs.gatherer.gather_all.Goals as goal
 
 pub krates-preserved : goal.krates-preserved
@@ -22,6 +25,11 @@ krates-preserved g c =
     let pushed = c.in_ok-push.ensures.ok in
     let scanner = scanner_with g.C.Catalog.lists g.I.Identifier.match_of c.args.scan.now in
     let all = c.args.clarifications.now in
+    let policy = c.args.policy in
+    let new_files = c.license_of.new.files in
+    let by_some = c.in_ok-license.ensures.some in
+    let grows : Grows c.krates.files new_files =
+    subst (Grows c.krates.files) (sym by_some.1.1.table) (grows_behind (turn_of scanner policy all by_some.0 by_some.1.0 c.krates.files license)) in
     record {
       kept = record { content = c.license_of.ensures.kept.content ∙ so_far.kept.content; later = omega arith };
       krates =
@@ -33,10 +41,22 @@ krates-preserved g c =
           subst (λ licenses. RiseInOrder first (all_reads licenses) last) (sym pushed)
           (rises_push first middle last c.krates.licenses license so_far.rises c.in_ok-license.ensures.rises);
       told = λ content is.
-          subst (λ licenses. AreByOwn scanner all content licenses) (sym pushed)
-          (all_push (λ one. IsByEars scanner all (own_ears content one) one) c.krates.licenses license (so_far.told content is)
+          subst (λ licenses. AreTurns scanner policy all content c.args.files.now licenses new_files) (sym pushed)
+          (turns_push scanner policy all content c.args.files.now c.krates.licenses license c.krates.files new_files (so_far.told content is)
           (c.in_ok-license.ensures.told content (so_far.kept.content ∙ is)));
       some =
-          subst (AreBySome scanner all) (sym pushed)
-          (all_push (λ one. (ears : Ears) × IsByEars scanner all ears one) c.krates.licenses license so_far.some c.in_ok-license.ensures.some);
+          subst (λ licenses. AreTurnsBySome scanner policy all c.args.files.now licenses new_files) (sym pushed)
+          (turns_push_some scanner policy all by_some.0 by_some.1.0 c.args.files.now c.krates.licenses license c.krates.files new_files so_far.some by_some.1.1);
+      cuts = λ content is.
+          subst (λ licenses. AreCutOut scanner policy all content c.args.files.now licenses new_files) (sym pushed)
+          (cuts_push scanner policy all content c.args.files.now c.krates.licenses license c.krates.files new_files (so_far.told content is) grows (so_far.cuts content is)
+          (c.in_ok-license.ensures.cuts content (so_far.kept.content ∙ is)));
+      placed = λ stand.
+          subst (All (IsPlacedAt new_files)) (sym pushed)
+          (All-push (IsPlacedAt new_files) c.krates.licenses license (licenses_grown c.krates.files new_files c.krates.licenses grows (so_far.placed stand))
+          (c.in_ok-license.ensures.placed (entries_grown c.args.files.now c.krates.files policy all (turns_grow scanner policy all c.args.files.now c.krates.licenses c.krates.files so_far.some) stand)));
     }
+
+pub returns-clause-grows : goal.returns-clause-grows
+returns-clause-grows g c =
+    turns_grow (scanner_with g.C.Catalog.lists g.I.Identifier.match_of c.args.scan.now) c.args.policy c.args.clarifications.now c.args.files.now c.krates.licenses c.krates.files c.krates.invariant.some

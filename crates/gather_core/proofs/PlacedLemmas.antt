@@ -1,0 +1,257 @@
+-- Places that stay where they are while the file table grows.
+use Rattle.std.proofs.Common.{◌≡◌, ◌∙◌, ℕ, zero, suc, ◌+◌, ◌<◌, length, Bool, true, false, cond, List, [], ◌∷◌, ◌++◌, map, Option, None, Some, unwrap_or, refl, sym, ap, subst, append-nil, append_assoc, arith}
+use Rattle.std.specs.Prelude.{find, option_map, option_and_then}
+use Rattle.std.specs.List.{All, filter_map}
+use Rattle.std.specs.Option.{option_to_list}
+use Rattle.std.specs.Str.{IsCharBoundary}
+use Rattle.std.proofs.lemmas.List.Elements.{All-append, All-cons, All-filter, All-head, All-map, All-nil, All-tail, All-weaker}
+use Rattle.deny_text.specs.declared.span.Span.{Span}
+use Rattle.catalog_core.specs.Catalog.{CatalogLists}
+use Rattle.term_core.specs.declared.error.ParseError.{ParseError}
+use Rattle.spdx_core.specs.Reading.{ExpressionView}
+use Rattle.diag_core.specs.declared.label.Coord.{Coord}
+use Rattle.diag_core.specs.declared.label.Label.{Label}
+use Rattle.diag_core.specs.File.{File, id_at, source_of}
+use Rattle.graph_core.specs.Krate.{Record}
+use Rattle.reads_core.specs.Heard.{Heard, failed, absent, wrong_kind, not_utf8, text, entries}
+use Rattle.pack_core.specs.Ears.{Ears, holds, missing_from}
+use Rattle.policy_spec.specs.Matching.{spec_matches}
+use Rattle.location_core.specs.Location.{PointsAt, files_by, files_heard, joined_by, span_in}
+use Rattle.manifest_core.specs.Synthetic.{cut}
+use Rattle.finding_core.specs.Cuts.{LabelLies, labels_of, text_under}
+use Rattle.priority_core.specs.declared.settling.FilesSeen.{FilesSeen}
+use Rattle.priority_core.specs.declared.settling.Settling.{Settling}
+use Rattle.priority_core.specs.declared.settling.Settling.TheVariants.{Clarified, Field, Files}
+use Rattle.priority_core.specs.Clarification.{Clarification, PlacedFile, held_in, named_in}
+use Rattle.priority_core.specs.Priority.{field_of, files_scanned, holding}
+use Rattle.priority_core.specs.Settled.{by_seen, missing_in, missing_of, seen_by, settling_by, settling_of, span_at}
+use Rattle.gather_core.specs.declared.license.LicenseInfo.{LicenseInfo}
+use Rattle.gather_core.specs.declared.license.LicenseInfo.TheVariants.{SpdxExpression, Unlicensed}
+use Rattle.gather_core.specs.declared.summary.KrateLicense.{KrateLicense}
+use Rattle.gather_core.specs.declared.turn.Taken.{Taken}
+use Rattle.gather_core.specs.Entries.{Entry, clarifications_of}
+use Rattle.gather_core.specs.Premises.{ArePlacedIn, ByStands, Grows, InfoStands, IsPlacedAt, IsPlacedIn, PlaceLies, StandsIn}
+use Rattle.gather_core.specs.Taken.{IsTaken}
+use Rattle.gather_core.specs.Turns.{IsCutOut, Turn, asks_manifest, faults_in, field_text, files_behind, files_left, files_located, files_where, located_in, points_in, settling_in}
+
+-- ---- sources stay
+
+no_some : {A G : Type 0} (x : A) → None ≡ Some x → G
+no_some x e = cc
+
+kept_source : (files more : List File) (id : ℕ) (source : List ℕ) → source_of files id ≡ Some source → source_of (files ++ more) id ≡ Some source
+kept_source [] more zero source is = no_some source is
+kept_source [] more (suc id) source is = no_some source is
+kept_source (first ∷ files) more zero source is = is
+kept_source (first ∷ files) more (suc id) source is = kept_source files more id source is
+
+same_source : (files more : List File) (id : ℕ) → id < length files → source_of (files ++ more) id ≡ source_of files id
+same_source [] more id live = absurd (omega (arith, live))
+same_source (first ∷ files) more zero live = refl
+same_source (first ∷ files) more (suc id) live = let rest : id < length files = omega (arith, live) in same_source files more id rest
+
+longer : (files more : List File) (id : ℕ) → id < length files → id < length (files ++ more)
+longer [] more id live = absurd (omega (arith, live))
+longer (first ∷ files) more zero live = omega arith
+longer (first ∷ files) more (suc id) live =
+    let below : id < length files = omega (arith, live) in
+    let rest = longer files more id below in omega (arith, rest)
+
+-- ---- places stay
+
+place_grown : (files more : List File) (file : ℕ) (span : Span) → PlaceLies files file span → PlaceLies (files ++ more) file span
+place_grown files more file span lies = record {
+  source = lies.source;
+  is_source = kept_source files more file lies.source lies.is_source;
+  ordered = lies.ordered;
+  starts = lies.starts;
+  ends = lies.ends;
+}
+
+pub points_grown : (files more : List File) (at : Coord) (bytes : List ℕ) → PointsAt files at bytes → PointsAt (files ++ more) at bytes
+points_grown files more at bytes points = record {
+  source = points.source;
+  is_source = kept_source files more at.file points.source points.is_source;
+  cuts = points.cuts;
+}
+
+stands_grown : (files more : List File) (file offset : ℕ) (whole : Option Span) (words : List ℕ) → StandsIn files file offset whole words → StandsIn (files ++ more) file offset whole words
+stands_grown files more file offset (Some place) words stands = place_grown files more file place stands
+stands_grown files more file offset None words stands = points_grown files more (record { file = file; span = record { start = offset; end = offset + length words } }) words stands
+
+label_grown : (files more : List File) (label : Label) → LabelLies files label → LabelLies (files ++ more) label
+label_grown files more label lies =
+    let same = same_source files more label.file_id lies.live in record {
+      live = longer files more label.file_id lies.live;
+      ordered = lies.ordered;
+      starts = subst (λ (o : Option (List ℕ)). IsCharBoundary (unwrap_or o []) label.range.start) (sym same) lies.starts;
+      ends = subst (λ (o : Option (List ℕ)). IsCharBoundary (unwrap_or o []) label.range.end) (sym same) lies.ends;
+    }
+
+clarification_grown : (files more : List File) (policy : ℕ) (one : Clarification) → IsPlacedIn files policy one → IsPlacedIn (files ++ more) policy one
+clarification_grown files more policy one placed = record {
+  expression = stands_grown files more policy one.offset one.whole one.expression.text placed.expression;
+  paths = All-weaker (λ (file : PlacedFile). PlaceLies files policy file.span) (λ (file : PlacedFile). PlaceLies (files ++ more) policy file.span)
+      (λ file lies. place_grown files more policy file.span lies) one.files placed.paths;
+}
+
+pub entries_grown : (files new : List File) (policy : ℕ) (all : List Entry) → Grows files new → ArePlacedIn files policy all → ArePlacedIn new policy all
+entries_grown files new policy all grows placed =
+    subst (λ (new : List File). ArePlacedIn new policy all) (sym grows.1)
+    (All-weaker (λ (entry : Entry). IsPlacedIn files policy entry.clarification) (λ (entry : Entry). IsPlacedIn (files ++ grows.0) policy entry.clarification)
+    (λ entry placed. clarification_grown files grows.0 policy entry.clarification placed) all placed)
+
+info_grown : (files more : List File) (info : LicenseInfo) → InfoStands files info → InfoStands (files ++ more) info
+info_grown files more Unlicensed stands = tt
+info_grown files more (SpdxExpression expression nfo) stands = stands_grown files more nfo.file_id nfo.offset nfo.whole expression.text stands
+
+license_grown : (files more : List File) (license : KrateLicense) → IsPlacedAt files license → IsPlacedAt (files ++ more) license
+license_grown files more license placed = record {
+  labels = All-weaker (LabelLies files) (LabelLies (files ++ more)) (λ label lies. label_grown files more label lies) (labels_of license.diags) placed.labels;
+  expression = info_grown files more license.lic_info placed.expression;
+}
+
+pub licenses_grown : (files new : List File) (licenses : List KrateLicense) → Grows files new → All (IsPlacedAt files) licenses → All (IsPlacedAt new) licenses
+licenses_grown files new licenses grows placed =
+    subst (λ (new : List File). All (IsPlacedAt new) licenses) (sym grows.1)
+    (All-weaker (IsPlacedAt files) (IsPlacedAt (files ++ grows.0)) (λ license placed. license_grown files grows.0 license placed) licenses placed)
+
+-- what labels cut out stays
+texts_grown : (files more : List File) (labels : List Label) → All (LabelLies files) labels → map (text_under (files ++ more)) labels ≡ map (text_under files) labels
+texts_grown files more [] lie = refl
+texts_grown files more (label ∷ labels) lie =
+    let here = All-head (LabelLies files) label labels lie in
+    let rest = texts_grown files more labels (All-tail (LabelLies files) label labels lie) in
+    let first : text_under (files ++ more) label ≡ text_under files label =
+    ap (λ (o : Option (List ℕ)). cut (unwrap_or o []) label.range) (same_source files more label.file_id here.live) in
+    ap (λ (words : List ℕ). words ∷ map (text_under (files ++ more)) labels) first ∙ ap (λ (rest : List (List ℕ)). text_under files label ∷ rest) rest
+
+cut_on : (files more : List File) (turn : Turn) → IsCutOut files turn → IsCutOut (files ++ more) turn
+cut_on files more turn is = record {
+  lie = All-weaker (LabelLies files) (LabelLies (files ++ more)) (λ label lies. label_grown files more label lies) (labels_of (points_in turn).findings) is.lie;
+  cuts = texts_grown files more (labels_of (points_in turn).findings) is.lie ∙ is.cuts;
+}
+
+pub cut_grown : (files new : List File) (turn : Turn) → Grows files new → IsCutOut files turn → IsCutOut new turn
+cut_grown files new turn grows is = subst (λ (new : List File). IsCutOut new turn) (sym grows.1) (cut_on files grows.0 turn is)
+
+-- ---- the table grows
+
+grows_itself : (files : List File) → Grows files files
+grows_itself files = ([], sym (append-nil files))
+
+pub grows_then : (files middle last : List File) → Grows files middle → Grows middle last → Grows files last
+grows_then files middle last one two =
+    (one.0 ++ two.0, two.1 ∙ ap (λ (front : List File). front ++ two.0) one.1 ∙ append_assoc files one.0 two.0)
+
+grows_joined : (path : List ℕ) (files : List File) (bytes : List ℕ) (span : Option Span) → Grows files (joined_by path files bytes span)
+grows_joined path files bytes None = grows_itself files
+grows_joined path files bytes (Some span) = (record { name = path; source = bytes; has_path = true } ∷ [], refl)
+
+grows_heard : (path field : List ℕ) (files : List File) (manifest : Heard) → Grows files (files_heard path field files manifest)
+grows_heard path field files (failed before after) = grows_itself files
+grows_heard path field files absent = grows_itself files
+grows_heard path field files wrong_kind = grows_itself files
+grows_heard path field files not_utf8 = grows_itself files
+grows_heard path field files (text bytes) = grows_joined path files bytes (span_in field bytes)
+grows_heard path field files (entries listed) = grows_itself files
+
+grows_by : (path field : List ℕ) (files : List File) (manifest : Heard) (there : Option ℕ) → Grows files (files_by path field files manifest there)
+grows_by path field files manifest None = grows_heard path field files manifest
+grows_by path field files manifest (Some id) = grows_itself files
+
+grows_asked : (krate : Record) (files : List File) (manifest : Heard) (asks : Bool) → Grows files (files_where asks krate files manifest)
+grows_asked krate files manifest true = grows_by krate.manifest_path (field_text krate) files manifest (id_at files krate.manifest_path)
+grows_asked krate files manifest false = grows_itself files
+
+pub grows_located : (turn : Turn) → Grows turn.files (files_located turn)
+grows_located turn = grows_asked turn.krate turn.files turn.manifest (asks_manifest turn.clarifications turn.krate turn.ears)
+
+pub grows_left : (krate : Record) (faults : List ParseError) (location : Option Coord) (files : List File) (by : Settling) → Grows files (files_left krate faults location files by)
+grows_left krate faults location files (Clarified held) = grows_itself files
+grows_left krate faults None files (Field expression) = (_ ∷ [], refl)
+grows_left krate faults (Some at) files (Field expression) = grows_itself files
+grows_left krate faults location files (Files seen joined) = (_ ∷ [], refl)
+
+-- behind each turn the table is what it was, and more
+pub grows_behind : (turn : Turn) → Grows turn.files (files_behind turn)
+grows_behind turn =
+    grows_then turn.files (files_located turn) (files_behind turn) (grows_located turn)
+    (grows_left turn.krate (faults_in turn.scanner turn.krate) (located_in turn).location (files_located turn) (settling_in turn))
+
+-- ---- what is taken stands in the policy's file
+
+module _ (files : List File) (policy : ℕ) where
+  span_lies : (placed : List PlacedFile) (number : ℕ) → All (λ (file : PlacedFile). PlaceLies files policy file.span) placed → All (PlaceLies files policy) (option_to_list (span_at placed number))
+  span_lies [] zero lie = All-nil (PlaceLies files policy)
+  span_lies [] (suc number) lie = All-nil (PlaceLies files policy)
+  span_lies (file ∷ placed) zero lie =
+      All-cons (PlaceLies files policy) file.span [] (All-head (λ (one : PlacedFile). PlaceLies files policy one.span) file placed lie) (All-nil (PlaceLies files policy))
+  span_lies (file ∷ placed) (suc number) lie = span_lies placed number (All-tail (λ (one : PlacedFile). PlaceLies files policy one.span) file placed lie)
+
+  place_lies : (placed : List PlacedFile) (number : Option ℕ) → All (λ (file : PlacedFile). PlaceLies files policy file.span) placed
+      → All (PlaceLies files policy) (option_to_list (option_and_then (span_at placed) number))
+  place_lies placed None lie = All-nil (PlaceLies files policy)
+  place_lies placed (Some number) lie = span_lies placed number lie
+
+  missing_lies : (ears : Ears) (clarifications : List Clarification) → All (IsPlacedIn files policy) clarifications → All (PlaceLies files policy) (missing_of ears clarifications)
+  missing_lies ears [] placed = All-nil (PlaceLies files policy)
+  missing_lies ears (one ∷ more) placed =
+      let here = All-head (IsPlacedIn files policy) one more placed in
+      let rest = missing_lies ears more (All-tail (IsPlacedIn files policy) one more placed) in
+      All-append (PlaceLies files policy) (option_to_list (missing_in ears one)) (cond (holds ears (named_in one)) [] (missing_of ears more))
+      (place_lies one.files (missing_from ears 0 (named_in one)) here.paths)
+      (elim (holds ears (named_in one)) as (λ b. All (PlaceLies files policy) (cond b [] (missing_of ears more))) [ true ↦ All-nil (PlaceLies files policy) | false ↦ rest ])
+
+  abbrev OneStands : Option Clarification → Type 0
+  OneStands None = Unit {0}
+  OneStands (Some one) = IsPlacedIn files policy one
+
+  holding_stands : (ears : Ears) (clarifications : List Clarification) → All (IsPlacedIn files policy) clarifications → OneStands (holding ears clarifications)
+  holding_stands ears [] placed = tt
+  holding_stands ears (one ∷ more) placed =
+      elim (holds ears (named_in one)) as (λ b. OneStands (cond b (Some one) (holding ears more))) [
+        | true ↦ All-head (IsPlacedIn files policy) one more placed
+        | false ↦ holding_stands ears more (All-tail (IsPlacedIn files policy) one more placed)
+      ]
+
+  by_stands : (one : Option Clarification) (field : Option ExpressionView) (lists : CatalogLists) (seen : FilesSeen) → OneStands one
+      → ByStands files policy (settling_by (option_map held_in one) field (by_seen lists seen))
+  by_stands (Some one) field lists seen placed = placed.expression
+  by_stands None (Some expression) lists seen placed = tt
+  by_stands None None lists seen placed = tt
+
+pub places_grown : (files new : List File) (policy : ℕ) (spans : List Span) → Grows files new → All (PlaceLies files policy) spans → All (PlaceLies new policy) spans
+places_grown files new policy spans grows lie =
+    subst (λ (files : List File). All (PlaceLies files policy) spans) (sym grows.1)
+    (All-weaker (PlaceLies files policy) (PlaceLies (files ++ grows.0) policy) (λ span lies. place_grown files grows.0 policy span lies) spans lie)
+
+held_grown : (files more : List File) (policy : ℕ) (by : Settling) → ByStands files policy by → ByStands (files ++ more) policy by
+held_grown files more policy (Clarified held) stands = stands_grown files more policy held.offset held.whole held.expression.text stands
+held_grown files more policy (Field expression) stands = tt
+held_grown files more policy (Files seen joined) stands = tt
+
+pub by_grown : (files new : List File) (policy : ℕ) (by : Settling) → Grows files new → ByStands files policy by → ByStands new policy by
+by_grown files new policy by grows stands = subst (λ (files : List File). ByStands files policy by) (sym grows.1) (held_grown files grows.0 policy by stands)
+
+-- of a turn over a policy whose places stand in the table
+pub missing_taken : (turn : Turn) (taken : Taken) (new : List File) → IsTaken turn taken new → All (IsPlacedIn turn.files turn.policy) turn.clarifications → All (PlaceLies new turn.policy) taken.missing
+missing_taken turn taken new is placed =
+    subst (λ (missing : List Span). All (PlaceLies new turn.policy) missing) (sym is.missing)
+    (subst (λ (files : List File). All (PlaceLies files turn.policy) (missing_of turn.ears turn.clarifications)) (sym is.table)
+    (places_grown turn.files (files_located turn) turn.policy (missing_of turn.ears turn.clarifications) (grows_located turn)
+    (missing_lies turn.files turn.policy turn.ears turn.clarifications placed)))
+
+pub held_taken : (turn : Turn) (taken : Taken) (new : List File) → IsTaken turn taken new → All (IsPlacedIn turn.files turn.policy) turn.clarifications → ByStands new turn.policy taken.by
+held_taken turn taken new is placed =
+    let stands = by_stands turn.files turn.policy (holding turn.ears turn.clarifications) (field_of turn.scanner.lists turn.krate) turn.scanner.lists
+    (seen_by turn.ears.listing (files_scanned turn.scanner turn.clarifications turn.krate turn.ears)) (holding_stands turn.files turn.policy turn.ears turn.clarifications placed) in
+    subst (λ (by : Settling). ByStands new turn.policy by) (sym is.by)
+    (subst (λ (files : List File). ByStands files turn.policy (settling_in turn)) (sym is.table)
+    (by_grown turn.files (files_located turn) turn.policy (settling_in turn) (grows_located turn) stands))
+
+-- those that are for a crate stand where all do
+pub for_krate : (files : List File) (policy : ℕ) (krate : Record) (all : List Entry) → ArePlacedIn files policy all → All (IsPlacedIn files policy) (clarifications_of krate all)
+for_krate files policy krate all placed =
+    All-map (IsPlacedIn files policy) (λ (entry : Entry). entry.clarification) _
+    (All-filter (λ (entry : Entry). spec_matches entry.spec krate) (λ (entry : Entry). IsPlacedIn files policy entry.clarification) all placed)

@@ -1,0 +1,122 @@
+-- Where what is told of a crate stands.
+use Rattle.std.proofs.Common.{◌≡◌, ◌∙◌, ℕ, zero, suc, ◌+◌, ◌-◌, ◌<◌, ◌≤◌, Bool, true, false, length, drop, List, [], ◌∷◌, ◌++◌, Option, None, Some, unwrap_or, refl, sym, ap, subst, arith, length-drop}
+use Rattle.std.specs.Prelude.{is_none, option_and_then, option_map}
+use Rattle.std.specs.List.{All}
+use Rattle.std.specs.Option.{option_map_or}
+use Rattle.std.specs.Str.{IsCharBoundary}
+use Rattle.std.proofs.lemmas.List.{length-take-le}
+use Rattle.std.proofs.lemmas.List.Elements.{All-cons, All-head, All-nil, All-tail}
+use Rattle.deny_text.specs.declared.span.Span.{Span}
+use Rattle.catalog_core.specs.Catalog.{CatalogLists}
+use Rattle.term_core.specs.declared.mode.ParseMode.{ParseMode}
+use Rattle.term_core.specs.Faults.{first_fault}
+use Rattle.term_core.specs.Items.{items_of}
+use Rattle.spdx_core.specs.Grammar.{Tree}
+use Rattle.spdx_core.specs.Reading.{ExpressionView, Read, after_items, expression_if, expression_of, level_tree, nothing_read}
+use Rattle.graph_core.specs.Krate.{Record}
+use Rattle.diag_core.specs.declared.label.Coord.{Coord}
+use Rattle.diag_core.specs.File.{File, source_of}
+use Rattle.expression_core.specs.Taken.{field_read, lax, or_else, strict_with_slash}
+use Rattle.location_core.specs.Location.{PointsAt}
+use Rattle.finding_core.specs.Cuts.{LabelLies, StandsAt, labels_of}
+use Rattle.priority_core.specs.declared.settling.FilesSeen.{FilesSeen}
+use Rattle.priority_core.specs.declared.settling.JoinedNames.{JoinedNames}
+use Rattle.priority_core.specs.declared.settling.Settling.{Settling}
+use Rattle.priority_core.specs.declared.settling.Settling.TheVariants.{Clarified, Field, Files}
+use Rattle.priority_core.specs.Clarification.{Clarification, held_in}
+use Rattle.priority_core.specs.Priority.{field_of, files_scanned, holding}
+use Rattle.priority_core.specs.Settled.{by_seen, seen_by, settling_by}
+use Rattle.gather_core.specs.Premises.{ByStands, InfoStands, PlaceLies, StandsIn, TextIs}
+use Rattle.gather_core.specs.Told.{info_by, nowhere}
+use Rattle.gather_core.specs.Turns.{Turn, field_text, missing_findings, settling_in, text_settled}
+
+-- ---- the expression of a field is its text
+
+no_some : {A G : Type 0} (x : A) → None ≡ Some x → G
+no_some x e = cc
+
+by_tree : (words : List ℕ) (read : Read) (tree : Option Tree) (e : ExpressionView)
+    → option_map (λ (tree : Tree). let e : ExpressionView = record { text = words; terms = read.terms; tree = tree } in e) tree ≡ Some e → e.text ≡ words
+by_tree words read None e is = no_some e is
+by_tree words read (Some tree) e is = sym (ap (λ (o : Option ExpressionView). option_map_or (λ (e : ExpressionView). e.text) o words) is)
+
+text_if : (fine : Bool) (words : List ℕ) (read : Read) (e : ExpressionView) → expression_if fine words read ≡ Some e → e.text ≡ words
+text_if false words read e is = no_some e is
+text_if true words read e is = by_tree words read (level_tree read.level) e is
+
+text_of : (mode : ParseMode) (lists : CatalogLists) (words : List ℕ) (e : ExpressionView) → expression_of mode lists words ≡ Some e → e.text ≡ words
+text_of mode lists words e is = text_if (is_none (first_fault mode lists words)) words (after_items nothing_read (items_of mode lists words)) e is
+
+either_text : (a b : Option ExpressionView) (words : List ℕ) (e : ExpressionView) → ((e : ExpressionView) → a ≡ Some e → e.text ≡ words) → ((e : ExpressionView) → b ≡ Some e → e.text ≡ words)
+    → or_else a b ≡ Some e → e.text ≡ words
+either_text None b words e one two is = two e is
+either_text (Some x) b words e one two is = one e is
+
+read_text : (lists : CatalogLists) (field : List ℕ) (e : ExpressionView) → field_read lists field ≡ Some e → e.text ≡ field
+read_text lists [] e is = no_some e is
+read_text lists (byte ∷ bytes) e is =
+    either_text (expression_of strict_with_slash lists (byte ∷ bytes)) (expression_of lax lists (byte ∷ bytes)) (byte ∷ bytes) e
+    (text_of strict_with_slash lists (byte ∷ bytes)) (text_of lax lists (byte ∷ bytes)) is
+
+field_text_is : (lists : CatalogLists) (field : Option (List ℕ)) (e : ExpressionView) → option_and_then (field_read lists) field ≡ Some e → e.text ≡ unwrap_or field []
+field_text_is lists None e is = no_some e is
+field_text_is lists (Some field) e is = read_text lists field e is
+
+text_by : (one : Option Clarification) (field : Option ExpressionView) (lists : CatalogLists) (seen : FilesSeen) (words : List ℕ) → ((e : ExpressionView) → field ≡ Some e → e.text ≡ words)
+    → TextIs words (settling_by (option_map held_in one) field (by_seen lists seen))
+text_by (Some one) field lists seen words is = tt
+text_by None (Some e) lists seen words is = is e refl
+text_by None None lists seen words is = tt
+
+pub text_settles : (turn : Turn) → TextIs (field_text turn.krate) (settling_in turn)
+text_settles turn =
+    text_by (holding turn.ears turn.clarifications) (field_of turn.scanner.lists turn.krate) turn.scanner.lists
+    (seen_by turn.ears.listing (files_scanned turn.scanner turn.clarifications turn.krate turn.ears)) (field_text turn.krate)
+    (field_text_is turn.scanner.lists turn.krate.license)
+
+-- ---- an expression that a place cuts out begins there
+
+pub points_from : (files : List File) (at : Coord) (words : List ℕ) → PointsAt files at words → StandsIn files at.file at.span.start None words
+points_from files at words points =
+    let size = at.span.end - at.span.start in
+    let rest = drop at.span.start points.source in
+    let within : at.span.end ≤ length points.source = points.cuts.ends.0 in
+    let long : length words ≡ size = ap length (sym points.cuts.cut_out) ∙ length-take-le size rest (omega (arith, length-drop at.span.start points.source)) in
+    let end : at.span.end ≡ at.span.start + length words = (let ordered : at.span.start ≤ at.span.end = points.cuts.ordered in omega arith) in
+    subst (λ (e : ℕ). PointsAt files (record { file = at.file; span = record { start = at.span.start; end = e } }) words) end points
+
+at_place : (files : List File) (place : Option Coord) (words : List ℕ) → StandsAt files place (Some words) → StandsIn files (unwrap_or place nowhere).file (unwrap_or place nowhere).span.start None words
+at_place files None words stands = absurd stands
+at_place files (Some at) words stands = points_from files at words stands
+
+pub info_stands : (files : List File) (policy : ℕ) (krate : Record) (location place : Option Coord) (by : Settling)
+    → ByStands files policy by → TextIs (field_text krate) by → StandsAt files place (text_settled krate by)
+    → InfoStands files (info_by policy location (unwrap_or place nowhere) by)
+info_stands files policy krate location place (Clarified held) held_stands words stands = held_stands
+info_stands files policy krate location place (Field expression) held_stands words stands =
+    at_place files place expression.text (subst (λ (words : List ℕ). StandsAt files place (Some words)) (sym words) stands)
+info_stands files policy krate location place (Files seen None) held_stands words stands = tt
+info_stands files policy krate location place (Files seen (Some joined)) held_stands words stands = at_place files place joined.expression.text stands
+
+-- ---- labels of files that are not there
+
+live_by : (files : List File) (id : ℕ) (source : List ℕ) → source_of files id ≡ Some source → id < length files
+live_by [] zero source is = no_some source is
+live_by [] (suc id) source is = no_some source is
+live_by (file ∷ files) zero source is = omega arith
+live_by (file ∷ files) (suc id) source is =
+    let rest : id < length files = live_by files id source is in
+    omega arith
+
+pub missing_labels : (files : List File) (policy : ℕ) (missing : List Span) → All (PlaceLies files policy) missing → All (LabelLies files) (labels_of (missing_findings policy missing))
+missing_labels files policy [] lie = All-nil (LabelLies files)
+missing_labels files policy (span ∷ missing) lie =
+    let here = All-head (PlaceLies files policy) span missing lie in
+    All-cons (LabelLies files) _ (labels_of (missing_findings policy missing))
+    (record {
+      live = live_by files policy here.source here.is_source;
+      ordered = here.ordered;
+      starts = subst (λ (o : Option (List ℕ)). IsCharBoundary (unwrap_or o []) span.start) (sym here.is_source) here.starts;
+      ends = subst (λ (o : Option (List ℕ)). IsCharBoundary (unwrap_or o []) span.end) (sym here.is_source) here.ends;
+    })
+    (missing_labels files policy missing (All-tail (PlaceLies files policy) span missing lie))

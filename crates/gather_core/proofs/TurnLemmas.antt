@@ -1,0 +1,111 @@
+-- What is told of a crate at its turn.
+use Rattle.std.proofs.Common.{◌≡◌, ◌∙◌, ℕ, List, ◌++◌, map, Option, Result, Ok, Err, refl, sym, ap, subst}
+use Rattle.std.specs.Prelude.{IfOk, OnOk}
+use Rattle.std.specs.List.{All}
+use Rattle.std.specs.declared.alloc.AllocError.{AllocError}
+use Rattle.std.specs.Prelude.{unwrap_or}
+use Rattle.deny_text.specs.declared.span.Span.{Span}
+use Rattle.term_core.specs.declared.error.ParseError.{ParseError}
+use Rattle.tree_core.specs.Content.{Content}
+use Rattle.tree_core.specs.declared.reads.ReadRecord.{ReadRecord}
+use Rattle.graph_core.specs.Krate.{Record}
+use Rattle.reads_core.specs.Heard.{Heard}
+use Rattle.pack_core.specs.Ears.{Ears, ears_of}
+use Rattle.expression_core.specs.Scanned.{Scanner}
+use Rattle.location_core.specs.Location.{manifest_heard}
+use Rattle.priority_core.specs.Priority.{folder_of}
+use Rattle.diag_core.specs.declared.label.Coord.{Coord}
+use Rattle.diag_core.specs.declared.pack.Diag.{Diag}
+use Rattle.diag_core.specs.File.{File}
+use Rattle.priority_core.specs.declared.settling.Settling.{Settling}
+use Rattle.priority_core.specs.Settled.{answer_in, missing_of}
+use Rattle.finding_core.specs.declared.outcome.Points.{Points}
+use Rattle.finding_core.specs.Cuts.{LabelLies, labels_of, text_under}
+use Rattle.gather_core.specs.declared.license.LicenseInfo.{LicenseInfo}
+use Rattle.gather_core.specs.declared.summary.KrateLicense.{KrateLicense}
+use Rattle.gather_core.specs.declared.turn.Taken.{Taken}
+use Rattle.gather_core.specs.Entries.{Entry, clarifications_of}
+use Rattle.gather_core.specs.Gathered.{IsTurnBySome, krate_of, own_turn}
+use Rattle.gather_core.specs.Taken.{IsTaken, turn_with}
+use Rattle.gather_core.specs.Told.{info_by, notes_of, nowhere}
+use Rattle.gather_core.specs.Turns.{IsCutOut, IsTurn, Turn, faults_in, files_left, files_located, located_in, missing_findings, points_for, points_in, settling_in, texts_for}
+
+pub points_are : (turn : Turn) (faults : List ParseError) (taken : Taken) (points : Points) (old : List File) → faults ≡ faults_in turn.scanner turn.krate → IsTaken turn taken old
+    → points ≡ points_for turn.krate faults taken.location old taken.by → points ≡ points_in turn
+points_are turn faults taken points old faults_are is found =
+    found
+    ∙ ap (λ (faults : List ParseError). points_for turn.krate faults taken.location old taken.by) faults_are
+    ∙ ap (λ (at : Option Coord). points_for turn.krate (faults_in turn.scanner turn.krate) at old taken.by) is.location
+    ∙ ap (λ (files : List File). points_for turn.krate (faults_in turn.scanner turn.krate) (located_in turn).location files taken.by) is.table
+    ∙ ap (λ (by : Settling). points_for turn.krate (faults_in turn.scanner turn.krate) (located_in turn).location (files_located turn) by) is.by
+
+-- the labels of what is found cut out what they say
+pub found_turn : (turn : Turn) (faults : List ParseError) (taken : Taken) (points : Points) (old new : List File) → faults ≡ faults_in turn.scanner turn.krate → IsTaken turn taken old
+    → points ≡ points_for turn.krate faults taken.location old taken.by → All (LabelLies new) (labels_of points.findings)
+    → map (text_under new) (labels_of points.findings) ≡ texts_for turn.krate faults taken.location taken.by → IsCutOut new turn
+found_turn turn faults taken points old new faults_are is found lie cuts =
+    let all_points = points_are turn faults taken points old faults_are is found in
+    record {
+      lie = subst (λ (points : Points). All (LabelLies new) (labels_of points.findings)) all_points lie;
+      cuts =
+          ap (λ (points : Points). map (text_under new) (labels_of points.findings)) (sym all_points) ∙ cuts
+          ∙ ap (λ (faults : List ParseError). texts_for turn.krate faults taken.location taken.by) faults_are
+          ∙ ap (λ (at : Option Coord). texts_for turn.krate (faults_in turn.scanner turn.krate) at taken.by) is.location
+          ∙ ap (λ (by : Settling). texts_for turn.krate (faults_in turn.scanner turn.krate) (located_in turn).location by) is.by;
+    }
+
+pub told_turn : (turn : Turn) (license : KrateLicense) (faults : List ParseError) (taken : Taken) (points : Points) (old new : List File)
+    → faults ≡ faults_in turn.scanner turn.krate → IsTaken turn taken old
+    → points ≡ points_for turn.krate faults taken.location old taken.by → new ≡ files_left turn.krate faults taken.location old taken.by
+    → license.lic_info ≡ info_by turn.policy taken.location (unwrap_or points.expression nowhere) taken.by → license.notes ≡ notes_of (answer_in taken.by)
+    → license.diags ≡ missing_findings turn.policy taken.missing ++ points.findings → license.reads ≡ taken.reads
+    → IsTurn turn license new
+told_turn turn license faults taken points old new faults_are is found files_are info notes diags reads =
+    let all_points : points ≡ points_in turn = points_are turn faults taken points old faults_are is found in
+    record {
+      info =
+          info
+          ∙ ap (λ (at : Option Coord). info_by turn.policy at (unwrap_or points.expression nowhere) taken.by) is.location
+          ∙ ap (λ (points : Points). info_by turn.policy (located_in turn).location (unwrap_or points.expression nowhere) taken.by) all_points
+          ∙ ap (λ (by : Settling). info_by turn.policy (located_in turn).location (unwrap_or (points_in turn).expression nowhere) by) is.by;
+      noted = notes ∙ ap (λ (by : Settling). notes_of (answer_in by)) is.by;
+      found =
+          diags
+          ∙ ap (λ (missing : List Span). missing_findings turn.policy missing ++ points.findings) is.missing
+          ∙ ap (λ (points : Points). missing_findings turn.policy (missing_of turn.ears turn.clarifications) ++ points.findings) all_points;
+      read = reads ∙ is.reads;
+      table =
+          files_are
+          ∙ ap (λ (faults : List ParseError). files_left turn.krate faults taken.location old taken.by) faults_are
+          ∙ ap (λ (at : Option Coord). files_left turn.krate (faults_in turn.scanner turn.krate) at old taken.by) is.location
+          ∙ ap (λ (files : List File). files_left turn.krate (faults_in turn.scanner turn.krate) (located_in turn).location files taken.by) is.table
+          ∙ ap (λ (by : Settling). files_left turn.krate (faults_in turn.scanner turn.krate) (located_in turn).location (files_located turn) by) is.by;
+    }
+
+-- ---- by what the reads that are told let hear
+
+pub license_told : (scanner : Scanner) (policy : ℕ) (all : List Entry) (content : Content) (old new : List File) (krate : Record) (reads : List ReadRecord) (result : Result KrateLicense AllocError)
+    → IfOk result (λ license. krate_of license ≡ krate) → IfOk result (λ license. license.reads ≡ reads)
+    → IfOk result (λ license. IsTurn (turn_with scanner policy (clarifications_of krate all) krate (ears_of content (folder_of krate) reads) (manifest_heard content krate.manifest_path reads) old) license new)
+    → IfOk result (λ license. IsTurn (own_turn scanner policy all content old license) license new)
+license_told scanner policy all content old new krate reads (Ok license) krate_is reads_are is =
+    subst (λ (krate : Record). IsTurn (turn_with scanner policy (clarifications_of krate all) krate (ears_of content (folder_of krate) license.reads) (manifest_heard content krate.manifest_path license.reads) old) license new) (sym krate_is)
+    (subst (λ (reads : List ReadRecord). IsTurn (turn_with scanner policy (clarifications_of krate all) krate (ears_of content (folder_of krate) reads) (manifest_heard content krate.manifest_path reads) old) license new) (sym reads_are) is)
+license_told scanner policy all content old new krate reads (Err error) krate_is reads_are is = tt
+
+pub license_some : (scanner : Scanner) (policy : ℕ) (all : List Entry) (ears : Ears) (manifest : Heard) (old new : List File) (krate : Record) (result : Result KrateLicense AllocError)
+    → IfOk result (λ license. krate_of license ≡ krate)
+    → IfOk result (λ license. IsTurn (turn_with scanner policy (clarifications_of krate all) krate ears manifest old) license new)
+    → IfOk result (λ license. IsTurnBySome scanner policy all old license new)
+license_some scanner policy all ears manifest old new krate (Ok license) krate_is is =
+    (ears, (manifest, subst (λ (krate : Record). IsTurn (turn_with scanner policy (clarifications_of krate all) krate ears manifest old) license new) (sym krate_is) is))
+license_some scanner policy all ears manifest old new krate (Err error) krate_is is = tt
+
+pub license_cut : (scanner : Scanner) (policy : ℕ) (all : List Entry) (content : Content) (old new : List File) (krate : Record) (reads : List ReadRecord) (result : Result KrateLicense AllocError)
+    → IfOk result (λ license. krate_of license ≡ krate) → IfOk result (λ license. license.reads ≡ reads)
+    → OnOk result (IsCutOut new (turn_with scanner policy (clarifications_of krate all) krate (ears_of content (folder_of krate) reads) (manifest_heard content krate.manifest_path reads) old))
+    → IfOk result (λ license. IsCutOut new (own_turn scanner policy all content old license))
+license_cut scanner policy all content old new krate reads (Ok license) krate_is reads_are is =
+    subst (λ (krate : Record). IsCutOut new (turn_with scanner policy (clarifications_of krate all) krate (ears_of content (folder_of krate) license.reads) (manifest_heard content krate.manifest_path license.reads) old)) (sym krate_is)
+    (subst (λ (reads : List ReadRecord). IsCutOut new (turn_with scanner policy (clarifications_of krate all) krate (ears_of content (folder_of krate) reads) (manifest_heard content krate.manifest_path reads) old)) (sym reads_are) is)
+license_cut scanner policy all content old new krate reads (Err error) krate_is reads_are is = tt

@@ -1,0 +1,68 @@
+use Rattle.std.proofs.Common.{◌≡◌, ◌∙◌, ◌++◌, ℕ, List, refl, sym, ap, subst}
+use Rattle.std.specs.List.{All}
+use Rattle.std.specs.Prelude.{unwrap_or}
+use Rattle.deny_text.specs.declared.span.Span.{Span}
+use Rattle.diag_core.specs.declared.pack.Diag.{Diag}
+use Rattle.graph_core.specs.Krate.{Record, record_of}
+use Rattle.finding_core.specs.Cuts.{LabelLies, labels_of}
+use Rattle.finding_core.proofs.LabelLemmas.{lie-append}
+use Rattle.gather_core.specs.declared.summary.KrateLicense.{KrateLicense}
+use Rattle.gather_core.specs.Premises.{Grows, InfoStands}
+use Rattle.gather_core.specs.Told.{info_by, nowhere}
+use Rattle.gather_core.specs.Turns.{files_left, missing_findings, points_for, texts_for}
+use Rattle.gather_core.proofs.PlacedLemmas.{by_grown, grows_left, places_grown}
+use Rattle.gather_core.proofs.ToldLemmas.{info_stands, missing_labels}
+use Rattle.gather_core.proofs.TurnLemmas.{found_turn, told_turn}
+use Rattle.gather_core.proofs.tell.tell.Goals as goal
+
+pub returns-clause-turn : goal.returns-clause-turn
+returns-clause-turn c = λ turn krate_is policy_is faults_are is.
+    let taken = c.args.taken in
+    let faults = c.args.faults.now in
+    let old = c.args.files.now in
+    let points = c.in_ok-points.points in
+    let license : KrateLicense = record { krate = c.args.krate; lic_info = c.told_by-told.result.info; notes = c.told_by-told.result.notes; diags = c.in_ok-diags.diags; reads = taken.reads } in
+    told_turn turn license faults taken points old c.find_points.new.files faults_are is
+    (c.in_ok-points.ensures.points ∙ ap (λ (krate : Record). points_for krate faults taken.location old taken.by) (sym krate_is))
+    (c.in_ok-points.ensures.files ∙ ap (λ (krate : Record). files_left krate faults taken.location old taken.by) (sym krate_is))
+    (c.told_by-told.ensures.info ∙ ap (λ (policy : ℕ). info_by policy taken.location (unwrap_or points.expression nowhere) taken.by) (sym policy_is))
+    c.told_by-told.ensures.notes
+    (c.in_ok-diags.ensures
+    ∙ ap (λ (front : List Diag). front ++ points.findings) c.in_ok-missing.ensures
+    ∙ ap (λ (missing : List Span). missing_findings c.args.policy missing ++ points.findings) c.items.ensures
+    ∙ ap (λ (policy : ℕ). missing_findings policy taken.missing ++ points.findings) (sym policy_is))
+    refl
+
+pub returns-clause-found : goal.returns-clause-found
+returns-clause-found c = λ turn krate_is faults_are is.
+    let taken = c.args.taken in
+    let faults = c.args.faults.now in
+    let old = c.args.files.now in
+    found_turn turn faults taken c.in_ok-points.points old c.find_points.new.files faults_are is
+    (c.in_ok-points.ensures.points ∙ ap (λ (krate : Record). points_for krate faults taken.location old taken.by) (sym krate_is))
+    c.in_ok-points.ensures.inside
+    (c.in_ok-points.ensures.cuts ∙ ap (λ (krate : Record). texts_for krate faults taken.location taken.by) (sym krate_is))
+
+pub returns-clause-placed : goal.returns-clause-placed
+returns-clause-placed c = λ missing_lie held_stands words.
+    let taken = c.args.taken in
+    let krate = record_of c.args.krate.now in
+    let policy = c.args.policy in
+    let old = c.args.files.now in
+    let new = c.find_points.new.files in
+    let points = c.in_ok-points.points in
+    let grows : Grows old new =
+    subst (Grows old) (sym c.in_ok-points.ensures.files) (grows_left krate c.args.faults.now taken.location old taken.by) in
+    let diags_are : c.in_ok-diags.diags ≡ missing_findings policy taken.missing ++ points.findings =
+    c.in_ok-diags.ensures
+    ∙ ap (λ (front : List Diag). front ++ points.findings) c.in_ok-missing.ensures
+    ∙ ap (λ (missing : List Span). missing_findings policy missing ++ points.findings) c.items.ensures in
+    record {
+      labels =
+          subst (λ (diags : List Diag). All (LabelLies new) (labels_of diags)) (sym diags_are)
+          (lie-append new (missing_findings policy taken.missing) points.findings
+          (missing_labels new policy taken.missing (places_grown old new policy taken.missing grows missing_lie)) c.in_ok-points.ensures.inside);
+      expression =
+          subst (InfoStands new) (sym c.told_by-told.ensures.info)
+          (info_stands new policy krate taken.location points.expression taken.by (by_grown old new policy taken.by grows held_stands) words c.in_ok-points.ensures.expression);
+    }

@@ -1,0 +1,56 @@
+-- What is taken at a crate's turn.
+use Rattle.std.specs.Prelude.{◌≡◌, ℕ, Bool, true, false, List}
+use Rattle.tree_core.specs.Content.{Content}
+use Rattle.graph_core.specs.Krate.{Record}
+use Rattle.reads_core.specs.Heard.{Heard}
+use Rattle.pack_core.specs.Ears.{Ears, ears_of}
+use Rattle.expression_core.specs.Scanned.{Scanner}
+use Rattle.diag_core.specs.File.{File}
+use Rattle.location_core.specs.declared.location.Located.{Located}
+use Rattle.location_core.specs.Location.{manifest_heard}
+use Rattle.priority_core.specs.Clarification.{Clarification}
+use Rattle.priority_core.specs.Priority.{folder_of}
+use Rattle.priority_core.specs.Settled.{missing_of}
+use Rattle.priority_core.specs.declared.settling.Settling.{Settling}
+use Rattle.priority_core.specs.declared.settling.Settling.TheVariants.{Clarified, Field, Files}
+use Rattle.gather_core.specs.declared.turn.Taken.{Taken}
+use Rattle.gather_core.specs.Turns.{Turn, files_located, files_where, located_in, located_where, records_in, settling_in}
+
+abbrev pub is_clarified : Settling → Bool
+is_clarified (Clarified held) = true
+is_clarified (Field expression) = false
+is_clarified (Files seen joined) = false
+
+-- a field was located where it was asked for, and the table is what it is then
+pub record IsLocatedWhere (asks : Bool) (krate : Record) (old : List File) (manifest : Heard) (located : Located) (new : List File) : Type 0 where
+  pub located_is : located ≡ located_where asks krate old manifest
+  pub files_are : new ≡ files_where asks krate old manifest
+
+abbrev pub turn_with : Scanner → ℕ → List Clarification → Record → Ears → Heard → List File → Turn
+turn_with scanner policy clarifications krate ears manifest files = record {
+  scanner = scanner;
+  policy = policy;
+  clarifications = clarifications;
+  krate = krate;
+  ears = ears;
+  manifest = manifest;
+  files = files;
+}
+
+-- what was taken is what the turn asks for, and the table has what it says
+pub record IsTaken (turn : Turn) (taken : Taken) (files : List File) : Type 0 where
+  pub by : taken.by ≡ settling_in turn
+  pub missing : taken.missing ≡ missing_of turn.ears turn.clarifications
+  pub location : taken.location ≡ (located_in turn).location
+  pub reads : taken.reads ≡ records_in turn
+  pub table : files ≡ files_located turn
+
+-- by what the content and all reads of the turn let hear
+abbrev pub IsTakenByOwn : Scanner → ℕ → List Clarification → Record → Content → List File → Taken → List File → Type 0
+IsTakenByOwn scanner policy clarifications krate content old taken new =
+    IsTaken (turn_with scanner policy clarifications krate (ears_of content (folder_of krate) taken.reads) (manifest_heard content krate.manifest_path taken.reads) old) taken new
+
+-- over any tree, by something that is heard
+abbrev pub IsTakenBySome : Scanner → ℕ → List Clarification → Record → List File → Taken → List File → Type 0
+IsTakenBySome scanner policy clarifications krate old taken new =
+    (ears : Ears) × ((manifest : Heard) × IsTaken (turn_with scanner policy clarifications krate ears manifest old) taken new)

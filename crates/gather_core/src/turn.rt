@@ -1,0 +1,243 @@
+//! What is taken at a crate's turn: what settles its licence, and where its field stands.
+ghost use Rattle.std.specs.Prelude.{◌≡◌, ◌++◌, ◌&&◌, ℕ, not, true, false, IfOk, IfSome, OnErr, is_some};
+ghost use Rattle.std.specs.Prelude.{map};
+ghost use Rattle.std.specs.Option.{ForSome, option_to_list};
+ghost use Rattle.tree_core.specs.Hearing.{KeepsTree};
+ghost use Rattle.graph_core.specs.Krate.{record_of};
+ghost use Rattle.reads_core.specs.Heard.{Heard};
+ghost use Rattle.reads_core.specs.Rising.{RiseInOrder};
+ghost use Rattle.location_core.specs.Location.{PointsAt, manifest_heard};
+ghost use Rattle.priority_core.specs.Clarification.{behind};
+ghost use Rattle.priority_core.specs.Priority as spec;
+ghost use Rattle.priority_core.specs.Priority.{field_of};
+ghost use Rattle.priority_core.specs.Settled.{scanner_with};
+ghost use Rattle.gather_core.specs.Taken.{IsLocatedWhere, IsTakenByOwn, IsTakenBySome, is_clarified};
+ghost use Rattle.gather_core.specs.Turns.{field_text};
+
+use catalog_core::Identifier;
+use deny_text::ListOf;
+use diag_core::{Coord, Files};
+use graph_core::Krate;
+use location_core::{Located, locate};
+use priority_core::{ClarificationRef, Scan, Settling, Spans, settle_licence};
+use spdx_core::{Catalog, Expression};
+use std::alloc::{AllocError, Global};
+use tree_core::{ReadRecord, Reads, Tree};
+
+/// What settles a crate's licence, where its manifest writes its field, and the reads of its turn.
+#[derive(Drop)]
+pub(crate) struct Taken {
+    pub(crate) by: Settling,
+    pub(crate) missing: Spans,
+    pub(crate) location: Option<Coord>,
+    pub(crate) reads: Reads,
+}
+
+/// Items behind others.
+pub(crate) fn joined<T: Drop>(front: ListOf<T>, back: ListOf<T>) -> Result<ListOf<T>, AllocError>
+    ensures { IfOk result (λ all. all ≡ front ++ back) }
+{
+    let mut all = front.into_vec();
+    let mut more = back.into_vec();
+    all.append(&mut more)?;
+    Ok(ListOf::from(all))
+}
+
+/// The reads of a turn as a list, where there is one.
+fn reads_of(alloc: Global, read: Option<ReadRecord>) -> Result<Reads, AllocError>
+    ensures { IfOk result (λ reads. reads ≡ option_to_list read) }
+{
+    let mut reads = Reads::new(alloc);
+    match read {
+        Some(read) => reads.push(read)?,
+        None => {}
+    }
+    Ok(reads)
+}
+
+/// Where a crate's field stands, where it has one; else its manifest is not asked for.
+fn locate_field<T: Tree>(
+    alloc: Global,
+    tree: &mut T,
+    files: &mut Files,
+    krate: &Krate,
+) -> Result<Located, AllocError>
+    ensures kept { KeepsTree (T.content tree.old) (T.content tree.new)
+        (T.fault_count tree.old) (T.fault_count tree.new) }
+    ensures rises { IfOk result (λ located.
+        RiseInOrder (T.fault_count tree.old) (option_to_list located.read) (T.fault_count tree.new)) }
+    ensures told { let krate = record_of krate.now in
+        ForSome (T.content tree.old) (λ c. IfOk result (λ located.
+        IsLocatedWhere (is_some krate.license) krate files.old
+        (manifest_heard c krate.manifest_path (option_to_list located.read)) located files.new)) }
+    ensures some { let krate = record_of krate.now in IfOk result (λ located. (manifest : Heard)
+        × IsLocatedWhere (is_some krate.license) krate files.old manifest located files.new) }
+    ensures points { IfOk result (λ located. IfSome located.location (λ at.
+        PointsAt files.new at (field_text (record_of krate.now)))) }
+    ensures err { OnErr result (files.new ≡ files.old) }
+{
+    match &krate.license {
+        Some(field) => locate(alloc, tree, files, &krate.manifest_path, field.as_str()),
+        None => Ok(Located {
+            location: None,
+            read: None,
+        }),
+    }
+}
+
+/// Whether a clarification settles a licence.
+fn is_clarified(by: &Settling) -> bool
+    ensures { result ≡ is_clarified by.now }
+{
+    match by {
+        Settling::Clarified(_) => true,
+        Settling::Field(_) => false,
+        Settling::Files { .. } => false,
+    }
+}
+
+/// The same, where no clarification settles the licence.
+fn locate_unless_clarified<T: Tree>(
+    alloc: Global,
+    tree: &mut T,
+    files: &mut Files,
+    krate: &Krate,
+    by: &Settling,
+) -> Result<Located, AllocError>
+    ensures kept { KeepsTree (T.content tree.old) (T.content tree.new)
+        (T.fault_count tree.old) (T.fault_count tree.new) }
+    ensures rises { IfOk result (λ located.
+        RiseInOrder (T.fault_count tree.old) (option_to_list located.read) (T.fault_count tree.new)) }
+    ensures told { let krate = record_of krate.now in
+        ForSome (T.content tree.old) (λ c. IfOk result (λ located.
+        IsLocatedWhere (not (is_clarified by.now) && is_some krate.license) krate files.old
+        (manifest_heard c krate.manifest_path (option_to_list located.read)) located files.new)) }
+    ensures some { let krate = record_of krate.now in IfOk result (λ located. (manifest : Heard)
+        × IsLocatedWhere (not (is_clarified by.now) && is_some krate.license) krate files.old manifest
+        located files.new) }
+    ensures points { IfOk result (λ located. IfSome located.location (λ at.
+        PointsAt files.new at (field_text (record_of krate.now)))) }
+    ensures err { OnErr result (files.new ≡ files.old) }
+{
+    if is_clarified(by) {
+        return Ok(Located {
+            location: None,
+            read: None,
+        });
+    }
+    locate_field(alloc, tree, files, krate)
+}
+
+/// Where no clarification is for the crate, its manifest is asked for before its files.
+fn take_manifest_first<T: Tree, I: Identifier, C: Catalog>(
+    alloc: Global,
+    tree: &mut T,
+    files: &mut Files,
+    scan: &Scan<'_, I, C>,
+    krate: &Krate,
+    clarifications: &[&ClarificationRef<'_>],
+    field: Option<Expression>,
+) -> Result<Taken, AllocError>
+    requires nothing { spec.is_nothing (map behind clarifications.now) ≡ true }
+    requires field { field ≡ field_of (C.lists scan.now.catalog.now) (record_of krate.now) }
+    ensures kept { KeepsTree (T.content tree.old) (T.content tree.new)
+        (T.fault_count tree.old) (T.fault_count tree.new) }
+    ensures rises { IfOk result (λ taken.
+        RiseInOrder (T.fault_count tree.old) taken.reads (T.fault_count tree.new)) }
+    ensures told { (policy : ℕ) → ForSome (T.content tree.old) (λ c. IfOk result (λ taken.
+        IsTakenByOwn (scanner_with C.lists I.match_of scan.now) policy (map behind clarifications.now)
+        (record_of krate.now) c files.old taken files.new)) }
+    ensures some { (policy : ℕ) → IfOk result (λ taken.
+        IsTakenBySome (scanner_with C.lists I.match_of scan.now) policy (map behind clarifications.now)
+        (record_of krate.now) files.old taken files.new) }
+    ensures points { IfOk result (λ taken. IfSome taken.location (λ at.
+        PointsAt files.new at (field_text (record_of krate.now)))) }
+{
+    let located = locate_field(alloc, tree, files, krate)?;
+    let settled = settle_licence(alloc, tree, scan, krate, clarifications, field)?;
+    let front = reads_of(alloc, located.read)?;
+    let reads = joined(front, settled.reads)?;
+    Ok(Taken {
+        by: settled.by,
+        missing: settled.missing,
+        location: located.location,
+        reads,
+    })
+}
+
+/// Where a clarification is for the crate, its files are read before its manifest, and that is asked for
+/// where none holds.
+fn take_files_first<T: Tree, I: Identifier, C: Catalog>(
+    alloc: Global,
+    tree: &mut T,
+    files: &mut Files,
+    scan: &Scan<'_, I, C>,
+    krate: &Krate,
+    clarifications: &[&ClarificationRef<'_>],
+    field: Option<Expression>,
+) -> Result<Taken, AllocError>
+    requires some { spec.is_nothing (map behind clarifications.now) ≡ false }
+    requires field { field ≡ field_of (C.lists scan.now.catalog.now) (record_of krate.now) }
+    ensures kept { KeepsTree (T.content tree.old) (T.content tree.new)
+        (T.fault_count tree.old) (T.fault_count tree.new) }
+    ensures rises { IfOk result (λ taken.
+        RiseInOrder (T.fault_count tree.old) taken.reads (T.fault_count tree.new)) }
+    ensures told { (policy : ℕ) → ForSome (T.content tree.old) (λ c. IfOk result (λ taken.
+        IsTakenByOwn (scanner_with C.lists I.match_of scan.now) policy (map behind clarifications.now)
+        (record_of krate.now) c files.old taken files.new)) }
+    ensures some { (policy : ℕ) → IfOk result (λ taken.
+        IsTakenBySome (scanner_with C.lists I.match_of scan.now) policy (map behind clarifications.now)
+        (record_of krate.now) files.old taken files.new) }
+    ensures points { IfOk result (λ taken. IfSome taken.location (λ at.
+        PointsAt files.new at (field_text (record_of krate.now)))) }
+{
+    let settled = settle_licence(alloc, tree, scan, krate, clarifications, field)?;
+    let located = locate_unless_clarified(alloc, tree, files, krate, &settled.by)?;
+    let back = reads_of(alloc, located.read)?;
+    let reads = joined(settled.reads, back)?;
+    Ok(Taken {
+        by: settled.by,
+        missing: settled.missing,
+        location: located.location,
+        reads,
+    })
+}
+
+/// Whether no clarification is for a crate.
+fn is_nothing(clarifications: &[&ClarificationRef<'_>]) -> bool
+    ensures { result ≡ spec.is_nothing (map behind clarifications.now) }
+{
+    clarifications.is_empty()
+}
+
+/// What settles a crate's licence, and where its manifest writes its field. The field is handed in as it was
+/// read.
+pub(crate) fn take<T: Tree, I: Identifier, C: Catalog>(
+    alloc: Global,
+    tree: &mut T,
+    files: &mut Files,
+    scan: &Scan<'_, I, C>,
+    krate: &Krate,
+    clarifications: &[&ClarificationRef<'_>],
+    field: Option<Expression>,
+) -> Result<Taken, AllocError>
+    requires { field ≡ field_of (C.lists scan.now.catalog.now) (record_of krate.now) }
+    ensures kept { KeepsTree (T.content tree.old) (T.content tree.new)
+        (T.fault_count tree.old) (T.fault_count tree.new) }
+    ensures rises { IfOk result (λ taken.
+        RiseInOrder (T.fault_count tree.old) taken.reads (T.fault_count tree.new)) }
+    ensures told { (policy : ℕ) → ForSome (T.content tree.old) (λ c. IfOk result (λ taken.
+        IsTakenByOwn (scanner_with C.lists I.match_of scan.now) policy (map behind clarifications.now)
+        (record_of krate.now) c files.old taken files.new)) }
+    ensures some { (policy : ℕ) → IfOk result (λ taken.
+        IsTakenBySome (scanner_with C.lists I.match_of scan.now) policy (map behind clarifications.now)
+        (record_of krate.now) files.old taken files.new) }
+    ensures points { IfOk result (λ taken. IfSome taken.location (λ at.
+        PointsAt files.new at (field_text (record_of krate.now)))) }
+{
+    if is_nothing(clarifications) {
+        take_manifest_first(alloc, tree, files, scan, krate, clarifications, field)
+    } else {
+        take_files_first(alloc, tree, files, scan, krate, clarifications, field)
+    }
+}
