@@ -89,6 +89,13 @@ impl Evaluator {
         is_accepted(&mut self.answers, expression.nodes(), self.kept.as_slice())
     }
 
+    /// What was kept for the terms of the last expression, in text order: what allows each, or nothing.
+    pub fn hits(&self) -> &[Option<Hit>]
+        ensures { result.now ≡ self.now.hits }
+    {
+        self.kept.as_slice()
+    }
+
     /// The verdict on an expression with what shows it, from what was kept for its terms.
     pub fn certificate(&self, alloc: Global, expression: &Expression) -> Result<Verdict, AllocError>
         ensures { CertificateAnswers self.now.hits expression.now.tree result }
