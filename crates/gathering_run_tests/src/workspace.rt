@@ -26,8 +26,7 @@ license-files = [{ path = \"LICENSE\", hash = 0x81c9d352 }]\n";
 const A: &str = "a: ISC Accepted by the policy; Listing /w/a Got; LicenseFile LICENSE Got\n";
 
 /// The policy is file 0, and the manifest is the next one.
-const B: &str =
-    "b: MIT Accepted by the field in file 1 at 11..14; Manifest /w/b/Cargo.toml Got\n";
+const B: &str = "b: MIT Accepted by the field in file 1 at 11..14; Manifest /w/b/Cargo.toml Got\n";
 
 const C: &str = "c: MIT Accepted by files LICENSE; Listing /w/c Got; LicenseFile LICENSE Got\n";
 
