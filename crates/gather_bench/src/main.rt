@@ -1,8 +1,9 @@
 //! Gathers the licences of crates that are made in memory, and prints how many of them the policy gives one.
 //! With the argument `bench` it prints how long 5,000, 10,000 and 20,000 crates take, and how many MB of
-//! files a second that is; and how long the search for a licence field takes over texts of 64 MiB. With the words `crates N`, or `files N M`, it does one thing, for tools
-//! that count instructions: it gathers N crates with a licence file and a manifest each, or N crates of M
-//! clarified files each; with the word `made` as well it makes these, and gathers nothing.
+//! files a second that is; and how long the search for a licence field takes over texts of 64 MiB or a little
+//! more. With the words `crates N`, or `files N M`, it does one thing, for tools that count instructions: it
+//! gathers N crates with a licence file and a manifest each, or N crates of M clarified files each; with the
+//! word `made` as well it makes these, and gathers nothing.
 #![tactic(auto)]
 
 mod policy;
@@ -24,8 +25,8 @@ const COUNT: u32 = 20_000;
 
 const ROUNDS: u64 = 5;
 
-/// 64 MiB.
-const SEARCHED: usize = 67_108_864;
+/// How many pieces of 8 bytes make 64 MiB.
+const PIECES: u32 = 8_388_608;
 
 /// What is asked for by words.
 #[derive(Clone, Copy)]
@@ -83,7 +84,7 @@ fn tell<R: Print>(rt: &R, alloc: Global, world: Option<World>, is_made: bool) ->
 /// Prints how long a text of one piece, again and again, is searched for a licence field.
 fn bench_search(rt: &HostRuntime, piece: &str) -> io::Result<()> {
     let mut text = String::new(rt.alloc());
-    while text.len() < SEARCHED {
+    for _ in 0..PIECES {
         text.push_str(piece)?;
     }
     let start = Instant::now(rt)?;
@@ -111,7 +112,7 @@ fn bench(rt: &HostRuntime) -> io::Result<()> {
             println!(rt; "{} crates: {least} us, {speed} MB/s", COUNT / part)?;
         }
     }
-    for piece in ["license ", "license=\"", "license=", " "] {
+    for piece in ["license ", "license=\"", "license=", "license\u{3000}"] {
         bench_search(rt, piece)?;
     }
     Ok(())
