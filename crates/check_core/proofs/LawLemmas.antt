@@ -1,0 +1,60 @@
+-- More entries never reject a crate.
+use Rattle.std.proofs.Common.{◌≡◌, ◌∙◌, refl, sym, ap, subst, ℕ, Bool, true, false, inl, inr, cond, IsTrue, List, Option, Some, None}
+use Rattle.std.specs.Prelude.{◌↔◌}
+use Rattle.std.proofs.lemmas.Bool.{both_ways}
+use Rattle.term_core.specs.declared.term.ExpressionReq.{ExpressionReq}
+use Rattle.term_core.specs.declared.term.LicenseReq.{LicenseReq}
+use Rattle.spdx_core.specs.Grammar.{Tree}
+use Rattle.spdx_core.specs.Reading.{ExpressionView}
+use Rattle.graph_core.specs.Krate.{Record}
+use Rattle.valid_policy.specs.Policy.{Grant, IsPrivate, Policy}
+use Rattle.evaluate_core.specs.Evaluation.{is_allowed}
+use Rattle.evaluate_core.specs.Laws.{with_allowed, with_exception}
+use Rattle.evaluate_core.proofs.MoreLemmas.{more_allowed, more_exceptions}
+use Rattle.check_core.specs.Laws.{IsAsGood}
+use Rattle.check_core.specs.Verdicts.{Judgement, accepted, rejected, IsJudged, judgement_of, verdict_of}
+
+-- tests of one fact agree
+pub same_test : (one other : Bool) {A B : Type 0} → (A → B) → (B → A) → IsTrue one ↔ A → IsTrue other ↔ B → one ≡ other
+same_test true true to from first second = refl
+same_test true false to from first second = absurd (both_ways false refl (second.1 (to (first.0 refl))))
+same_test false true to from first second = absurd (both_ways false refl (first.1 (from (second.0 refl))))
+same_test false false to from first second = refl
+
+as_good_if : (before after : Bool) → (before ≡ true → after ≡ true) → IsAsGood (cond before accepted rejected) (cond after accepted rejected)
+as_good_if true true more = refl
+as_good_if true false more = absurd (both_ways false refl (more refl))
+as_good_if false true more = inr refl
+as_good_if false false more = inl refl
+
+-- a policy that allows no less, and passes over the same crates
+module _ (policy other : Policy) (krate : Record) (to : IsPrivate policy krate → IsPrivate other krate) (from : IsPrivate other krate → IsPrivate policy krate)
+    (more : (terms : List ExpressionReq) (tree : Tree) → IsTrue (is_allowed policy krate terms tree) → IsTrue (is_allowed other krate terms tree)) where
+  judged_as_good : (expression : Option ExpressionView) → IsAsGood (judgement_of policy krate expression) (judgement_of other krate expression)
+  judged_as_good None = refl
+  judged_as_good (Some expression) =
+      as_good_if (is_allowed policy krate expression.terms expression.tree) (is_allowed other krate expression.terms expression.tree)
+      (more expression.terms expression.tree)
+
+  verdict_as_good : (private : Bool) (expression : Option ExpressionView) → IsAsGood (verdict_of private policy krate expression) (verdict_of private other krate expression)
+  verdict_as_good true expression = refl
+  verdict_as_good false expression = judged_as_good expression
+
+  as_good : (expression : Option ExpressionView) (before after : Judgement) → IsJudged policy krate expression before → IsJudged other krate expression after → IsAsGood before after
+  as_good expression before after first second =
+      let same : first.private ≡ second.private = same_test first.private second.private to from first.tells second.tells in
+      let after_is : after ≡ verdict_of first.private other krate expression = second.is ∙ ap (λ (b : Bool). verdict_of b other krate expression) (sym same) in
+      subst (λ (j : Judgement). IsAsGood j after) (sym first.is)
+      (subst (λ (j : Judgement). IsAsGood (verdict_of first.private policy krate expression) j) (sym after_is) (verdict_as_good first.private expression))
+
+pub more_allowed_as_good : (policy : Policy) (krate : Record) (expression : Option ExpressionView) (place : ℕ) (licensee : LicenseReq) (before after : Judgement)
+    → IsJudged policy krate expression before → IsJudged (with_allowed policy place licensee) krate expression after → IsAsGood before after
+more_allowed_as_good policy krate expression place licensee =
+    as_good policy (with_allowed policy place licensee) krate (λ is. record { ignores = is.ignores; private = is.private }) (λ is. record { ignores = is.ignores; private = is.private })
+    (λ terms tree. more_allowed policy krate terms tree place licensee) expression
+
+pub more_exceptions_as_good : (policy : Policy) (krate : Record) (expression : Option ExpressionView) (grant : Grant) (before after : Judgement)
+    → IsJudged policy krate expression before → IsJudged (with_exception policy grant) krate expression after → IsAsGood before after
+more_exceptions_as_good policy krate expression grant =
+    as_good policy (with_exception policy grant) krate (λ is. record { ignores = is.ignores; private = is.private }) (λ is. record { ignores = is.ignores; private = is.private })
+    (λ terms tree. more_exceptions policy krate terms tree grant) expression

@@ -1,0 +1,4 @@
+pub mod HitLemmas
+pub mod LawLemmas
+pub mod OwnLemmas
+pub mod VerdictLemmas

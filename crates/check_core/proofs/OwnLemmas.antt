@@ -1,0 +1,281 @@
+-- Equal ears, equal verdicts.
+use Rattle.std.proofs.Common.{◌≡◌, ◌∙◌, refl, sym, ap, ap₂, subst, ℕ, Bool, true, false, ◌&&◌, cond, List, [], ◌∷◌, ◌++◌, map, Option, Some, None}
+use Rattle.std.specs.Prelude.{All, filter, not, option_map, unwrap_or}
+use Rattle.std.specs.List.{AllByRecursion, flat_map, fold}
+use Rattle.std.specs.Ordering.{is_lt}
+use Rattle.std.proofs.lemmas.List.Elements.{All-weaker, recursion_from_All}
+use Rattle.deny_text.specs.Path.{components_of, path_order}
+use Rattle.tree_core.specs.Content.{Content, Place, resolve}
+use Rattle.tree_core.specs.declared.reads.ReadKind.{ReadKind}
+use Rattle.tree_core.specs.declared.reads.ReadKind.TheVariants.{LicenseFile, Listing}
+use Rattle.tree_core.specs.declared.reads.ReadRecord.{ReadRecord}
+use Rattle.spdx_core.specs.Reading.{ExpressionView}
+use Rattle.graph_core.specs.Krate.{Record}
+use Rattle.certificate_core.specs.declared.verdict.Hit.{Hit}
+use Rattle.certificate_core.specs.declared.verdict.Verdict.{Verdict}
+use Rattle.certificate_core.specs.declared.verdict.Verdict.TheVariants.{Skipped, Unlicensed, Accepted, Rejected}
+use Rattle.certificate_core.specs.Certificates.{hit_at}
+use Rattle.reads_core.specs.Heard.{Heard, counts_in, failed_counts, heard, is_read, or_counts, or_there, place_of, there_heard}
+use Rattle.pack_core.specs.Ears.{Ears, ears_of, has_hash, holds, looked_of, matches, tried_of}
+use Rattle.pack_core.specs.NamedFile.{Named}
+use Rattle.pack_core.specs.Pack.{first_spellings, found_of, in_path_order, pack_of, placed, same_path, wanted_of}
+use Rattle.pack_core.specs.View.{is_listed, normal_heard}
+use Rattle.expression_core.specs.Scanned.{Scanner, file_scanned}
+use Rattle.priority_core.specs.Clarification.{Clarification, files_of, named_in}
+use Rattle.priority_core.specs.Priority.{Answer, answer_by, by_cases, field_of, files_scanned, folder_of, holding, priority_of}
+use Rattle.gather_core.specs.Entries.{clarifications_of, entries_of}
+use Rattle.valid_policy.specs.Policy.{Policy}
+use Rattle.valid_policy.specs.View.{policy_of}
+use Rattle.evaluate_core.specs.Evaluation.{kept_of}
+use Rattle.check_core.proofs.LawLemmas.{same_test}
+use Rattle.check_core.specs.Own.{HearTheSame, HoldTheSame, NoneFailed, VerdictIsByEars, VerdictIsOwn, expression_by, file_there, listing_there, paths_around, paths_named}
+use Rattle.check_core.specs.Verdicts.{skipped, unlicensed, accepted, rejected, IsAnswered, IsShown, IsVerdict, is_skipped, judgement_in, verdict_of}
+
+-- ---- lists
+
+all_front : {A : Type 0} (P : A → Type 0) (xs ys : List A) → AllByRecursion P (xs ++ ys) → AllByRecursion P xs
+all_front P [] ys all = tt
+all_front P (x ∷ xs) ys all = (all.0, all_front P xs ys all.1)
+
+all_behind : {A : Type 0} (P : A → Type 0) (xs ys : List A) → AllByRecursion P (xs ++ ys) → AllByRecursion P ys
+all_behind P [] ys all = all
+all_behind P (x ∷ xs) ys all = all_behind P xs ys all.1
+
+all_both : {A : Type 0} (P : A → Type 0) (xs ys : List A) → AllByRecursion P xs → AllByRecursion P ys → AllByRecursion P (xs ++ ys)
+all_both P [] ys first second = second
+all_both P (x ∷ xs) ys first second = (first.0, all_both P xs ys first.1 second)
+
+kept_if : {A : Type 0} (P : A → Type 0) (b : Bool) (x : A) (xs : List A) → P x → AllByRecursion P xs → AllByRecursion P (cond b (x ∷ xs) xs)
+kept_if P true x xs first rest = (first, rest)
+kept_if P false x xs first rest = rest
+
+all_kept : {A : Type 0} (P : A → Type 0) (test : A → Bool) (xs : List A) → AllByRecursion P xs → AllByRecursion P (filter test xs)
+all_kept P test [] all = tt
+all_kept P test (x ∷ xs) all = kept_if P (test x) x (filter test xs) all.0 (all_kept P test xs all.1)
+
+all_unless : {A : Type 0} (P : A → Type 0) (b : Bool) (xs : List A) → AllByRecursion P xs → AllByRecursion P (cond b [] xs)
+all_unless P true xs all = tt
+all_unless P false xs all = all
+
+all_where : {A : Type 0} (P : A → Type 0) (b : Bool) (xs : List A) → AllByRecursion P xs → AllByRecursion P (cond b xs [])
+all_where P true xs all = all
+all_where P false xs all = tt
+
+-- ---- paths in order
+
+module _ (P : List ℕ → Type 0) where
+  spelled : (paths : List (List ℕ)) → AllByRecursion P paths → AllByRecursion P (first_spellings paths)
+  spelled [] all = tt
+  spelled (path ∷ paths) all = (all.0, all_kept P (λ other. not (same_path path other)) (first_spellings paths) (spelled paths all.1))
+
+  place_if : (b : Bool) (path next : List ℕ) (paths rest : List (List ℕ)) → P path → P next → AllByRecursion P paths → AllByRecursion P rest
+      → AllByRecursion P (cond b (path ∷ next ∷ paths) (next ∷ rest))
+  place_if true path next paths rest here there all more = (here, (there, all))
+  place_if false path next paths rest here there all more = (there, more)
+
+  place_one : (path : List ℕ) (paths : List (List ℕ)) → P path → AllByRecursion P paths → AllByRecursion P (placed path paths)
+  place_one path [] here all = (here, tt)
+  place_one path (next ∷ paths) here all =
+      place_if (is_lt (path_order path next)) path next paths (placed path paths) here all.0 all.1 (place_one path paths here all.1)
+
+  place_each : (sorted paths : List (List ℕ)) → AllByRecursion P sorted → AllByRecursion P paths → AllByRecursion P (fold (λ sorted path. placed path sorted) sorted paths)
+  place_each sorted [] first all = first
+  place_each sorted (path ∷ paths) first all = place_each (placed path sorted) paths (place_one path sorted all.0 first) all.1
+
+-- what is heard of a file, as it is kept
+abbrev heard_by : Ears → List ℕ → List ℕ × Heard
+heard_by ears path = (path, normal_heard (ears.file (components_of path)))
+
+-- ---- what is read by two ears
+
+module _ (one other : Ears) where
+  abbrev SameAt : List ℕ → Type 0
+  SameAt path = one.file (components_of path) ≡ other.file (components_of path)
+
+  abbrev SameFor : List Named → Type 0
+  SameFor files = AllByRecursion (λ named. SameAt named.path) files
+
+  same_match : (named : Named) → SameAt named.path → matches one named ≡ matches other named
+  same_match named same = ap (has_hash named.hash) same
+
+  same_holds : (files : List Named) → SameFor files → holds one files ≡ holds other files
+  same_holds [] same = refl
+  same_holds (named ∷ files) same = ap₂ (λ first rest. first && rest) (same_match named same.0) (same_holds files same.1)
+
+  same_looked : (files : List Named) → SameFor files → looked_of one files ≡ looked_of other files
+  same_looked [] same = refl
+  same_looked (named ∷ files) same = ap₂ (λ b rest. named.path ∷ cond b rest []) (same_match named same.0) (same_looked files same.1)
+
+  looked_same : (files : List Named) → SameFor files → AllByRecursion SameAt (looked_of one files)
+  looked_same [] same = tt
+  looked_same (named ∷ files) same = (same.0, all_where SameAt (matches one named) (looked_of one files) (looked_same files same.1))
+
+  same_behind : (b : Bool) (xs ys : List (List Named)) → flat_map (looked_of one) xs ≡ flat_map (looked_of other) ys
+      → flat_map (looked_of one) (cond b [] xs) ≡ flat_map (looked_of other) (cond b [] ys)
+  same_behind true xs ys same = refl
+  same_behind false xs ys same = same
+
+  same_tried : (all : List (List Named)) → AllByRecursion SameFor all → flat_map (looked_of one) (tried_of one all) ≡ flat_map (looked_of other) (tried_of other all)
+  same_tried [] same = refl
+  same_tried (files ∷ more) same =
+      ap₂ (λ first rest. first ++ rest) (same_looked files same.0)
+      (same_behind (holds one files) (tried_of one more) (tried_of other more) (same_tried more same.1)
+      ∙ ap (λ b. flat_map (looked_of other) (cond b [] (tried_of other more))) (same_holds files same.0))
+
+  tried_behind : (b : Bool) (xs : List (List Named)) → AllByRecursion SameAt (flat_map (looked_of one) xs) → AllByRecursion SameAt (flat_map (looked_of one) (cond b [] xs))
+  tried_behind true xs all = tt
+  tried_behind false xs all = all
+
+  tried_same : (all : List (List Named)) → AllByRecursion SameFor all → AllByRecursion SameAt (flat_map (looked_of one) (tried_of one all))
+  tried_same [] same = tt
+  tried_same (files ∷ more) same =
+      all_both SameAt (looked_of one files) (flat_map (looked_of one) (cond (holds one files) [] (tried_of one more))) (looked_same files same.0)
+      (tried_behind (holds one files) (tried_of one more) (tried_same more same.1))
+
+  same_heard : (paths : List (List ℕ)) → AllByRecursion SameAt paths → map (heard_by one) paths ≡ map (heard_by other) paths
+  same_heard [] same = refl
+  same_heard (path ∷ paths) same =
+      ap₂ (λ (heard : Heard) (rest : List (List ℕ × Heard)). let it : List ℕ × Heard = (path, normal_heard heard) in it ∷ rest) same.0 (same_heard paths same.1)
+
+  same_holding : (clarifications : List Clarification) → AllByRecursion SameFor (files_of clarifications) → holding one clarifications ≡ holding other clarifications
+  same_holding [] same = refl
+  same_holding (first ∷ more) same = ap₂ (λ b rest. cond b (Some first) rest) (same_holds (named_in first) same.0) (same_holding more same.1)
+
+  -- ---- by the paths that are named
+
+  same_named : (files : List Named) → AllByRecursion SameAt (map (λ named. named.path) files) → SameFor files
+  same_named [] same = tt
+  same_named (named ∷ files) same = (same.0, same_named files same.1)
+
+  same_each : (clarifications : List Clarification) → AllByRecursion SameAt (flat_map paths_named clarifications) → AllByRecursion SameFor (files_of clarifications)
+  same_each [] same = tt
+  same_each (first ∷ more) same = (
+    same_named (named_in first) (all_front SameAt (paths_named first) (flat_map paths_named more) same),
+    same_each more (all_behind SameAt (paths_named first) (flat_map paths_named more) same),
+  )
+
+  same_priority : (scanner : Scanner) (clarifications : List Clarification) (krate : Record) → HearTheSame clarifications krate one other
+      → priority_of scanner clarifications krate one ≡ priority_of scanner clarifications krate other
+  same_priority scanner clarifications krate hear =
+      let found = found_of one.listing krate.license_file in
+      let files = files_of clarifications in
+      let all : AllByRecursion SameAt (paths_around one.listing clarifications krate) = recursion_from_All SameAt (paths_around one.listing clarifications krate) hear.files in
+      let each : AllByRecursion SameFor files = same_each clarifications (all_behind SameAt found (flat_map paths_named clarifications) all) in
+      let wanted_same : wanted_of one krate.license_file files ≡ wanted_of other krate.license_file files =
+      ap₂ (λ listing rest. found_of listing krate.license_file ++ rest) hear.listing (same_tried files each) in
+      let wanted_all : AllByRecursion SameAt (wanted_of one krate.license_file files) =
+      all_both SameAt found (flat_map (looked_of one) (tried_of one files)) (all_front SameAt found (flat_map paths_named clarifications) all) (tried_same files each) in
+      let pack = pack_of one krate.license_file files in
+      let pack_all : AllByRecursion SameAt pack =
+      place_each SameAt [] (first_spellings (wanted_of one krate.license_file files)) tt (spelled SameAt (wanted_of one krate.license_file files) wanted_all) in
+      let pack_same : pack ≡ pack_of other krate.license_file files = ap (λ paths. in_path_order (first_spellings paths)) wanted_same in
+      let heard_same : map (heard_by one) pack ≡ map (heard_by other) (pack_of other krate.license_file files) =
+      same_heard pack pack_all ∙ ap (map (heard_by other)) pack_same in
+      let scanned_same : files_scanned scanner clarifications krate one ≡ files_scanned scanner clarifications krate other =
+      ap₂ (λ listing heard. map (file_scanned scanner) (cond (is_listed listing) heard [])) hear.listing heard_same in
+      ap₂ (λ held scanned. by_cases (option_map (λ (one : Clarification). one.expression) held) (field_of scanner.lists krate) (answer_by scanner.lists scanned))
+      (same_holding clarifications each) scanned_same
+
+-- ---- what contents let hear
+
+no_counts : (kind : ReadKind) (parts : List (List ℕ)) (reads : List ReadRecord) → AllByRecursion (λ read. counts_in read.answer ≡ None) reads → failed_counts kind parts reads ≡ None
+no_counts kind parts [] quiet = refl
+no_counts kind parts (read ∷ reads) quiet =
+    elim (is_read kind parts read) as (λ b. cond b (or_counts (counts_in read.answer) (failed_counts kind parts reads)) (failed_counts kind parts reads) ≡ None) [
+      | true ↦ ap (λ counts. or_counts counts (failed_counts kind parts reads)) quiet.0 ∙ no_counts kind parts reads quiet.1
+      | false ↦ no_counts kind parts reads quiet.1
+    ]
+
+heard_there : (content : Content) (base : Place) (kind : ReadKind) (parts : List (List ℕ)) (reads : List ReadRecord) → NoneFailed reads
+    → heard content base reads kind parts ≡ there_heard kind content (place_of kind base parts)
+heard_there content base kind parts reads quiet =
+    ap (λ counts. or_there counts (there_heard kind content (place_of kind base parts)))
+    (no_counts kind parts reads (recursion_from_All (λ read. counts_in read.answer ≡ None) reads quiet))
+
+same_ears : (clarifications : List Clarification) (krate : Record) (one other : Content) (reads more : List ReadRecord) → HoldTheSame clarifications krate one other
+    → NoneFailed reads → NoneFailed more → HearTheSame clarifications krate (ears_of one (folder_of krate) reads) (ears_of other (folder_of krate) more)
+same_ears clarifications krate one other reads more hold quiet still =
+    let base = resolve (folder_of krate) in
+    let folder = components_of (folder_of krate) in
+    let first : heard one base reads Listing folder ≡ listing_there krate one = heard_there one base Listing folder reads quiet in
+    let second : heard other base more Listing folder ≡ listing_there krate other = heard_there other base Listing folder more still in
+    record {
+      listing = first ∙ hold.listing ∙ sym second;
+      files = subst (λ (listing : Heard). All (λ path. heard one base reads LicenseFile (components_of path) ≡ heard other base more LicenseFile (components_of path))
+          (paths_around listing clarifications krate)) (sym first)
+          (All-weaker (λ path. file_there krate one path ≡ file_there krate other path)
+          (λ path. heard one base reads LicenseFile (components_of path) ≡ heard other base more LicenseFile (components_of path))
+          (λ path same. heard_there one base LicenseFile (components_of path) reads quiet ∙ same ∙ sym (heard_there other base LicenseFile (components_of path) more still))
+          (paths_around (listing_there krate one) clarifications krate) hold.files);
+    }
+
+-- ---- a crate has one verdict
+
+abbrev first_of : {A : Type 0} → A → List (Option A) → A
+first_of other [] = other
+first_of other (None ∷ rest) = other
+first_of other (Some x ∷ rest) = x
+
+abbrev rest_of : {A : Type 0} → List A → List A
+rest_of [] = []
+rest_of (x ∷ xs) = xs
+
+same_items : {A : Type 0} (xs ys : List A) → map Some xs ≡ map Some ys → xs ≡ ys
+same_items [] [] same = refl
+same_items [] (y ∷ ys) same = let bad : [] ≡ Some y ∷ map Some ys = same in cc
+same_items (x ∷ xs) [] same = let bad : Some x ∷ map Some xs ≡ [] = same in cc
+same_items (x ∷ xs) (y ∷ ys) same = ap₂ (λ first rest. first ∷ rest) (ap (first_of x) same) (same_items xs ys (ap rest_of same))
+
+same_accepted : (policy : Policy) (krate : Record) (expression : Option ExpressionView) (choice places : List ℕ) (hits others : List Hit)
+    → IsAnswered policy krate expression (Accepted choice hits) → IsAnswered policy krate expression (Accepted places others) → Accepted choice hits ≡ Accepted places others
+same_accepted policy krate None choice places hits others first second = let bad : Accepted choice hits ≡ Unlicensed = first in cc
+same_accepted policy krate (Some expression) choice places hits others first second =
+    let choices : choice ≡ places = ap (λ o. unwrap_or o choice) (sym first.first ∙ second.first) in
+    ap₂ Accepted choices
+    (same_items hits others (first.place_by_place ∙ ap (map (hit_at (kept_of policy krate expression.terms))) choices ∙ sym second.place_by_place))
+
+same_rejected : (policy : Policy) (krate : Record) (expression : Option ExpressionView) (least fewest blocks others : List ℕ)
+    → IsAnswered policy krate expression (Rejected least blocks) → IsAnswered policy krate expression (Rejected fewest others) → Rejected least blocks ≡ Rejected fewest others
+same_rejected policy krate None least fewest blocks others first second = let bad : Rejected least blocks ≡ Unlicensed = first in cc
+same_rejected policy krate (Some expression) least fewest blocks others first second =
+    ap₂ Rejected (ap (λ o. unwrap_or o least) (sym first.least_is ∙ second.least_is)) (first.blocks_are ∙ sym second.blocks_are)
+
+same_shown : (policy : Policy) (krate : Record) (expression : Option ExpressionView) (first second : Verdict) → judgement_in first ≡ judgement_in second
+    → IsShown (is_skipped first) policy krate expression first → IsShown (is_skipped second) policy krate expression second → first ≡ second
+same_shown policy krate expression Skipped Skipped same shown also = refl
+same_shown policy krate expression Skipped Unlicensed same shown also = let bad : skipped ≡ unlicensed = same in cc
+same_shown policy krate expression Skipped (Accepted choice hits) same shown also = let bad : skipped ≡ accepted = same in cc
+same_shown policy krate expression Skipped (Rejected least blocks) same shown also = let bad : skipped ≡ rejected = same in cc
+same_shown policy krate expression Unlicensed Skipped same shown also = let bad : unlicensed ≡ skipped = same in cc
+same_shown policy krate expression Unlicensed Unlicensed same shown also = refl
+same_shown policy krate expression Unlicensed (Accepted choice hits) same shown also = let bad : unlicensed ≡ accepted = same in cc
+same_shown policy krate expression Unlicensed (Rejected least blocks) same shown also = let bad : unlicensed ≡ rejected = same in cc
+same_shown policy krate expression (Accepted choice hits) Skipped same shown also = let bad : accepted ≡ skipped = same in cc
+same_shown policy krate expression (Accepted choice hits) Unlicensed same shown also = let bad : accepted ≡ unlicensed = same in cc
+same_shown policy krate expression (Accepted choice hits) (Accepted places others) same shown also = same_accepted policy krate expression choice places hits others shown also
+same_shown policy krate expression (Accepted choice hits) (Rejected least blocks) same shown also = let bad : accepted ≡ rejected = same in cc
+same_shown policy krate expression (Rejected least blocks) Skipped same shown also = let bad : rejected ≡ skipped = same in cc
+same_shown policy krate expression (Rejected least blocks) Unlicensed same shown also = let bad : rejected ≡ unlicensed = same in cc
+same_shown policy krate expression (Rejected least blocks) (Accepted choice hits) same shown also = let bad : rejected ≡ accepted = same in cc
+same_shown policy krate expression (Rejected least blocks) (Rejected fewest others) same shown also = same_rejected policy krate expression least fewest blocks others shown also
+
+same_verdict : (policy : Policy) (krate : Record) (expression : Option ExpressionView) (first second : Verdict) → IsVerdict policy krate expression first
+    → IsVerdict policy krate expression second → first ≡ second
+same_verdict policy krate expression first second is also =
+    let private : is.judged.private ≡ also.judged.private = same_test is.judged.private also.judged.private (λ p. p) (λ p. p) is.judged.tells also.judged.tells in
+    same_shown policy krate expression first second
+    (is.judged.is ∙ ap (λ (b : Bool). verdict_of b policy krate expression) private ∙ sym also.judged.is) is.shown also.shown
+
+-- ---- laws
+
+pub by_ears : VerdictIsByEars
+by_ears scanner policy krate one other first second hear is also =
+    let same : expression_by scanner policy krate one ≡ expression_by scanner policy krate other =
+    ap (λ answer. option_map (λ (one : Answer). one.expression) answer) (same_priority one other scanner (clarifications_of krate (entries_of policy)) krate hear) in
+    same_verdict (policy_of policy) krate (expression_by scanner policy krate one) first second is
+    (subst (λ (e : Option ExpressionView). IsVerdict (policy_of policy) krate e second) (sym same) also)
+
+pub by_own : VerdictIsOwn
+by_own scanner policy krate one other reads more first second hold quiet still =
+    by_ears scanner policy krate (ears_of one (folder_of krate) reads) (ears_of other (folder_of krate) more) first second
+    (same_ears (clarifications_of krate (entries_of policy)) krate one other reads more hold quiet still)

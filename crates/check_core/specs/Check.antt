@@ -1,0 +1,32 @@
+-- What the check tells of all crates, and then of the policy.
+use Rattle.std.specs.Prelude.{List, [], ◌∷◌, ◌++◌}
+use Rattle.std.specs.List.{AllZip}
+use Rattle.certificate_core.specs.declared.verdict.Hit.{Hit}
+use Rattle.certificate_core.specs.declared.verdict.Verdict.{Verdict}
+use Rattle.diag_core.specs.Pack.{PackOf}
+use Rattle.unused_core.specs.Unused.{last_pack}
+use Rattle.valid_policy.specs.declared.policy.ValidConfig.{ValidConfig}
+use Rattle.valid_policy.specs.Policy.{Policy}
+use Rattle.valid_policy.specs.View.{policy_of}
+use Rattle.check_core.specs.Turns.{Asked, expression_of, hits_by, pack_by}
+use Rattle.check_core.specs.Verdicts.{IsVerdict, is_skipped}
+
+-- each crate has its verdict, in order
+abbrev pub AreVerdicts : Policy → List Asked → List Verdict → Type 0
+AreVerdicts policy asked verdicts = AllZip (λ (one : Asked) verdict. IsVerdict policy one.krate (expression_of one.told) verdict) asked verdicts
+
+-- the packs of the crates, in order
+abbrev pub packs_of : Policy → List Asked → List Verdict → List PackOf
+packs_of policy [] verdicts = []
+packs_of policy (asked ∷ more) [] = []
+packs_of policy (asked ∷ more) (verdict ∷ verdicts) = pack_by (is_skipped verdict) policy asked ∷ packs_of policy more verdicts
+
+-- the hits of all terms of the crates that are not skipped
+abbrev pub all_hits : Policy → List Asked → List Verdict → List Hit
+all_hits policy [] verdicts = []
+all_hits policy (asked ∷ more) [] = []
+all_hits policy (asked ∷ more) (verdict ∷ verdicts) = hits_by (is_skipped verdict) policy asked ++ all_hits policy more verdicts
+
+-- All packs of the check: one a crate, and then always one about the policy, which may be empty.
+abbrev pub findings_of : ValidConfig → List Asked → List Verdict → List PackOf
+findings_of policy asked verdicts = packs_of (policy_of policy) asked verdicts ++ last_pack policy (all_hits (policy_of policy) asked verdicts) ∷ []

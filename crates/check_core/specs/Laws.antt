@@ -1,0 +1,25 @@
+-- More entries never reject a crate.
+use Rattle.std.specs.Prelude.{◌≡◌, ◌⊎◌, ℕ, Option}
+use Rattle.term_core.specs.declared.term.LicenseReq.{LicenseReq}
+use Rattle.spdx_core.specs.Reading.{ExpressionView}
+use Rattle.graph_core.specs.Krate.{Record}
+use Rattle.valid_policy.specs.Policy.{Grant, Policy}
+use Rattle.evaluate_core.specs.Laws.{with_allowed, with_exception}
+use Rattle.check_core.specs.Verdicts.{Judgement, skipped, unlicensed, accepted, rejected, IsJudged}
+
+-- a judgement stays what it is, but that a rejected crate may come to be accepted
+abbrev pub IsAsGood : Judgement → Judgement → Type 0
+IsAsGood skipped after = after ≡ skipped
+IsAsGood unlicensed after = after ≡ unlicensed
+IsAsGood accepted after = after ≡ accepted
+IsAsGood rejected after = (after ≡ rejected) ⊎ (after ≡ accepted)
+
+-- one more allowed licensee, at any place of the sorted list
+abbrev pub MoreAllowedIsAsGood : Type 0
+MoreAllowedIsAsGood = (policy : Policy) (krate : Record) (expression : Option ExpressionView) (place : ℕ) (licensee : LicenseReq) (before after : Judgement)
+    → IsJudged policy krate expression before → IsJudged (with_allowed policy place licensee) krate expression after → IsAsGood before after
+
+-- one more exception behind all others
+abbrev pub MoreExceptionsAreAsGood : Type 0
+MoreExceptionsAreAsGood = (policy : Policy) (krate : Record) (expression : Option ExpressionView) (grant : Grant) (before after : Judgement)
+    → IsJudged policy krate expression before → IsJudged (with_exception policy grant) krate expression after → IsAsGood before after

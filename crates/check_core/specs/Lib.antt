@@ -1,0 +1,9 @@
+pub mod Check
+pub mod Hits
+pub mod Laws
+pub mod Own
+pub mod Rows
+pub mod Sources
+pub mod Turns
+pub mod Verdicts
+pub mod Views

@@ -1,0 +1,38 @@
+//! What holds of all policies and crates. These functions do nothing: their contracts are the laws.
+ghost use Rattle.check_core.specs.Hits.{TellsTheUnneeded, TermsAreTold};
+ghost use Rattle.check_core.specs.Laws.{MoreAllowedIsAsGood, MoreExceptionsAreAsGood};
+ghost use Rattle.check_core.specs.Own.{VerdictIsByEars, VerdictIsOwn};
+
+/// A further allowed licensee, at any place of the list, rejects no crate that was accepted, and a crate that
+/// was skipped or has no expression stays what it is.
+pub fn more_allowed_is_as_good()
+    ensures { MoreAllowedIsAsGood }
+{}
+
+/// So does a further exception behind all others.
+pub fn more_exceptions_are_as_good()
+    ensures { MoreExceptionsAreAsGood }
+{}
+
+/// Where the same is heard of a crate's folder, of the licence files in it, and of the files that its record or a
+/// clarification for it names, its verdict is the same, with what shows it.
+pub fn verdict_is_by_ears()
+    ensures { VerdictIsByEars }
+{}
+
+/// So it is over two trees that hold the same there, where no read of the crate failed.
+pub fn verdict_is_own()
+    ensures { VerdictIsOwn }
+{}
+
+/// Each term of an expression is told at its own place by what allows it: an entry of the crate's first exception,
+/// an allowed licensee, or nothing.
+pub fn terms_are_told()
+    ensures { TermsAreTold }
+{}
+
+/// The last pack tells just the entries of the policy that no crate needs, at their lint levels: a crate that is not
+/// skipped needs what allows a term of its expression, also where it is rejected and where no choice takes the term.
+pub fn tells_the_unneeded()
+    ensures { TellsTheUnneeded }
+{}

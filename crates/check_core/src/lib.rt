@@ -1,0 +1,9 @@
+//! The check: the verdict on each crate with what shows it, and the findings that tell it.
+#![tactic(auto)]
+
+pub mod laws;
+mod source;
+pub mod turn;
+
+pub use source::source_text;
+pub use turn::{Checker, Gathered};
