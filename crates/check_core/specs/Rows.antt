@@ -1,6 +1,5 @@
 -- Rows of policies and crates, with the judgement, the hits and what is told, worked out by hand from the rules.
 use Rattle.std.specs.Prelude.{ℕ, Bool, true, false, List, [], ◌∷◌, map, codes, Option, Some, None}
-use Rattle.deny_text.specs.declared.span.Span.{Span}
 use Rattle.term_core.specs.declared.term.ExpressionReq.{ExpressionReq}
 use Rattle.term_core.specs.declared.term.LicenseItem.TheVariants.{Spdx}
 use Rattle.term_core.specs.declared.term.LicenseReq.{LicenseReq}
