@@ -1,4 +1,6 @@
+pub mod CheckLemmas
 pub mod HitLemmas
+pub mod LabelLemmas
 pub mod LawLemmas
 pub mod OwnLemmas
 pub mod VerdictLemmas

@@ -1,13 +1,17 @@
 -- What the check tells of all crates, and then of the policy.
-use Rattle.std.specs.Prelude.{List, [], ◌∷◌, ◌++◌}
+use Rattle.std.specs.Prelude.{◌≡◌, ℕ, List, [], ◌∷◌, ◌++◌, map, take}
 use Rattle.std.specs.List.{AllZip}
 use Rattle.certificate_core.specs.declared.verdict.Hit.{Hit}
 use Rattle.certificate_core.specs.declared.verdict.Verdict.{Verdict}
+use Rattle.diag_core.specs.declared.overrides.ErrorSink.{ErrorSink}
+use Rattle.diag_core.specs.Overrides.{pack_overridden}
 use Rattle.diag_core.specs.Pack.{PackOf}
+use Rattle.gather_core.specs.declared.summary.KrateLicense.{KrateLicense}
 use Rattle.unused_core.specs.Unused.{last_pack}
 use Rattle.valid_policy.specs.declared.policy.ValidConfig.{ValidConfig}
 use Rattle.valid_policy.specs.Policy.{Policy}
 use Rattle.valid_policy.specs.View.{policy_of}
+use Rattle.check_core.specs.Summary.{all_asked}
 use Rattle.check_core.specs.Turns.{Asked, expression_of, hits_by, pack_by}
 use Rattle.check_core.specs.Verdicts.{IsVerdict, is_skipped}
 
@@ -30,3 +34,16 @@ all_hits policy (asked ∷ more) (verdict ∷ verdicts) = hits_by (is_skipped ve
 -- All packs of the check: one a crate, and then always one about the policy, which may be empty.
 abbrev pub findings_of : ValidConfig → List Asked → List Verdict → List PackOf
 findings_of policy asked verdicts = packs_of (policy_of policy) asked verdicts ++ last_pack policy (all_hits (policy_of policy) asked verdicts) ∷ []
+
+-- ---- what a sink has gained
+
+-- a sink with more packs behind its own, each at the levels that its overrides say
+abbrev pub gained : ErrorSink → List PackOf → ErrorSink
+gained sink packs = record sink { packs = sink.packs ++ map (pack_overridden sink.overrides) packs }
+
+-- a sink has gained the packs of some first crates, by the verdicts on these, and nothing else
+pub record HasFront (policy : Policy) (licenses : List KrateLicense) (old new : ErrorSink) : Type 0 where
+  pub count : ℕ
+  pub verdicts : List Verdict
+  pub are : AreVerdicts policy (all_asked (take count licenses)) verdicts
+  pub front : new ≡ gained old (packs_of policy (all_asked (take count licenses)) verdicts)

@@ -1,9 +1,11 @@
 pub mod Check
 pub mod Hits
+pub mod Labels
 pub mod Laws
 pub mod Own
 pub mod Rows
 pub mod Sources
+pub mod Summary
 pub mod Turns
 pub mod Verdicts
 pub mod Views

@@ -1,0 +1,122 @@
+-- One more crate, behind those before.
+use Rattle.std.proofs.Common.{◌≡◌, ◌∙◌, refl, sym, ap, subst, ℕ, ◌≤◌, List, [], ◌∷◌, ◌++◌, length, map, take, append_assoc, append-nil, arith}
+use Rattle.std.specs.List.{All}
+use Rattle.std.proofs.lemmas.List.{map-append, map_push, take_all}
+use Rattle.std.proofs.lemmas.List.Elements.{All-push, All-weaker}
+use Rattle.certificate_core.specs.declared.verdict.Hit.{Hit}
+use Rattle.certificate_core.specs.declared.verdict.Verdict.{Verdict}
+use Rattle.diag_core.specs.declared.overrides.ErrorSink.{ErrorSink}
+use Rattle.diag_core.specs.Overrides.{pack_overridden}
+use Rattle.diag_core.specs.Pack.{PackOf}
+use Rattle.gather_core.specs.declared.summary.KrateLicense.{KrateLicense}
+use Rattle.valid_policy.specs.declared.policy.ValidConfig.{ValidConfig}
+use Rattle.valid_policy.specs.Policy.{Policy}
+use Rattle.valid_policy.specs.View.{policy_of}
+use Rattle.unused_core.specs.Flags.{Flags, flags_by}
+use Rattle.check_core.specs.Check.{AreVerdicts, HasFront, all_hits, gained, packs_of}
+use Rattle.check_core.specs.Summary.{all_asked}
+use Rattle.check_core.specs.Turns.{Asked, expression_of, hits_by, pack_by}
+use Rattle.check_core.specs.Verdicts.{IsVerdict, is_skipped}
+
+-- a number that is no less than the size of each, and of one more
+pub most_more : {X : Type 0} (size : X → ℕ) (xs : List X) (x : X) (before after : ℕ) → before ≤ after → size x ≤ after → All (λ (one : X). size one ≤ before) xs
+    → All (λ (one : X). size one ≤ after) (xs ++ x ∷ [])
+most_more {X} size xs x before after grows here each =
+    All-push (λ (one : X). size one ≤ after) xs x (All-weaker (λ (one : X). size one ≤ before) (λ (one : X). size one ≤ after) (λ one below. omega (arith, below, grows)) xs each) here
+
+-- ---- verdicts, packs and hits
+
+verdicts_push : (policy : Policy) (asked : List Asked) (verdicts : List Verdict) (one : Asked) (verdict : Verdict) → AreVerdicts policy asked verdicts
+    → IsVerdict policy one.krate (expression_of one.told) verdict → AreVerdicts policy (asked ++ one ∷ []) (verdicts ++ verdict ∷ [])
+verdicts_push policy [] [] one verdict are is = (is, tt)
+verdicts_push policy [] (first ∷ verdicts) one verdict are is = absurd are
+verdicts_push policy (here ∷ asked) [] one verdict are is = absurd are
+verdicts_push policy (here ∷ asked) (first ∷ verdicts) one verdict are is = (are.0, verdicts_push policy asked verdicts one verdict are.1 is)
+
+packs_push : (policy : Policy) (asked : List Asked) (verdicts : List Verdict) (one : Asked) (verdict : Verdict) → AreVerdicts policy asked verdicts
+    → packs_of policy (asked ++ one ∷ []) (verdicts ++ verdict ∷ []) ≡ packs_of policy asked verdicts ++ pack_by (is_skipped verdict) policy one ∷ []
+packs_push policy [] [] one verdict are = refl
+packs_push policy [] (first ∷ verdicts) one verdict are = absurd are
+packs_push policy (here ∷ asked) [] one verdict are = absurd are
+packs_push policy (here ∷ asked) (first ∷ verdicts) one verdict are =
+    ap (λ (packs : List PackOf). pack_by (is_skipped first) policy here ∷ packs) (packs_push policy asked verdicts one verdict are.1)
+
+hits_push : (policy : Policy) (asked : List Asked) (verdicts : List Verdict) (one : Asked) (verdict : Verdict) → AreVerdicts policy asked verdicts
+    → all_hits policy (asked ++ one ∷ []) (verdicts ++ verdict ∷ []) ≡ all_hits policy asked verdicts ++ hits_by (is_skipped verdict) policy one
+hits_push policy [] [] one verdict are = append-nil (hits_by (is_skipped verdict) policy one)
+hits_push policy [] (first ∷ verdicts) one verdict are = absurd are
+hits_push policy (here ∷ asked) [] one verdict are = absurd are
+hits_push policy (here ∷ asked) (first ∷ verdicts) one verdict are =
+    let front = hits_by (is_skipped first) policy here in
+    ap (λ (hits : List Hit). front ++ hits) (hits_push policy asked verdicts one verdict are.1)
+    ∙ sym (append_assoc front (all_hits policy asked verdicts) (hits_by (is_skipped verdict) policy one))
+
+-- ---- the sink
+
+abbrev with_pack : ErrorSink → PackOf → ErrorSink
+with_pack sink pack = record sink { packs = sink.packs ++ pack_overridden sink.overrides pack ∷ [] }
+
+gained_push : (sink : ErrorSink) (packs : List PackOf) (pack : PackOf) → with_pack (gained sink packs) pack ≡ gained sink (packs ++ pack ∷ [])
+gained_push sink packs pack =
+    let over = pack_overridden sink.overrides in
+    ap (λ (all : List PackOf). record sink { packs = all })
+    (append_assoc sink.packs (map over packs) (over pack ∷ []) ∙ ap (λ (more : List PackOf). sink.packs ++ more) (sym (map_push over packs pack)))
+
+-- one more pack, where the sink has gained some
+pub more_gained : (old new last : ErrorSink) (packs : List PackOf) (pack : PackOf) → new ≡ gained old packs
+    → last ≡ record new { packs = new.packs ++ pack_overridden new.overrides pack ∷ [] } → last ≡ gained old (packs ++ pack ∷ [])
+more_gained old new last packs pack before pushed = pushed ∙ ap (λ (sink : ErrorSink). with_pack sink pack) before ∙ gained_push old packs pack
+
+pub nothing_gained : (sink : ErrorSink) → sink ≡ gained sink []
+nothing_gained sink = ap (λ (all : List PackOf). record sink { packs = all }) (sym (append-nil sink.packs))
+
+-- ---- so far
+
+-- what was checked so far: the verdicts, which entries were hits, and what the sink has gained
+pub record SoFar (policy : ValidConfig) (asked : List Asked) (verdicts : List Verdict) (flags : Flags) (old new : ErrorSink) : Type 0 where
+  pub are : AreVerdicts (policy_of policy) asked verdicts
+  pub hit : flags ≡ flags_by policy (all_hits (policy_of policy) asked verdicts)
+  pub told : new ≡ gained old (packs_of (policy_of policy) asked verdicts)
+
+pub one_more : (policy : ValidConfig) (asked : List Asked) (verdicts : List Verdict) (flags : Flags) (old new : ErrorSink) (one : Asked) (verdict : Verdict) (pack : PackOf)
+    (later : Flags) (last : ErrorSink) → SoFar policy asked verdicts flags old new → IsVerdict (policy_of policy) one.krate (expression_of one.told) verdict
+    → pack ≡ pack_by (is_skipped verdict) (policy_of policy) one
+    → ((before : List Hit) → flags ≡ flags_by policy before → later ≡ flags_by policy (before ++ hits_by (is_skipped verdict) (policy_of policy) one))
+    → last ≡ record new { packs = new.packs ++ pack_overridden new.overrides pack ∷ [] } → SoFar policy (asked ++ one ∷ []) (verdicts ++ verdict ∷ []) later old last
+one_more policy asked verdicts flags old new one verdict pack later last so_far is pack_is hits pushed =
+    let valid = policy_of policy in
+    record {
+      are = verdicts_push valid asked verdicts one verdict so_far.are is;
+      hit =
+          hits (all_hits valid asked verdicts) so_far.hit
+          ∙ ap (flags_by policy) (sym (hits_push valid asked verdicts one verdict so_far.are));
+      told =
+          more_gained old new last (packs_of valid asked verdicts) pack so_far.told pushed
+          ∙ ap (gained old)
+          (ap (λ (here : PackOf). packs_of valid asked verdicts ++ here ∷ []) pack_is ∙ sym (packs_push valid asked verdicts one verdict so_far.are));
+    }
+
+-- the crates so far are some first ones
+pub has_front : (policy : Policy) (licenses : List KrateLicense) (count : ℕ) (verdicts : List Verdict) (old new : ErrorSink) → AreVerdicts policy (all_asked (take count licenses)) verdicts
+    → new ≡ gained old (packs_of policy (all_asked (take count licenses)) verdicts) → HasFront policy licenses old new
+has_front policy licenses count verdicts old new are front = record { count = count; verdicts = verdicts; are = are; front = front }
+
+-- of no crate
+pub no_front : (policy : Policy) (licenses : List KrateLicense) (sink : ErrorSink) → HasFront policy licenses sink sink
+no_front policy licenses sink = record { count = 0; verdicts = []; are = tt; front = nothing_gained sink }
+
+-- of all crates
+pub whole_front : (policy : Policy) (licenses : List KrateLicense) (verdicts : List Verdict) (old new : ErrorSink) → AreVerdicts policy (all_asked licenses) verdicts
+    → new ≡ gained old (packs_of policy (all_asked licenses) verdicts) → HasFront policy licenses old new
+whole_front policy licenses verdicts old new are front =
+    let all : take (length licenses) licenses ≡ licenses = take_all (length licenses) licenses (omega arith) in
+    has_front policy licenses (length licenses) verdicts old new (subst (λ (some : List KrateLicense). AreVerdicts policy (all_asked some) verdicts) (sym all) are)
+    (subst (λ (some : List KrateLicense). new ≡ gained old (packs_of policy (all_asked some) verdicts)) (sym all) front)
+
+-- some packs, and then others
+pub gained_then : (old new last : ErrorSink) (packs more : List PackOf) → new ≡ gained old packs → last ≡ gained new more → last ≡ gained old (packs ++ more)
+gained_then old new last packs more before after =
+    let over = pack_overridden old.overrides in
+    after ∙ ap (λ (sink : ErrorSink). gained sink more) before
+    ∙ ap (λ (all : List PackOf). record old { packs = all })
+    (append_assoc old.packs (map over packs) (map over more) ∙ ap (λ (all : List PackOf). old.packs ++ all) (sym (map-append over packs more)))

@@ -1,0 +1,26 @@
+use Rattle.std.proofs.Common.{sym, subst, List}
+use Rattle.std.specs.List.{All}
+use Rattle.gather_core.specs.declared.summary.KrateLicense.{KrateLicense}
+use Rattle.gather_core.specs.Premises.{IsPlacedAt}
+use Rattle.valid_policy.specs.View.{policy_of}
+use Rattle.check_core.specs.Labels.{VerdictPoints}
+use Rattle.check_core.specs.Summary.{all_asked}
+use Rattle.check_core.proofs.LabelLemmas.{all_point, any_gain}
+use Rattle.check_core.proofs.check.check.Goals as goal
+
+pub returns-clause-labels : goal.returns-clause-labels
+returns-clause-labels g c =
+    let files = c.args.ctx.now.files.now in
+    let policy = c.args.ctx.now.cfg in
+    let licenses = c.items-licenses.result.now in
+    let placed : All (IsPlacedAt files) licenses = subst (All (IsPlacedAt files)) (sym c.items-licenses.ensures) c.requires.placed in
+    let points = all_point files (policy_of policy) licenses c.most_nodes-nodes.ensures.facts placed in
+    any_gain files policy licenses c.args.sink.now c.check_licenses.new.sink c.check_licenses.result placed points c.check_licenses.ensures.packs c.check_licenses.ensures.front
+
+pub returns-clause-terms : goal.returns-clause-terms
+returns-clause-terms g c =
+    let files = c.args.ctx.now.files.now in
+    let policy = policy_of c.args.ctx.now.cfg in
+    let licenses = c.items-licenses.result.now in
+    let placed : All (IsPlacedAt files) licenses = subst (All (IsPlacedAt files)) (sym c.items-licenses.ensures) c.requires.placed in
+    subst (λ (all : List KrateLicense). All (VerdictPoints files policy) (all_asked all)) c.items-licenses.ensures (all_point files policy licenses c.most_nodes-nodes.ensures.facts placed)

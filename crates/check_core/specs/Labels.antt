@@ -1,0 +1,32 @@
+-- Where the labels of what the check tells lie, and what those of terms cut out.
+use Rattle.std.specs.Prelude.{◌≡◌, List, ◌++◌, All, Option, Some, None, ⊤}
+use Rattle.graph_core.specs.Krate.{Record}
+use Rattle.diag_core.specs.declared.overrides.ErrorSink.{ErrorSink}
+use Rattle.diag_core.specs.declared.pack.Diag.{Diag}
+use Rattle.diag_core.specs.File.{File}
+use Rattle.diag_core.specs.Pack.{PackOf}
+use Rattle.finding_core.specs.Cuts.{LabelLies}
+use Rattle.valid_policy.specs.Policy.{Policy}
+use Rattle.evaluate_core.specs.Evaluation.{kept_of}
+use Rattle.verdict_findings.specs.Laws.{LabelsPoint}
+use Rattle.check_core.specs.Turns.{Asked, Told}
+
+-- each label of each finding lies in its file, between characters
+abbrev pub FindingLies : List File → Diag → Type 0
+FindingLies files finding = All (LabelLies files) finding.diag.labels
+
+abbrev pub PackLies : List File → PackOf → Type 0
+PackLies files pack = All (FindingLies files) pack.findings
+
+-- what a sink has gained lies so
+abbrev pub GainLies : List File → ErrorSink → ErrorSink → Type 0
+GainLies files old new = (packs : List PackOf) × (new.packs ≡ old.packs ++ packs) × All (PackLies files) packs
+
+-- the labels of a verdict: the first cuts out the expression, and each further one just its own term, or where the text was
+-- written with escapes each is the whole string
+abbrev pub ToldPoints : List File → Policy → Record → Option Told → Type 0
+ToldPoints files policy krate None = ⊤
+ToldPoints files policy krate (Some told) = LabelsPoint files told.place told.source told.expression (kept_of policy krate told.expression.terms)
+
+abbrev pub VerdictPoints : List File → Policy → Asked → Type 0
+VerdictPoints files policy asked = ToldPoints files policy asked.krate asked.told

@@ -1,0 +1,243 @@
+//! The check of all crates.
+ghost use Rattle.std.specs.Prelude.{◌≡◌, ◌≤◌, ◌++◌, [], ◌∷◌, All, IfOk, OnOk, OnErr, List, length};
+ghost use Rattle.std.specs.Option.{option_map_or};
+ghost use Rattle.certificate_core.specs.declared.verdict.Hit.{Hit};
+ghost use Rattle.diag_core.specs.File.{source_of};
+ghost use Rattle.valid_policy.specs.View.{policy_of};
+ghost use Rattle.evaluate_core.specs.Evaluation.{exception_names};
+ghost use Rattle.unused_core.specs.Flags.{flags_by};
+ghost use Rattle.unused_core.specs.Laws.{EntriesLie};
+ghost use Rattle.unused_core.specs.Unused as unused;
+ghost use Rattle.verdict_findings.specs.Places.{Fits};
+ghost use Rattle.gather_core.specs.Premises.{InfoStands, IsPlacedAt, StandsIn};
+ghost use Rattle.check_core.specs.Check.{AreVerdicts, HasFront, all_hits, findings_of, gained, packs_of};
+ghost use Rattle.check_core.specs.Labels.{GainLies, VerdictPoints};
+ghost use Rattle.check_core.specs.Summary as spec;
+ghost use Rattle.check_core.specs.Summary.{IsExpressionIn, all_asked, asked_in};
+ghost use Rattle.check_core.specs.Turns.{expression_of, hits_by, pack_by};
+ghost use Rattle.check_core.specs.Verdicts.{IsVerdict, is_skipped};
+
+use crate::source::source_text;
+use crate::turn::{Checker, Gathered, Turn};
+use deny_text::{ListOf, Steps};
+use diag_core::{ErrorSink, FileId, Files, LevelFilter};
+use evaluate_core::Verdict;
+use gather_core::{KrateLicense, LicenseExprInfo, LicenseInfo, Summary};
+use selection_core::Krates;
+use spdx_core::Expression;
+use std::alloc::{AllocError, Global};
+use std::sync::ledger::Ledger;
+use valid_policy::ValidConfig;
+use verdict_findings::{ExprPlace, Retrieved};
+
+/// What a check is made with.
+#[derive(Drop)]
+pub struct CheckCtx<'c, T> {
+    /// The part of the policy that the check reads.
+    pub cfg: T,
+    pub krates: &'c Krates,
+    /// The level from which on findings are written. What is found does not hang on it.
+    pub log_level: LevelFilter,
+    /// The files that findings point into.
+    pub files: &'c Files,
+}
+
+/// Verdicts on crates, in order.
+pub type Verdicts = ListOf<Verdict>;
+
+/// The nodes of an expression; none where there is no expression.
+fn nodes_in(info: &LicenseInfo) -> usize
+    ensures nodes { result ≡ spec.nodes_in info.now }
+    ensures facts { IsExpressionIn info.now }
+{
+    match info {
+        LicenseInfo::SpdxExpression { expr, .. } => expr.nodes().len(),
+        LicenseInfo::Unlicensed => 0,
+    }
+}
+
+/// The larger of two numbers.
+fn larger(one: usize, other: usize) -> usize
+    ensures one { one ≤ result }
+    ensures other { other ≤ result }
+{
+    if one < other { other } else { one }
+}
+
+/// The nodes of the largest expression.
+fn most_nodes(licenses: &[KrateLicense<'_>]) -> usize
+    ensures most { All (λ license. spec.nodes_in license.lic_info ≤ result) licenses.now }
+    ensures facts { All (λ license. IsExpressionIn license.lic_info) licenses.now }
+{
+    let mut most = 0;
+    'licenses: for license in licenses {
+        most = larger(most, nodes_in(&license.lic_info));
+    }
+    most
+}
+
+/// The length of a file's text, which is a number of 64 bits; 0 where there is no such file.
+fn length_in(files: &Files, id: FileId) -> usize
+    ensures { result ≡ option_map_or length (source_of files.now id) 0 }
+{
+    match files.source(id) {
+        Ok(text) => text.len(),
+        Err(_) => 0,
+    }
+}
+
+/// Where the text of an expression stands. It fits, since the file's text is at least as long.
+fn place_of(files: &Files, nfo: &LicenseExprInfo, expr: &Expression) -> ExprPlace
+    requires { StandsIn files.now nfo.now.file_id nfo.now.offset nfo.now.whole expr.now.text }
+    ensures place { result ≡ spec.place_of nfo.now }
+    ensures fits { Fits result (length expr.now.text) }
+{
+    let _length = length_in(files, nfo.file_id);
+    ExprPlace {
+        file_id: nfo.file_id,
+        offset: nfo.offset,
+        whole: nfo.whole,
+    }
+}
+
+/// The check of one crate.
+fn check_one<L: Ledger>(
+    alloc: Global,
+    policy: &ValidConfig,
+    files: &Files,
+    checker: &mut Checker,
+    license: &KrateLicense<'_>,
+    steps: &mut Steps<L>,
+) -> Result<Turn, AllocError>
+    requires room { spec.nodes_in license.now.lic_info ≤ checker.old.nodes }
+    requires exceptions { exception_names (policy_of policy.now) ≡ checker.old.names }
+    requires placed { InfoStands files.now license.now.lic_info }
+    ensures nodes { checker.new.nodes ≡ checker.old.nodes }
+    ensures names { checker.new.names ≡ checker.old.names }
+    ensures verdict { let asked = asked_in license.now in IfOk result (λ turn.
+        IsVerdict (policy_of policy.now) asked.krate (expression_of asked.told) turn.verdict) }
+    ensures pack { IfOk result (λ turn.
+        turn.pack ≡ pack_by (is_skipped turn.verdict) (policy_of policy.now) (asked_in license.now)) }
+    ensures hits { (before : List Hit) → checker.old.flags ≡ flags_by policy.now before
+        → IfOk result (λ turn. checker.new.flags ≡ flags_by policy.now
+        (before ++ hits_by (is_skipped turn.verdict) (policy_of policy.now) (asked_in license.now))) }
+    ensures steps { steps.old ≤ steps.new }
+{
+    let gathered = Gathered {
+        krate: license.krate,
+        findings: license.diags.items(),
+        notes: license.notes.items(),
+    };
+    match &license.lic_info {
+        LicenseInfo::SpdxExpression { expr, nfo } => {
+            let source = source_text(alloc, &nfo.source)?;
+            let retrieved = Retrieved {
+                expression: expr,
+                place: place_of(files, nfo, expr),
+                source: source.as_str(),
+            };
+            checker.turn(alloc, policy, &gathered, &Some(retrieved), steps)
+        }
+        LicenseInfo::Unlicensed => checker.turn(alloc, policy, &gathered, &None, steps),
+    }
+}
+
+/// The check of crates, in order.
+#[tactic(auto, using(crate::proofs::CheckLemmas::has_front, crate::proofs::CheckLemmas::nothing_gained))]
+fn check_all<L: Ledger>(
+    alloc: Global,
+    policy: &ValidConfig,
+    files: &Files,
+    checker: &mut Checker,
+    licenses: &[KrateLicense<'_>],
+    sink: &mut ErrorSink,
+    steps: &mut Steps<L>,
+) -> Result<Verdicts, AllocError>
+    requires room { All (λ license. spec.nodes_in license.lic_info ≤ checker.old.nodes) licenses.now }
+    requires exceptions { exception_names (policy_of policy.now) ≡ checker.old.names }
+    requires flags { checker.old.flags ≡ flags_by policy.now [] }
+    requires placed { All (IsPlacedAt files.now) licenses.now }
+    ensures verdicts { IfOk result (λ verdicts.
+        AreVerdicts (policy_of policy.now) (all_asked licenses.now) verdicts) }
+    ensures packs { IfOk result (λ verdicts.
+        sink.new ≡ gained sink.old (packs_of (policy_of policy.now) (all_asked licenses.now) verdicts)) }
+    ensures flags { IfOk result (λ verdicts. checker.new.flags
+        ≡ flags_by policy.now (all_hits (policy_of policy.now) (all_asked licenses.now) verdicts)) }
+    ensures front { OnErr result (HasFront (policy_of policy.now) licenses.now sink.old sink.new) }
+    ensures steps { steps.old ≤ steps.new }
+{
+    let mut verdicts = Verdicts::new(alloc);
+    'licenses: for license in licenses {
+        let turn = check_one(alloc, policy, files, checker, license, steps)?;
+        verdicts.push(turn.verdict)?;
+        sink.push(turn.pack)?;
+    }
+    Ok(verdicts)
+}
+
+/// Tells the policy's entries that allowed no term so far.
+fn tell_unused(
+    alloc: Global,
+    policy: &ValidConfig,
+    checker: &Checker,
+    sink: &mut ErrorSink,
+) -> Result<(), AllocError>
+    ensures ok { (hits : List Hit) → checker.now.flags ≡ flags_by policy.now hits
+        → OnOk result (sink.new ≡ gained sink.old (unused.last_pack policy.now hits ∷ [])) }
+    ensures err { OnErr result (sink.new ≡ sink.old) }
+{
+    let last = checker.finish(alloc, policy)?;
+    sink.push(last)
+}
+
+/// The check of crates whose expressions have so many nodes at most, and of the policy.
+#[tactic(auto, using(crate::proofs::CheckLemmas::no_front, crate::proofs::CheckLemmas::whole_front, crate::proofs::CheckLemmas::gained_then))]
+fn check_licenses<L: Ledger>(
+    alloc: Global,
+    policy: &ValidConfig,
+    files: &Files,
+    licenses: &[KrateLicense<'_>],
+    nodes: usize,
+    sink: &mut ErrorSink,
+    steps: &mut Steps<L>,
+) -> Result<Verdicts, AllocError>
+    requires room { All (λ license. spec.nodes_in license.lic_info ≤ nodes) licenses.now }
+    requires placed { All (IsPlacedAt files.now) licenses.now }
+    ensures verdicts { IfOk result (λ verdicts.
+        AreVerdicts (policy_of policy.now) (all_asked licenses.now) verdicts) }
+    ensures packs { IfOk result (λ verdicts.
+        sink.new ≡ gained sink.old (findings_of policy.now (all_asked licenses.now) verdicts)) }
+    ensures front { OnErr result (HasFront (policy_of policy.now) licenses.now sink.old sink.new) }
+    ensures steps { steps.old ≤ steps.new }
+{
+    let mut checker = Checker::with_room(alloc, nodes, policy)?;
+    let verdicts = check_all(alloc, policy, files, &mut checker, licenses, sink, steps)?;
+    tell_unused(alloc, policy, &checker, sink)?;
+    Ok(verdicts)
+}
+
+/// The verdicts on the crates of a summary, in order. What is found goes into the sink: a pack of each crate, in
+/// order, and then always one of the policy's entries that allow no term, which may be empty. Where memory is
+/// refused the sink has the packs of some first crates.
+pub fn check<L: Ledger>(
+    alloc: Global,
+    ctx: &CheckCtx<'_, ValidConfig>,
+    summary: &Summary<'_>,
+    sink: &mut ErrorSink,
+    steps: &mut Steps<L>,
+) -> Result<Verdicts, AllocError>
+    requires placed { All (IsPlacedAt ctx.now.files.now) summary.now.nfos }
+    ensures verdicts { IfOk result (λ verdicts.
+        AreVerdicts (policy_of ctx.now.cfg) (all_asked summary.now.nfos) verdicts) }
+    ensures packs { IfOk result (λ verdicts.
+        sink.new ≡ gained sink.old (findings_of ctx.now.cfg (all_asked summary.now.nfos) verdicts)) }
+    ensures front { OnErr result (HasFront (policy_of ctx.now.cfg) summary.now.nfos sink.old sink.new) }
+    // where the policy's entries have places of their files, each label does
+    ensures labels { EntriesLie ctx.now.files.now ctx.now.cfg → GainLies ctx.now.files.now sink.old sink.new }
+    ensures terms { All (VerdictPoints ctx.now.files.now (policy_of ctx.now.cfg)) (all_asked summary.now.nfos) }
+    ensures steps { steps.old ≤ steps.new }
+{
+    let licenses = summary.nfos.items();
+    let nodes = most_nodes(licenses);
+    check_licenses(alloc, &ctx.cfg, ctx.files, licenses, nodes, sink, steps)
+}
