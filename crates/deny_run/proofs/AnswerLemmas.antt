@@ -1,6 +1,6 @@
 -- The answer of a run, from the answers of its steps.
-use Rattle.std.proofs.Common.{◌≡◌, ℕ, ◌≤◌, ◌⊎◌, List, [], map, Option, Some, None, Result, Ok, Err, refl, sym, ap, subst, ◌∙◌, inl, inr, arith}
-use Rattle.std.specs.List.{AllZip}
+use Rattle.std.proofs.Common.{◌≡◌, ℕ, ◌≤◌, List, [], map, Option, Some, None, Result, Ok, Err, refl, sym, ap, subst, ◌∙◌, arith}
+use Rattle.std.specs.Prelude.{All}
 use Rattle.tree_core.specs.Content.{Content}
 use Rattle.diag_core.specs.File.{File}
 use Rattle.tree_core.specs.Hearing.{metadata, FailedRead, Hearing, IsHearing}
@@ -32,25 +32,26 @@ use Rattle.load_core.specs.Load.{load_of}
 use Rattle.load_core.specs.declared.error.LoadError.{LoadError}
 use Rattle.load_core.specs.declared.error.LoadError.TheVariants as load
 use Rattle.load_core.specs.declared.loading.PolicyPaths.{PolicyPaths}
-use Rattle.deny_run.specs.declared.error.Part.TheVariants.{Words, Crate}
+use Rattle.deny_run.specs.declared.error.Part.TheVariants.{Words}
 use Rattle.deny_run.specs.declared.error.Error.{Error}
 use Rattle.deny_run.specs.declared.error.Error.TheVariants.{ConfigRead, NotYet}
-use Rattle.deny_run.specs.declared.error.Refusal.{Refusal}
 use Rattle.deny_run.specs.declared.error.Refusal.TheVariants as refusal
-use Rattle.deny_run.specs.declared.report.CrateReport.{CrateReport}
+use Rattle.deny_run.specs.declared.check.CheckedCrates.{CheckedCrates}
 use Rattle.deny_run.specs.declared.report.Report.{Report}
+use Rattle.check_core.specs.Check.{AreVerdicts, findings_of}
+use Rattle.check_core.specs.Labels.{VerdictPoints}
+use Rattle.check_core.specs.Summary.{all_asked}
 use Rattle.deny_run.specs.declared.words.Request.{Request}
-use Rattle.deny_run.specs.Counts.{counts_of}
 use Rattle.deny_run.specs.Error.{cause_of, error_of, error_of_krates, error_of_load, FreeOr}
 use Rattle.deny_run.specs.Given.{Given}
-use Rattle.deny_run.specs.Heard.{◌>>=◌, AreOwnReads, Found, exceptions_by, exceptions_in, files_in, files_loaded, found_of, load_at, loaded_of, manifest_in, or_error, or_load_error, or_refused, graph_heard, paths_of, scanner_in}
-use Rattle.deny_run.specs.Hearing.{look_failed, all_told, RunHearing, IsRunHearing, all_heard, crates_heard}
-use Rattle.deny_run.specs.Report.{AreSourcesTold, Asked, Asks, IsReportOf, IsReport, IsRefusal, paths_at, reads_told}
+use Rattle.deny_run.specs.Heard.{◌>>=◌, AreOwnReads, Found, all_looked_at, exceptions_by, exceptions_in, files_behind_all, files_in, files_loaded, found_of, load_at, loaded_of, manifest_in, or_error, or_load_error, or_refused, graph_heard, paths_of, scanner_in}
+use Rattle.deny_run.specs.Hearing.{look_failed, all_told, RunHearing, IsRunHearing, all_heard}
+use Rattle.deny_run.specs.Report.{AreLabelsCut, AreSourcesTold, Asked, Asks, IsReport, IsRefusal, TellsFindings, paths_at, reads_told, verdicts_told}
 use Rattle.deny_run.specs.Script.{TellsLoad, told_before, told_of}
-use Rattle.deny_run.specs.Selection.{choice_in, included_by, included_in, AreSelected, Refuses}
-use Rattle.deny_run.specs.Steps.{Checks, IsChecked, IsFirstMany, paths_by}
+use Rattle.deny_run.specs.Selection.{choice_in, included_by, included_in, Refuses}
+use Rattle.deny_run.specs.Steps.{IsChecked, checked_by, paths_by, report_with}
 use Rattle.deny_run.specs.Words.{request_of}
-use Rattle.deny_run.proofs.GatheredLemmas.{first_many, heard_of, heards_of, heards_krates, own_reads, reads_reported, heards_reads, reported, sources_told}
+use Rattle.deny_run.proofs.GatheredLemmas.{all_looked, heards_of, heards_krates, heards_reads, labels_cut, own_reads, reads_reported, reported_by, sources_told, table_left, verdicts_reported}
 use Rattle.deny_run.proofs.LoadedLemmas.{quiet, metadata_alike}
 use Rattle.deny_run.proofs.PolicyLemmas.{load_is, policy_is}
 
@@ -158,7 +159,7 @@ freely (refused_write before after) P is = tt
 pub record Refused (given : Given) (content : Content) (begun after : ℕ) (error : Error) (text : List ℕ) : Type 0 where
   pub hearing : RunHearing
   pub heard : IsRunHearing content begun after hearing
-  pub refuses : FreeOr (cause_of error) (Refuses given hearing (found_of given hearing) error)
+  pub refuses : FreeOr (cause_of error) (Refuses (found_of given hearing) error)
   pub tells : text ≡ told_before given hearing
 
 free_map : (cause : Cause) (P Q : Type 0) → (P → Q) → FreeOr cause P → FreeOr cause Q
@@ -178,17 +179,17 @@ pub refused_first : (given : Given) (content : Content) (begun after : ℕ) (hea
 refused_first given content begun after hearing error text heard tells is = record {
   hearing = hearing;
   heard = heard;
-  refuses = freely (cause_of error) _ (subst (λ found. Refuses given hearing found error) (sym is) refl);
+  refuses = freely (cause_of error) _ (subst (λ found. Refuses found error) (sym is) refl);
   tells = tells;
 }
 
 -- a refusal of the selection
 refused_last : (given : Given) (content : Content) (begun after : ℕ) (hearing : RunHearing) (found : Found) (error : Error) (text : List ℕ) → IsRunHearing content begun after hearing
-    → text ≡ told_before given hearing → found_of given hearing ≡ Ok found → Refuses given hearing (Ok found) error → Refused given content begun after error text
+    → text ≡ told_before given hearing → found_of given hearing ≡ Ok found → Refuses (Ok found) error → Refused given content begun after error text
 refused_last given content begun after hearing found error text heard tells is refuses = record {
   hearing = hearing;
   heard = heard;
-  refuses = freely (cause_of error) _ (subst (λ one. Refuses given hearing one error) (sym is) refuses);
+  refuses = freely (cause_of error) _ (subst (λ one. Refuses one error) (sym is) refuses);
   tells = tells;
 }
 
@@ -350,100 +351,88 @@ module _ (given : Given) (content : Content) (begun : ℕ) (request : Request) (
       table_loaded licenses =
           ap files_in (loaded-Ok given request asked (gathered licenses) (paths_by content given.cwd request.config_path) (paths-told given content (quiet content begun) request refl))
 
-      own_of : {result : Result (List CrateReport) Refusal} → (checked : IsChecked (scanner_in given valid) valid content table middle after graph (choice_in policy) result)
-          → AreOwnReads given valid (gathered checked.licenses) (files_loaded given (gathered checked.licenses)) (heards_of checked.licenses)
-      own_of checked =
-          subst (λ files. AreOwnReads given valid (gathered checked.licenses) files (heards_of checked.licenses)) (sym (table_loaded checked.licenses))
-          (own_reads given valid (gathered checked.licenses) table checked.licenses checked.last checked.turns)
-
-      -- the crates that are heard are those that are checked
-      are_selected : (licenses : List KrateLicense) → IsListOf graph (Selected graph (choice_in policy) (included_by valid)) (map krate_of licenses)
-          → AreSelected policy graph (crates_heard (gathered licenses))
-      are_selected licenses selected =
-          subst (AreSelected policy graph) (sym (heards_krates licenses))
-          (subst (λ include. IsListOf graph (Selected graph (choice_in policy) include) (map krate_of licenses)) flags selected)
-
-      -- the refusal of a crate
-      many_refused : (refused : Refusal) → (checked : IsChecked (scanner_in given valid) valid content table middle after graph (choice_in policy) (Err refused))
-          → (refused ≡ refusal.Memory) ⊎ IsFirstMany checked.licenses refused → Refused given content begun after (error_of refused) text
-      many_refused refused checked (inl memory) =
-          subst (λ one. Refused given content begun after (error_of one) text) (sym memory)
-          (freely_refused given content begun after (gathered checked.licenses) (error_of refusal.Memory) text (is_gathered checked.licenses checked.rises) (tells_alike checked.licenses) tt)
-      many_refused refused checked (inr many) =
-          subst (λ one. Refused given content begun after (error_of one) text) (sym many.named)
-          (refused_last given content begun after (gathered checked.licenses) (record { request = request; policy = policy; graph = graph })
-          (NotYet (Crate (krate_of many.license).id)) text (is_gathered checked.licenses checked.rises) (tells_alike checked.licenses) (is-found checked.licenses)
-          (record {
-            root = root;
-            selected = are_selected checked.licenses checked.selected;
-            policy = valid;
-            order = order;
-            reads = own_of checked;
-            one = heard_of many.license;
-            first = first_many given valid (gathered checked.licenses) checked.licenses many.license checked.priorities many.first;
-            named = refl;
-          }))
-
-      pub check_refused : (refused : Refusal) → Checks (scanner_in given valid) valid content table middle after graph (choice_in policy) (Err refused)
-          → Refused given content begun after (error_of refused) text
-      check_refused refusal.Memory checks =
-          freely_refused given content begun after (all_heard content begun) (error_of refusal.Memory) text (quiet_run content begun after later) quietly tt
-      check_refused refusal.Words checks = many_refused refusal.Words checks checks.judged
-      check_refused (refusal.Search error) checks = many_refused (refusal.Search error) checks checks.judged
-      check_refused (refusal.Load error) checks = many_refused (refusal.Load error) checks checks.judged
-      check_refused (refusal.Krates error) checks = many_refused (refusal.Krates error) checks checks.judged
-      check_refused (refusal.CrateForm id) checks = many_refused (refusal.CrateForm id) checks checks.judged
-
       -- the report is the one that is asked for
-      module _ (report : Report) (is : report.policy ≡ valid) (checked : IsChecked (scanner_in given valid) valid content table middle after graph (choice_in policy) (Ok report.crates)) where
-        given_verdicts : AllZip (IsReportOf given report.policy (gathered checked.licenses)) (map krate_of checked.licenses) report.crates
-        given_verdicts =
-            subst (λ own. AllZip (IsReportOf given own (gathered checked.licenses)) (map krate_of checked.licenses) report.crates) (sym is)
-            (reported given valid (gathered checked.licenses) table checked.licenses checked.last report.crates checked.priorities checked.turns checked.judged)
+      module _ (last : List File) (checked : CheckedCrates) (done : IsChecked (scanner_in given valid) valid content table last middle after graph (choice_in policy) checked) where
+        -- as it is made of the verdicts
+        abbrev made : Report
+        made = report_with (checked_by valid done.licenses done.check.verdicts) last
 
-        reads_are : map (λ one. one.reads) (gathered checked.licenses).crates ≡ reads_told report
-        reads_are = reads_reported (policy_of valid) checked.licenses report.crates checked.judged
+        by_table : (P : List File → Type 0) → P table → P (files_loaded given (gathered done.licenses))
+        by_table P own = subst P (sym (table_loaded done.licenses)) own
 
-        sources_are : AreSourcesTold given report.policy (gathered checked.licenses) (files_loaded given (gathered checked.licenses)) (heards_of checked.licenses) report.crates
+        own_are : AreOwnReads given valid (gathered done.licenses) (files_loaded given (gathered done.licenses)) (heards_of done.licenses)
+        own_are = by_table (λ files. AreOwnReads given valid (gathered done.licenses) files (heards_of done.licenses)) (own_reads given valid (gathered done.licenses) table done.licenses last done.turns)
+
+        sources_are : AreSourcesTold given valid (gathered done.licenses) (files_loaded given (gathered done.licenses)) (heards_of done.licenses) made.crates
         sources_are =
-            subst (λ own. AreSourcesTold given own (gathered checked.licenses) (files_loaded given (gathered checked.licenses)) (heards_of checked.licenses) report.crates) (sym is)
-            (subst (λ files. AreSourcesTold given valid (gathered checked.licenses) files (heards_of checked.licenses) report.crates) (sym (table_loaded checked.licenses))
-            (sources_told given valid (gathered checked.licenses) table checked.licenses checked.last report.crates checked.turns checked.judged))
+            by_table (λ files. AreSourcesTold given valid (gathered done.licenses) files (heards_of done.licenses) made.crates)
+            (sources_told given valid (gathered done.licenses) table done.licenses last done.check.verdicts done.turns done.check.are)
 
-        pub all_reported : policy.licenses.file_id ≡ 0 → report.stats ≡ counts_of report.crates → IsReport given content begun after report
-        all_reported file stats =
-            let hearing = gathered checked.licenses in
+        reads_are : map (λ one. one.reads) (gathered done.licenses).crates ≡ reads_told made
+        reads_are = reads_reported (policy_of valid) done.licenses done.check.verdicts done.check.are
+
+        findings_are : TellsFindings given (gathered done.licenses) made
+        findings_are = record {
+          are =
+              subst (λ files. AreVerdicts (policy_of valid) (all_looked_at given valid (gathered done.licenses) files (heards_of done.licenses)) (verdicts_told made)) (sym (table_loaded done.licenses))
+              (subst (λ looked. AreVerdicts (policy_of valid) looked (verdicts_told made)) (sym (all_looked given valid (gathered done.licenses) table done.licenses last done.turns))
+              (subst (AreVerdicts (policy_of valid) (all_asked done.licenses)) (sym (verdicts_reported (policy_of valid) done.licenses done.check.verdicts done.check.are)) done.check.are));
+          findings =
+              sym (ap (λ files. findings_of valid (all_looked_at given valid (gathered done.licenses) files (heards_of done.licenses)) (verdicts_told made)) (table_loaded done.licenses)
+              ∙ ap (λ looked. findings_of valid looked (verdicts_told made)) (all_looked given valid (gathered done.licenses) table done.licenses last done.turns)
+              ∙ ap (findings_of valid (all_asked done.licenses)) (verdicts_reported (policy_of valid) done.licenses done.check.verdicts done.check.are));
+          files =
+              sym (ap (λ files. files_behind_all given valid (gathered done.licenses) files (heards_of done.licenses)) (table_loaded done.licenses)
+              ∙ table_left given valid (gathered done.licenses) table done.licenses last done.turns);
+          cuts =
+              by_table (λ files. AreLabelsCut given valid (gathered done.licenses) files (heards_of done.licenses) last)
+              (labels_cut given valid (gathered done.licenses) table done.licenses last done.cuts);
+          terms =
+              by_table (λ files. All (VerdictPoints last (policy_of valid)) (all_looked_at given valid (gathered done.licenses) files (heards_of done.licenses)))
+              (subst (All (VerdictPoints last (policy_of valid))) (sym (all_looked given valid (gathered done.licenses) table done.licenses last done.turns)) done.points);
+        }
+
+        made_is : policy.licenses.file_id ≡ 0 → IsReport given content begun after made
+        made_is file =
+            let hearing = gathered done.licenses in
             let at = paths_by content given.cwd request.config_path in
             let (bytes, heard, is_told) = graph_heard-Ok (text_heard (quiet content begun) metadata request.metadata_path) graph drawn in
             record {
               hearing = hearing;
-              heard = is_gathered checked.licenses checked.rises;
+              heard = is_gathered done.licenses done.rises;
               failed = refl;
-              asked = record { request = request; policy = policy; graph = graph; crates = map krate_of checked.licenses };
+              asked = record { request = request; policy = policy; graph = graph; crates = map krate_of done.licenses };
               asks = record {
                 request = asked;
                 policy = record { exceptions = at.exceptions; found = refl; is = policy_is given.lists at (load_heard (quiet content begun) at) policy loads };
                 metadata = record { text = bytes; heard = heard; tells = is_told };
                 root = root;
-                selected = subst (λ include. IsListOf graph (Selected graph (choice_in policy) include) (map krate_of checked.licenses)) flags checked.selected;
+                selected = subst (λ include. IsListOf graph (Selected graph (choice_in policy) include) (map krate_of done.licenses)) flags done.selected;
               };
-              crates = heards_krates checked.licenses;
+              crates = heards_krates done.licenses;
               reads = reads_are;
-              own = subst (λ one. AreOwnReads given one hearing (files_loaded given hearing) (heards_of checked.licenses)) (sym is) (own_of checked);
+              own = own_are;
               sources = sources_are;
               gives = record {
-                policy = subst (PutsPolicyInOrder policy.licenses) (sym is) order;
-                file = ap (λ (one : ValidConfig). one.file_id) (is ∙ order.rest) ∙ file;
-                verdicts = given_verdicts;
-                stats = stats;
+                policy = order;
+                file = ap (λ (one : ValidConfig). one.file_id) order.rest ∙ file;
+                verdicts = reported_by given valid hearing table done.licenses last done.check.verdicts done.priorities done.turns done.check.are;
+                stats = refl;
               };
+              tells = findings_are;
             }
 
-        -- what is heard of the report's own reads
-        pub report_tells : TellsLoad given content begun after (Ok report) text
-        report_tells = record {
-          hearing = gathered checked.licenses;
-          heard = is_gathered checked.licenses checked.rises;
+        pub is_reported : policy.licenses.file_id ≡ 0 → IsReport given content begun after (report_with checked last)
+        is_reported file = subst (λ one. IsReport given content begun after (report_with one last)) (sym done.check.is) (made_is file)
+
+        made_tells : TellsLoad given content begun after (Ok made) text
+        made_tells = record {
+          hearing = gathered done.licenses;
+          heard = is_gathered done.licenses done.rises;
           answers = (refl, refl, reads_are);
-          is = tells_alike checked.licenses;
+          is = tells_alike done.licenses;
         }
+
+        -- what is heard of the report's own reads
+        pub report_tells : TellsLoad given content begun after (Ok (report_with checked last)) text
+        report_tells = subst (λ one. TellsLoad given content begun after (Ok (report_with one last)) text) (sym done.check.is) made_tells

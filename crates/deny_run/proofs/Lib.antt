@@ -1,13 +1,13 @@
 pub mod AnswerLemmas
+pub mod CheckLemmas
+pub mod CountLemmas
 pub mod GatheredLemmas
 pub mod HeadlineLemmas
-pub mod JudgeLemmas
-pub mod ListedLemmas
 pub mod LoadedLemmas
+pub mod PlaceLemmas
 pub mod PolicyLemmas
 pub mod ReportLemmas
 pub mod ScriptLemmas
 pub mod SpecLemmas
 pub mod StageLemmas
 pub mod StepLemmas
-pub mod VerdictLemmas

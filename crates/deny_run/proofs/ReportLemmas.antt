@@ -24,10 +24,8 @@ use Rattle.load_core.specs.declared.loading.PolicyPaths.{PolicyPaths}
 use Rattle.deny_run.specs.declared.error.Error.TheVariants.{Memory}
 use Rattle.deny_run.specs.declared.error.Refusal.{Refusal}
 use Rattle.deny_run.specs.declared.error.Refusal.TheVariants as refusal
-use Rattle.deny_run.specs.declared.report.CrateReport.{CrateReport}
-use Rattle.deny_run.specs.declared.report.Report.{Report}
+use Rattle.deny_run.specs.declared.check.CheckedCrates.{CheckedCrates}
 use Rattle.deny_run.specs.declared.words.Request.{Request}
-use Rattle.deny_run.specs.Counts.{counts_of}
 use Rattle.deny_run.specs.Error.{cause_of, error_of, error_of_load, error_of_search, FreeOr}
 use Rattle.deny_run.specs.Given.{Given}
 use Rattle.deny_run.specs.Heard.{scanner_in}
@@ -36,9 +34,9 @@ use Rattle.deny_run.specs.Hearing.{all_heard}
 use Rattle.deny_run.specs.Report.{IsReport, IsRefusal}
 use Rattle.deny_run.specs.Script.{TellsLoad, WritesLoad, plain_log, told_before, told_of}
 use Rattle.deny_run.specs.Selection.{choice_by, choice_in, included_by, included_in}
-use Rattle.deny_run.specs.Steps.{AreCheckedAt, Checks, ChecksAt, IsAfterLoad, paths_by}
+use Rattle.deny_run.specs.Steps.{ChecksAt, IsAfterLoad, IsChecked, IsCheckedAt, paths_by, report_with}
 use Rattle.deny_run.specs.Words.{request_of}
-use Rattle.deny_run.proofs.AnswerLemmas.{Refused, all_reported, report_tells, check_refused, freely_refused, graph_stands, is_refusal, krates_refused, load_refused, load_tells, quiet_run, search_refused, words_refused}
+use Rattle.deny_run.proofs.AnswerLemmas.{Refused, is_reported, report_tells, freely_refused, graph_stands, is_refusal, krates_refused, load_refused, load_tells, quiet_run, search_refused, words_refused}
 use Rattle.deny_run.proofs.LoadedLemmas.{quiet, stands_quiet}
 use Rattle.deny_run.proofs.PolicyLemmas.{policy_is}
 use Rattle.deny_run.proofs.ScriptLemmas.{after_written, load_written, refused_tells, silent}
@@ -57,13 +55,13 @@ loads_at lists context paths content held begun own after old new before behind 
     (subst (λ there. Loads lists plain_log paths there own after old new before behind result) same
     (subst (λ log. Loads lists log paths held own after old new before behind result) plain loads)))
 
-pub checks_at : (scanner : Scanner) (policy : LoadedPolicy) (files : List File) (content held : Option Content) (begun own : ℕ) (path other : List ℕ) (before after : ℕ)
-    (result : Result (List CrateReport) Refusal) → held ≡ content → own ≡ begun → other ≡ path
-    → ForSome held (λ one. ChecksAt scanner policy one files own other before after result) → ForSome content (λ one. ChecksAt scanner policy one files begun path before after result)
-checks_at scanner policy files content held begun own path other before after result same since at checks =
-    subst (λ own_path. ForSome content (λ one. ChecksAt scanner policy one files begun own_path before after result)) at
-    (subst (λ n. ForSome content (λ one. ChecksAt scanner policy one files n other before after result)) since
-    (subst (λ there. ForSome there (λ one. ChecksAt scanner policy one files own other before after result)) same checks))
+pub checks_at : (scanner : Scanner) (policy : LoadedPolicy) (files last : List File) (content held : Option Content) (begun own : ℕ) (path other : List ℕ) (before after : ℕ)
+    (result : Result CheckedCrates Refusal) → held ≡ content → own ≡ begun → other ≡ path
+    → ForSome held (λ one. ChecksAt scanner policy one files last own other before after result) → ForSome content (λ one. ChecksAt scanner policy one files last begun path before after result)
+checks_at scanner policy files last content held begun own path other before after result same since at checks =
+    subst (λ own_path. ForSome content (λ one. ChecksAt scanner policy one files last begun own_path before after result)) at
+    (subst (λ n. ForSome content (λ one. ChecksAt scanner policy one files last n other before after result)) since
+    (subst (λ there. ForSome there (λ one. ChecksAt scanner policy one files last own other before after result)) same checks))
 
 -- ---- before the load
 
@@ -174,38 +172,23 @@ module _ (given : Given) (content : Content) (begun mid after : ℕ) (first : be
   abbrev table : List File
   table = (load_of given.lists [] (paths_by content given.cwd request.config_path) (load_heard (record { content = content; begun = begun; failed = [] }) (paths_by content given.cwd request.config_path))).files
 
-  -- the reports on the crates, by the choice of the policy that was found
-  checked_by : (graph : Graph) (middle : ℕ) (result : Result (List CrateReport) Refusal)
-      → Checks (scanner_in given loaded.licenses) loaded.licenses content table middle after graph (choice_by loaded.graph.exclude) result
-      → Checks (scanner_in given loaded.licenses) loaded.licenses content table middle after graph (choice_in found) result
-  checked_by graph middle result checks =
-      subst (λ choice. Checks (scanner_in given loaded.licenses) loaded.licenses content table middle after graph choice result) (same_choice found loaded is) checks
-
   rooted_by : (graph : Graph) → HasRoot graph (choice_by loaded.graph.exclude) → HasRoot graph (choice_in found)
   rooted_by graph root = subst (HasRoot graph) (same_choice found loaded is) root
 
   begun_first : (middle : ℕ) → mid ≤ middle → begun ≤ middle
   begun_first middle next = omega arith
 
-  form_refused : (refused : Refusal) → AreCheckedAt (scanner_in given loaded.licenses) loaded content table begun request.metadata_path mid after (Err refused)
+  by_refusal : (last : List File) (refused : Refusal) → IsAfterLoad refused → ChecksAt (scanner_in given loaded.licenses) loaded content table last begun request.metadata_path mid after (Err refused)
       → Refused given content begun after (error_of refused) text
-  form_refused refused at =
-      check_refused given content begun request asked found answers text tells at.graph at.middle after (begun_first at.middle at.first) (omega arith) (rooted_by at.graph at.rooted)
-      (graph_stands content begun mid at.middle request.metadata_path at.heard at.graph at.hears at.tells) loaded.licenses is.licenses (same_flags found loaded is)
-      refused (checked_by at.graph at.middle (Err refused) at.checked)
-
-  by_refusal : (refused : Refusal) → IsAfterLoad refused → ChecksAt (scanner_in given loaded.licenses) loaded content table begun request.metadata_path mid after (Err refused)
-      → Refused given content begun after (error_of refused) text
-  by_refusal refusal.Memory cause checks =
+  by_refusal last refusal.Memory cause checks =
       freely_refused given content begun after (all_heard content begun) (error_of refusal.Memory) text (quiet_run content begun after (omega arith))
       (tells ∙ load_tells given content request (quiet content begun) asked refl (paths_by content given.cwd request.config_path) refl _ refl) tt
-  by_refusal refusal.Words cause checks = absurd cause
-  by_refusal (refusal.Search error) cause checks = absurd cause
-  by_refusal (refusal.Load error) cause checks = absurd cause
-  by_refusal (refusal.Krates error) cause checks =
+  by_refusal last refusal.Words cause checks = absurd cause
+  by_refusal last (refusal.Search error) cause checks = absurd cause
+  by_refusal last (refusal.Load error) cause checks = absurd cause
+  by_refusal last (refusal.Krates error) cause checks =
       krates_refused given content begun request asked found answers text tells mid after first later error
       (subst (λ choice. Gathers choice content begun request.metadata_path mid after (Err error)) (same_choice found loaded is) checks)
-  by_refusal (refusal.CrateForm id) cause checks = form_refused (refusal.CrateForm id) checks
 
   -- the policy's file is the first
   file_of : found.licenses.file_id ≡ 0
@@ -214,72 +197,83 @@ module _ (given : Given) (content : Content) (begun mid after : ℕ) (first : be
       let own = policy_is given.lists at (load_heard (quiet content begun) at) found answers in
       ap (λ (one : PolicyFound). one.licenses.file_id) own.is
 
-  module _ (report : Report) (policy : report.policy ≡ loaded.licenses)
-      (at : AreCheckedAt (scanner_in given loaded.licenses) loaded content table begun request.metadata_path mid after (Ok report.crates)) where
-    by_report : report.stats ≡ counts_of report.crates → IsReport given content begun after report
-    by_report stats =
-        all_reported given content begun request asked found answers text tells at.graph at.middle after (begun_first at.middle at.first) (omega arith) (rooted_by at.graph at.rooted)
-        (graph_stands content begun mid at.middle request.metadata_path at.heard at.graph at.hears at.tells) loaded.licenses is.licenses (same_flags found loaded is)
-        report policy (checked_by at.graph at.middle (Ok report.crates) at.checked) file_of stats
+  module _ (last : List File) (checked : CheckedCrates) (at : IsCheckedAt (scanner_in given loaded.licenses) loaded content table last begun request.metadata_path mid after checked) where
+    done : IsChecked (scanner_in given loaded.licenses) loaded.licenses content table last at.middle after at.graph (choice_in found) checked
+    done = subst (λ choice. IsChecked (scanner_in given loaded.licenses) loaded.licenses content table last at.middle after at.graph choice checked) (same_choice found loaded is) at.checked
 
-    by_reads : TellsLoad given content begun after (Ok report) text
+    by_report : IsReport given content begun after (report_with checked last)
+    by_report =
+        is_reported given content begun request asked found answers text tells at.graph at.middle after (begun_first at.middle at.first) (omega arith) (rooted_by at.graph at.rooted)
+        (graph_stands content begun mid at.middle request.metadata_path at.heard at.graph at.hears at.tells) loaded.licenses is.licenses (same_flags found loaded is)
+        last checked done file_of
+
+    by_reads : TellsLoad given content begun after (Ok (report_with checked last)) text
     by_reads =
         report_tells given content begun request asked found answers text tells at.graph at.middle after (begun_first at.middle at.first) (omega arith) (rooted_by at.graph at.rooted)
         (graph_stands content begun mid at.middle request.metadata_path at.heard at.graph at.hears at.tells) loaded.licenses is.licenses (same_flags found loaded is)
-        report policy (checked_by at.graph at.middle (Ok report.crates) at.checked)
+        last checked done
 
 module _ (given : Given) (content : Option Content) (begun mid after : ℕ) (first : begun ≤ mid) (later : mid ≤ after)
     (request : Request) (asked : request_of given.words given.cwd ≡ Some request) (paths : PolicyPaths)
     (new : List File) (old_err new_err : Option (List ℕ)) (err_before err_after : ℕ) (loaded : LoadedPolicy)
     (loads : Loads given.lists plain_log paths content begun mid [] new old_err new_err (Ok loaded)) where
-  crates_refused : (one : Content) → content ≡ Some one → paths ≡ paths_by one given.cwd request.config_path → (refused : Refusal) → IsAfterLoad refused
-      → ChecksAt (scanner_in given loaded.licenses) loaded one new begun request.metadata_path mid after (Err refused)
+  -- the table that the load has left is the one that is found
+  checks_found : (one : Content) (is : content ≡ Some one) (at : paths ≡ paths_by one given.cwd request.config_path) (last : List File) (result : Result CheckedCrates Refusal)
+      → ChecksAt (scanner_in given loaded.licenses) loaded one new last begun request.metadata_path mid after result
+      → ChecksAt (scanner_in given loaded.licenses) loaded one
+      (load_of given.lists [] (paths_by one given.cwd request.config_path) (load_heard (quiet one begun) (paths_by one given.cwd request.config_path))).files last begun request.metadata_path mid after result
+  checks_found one is at last result checks =
+      let answers = loads.comes.answers in
+      let same = quiet_load given one begun request asked paths at loads.heard answers.found mid (loads.hears one is) answers.is in
+      subst (λ files. ChecksAt (scanner_in given loaded.licenses) loaded one files last begun request.metadata_path mid after result) (loads.comes.files ∙ ap (λ (it : Loaded). it.files) same) checks
+
+  crates_refused : (one : Content) → content ≡ Some one → paths ≡ paths_by one given.cwd request.config_path → (last : List File) (refused : Refusal) → IsAfterLoad refused
+      → ChecksAt (scanner_in given loaded.licenses) loaded one new last begun request.metadata_path mid after (Err refused)
       → Refused given one begun after (error_of refused) (told_of (Ok (load_of given.lists [] paths loads.heard)))
-  crates_refused one is at refused cause checks =
+  crates_refused one is at last refused cause checks =
       let answers = loads.comes.answers in
       let same = quiet_load given one begun request asked paths at loads.heard answers.found mid (loads.hears one is) answers.is in
       by_refusal given one begun mid after first later request asked answers.found loaded answers.valid_of
-      (sym (ap (λ (it : Loaded). it.answer) same) ∙ answers.is) (told_of (Ok (load_of given.lists [] paths loads.heard))) (ap (λ it. told_of (Ok it)) same) refused cause
-      (subst (λ files. ChecksAt (scanner_in given loaded.licenses) loaded one files begun request.metadata_path mid after (Err refused)) (loads.comes.files ∙ ap (λ (it : Loaded). it.files) same) checks)
+      (sym (ap (λ (it : Loaded). it.answer) same) ∙ answers.is) (told_of (Ok (load_of given.lists [] paths loads.heard))) (ap (λ it. told_of (Ok it)) same) last refused cause
+      (checks_found one is at last (Err refused) checks)
 
-  pub crates_answer : (one : Content) → content ≡ Some one → paths ≡ paths_by one given.cwd request.config_path → (refused : Refusal) → IsAfterLoad refused
-      → ChecksAt (scanner_in given loaded.licenses) loaded one new begun request.metadata_path mid after (Err refused)
+  pub crates_answer : (one : Content) → content ≡ Some one → paths ≡ paths_by one given.cwd request.config_path → (last : List File) (refused : Refusal) → IsAfterLoad refused
+      → ChecksAt (scanner_in given loaded.licenses) loaded one new last begun request.metadata_path mid after (Err refused)
       → FreeOr (cause_of (error_of refused)) (IsRefusal given one begun after (error_of refused))
-  crates_answer one is at refused cause checks =
-      is_refusal given one begun after (error_of refused) (told_of (Ok (load_of given.lists [] paths loads.heard))) (crates_refused one is at refused cause checks)
+  crates_answer one is at last refused cause checks =
+      is_refusal given one begun after (error_of refused) (told_of (Ok (load_of given.lists [] paths loads.heard))) (crates_refused one is at last refused cause checks)
 
-  pub crates_writes : ForSome content (λ one. paths ≡ paths_by one given.cwd request.config_path) → (refused : Refusal) → IsAfterLoad refused
-      → ForSome content (λ one. ChecksAt (scanner_in given loaded.licenses) loaded one new begun request.metadata_path mid after (Err refused))
+  pub crates_writes : ForSome content (λ one. paths ≡ paths_by one given.cwd request.config_path) → (last : List File) (refused : Refusal) → IsAfterLoad refused
+      → ForSome content (λ one. ChecksAt (scanner_in given loaded.licenses) loaded one new last begun request.metadata_path mid after (Err refused))
       → WritesLoad given content begun after old_err new_err err_before err_after (Err (error_of refused))
-  crates_writes at refused cause checks = record {
+  crates_writes at last refused cause checks = record {
     text = told_of (Ok (load_of given.lists [] paths loads.heard));
-    tells = λ one is. refused_tells given one begun after (error_of refused) (told_of (Ok (load_of given.lists [] paths loads.heard))) (crates_refused one is (at one is) refused cause (checks one is));
+    tells = λ one is. refused_tells given one begun after (error_of refused) (told_of (Ok (load_of given.lists [] paths loads.heard))) (crates_refused one is (at one is) last refused cause (checks one is));
     written = after_written old_err new_err err_before err_after (told_of (Ok (load_of given.lists [] paths loads.heard))) refused cause loads.comes.prints;
   }
 
   -- ---- at the report
 
-  module _ (report : Report) (policy : report.policy ≡ loaded.licenses) where
+  module _ (last : List File) (checked : CheckedCrates) where
     pub report_answer : (one : Content) → content ≡ Some one → paths ≡ paths_by one given.cwd request.config_path
-        → ChecksAt (scanner_in given loaded.licenses) loaded one new begun request.metadata_path mid after (Ok report.crates) → report.stats ≡ counts_of report.crates
-        → IsReport given one begun after report
-    report_answer one is at checks stats =
+        → IsCheckedAt (scanner_in given loaded.licenses) loaded one new last begun request.metadata_path mid after checked → IsReport given one begun after (report_with checked last)
+    report_answer one is at checks =
         let answers = loads.comes.answers in
         let same = quiet_load given one begun request asked paths at loads.heard answers.found mid (loads.hears one is) answers.is in
         by_report given one begun mid after first later request asked answers.found loaded answers.valid_of
-        (sym (ap (λ (it : Loaded). it.answer) same) ∙ answers.is) (told_of (Ok (load_of given.lists [] paths loads.heard))) (ap (λ it. told_of (Ok it)) same) report policy
-        (subst (λ files. ChecksAt (scanner_in given loaded.licenses) loaded one files begun request.metadata_path mid after (Ok report.crates)) (loads.comes.files ∙ ap (λ (it : Loaded). it.files) same) checks) stats
+        (sym (ap (λ (it : Loaded). it.answer) same) ∙ answers.is) (told_of (Ok (load_of given.lists [] paths loads.heard))) (ap (λ it. told_of (Ok it)) same) last checked
+        (checks_found one is at last (Ok checked) checks)
 
     pub report_writes : ForSome content (λ one. paths ≡ paths_by one given.cwd request.config_path)
-        → ForSome content (λ one. ChecksAt (scanner_in given loaded.licenses) loaded one new begun request.metadata_path mid after (Ok report.crates))
-        → WritesLoad given content begun after old_err new_err err_before err_after (Ok report)
+        → ForSome content (λ one. IsCheckedAt (scanner_in given loaded.licenses) loaded one new last begun request.metadata_path mid after checked)
+        → WritesLoad given content begun after old_err new_err err_before err_after (Ok (report_with checked last))
     report_writes at checks = record {
       text = told_of (Ok (load_of given.lists [] paths loads.heard));
       tells = λ one is.
           let answers = loads.comes.answers in
           let same = quiet_load given one begun request asked paths (at one is) loads.heard answers.found mid (loads.hears one is) answers.is in
           by_reads given one begun mid after first later request asked answers.found loaded answers.valid_of
-          (sym (ap (λ (it : Loaded). it.answer) same) ∙ answers.is) (told_of (Ok (load_of given.lists [] paths loads.heard))) (ap (λ it. told_of (Ok it)) same) report policy
-          (subst (λ files. ChecksAt (scanner_in given loaded.licenses) loaded one files begun request.metadata_path mid after (Ok report.crates)) (loads.comes.files ∙ ap (λ (it : Loaded). it.files) same) (checks one is));
+          (sym (ap (λ (it : Loaded). it.answer) same) ∙ answers.is) (told_of (Ok (load_of given.lists [] paths loads.heard))) (ap (λ it. told_of (Ok it)) same) last checked
+          (checks_found one is (at one is) last (Ok checked) (checks one is));
       written = loads.comes.prints;
     }

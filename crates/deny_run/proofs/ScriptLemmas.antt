@@ -14,17 +14,20 @@ use Rattle.load_core.specs.Answer.{Prints, WriteCounts, load_cause}
 use Rattle.load_core.specs.declared.error.LoadError.{LoadError}
 use Rattle.load_core.specs.declared.error.LoadError.TheVariants as load
 use Rattle.deny_run.specs.declared.error.Error.{Error}
-use Rattle.deny_run.specs.declared.error.Error.TheVariants.{WriteFault}
+use Rattle.deny_run.specs.declared.error.Error.TheVariants.{Memory, WriteFault}
 use Rattle.deny_run.specs.declared.error.Refusal.{Refusal}
 use Rattle.deny_run.specs.declared.error.Refusal.TheVariants as refusal
 use Rattle.workspace_core.specs.declared.error.KratesError.{KratesError}
 use Rattle.workspace_core.specs.declared.error.KratesError.TheVariants as krates
 use Rattle.deny_run.specs.declared.report.Report.{Report}
 use Rattle.deny_run.specs.Counts.{summary_of}
-use Rattle.deny_run.specs.Error.{cause_of, error_of, error_of_load, fault_line}
+use Rattle.print_core.specs.declared.printer.PrintError.{PrintError}
+use Rattle.print_core.specs.declared.printer.PrintError.TheVariants as print
+use Rattle.load_core.specs.Print.{HasReasonSince}
+use Rattle.deny_run.specs.Error.{cause_of, error_of, error_of_load, error_of_print, fault_line, FreeOr}
 use Rattle.deny_run.specs.Given.{Given}
 use Rattle.deny_run.specs.Report.{IsReport}
-use Rattle.deny_run.specs.Script.{Begins, TellsLoad, TextWritten, Writes, WritesFirst, WritesLoad, load_script, script_of}
+use Rattle.deny_run.specs.Script.{Begins, IsReportTold, TellsLoad, TextWritten, Writes, WritesFirst, WritesLoad, findings_text, load_script, script_of}
 use Rattle.deny_run.specs.Steps.{IsAfterLoad}
 use Rattle.deny_run.proofs.AnswerLemmas.{Refused}
 
@@ -91,7 +94,6 @@ after_written old new before after text refusal.Words cause gained = absurd caus
 after_written old new before after text (refusal.Search error) cause gained = absurd cause
 after_written old new before after text (refusal.Load error) cause gained = absurd cause
 after_written old new before after text (refusal.Krates error) cause gained = krates_written old new before after text error gained
-after_written old new before after text (refusal.CrateForm id) cause gained = gained
 
 -- ---- scripts
 
@@ -112,7 +114,7 @@ module _ (given : Given) (content : Option Content) (counts : FaultCounts) (out 
     text = text;
     tells = tells;
     begun = load_script written.front;
-    begins = subst (Begins given content counts text (load_script written.front)) (sym is) (record { front = written.front; rest = written.rest; parts = written.parts; is = refl });
+    begins = subst (Begins given content counts text (load_script written.front)) (sym is) (inl (record { front = written.front; rest = written.rest; parts = written.parts; is = refl }));
     gains = err_alone out err_old err_new written.front written.gained;
   }
   first_by error text tells causes.told is written = record {
@@ -153,44 +155,97 @@ module _ (given : Given) (content : Option Content) (counts : FaultCounts) (out 
       → WritesFirst given content counts (record { out = out; err = err_old }) (record { out = out; err = err_new }) (Err error)
   first_refused error writes = first_by error writes.text writes.tells (cause_of error) refl writes.written
 
--- ---- with the summary
+-- ---- with what was found, and the summary
 
-module _ (given : Given) (content : Option Content) (counts : FaultCounts) (old new : Written) (report : Report)
-    (writes : WritesLoad given content counts.tree_before counts.tree_after old.err new.err counts.err_before counts.err_after (Ok report)) where
-  pub first_reported : Gained old.out new.out (summary_of report.stats) → WritesFirst given content counts old new (Ok report)
-  first_reported gained = record {
+module _ (given : Given) (content : Option Content) (counts : FaultCounts) (old : Written) (middle : Option (List ℕ)) (first last : ℕ) (report : Report)
+    (asked : ForSome content (λ one. IsReport given one counts.tree_before counts.tree_after report))
+    (writes : WritesLoad given content counts.tree_before counts.tree_after old.err middle first last (Ok report)) where
+  is_told : IsReportTold given content counts writes.text report
+  is_told = record { asked = asked; text_of = writes.tells }
+
+  -- what was told of the load, and then a text
+  err_both : (new : Option (List ℕ)) (text : List ℕ) → Gained middle new text → Gained old.err new (writes.text ++ (text ++ []))
+  err_both new text gained = Gained-then old.err middle new writes.text (text ++ []) writes.written (gained-append_nil middle new text gained)
+
+  -- a refusal that comes of the report's hearing
+  freely_told : (error : Error) → ((P : Type 0) → FreeOr (cause_of error) P) → ForSome content (λ one. TellsLoad given one counts.tree_before counts.tree_after (Err error) writes.text)
+  freely_told error free = λ one e. let own = writes.tells one e in record { hearing = own.hearing; heard = own.heard; answers = free _; is = own.is }
+
+  pub first_reported : (new : Written) → Gained middle new.err (findings_text report) → Gained old.out new.out (summary_of report.stats) → WritesFirst given content counts old new (Ok report)
+  first_reported new found gained = record {
     text = writes.text;
     tells = writes.tells;
     begun = script_of writes.text report;
     begins = refl;
-    gains = record { out = gained-append_nil old.out new.out _ gained; err = gained-append_nil old.err new.err writes.text writes.written };
+    gains = record { out = gained-append_nil old.out new.out _ gained; err = err_both new.err (findings_text report) found };
   }
 
   -- a summary that was cut
-  pub first_cut : (before after : ℕ) → ForSome content (λ one. IsReport given one counts.tree_before counts.tree_after report)
+  pub first_cut : (new : Written) (before after : ℕ) → Gained middle new.err (findings_text report)
       → GainedPrefix old.out new.out (summary_of report.stats) → before ≡ counts.out_before → after ≡ counts.out_after → Rose counts.out_before counts.out_after
       → WritesFirst given content counts old new (Err (WriteFault before after))
-  first_cut before after asked front first last rose = record {
+  first_cut new before after found front one other rose = record {
     text = writes.text;
-    tells = λ one e. let own = writes.tells one e in record { hearing = own.hearing; heard = own.heard; answers = tt; is = own.is };
-    begun = (to_err, writes.text) ∷ (to_out, front.front) ∷ [];
+    tells = freely_told (WriteFault before after) (λ P. tt);
+    begun = (to_err, writes.text) ∷ (to_err, findings_text report) ∷ (to_out, front.front) ∷ [];
     begins = inr (record {
       report = report;
-      asked = asked;
-      text_of = writes.tells;
+      is = is_told;
       cut = record {
-        earlier = (to_err, writes.text) ∷ [];
+        earlier = (to_err, writes.text) ∷ (to_err, findings_text report) ∷ [];
         target = to_out;
         front = front.front;
         rest = front.rest;
         later = [];
-        parts = ap (λ summary. (to_err, writes.text) ∷ (to_out, summary) ∷ []) front.parts;
+        parts = ap (λ summary. (to_err, writes.text) ∷ (to_err, findings_text report) ∷ (to_out, summary) ∷ []) front.parts;
         written = refl;
-        refused = (first, last, rose);
+        refused = (one, other, rose);
       };
     });
-    gains = record { out = gained-append_nil old.out new.out front.front front.gained; err = gained-append_nil old.err new.err writes.text writes.written };
+    gains = record { out = gained-append_nil old.out new.out front.front front.gained; err = err_both new.err (findings_text report) found };
   }
+
+  -- findings that were cut
+  pub found_cut : (new : Option (List ℕ)) (before after : ℕ) → GainedPrefix middle new (findings_text report) → before ≡ counts.err_before → after ≤ counts.err_after → Rose before after
+      → WritesFirst given content counts old (record { out = old.out; err = new }) (Err (WriteFault before after))
+  found_cut new before after front one other rose = record {
+    text = writes.text;
+    tells = freely_told (WriteFault before after) (λ P. tt);
+    begun = (to_err, writes.text) ∷ (to_err, front.front) ∷ [];
+    begins = inr (record {
+      report = report;
+      is = is_told;
+      cut = record {
+        earlier = (to_err, writes.text) ∷ [];
+        target = to_err;
+        front = front.front;
+        rest = front.rest;
+        later = (to_out, summary_of report.stats) ∷ [];
+        parts = ap (λ found. (to_err, writes.text) ∷ (to_err, found) ∷ (to_out, summary_of report.stats) ∷ []) front.parts;
+        written = refl;
+        refused = (one, other, rose);
+      };
+    });
+    gains = record { out = gained-nil old.out; err = err_both new front.front front.gained };
+  }
+
+  -- findings for which memory was wanting
+  pub found_begun : (new : Option (List ℕ)) → GainedPrefix middle new (findings_text report) → WritesFirst given content counts old (record { out = old.out; err = new }) (Err Memory)
+  found_begun new front = record {
+    text = writes.text;
+    tells = freely_told Memory (λ P. tt);
+    begun = (to_err, writes.text) ∷ (to_err, front.front) ∷ [];
+    begins = inr (record { report = report; is = is_told; front = front.front; rest = front.rest; parts = front.parts; begun_is = refl });
+    gains = record { out = gained-nil old.out; err = err_both new front.front front.gained };
+  }
+
+  -- findings that were not all printed
+  pub found_refused : (new : Option (List ℕ)) (refused : PrintError) → GainedPrefix middle new (findings_text report) → HasReasonSince counts.err_before counts.err_after refused
+      → WritesFirst given content counts old (record { out = old.out; err = new }) (Err (error_of_print refused))
+  found_refused new print.Memory front reason = found_begun new front
+  found_refused new (print.WriteFault before after) front reason =
+      found_cut new before after front reason.0 (let e : after ≤ counts.err_after = omega (arith, reason.1) in e)
+      (subst (λ n. Rose n after) (sym reason.0) (subst (Rose counts.err_before) (sym reason.1) reason.2))
 
 -- ---- with the line of a refusal
 
@@ -247,12 +302,14 @@ module _ (given : Given) (content : Option Content) (counts : FaultCounts) (err_
   }
 
   begins_further : (text : List ℕ) (begun : Script) (cause : Cause) → Begins given content counts text begun cause → Begins given content (with_err counts err_after) text begun cause
-  begins_further text begun no_memory begins = begins
+  begins_further text begun no_memory (inl front) = inl front
+  begins_further text begun no_memory (inr own) =
+      inr (record { report = own.report; is = record { asked = own.is.asked; text_of = own.is.text_of }; front = own.front; rest = own.rest; parts = own.parts; begun_is = own.begun_is })
   begins_further text begun causes.told begins = begins
   begins_further text begun (failed_read before after) begins = begins
   begins_further text begun (refused_write before after) (inl cut) = inl (cut_further before after (load_script text) begun cut)
   begins_further text begun (refused_write before after) (inr cut) =
-      inr (record { report = cut.report; asked = cut.asked; text_of = cut.text_of; cut = cut_further before after (script_of text cut.report) begun cut.cut })
+      inr (record { report = cut.report; is = record { asked = cut.is.asked; text_of = cut.is.text_of }; cut = cut_further before after (script_of text cut.report) begun cut.cut })
 
   -- after a refusal stand what was begun and the line of the refusal, or a front of it
   pub Writes-from_line : (old mid new : Written) (error : Error) → WritesFirst given content counts old mid (Err error) → new.out ≡ mid.out

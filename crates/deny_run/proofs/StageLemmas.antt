@@ -1,5 +1,5 @@
 -- The crates that a policy has checked: what is answered where they were gathered.
-use Rattle.std.proofs.Common.{◌≡◌, ℕ, ◌≤◌, List, Result, Ok, Err, IfErr, subst}
+use Rattle.std.proofs.Common.{◌≡◌, ℕ, ◌≤◌, List, Ok, subst}
 use Rattle.tree_core.specs.Content.{Content}
 use Rattle.diag_core.specs.File.{File}
 use Rattle.graph_core.specs.Metadata.{Graph}
@@ -8,19 +8,17 @@ use Rattle.selection_core.specs.Listed.{Chosen, IsChosen}
 use Rattle.workspace_core.specs.Krates.{AreHeard, Gathers}
 use Rattle.expression_core.specs.Scanned.{Scanner}
 use Rattle.policy_core.specs.declared.load.LoadedPolicy.{LoadedPolicy}
-use Rattle.deny_run.specs.declared.error.Refusal.{Refusal}
-use Rattle.deny_run.specs.declared.error.Refusal.TheVariants as refusal
-use Rattle.deny_run.specs.declared.report.CrateReport.{CrateReport}
+use Rattle.deny_run.specs.declared.check.CheckedCrates.{CheckedCrates}
 use Rattle.deny_run.specs.Selection.{choice_by}
-use Rattle.deny_run.specs.Steps.{AreCheckedAt, Checks, ChecksAt, IsOfCrates}
+use Rattle.deny_run.specs.Steps.{IsChecked, IsCheckedAt}
 
-module _ (scanner : Scanner) (policy : LoadedPolicy) (content : Content) (files : List File) (begun : ℕ) (path : List ℕ) (before middle after : ℕ) (first : before ≤ middle) (choice : Choice)
+module _ (scanner : Scanner) (policy : LoadedPolicy) (content : Content) (files last : List File) (begun : ℕ) (path : List ℕ) (before middle after : ℕ) (first : before ≤ middle) (choice : Choice)
     (same : choice ≡ choice_by policy.graph.exclude) (chosen : Chosen) (gathers : Gathers choice content begun path before middle (Ok chosen)) where
-  abbrev ChecksEach : Result (List CrateReport) Refusal → Type 0
-  ChecksEach result = (graph : Graph) (own : Choice) → IsChosen graph own chosen → Checks scanner policy.licenses content files middle after graph own result
-
-  checked_at : (result : Result (List CrateReport) Refusal) → ChecksEach result → AreCheckedAt scanner policy content files begun path before after result
-  checked_at result checks =
+  -- each of the crates has its report
+  pub by_checks : (checked : CheckedCrates)
+      → ((graph : Graph) (own : Choice) → IsChosen graph own chosen → IsChecked scanner policy.licenses content files last middle after graph own checked)
+      → IsCheckedAt scanner policy content files last begun path before after checked
+  by_checks checked checks =
       let own : AreHeard (choice_by policy.graph.exclude) content begun path before middle (Ok chosen) =
       subst (λ one. Gathers one content begun path before middle (Ok chosen)) same gathers in
       record {
@@ -33,13 +31,3 @@ module _ (scanner : Scanner) (policy : LoadedPolicy) (content : Content) (files 
         rooted = own.from.rooted;
         checked = checks own.from.graph (choice_by policy.graph.exclude) own.from.reached;
       }
-
-  -- each of the crates has its report, or one is refused
-  pub by_checks : (result : Result (List CrateReport) Refusal) → ChecksEach result → IfErr result IsOfCrates → ChecksAt scanner policy content files begun path before after result
-  by_checks (Ok reports) checks cause = checked_at (Ok reports) checks
-  by_checks (Err refusal.Memory) checks cause = tt
-  by_checks (Err refusal.Words) checks cause = absurd cause
-  by_checks (Err (refusal.Search error)) checks cause = absurd cause
-  by_checks (Err (refusal.Load error)) checks cause = absurd cause
-  by_checks (Err (refusal.Krates error)) checks cause = absurd cause
-  by_checks (Err (refusal.CrateForm id)) checks cause = checked_at (Err (refusal.CrateForm id)) checks

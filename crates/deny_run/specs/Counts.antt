@@ -1,28 +1,42 @@
--- How verdicts are counted, and the summary and the status that the counts give.
-use Rattle.std.specs.Prelude.{ℕ, Bool, true, false, List, Some, None, count_by, not, nat_lt, codes, if◌then◌else◌}
+-- How findings are counted, and the summary and the status that the counts give.
+use Rattle.std.specs.Prelude.{ℕ, ◌-◌, ◌^◌, Bool, true, false, List, Some, None, count_by, min, nat_lt, codes, if◌then◌else◌}
+use Rattle.std.specs.List.{sum_by}
 use Rattle.std.specs.Option.{option_map_or}
-use Rattle.deny_run.specs.declared.report.Verdict.{Verdict}
-use Rattle.deny_run.specs.declared.report.Verdict.TheVariants.{Accepted, Rejected, Skipped, Unlicensed}
-use Rattle.deny_run.specs.declared.report.CrateReport.{CrateReport}
+use Rattle.diag_core.specs.Pack.{PackOf}
+use Rattle.diag_core.specs.Severity.{is_same_severity}
+use Rattle.diag_core.specs.declared.severity.Severity.{Severity}
+use Rattle.diag_core.specs.declared.severity.Severity.TheVariants as severity
+use Rattle.certificate_core.specs.declared.verdict.Verdict.{Verdict}
+use Rattle.certificate_core.specs.declared.verdict.Verdict.TheVariants.{Accepted, Rejected, Skipped, Unlicensed}
 use Rattle.deny_run.specs.declared.report.Stats.{Stats}
 use Rattle.deny_run.specs.declared.report.AllStats.{AllStats}
 
 -- whether the verdict is against the crate
 abbrev pub is_against : Verdict → Bool
-is_against Accepted = false
-is_against Rejected = true
+is_against (Accepted choice hits) = false
+is_against (Rejected least blocks) = true
 is_against Skipped = false
 is_against Unlicensed = true
 
--- a verdict against a crate is an error, and any other a note
-abbrev pub stats_of : List CrateReport → Stats
-stats_of crates =
-    let against : CrateReport → Bool = λ crate. is_against crate.verdict in
-    record { errors = count_by against crates; warnings = 0; notes = count_by (λ crate. not (against crate)) crates; helps = 0 }
+-- how many findings of a pack are of this severity
+abbrev pub count_in : Severity → PackOf → ℕ
+count_in severity pack = count_by (λ finding. is_same_severity finding.diag.severity severity) pack.findings
+
+-- and of all packs: so many, or as many as 64 bits tell
+abbrev pub count_at : List PackOf → Severity → ℕ
+count_at packs severity = min (sum_by (count_in severity) packs) (2 ^ 64 - 1)
+
+abbrev pub stats_of : List PackOf → Stats
+stats_of packs = record {
+  errors = count_at packs severity.Error;
+  warnings = count_at packs severity.Warning;
+  notes = count_at packs severity.Note;
+  helps = count_at packs severity.Help;
+}
 
 -- the check of licences alone is counted
-abbrev pub counts_of : List CrateReport → AllStats
-counts_of crates = record { advisories = None; bans = None; licenses = Some (stats_of crates); sources = None }
+abbrev pub counts_of : List PackOf → AllStats
+counts_of packs = record { advisories = None; bans = None; licenses = Some (stats_of packs); sources = None }
 
 -- the check of licences has errors
 abbrev pub has_errors : AllStats → Bool

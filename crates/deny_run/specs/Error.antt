@@ -6,10 +6,12 @@ use Rattle.workspace_core.specs.declared.error.KratesError.TheVariants as krates
 use Rattle.heard_core.specs.Cause.{Cause, no_memory, told, failed_read, refused_write}
 use Rattle.load_core.specs.declared.error.LoadError.{LoadError}
 use Rattle.load_core.specs.declared.error.LoadError.TheVariants as load
+use Rattle.print_core.specs.declared.printer.PrintError.{PrintError}
+use Rattle.print_core.specs.declared.printer.PrintError.TheVariants as print
 use Rattle.search_core.specs.declared.search.SearchError.{SearchError}
 use Rattle.search_core.specs.declared.search.SearchError.TheVariants as search
 use Rattle.workspace_core.specs.declared.error.What.TheVariants.{ExcludeSpec}
-use Rattle.deny_run.specs.declared.error.Part.TheVariants.{Words, Crate}
+use Rattle.deny_run.specs.declared.error.Part.TheVariants.{Words}
 use Rattle.deny_run.specs.declared.error.Error.{Error}
 use Rattle.deny_run.specs.declared.error.Error.TheVariants.{Memory, NotCarried, ConfigRead, ConfigSyntax, ConfigShape, ConfigInvalid, MetadataRead, MetadataSyntax, MetadataShape, NoRoots, WriteFault, NotYet}
 use Rattle.deny_run.specs.declared.error.Refusal.{Refusal}
@@ -77,6 +79,11 @@ error_of_load load.NotCarried = NotCarried ExcludeSpec
 error_of_load (load.ConfigInvalid found) = ConfigInvalid found
 error_of_load (load.WriteFault before after) = WriteFault before after
 
+-- why findings were not printed
+abbrev pub error_of_print : PrintError → Error
+error_of_print print.Memory = Memory
+error_of_print (print.WriteFault before after) = WriteFault before after
+
 -- the error of a refusal
 abbrev pub error_of : Refusal → Error
 error_of refusal.Memory = Memory
@@ -84,4 +91,3 @@ error_of refusal.Words = NotYet Words
 error_of (refusal.Search error) = error_of_search error
 error_of (refusal.Load error) = error_of_load error
 error_of (refusal.Krates error) = error_of_krates error
-error_of (refusal.CrateForm id) = NotYet (Crate id)

@@ -1,5 +1,5 @@
 -- What is heard of the files, and what the words and the files ask to check.
-use Rattle.std.specs.Prelude.{◌≡◌, ℕ, Bool, false, nat_lt, List, [], ◌∷◌, codes, length, Option, Some, None, option_map, Result, Ok, Err, ⊤}
+use Rattle.std.specs.Prelude.{◌≡◌, ℕ, List, [], ◌∷◌, codes, Option, Some, None, option_map, Result, Ok, Err, ⊤}
 use Rattle.deny_text.specs.Path.{join_of}
 use Rattle.tree_core.specs.Hearing.{metadata}
 use Rattle.spdx_core.specs.Reading.{ExpressionView}
@@ -20,7 +20,9 @@ use Rattle.valid_policy.specs.declared.policy.ValidConfig.{ValidConfig}
 use Rattle.gather_core.specs.Entries.{clarifications_of, entries_of}
 use Rattle.gather_core.specs.Gathered.{threshold_of}
 use Rattle.gather_core.specs.Taken.{turn_with}
-use Rattle.gather_core.specs.Turns.{Turn, files_behind, records_in}
+use Rattle.gather_core.specs.Turns.{Turn, files_behind, findings_in, info_in, notes_in, records_in}
+use Rattle.check_core.specs.Summary.{told_in}
+use Rattle.check_core.specs.Turns.{Asked as LookedAt}
 use Rattle.policy_core.specs.Policy.{PolicyFound}
 use Rattle.load_core.specs.Heard.{load_heard}
 use Rattle.load_core.specs.Load.{Loaded, load_of}
@@ -123,11 +125,6 @@ priority_heard given policy hearing one =
 abbrev pub expression_in : Option Answer → Option ExpressionView
 expression_in answer = option_map (λ own. own.expression) answer
 
--- an expression of more than one term; it is not judged yet
-abbrev pub has_many : Option ExpressionView → Bool
-has_many None = false
-has_many (Some read) = nat_lt 1 (length read.terms)
-
 -- ---- turn after turn
 
 -- the file table once the policy was loaded
@@ -144,6 +141,12 @@ turn_heard given policy hearing files one =
     turn_with (scanner_in given policy) policy.file_id (clarifications_of one.krate (entries_of policy)) one.krate (ears_heard hearing one)
     (manifest_heard hearing.files.content one.krate.manifest_path one.reads) files
 
+-- the table behind all crates
+abbrev pub files_behind_all : Given → ValidConfig → RunHearing → List File → List CrateHeard → List File
+files_behind_all given policy hearing files [] = files
+files_behind_all given policy hearing files (one ∷ crates) =
+    files_behind_all given policy hearing (files_behind (turn_heard given policy hearing files one)) crates
+
 -- Crate after crate, the records of its reads are those that its turn asks for: by its clarifications, its field and its files,
 -- and of its manifest where the field is to be located.
 abbrev pub AreOwnReads : Given → ValidConfig → RunHearing → List File → List CrateHeard → Type 0
@@ -151,3 +154,15 @@ AreOwnReads given policy hearing files [] = ⊤
 AreOwnReads given policy hearing files (one ∷ crates) =
     (one.reads ≡ records_in (turn_heard given policy hearing files one))
     × AreOwnReads given policy hearing (files_behind (turn_heard given policy hearing files one)) crates
+
+-- ---- what the check looks at
+
+-- a crate, its expression with its place and its source, and what was found and noted of it, by its turn
+abbrev pub looked_at : Turn → LookedAt
+looked_at turn = record { krate = turn.krate; told = told_in (info_in turn); gathered = findings_in turn; notes = notes_in turn }
+
+abbrev pub all_looked_at : Given → ValidConfig → RunHearing → List File → List CrateHeard → List LookedAt
+all_looked_at given policy hearing files [] = []
+all_looked_at given policy hearing files (one ∷ crates) =
+    looked_at (turn_heard given policy hearing files one)
+    ∷ all_looked_at given policy hearing (files_behind (turn_heard given policy hearing files one)) crates

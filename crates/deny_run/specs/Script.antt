@@ -11,7 +11,7 @@ use Rattle.print_core.specs.declared.context.Color.TheVariants.{Auto}
 use Rattle.print_core.specs.declared.context.Format.TheVariants.{Human}
 use Rattle.print_core.specs.declared.context.LogContext.{LogContext}
 use Rattle.load_core.specs.Load.{Loaded}
-use Rattle.load_core.specs.Print.{printed_findings}
+use Rattle.load_core.specs.Print.{printed_findings, printed_packs}
 use Rattle.deny_run.specs.declared.error.Error.{Error}
 use Rattle.deny_run.specs.declared.report.Report.{Report}
 use Rattle.deny_run.specs.Counts.{summary_of}
@@ -39,7 +39,7 @@ told_before given hearing = told_of (loaded_of given hearing)
 abbrev pub IsAnsweredBy : Given → RunHearing → Result Report Error → Type 0
 IsAnsweredBy given hearing (Ok report) =
     (hearing.looks ≡ all_told) × (hearing.files.failed ≡ []) × (map (λ one. one.reads) hearing.crates ≡ reads_told report)
-IsAnsweredBy given hearing (Err error) = FreeOr (cause_of error) (Refuses given hearing (found_of given hearing) error)
+IsAnsweredBy given hearing (Err error) = FreeOr (cause_of error) (Refuses (found_of given hearing) error)
 
 -- the text is what is told of the load in a run that answers so
 pub record TellsLoad (given : Given) (content : Content) (before after : ℕ) (answer : Result Report Error) (text : List ℕ) : Type 0 where
@@ -52,16 +52,33 @@ pub record TellsLoad (given : Given) (content : Content) (before after : ℕ) (a
 abbrev pub load_script : List ℕ → Script
 load_script text = (to_err, text) ∷ []
 
--- what a report is written as: what is told of the load, and its summary, on `out`
-abbrev pub script_of : List ℕ → Report → Script
-script_of text report = (to_err, text) ∷ (to_out, summary_of report.stats) ∷ []
+-- what is told of a report's findings, on `err`
+abbrev pub findings_text : Report → List ℕ
+findings_text report = printed_packs plain_log report.files report.findings
 
--- the script of a report that is asked for was cut, in a run in which no read of it failed
-pub record CutsReport (given : Given) (told : Option Content) (counts : FaultCounts) (text : List ℕ) (before after : ℕ) (begun : Script) : Type 0 where
-  pub report : Report
+-- what a report is written as: what is told of the load, what was found, and its summary, on `out`
+abbrev pub script_of : List ℕ → Report → Script
+script_of text report = (to_err, text) ∷ (to_err, findings_text report) ∷ (to_out, summary_of report.stats) ∷ []
+
+-- a report that is asked for, of which nothing is told but what was written: by it the text is what is told of the load
+pub record IsReportTold (given : Given) (told : Option Content) (counts : FaultCounts) (text : List ℕ) (report : Report) : Type 0 where
   pub asked : ForSome told (λ content. IsReport given content counts.tree_before counts.tree_after report)
   pub text_of : ForSome told (λ content. TellsLoad given content counts.tree_before counts.tree_after (Ok report) text)
+
+-- the script of such a report was cut
+pub record CutsReport (given : Given) (told : Option Content) (counts : FaultCounts) (text : List ℕ) (before after : ℕ) (begun : Script) : Type 0 where
+  pub report : Report
+  pub is : IsReportTold given told counts text report
   pub cut : IsCut counts before after (script_of text report) begun
+
+-- all that is told of the load was written, and then a front of what such a report found
+pub record FrontsReport (given : Given) (told : Option Content) (counts : FaultCounts) (text : List ℕ) (begun : Script) : Type 0 where
+  pub report : Report
+  pub is : IsReportTold given told counts text report
+  pub front : List ℕ
+  pub rest : List ℕ
+  pub parts : findings_text report ≡ front ++ rest
+  pub begun_is : begun ≡ (to_err, text) ∷ (to_err, front) ∷ []
 
 -- a front of the text, on `err`
 pub record IsFront (text : List ℕ) (begun : Script) : Type 0 where
@@ -70,10 +87,10 @@ pub record IsFront (text : List ℕ) (begun : Script) : Type 0 where
   pub parts : text ≡ front ++ rest
   pub is : begun ≡ load_script front
 
--- What was begun before a refusal: a front of what is told of the load where memory was wanting; where a write was refused a
--- cut of that, or of a report; else all that is told of the load.
+-- What was begun before a refusal: where memory was wanting a front of what is told of the load, or all of that and a front of
+-- what was found; where a write was refused a cut of what is told of the load, or of a report; else all that is told of the load.
 abbrev pub Begins : Given → Option Content → FaultCounts → List ℕ → Script → Cause → Type 0
-Begins given told counts text begun no_memory = IsFront text begun
+Begins given told counts text begun no_memory = IsFront text begun ⊎ FrontsReport given told counts text begun
 Begins given told counts text begun (refused_write before after) =
     IsCut counts before after (load_script text) begun ⊎ CutsReport given told counts text before after begun
 Begins given told counts text begun _ = begun ≡ load_script text

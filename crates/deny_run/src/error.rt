@@ -2,8 +2,8 @@
 ghost use Rattle.std.specs.Prelude.{◌≡◌};
 ghost use Rattle.deny_run.specs.Error.{fault_line};
 
-use deny_text::Text;
 use load_core::{Diagnostics, LoadError, ReadFault, ShapeErrors, SyntaxError};
+use print_core::PrintError;
 use search_core::SearchError;
 use std::alloc::AllocError;
 use workspace_core::{KratesError, MetaFault, What};
@@ -12,8 +12,6 @@ use workspace_core::{KratesError, MetaFault, What};
 #[derive(Debug, Drop)]
 pub enum Part {
     Words,
-    /// The crate with this id.
-    Crate(Text),
 }
 
 #[derive(Drop)]
@@ -50,8 +48,7 @@ pub enum Error {
         before: u64,
         after: u64,
     },
-    /// The first part of the input that is of a form that is not built yet. A crate's expression of more
-    /// than one term is; of several such crates it is the first in the order of their ids.
+    /// The first part of the input that is of a form that is not built yet.
     NotYet(Part),
 }
 
@@ -84,6 +81,19 @@ impl From<AllocError> for Error {
 
     fn from(_: AllocError) -> Error {
         Error::Memory
+    }
+}
+
+impl From<PrintError> for Error {
+    ghost use Rattle.deny_run.specs.Error.{error_of_print};
+
+    ghost from_gives = { λ refused error. error ≡ error_of_print refused };
+
+    fn from(refused: PrintError) -> Error {
+        match refused {
+            PrintError::Memory => Error::Memory,
+            PrintError::WriteFault { before, after } => Error::WriteFault { before, after },
+        }
     }
 }
 
@@ -154,8 +164,6 @@ pub(crate) enum Refusal {
     Search(SearchError),
     Load(LoadError),
     Krates(KratesError),
-    /// The crate with this id.
-    CrateForm(Text),
 }
 
 impl From<AllocError> for Refusal {
@@ -210,7 +218,6 @@ impl From<Refusal> for Error {
             Refusal::Search(refused) => Error::from(refused),
             Refusal::Load(refused) => Error::from(refused),
             Refusal::Krates(refused) => Error::from(refused),
-            Refusal::CrateForm(id) => Error::NotYet(Part::Crate(id)),
         }
     }
 }

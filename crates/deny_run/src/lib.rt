@@ -1,8 +1,8 @@
 //! The run of the licence gate: from words and files to verdicts, a summary and a status.
 #![tactic(auto)]
 
+mod check;
 pub mod error;
-mod judge;
 pub mod report;
 pub mod run;
 mod stages;

@@ -1,37 +1,15 @@
 //! What a run answers.
 ghost use Rattle.std.specs.Prelude.{◌≡◌};
+ghost use Rattle.deny_run.specs.Counts.{count_at, count_in};
 
 use crate::error::Error;
 use deny_text::{ListOf, Text};
-use diag_core::Notes;
+use diag_core::{Files, Notes, Pack, Packs, Severity};
+pub use evaluate_core::Verdict;
 use gather_core::LicenseExprSource;
 use policy_core::ValidConfig;
 use spdx_core::Expression;
 use tree_core::Reads;
-
-/// Whether a policy allows a crate's licence.
-#[derive(Clone, Copy, Debug, PartialEq, Eq)]
-pub enum Verdict {
-    Accepted,
-    Rejected,
-    /// The crate is private, and the policy passes such crates over.
-    Skipped,
-    /// No expression was found for the crate.
-    Unlicensed,
-}
-
-impl Verdict {
-    ghost use Rattle.deny_run.specs.Counts.{is_against};
-
-    fn is_against(self) -> bool
-        ensures { result ≡ is_against self }
-    {
-        match self {
-            Verdict::Accepted | Verdict::Skipped => false,
-            Verdict::Rejected | Verdict::Unlicensed => true,
-        }
-    }
-}
 
 /// The verdict on one crate.
 #[derive(Drop)]
@@ -46,6 +24,7 @@ pub struct CrateReport {
     pub source: Option<LicenseExprSource>,
     /// What is noted of the licence files that the expression was made of.
     pub notes: Notes,
+    /// Whether the policy allows the licence, and what shows it.
     pub verdict: Verdict,
 }
 
@@ -67,23 +46,43 @@ pub struct AllStats {
     pub sources: Option<Stats>,
 }
 
+/// How many findings of a pack are of this severity.
+fn count_in(pack: &Pack, severity: Severity) -> u64
+    ensures { result ≡ count_in severity pack.now }
+{
+    let count = pack
+        .iter()
+        .filter(|finding| finding.diag.severity == severity)
+        .count();
+    count as u64
+}
+
+/// How many findings of packs are of this severity, or as many as can be told.
+fn count_at(packs: &[Pack], severity: Severity) -> u64
+    ensures { result ≡ count_at packs.now severity }
+{
+    let mut count: u64 = 0;
+    'packs: for pack in packs {
+        count = count.saturating_add(count_in(pack, severity));
+    }
+    count
+}
+
 impl AllStats {
     ghost use Rattle.deny_run.specs.Counts.{counts_of, has_errors};
 
-    /// Counts the verdicts: a rejected or unlicensed crate is an error, any other one a note.
-    pub fn of_verdicts(crates: &[CrateReport]) -> AllStats
-        ensures { result ≡ counts_of crates.now }
+    /// Counts the findings of the check of licences.
+    pub fn of_findings(packs: &[Pack]) -> AllStats
+        ensures { result ≡ counts_of packs.now }
     {
-        let errors = crates.iter().filter(|c| c.verdict.is_against()).count();
-        let notes = crates.iter().filter(|c| !c.verdict.is_against()).count();
         AllStats {
             advisories: None,
             bans: None,
             licenses: Some(Stats {
-                errors: errors as u64,
-                warnings: 0,
-                notes: notes as u64,
-                helps: 0,
+                errors: count_at(packs, Severity::Error),
+                warnings: count_at(packs, Severity::Warning),
+                notes: count_at(packs, Severity::Note),
+                helps: count_at(packs, Severity::Help),
             }),
             sources: None,
         }
@@ -108,6 +107,10 @@ pub struct Report {
     pub policy: ValidConfig,
     /// One verdict for each crate that was checked, in the order of their ids.
     pub crates: ListOf<CrateReport>,
+    /// What was found: a pack for each crate, in the same order, and then one about the policy.
+    pub findings: Packs,
+    /// The files that findings point into.
+    pub files: Files,
 }
 
 /// How a run ended.

@@ -7,22 +7,23 @@ ghost use Rattle.tree_core.specs.Script.{LineWritten};
 ghost use Rattle.deny_run.specs.declared.error.Part.{Part};
 ghost use Rattle.heard_core.specs.declared.fault.ReadFault.{ReadFault};
 ghost use Rattle.heard_core.specs.Cause.{ReadCounts};
-ghost use Rattle.deny_run.specs.Counts.{counts_of, status_of, summary_of};
+ghost use Rattle.deny_run.specs.Counts.{status_of, summary_of};
 ghost use Rattle.deny_run.specs.Error.{cause_of, fault_line};
 ghost use Rattle.deny_run.specs.Given.{given_of};
 ghost use Rattle.deny_run.specs.Headline.{Headline};
-ghost use Rattle.deny_run.specs.Report.{IsAnswer};
+ghost use Rattle.deny_run.specs.Report.{IsAnswer, LabelsLie};
+ghost use Rattle.deny_run.specs.Steps.{report_with};
 ghost use Rattle.deny_run.specs.Run.{answer_from, answer_of, exit_status};
 ghost use Rattle.deny_run.specs.Script.{Writes, WritesFirst, WritesLoad, plain_log};
 ghost use Rattle.deny_run.specs.Words.{request_of, texts};
 
+use crate::check::CheckedCrates;
 use crate::error::{Error, Refusal};
-use crate::report::{AllStats, CrateReport, Ended, Outcome, Report};
+use crate::report::{AllStats, Ended, Outcome, Report};
 use crate::stages::{check_crates, policy_paths};
 use crate::words::Request;
-use deny_text::ListOf;
 use diag_core::{Files, LevelFilter};
-use load_core::{ValidConfig, load};
+use load_core::{load, print_packs};
 use print_core::{Color, Format, LogContext};
 use spdx_core::{Catalog, Identifier};
 use std::alloc::Global;
@@ -39,17 +40,21 @@ fn plain_log() -> LogContext
     }
 }
 
-/// The report with this policy and these verdicts.
-fn report_of(policy: ValidConfig, crates: ListOf<CrateReport>) -> Report
-    ensures policy { result.policy ≡ policy }
-    ensures crates { result.crates ≡ crates }
-    ensures stats { result.stats ≡ counts_of crates }
+/// The report of a check, and the files that it points into.
+fn report_of(checked: CheckedCrates, files: Files) -> Report
+    ensures { result ≡ report_with checked files }
 {
-    let stats = AllStats::of_verdicts(crates.items());
-    Report {
-        stats,
+    let CheckedCrates {
         policy,
         crates,
+        findings,
+    } = checked;
+    Report {
+        stats: AllStats::of_findings(findings.items()),
+        policy,
+        crates,
+        findings,
+        files,
     }
 }
 
@@ -78,6 +83,7 @@ fn report<T: Tree, E: Sink, C: Catalog, I: Identifier>(
         (T.content tree.old) (T.fault_count tree.old) (T.fault_count tree.new)
         (E.written err.old) (E.written err.new) (E.fault_count err.old) (E.fault_count err.new)
         (answer_from result) }
+    ensures labels { LabelsLie (answer_from result) }
     ensures later { E.fault_count err.old ≤ E.fault_count err.new }
 {
     let begun = tree.faults();
@@ -100,9 +106,9 @@ fn report<T: Tree, E: Sink, C: Catalog, I: Identifier>(
         catalog,
         begun,
     )?;
-    let crates = check_crates(
+    let checked = check_crates(
         alloc,
-        &policy,
+        policy,
         metadata_path.as_path(),
         &mut files,
         tree,
@@ -110,7 +116,7 @@ fn report<T: Tree, E: Sink, C: Catalog, I: Identifier>(
         identifier,
         begun,
     )?;
-    Ok(report_of(policy.licenses, crates))
+    Ok(report_of(checked, files))
 }
 
 /// Writes the summary of a report.
@@ -128,8 +134,8 @@ fn write_summary<O: Sink>(out: &mut O, report: &Report) -> Result<(), SinkFailed
     write_all(out, summary.as_bytes())
 }
 
-/// The report that the words and the files ask for, with what is told of the policy's load and its summary
-/// written.
+/// The report that the words and the files ask for, with what is told of the policy's load, what was found and
+/// its summary written.
 fn check<T: Tree, O: Sink, E: Sink, C: Catalog, I: Identifier>(
     alloc: Global,
     words: &[String],
@@ -163,14 +169,24 @@ fn check<T: Tree, O: Sink, E: Sink, C: Catalog, I: Identifier>(
         (record { out = O.written out.old; err = E.written err.old })
         (record { out = O.written out.new; err = E.written err.new })
         result }
+    ensures labels { LabelsLie result }
     ensures out_later { O.fault_count out.old ≤ O.fault_count out.new }
     ensures err_later { E.fault_count err.old ≤ E.fault_count err.new }
 {
     let before = out.faults();
+    let begun = err.faults();
     let report = match report(alloc, words, cwd, tree, err, catalog, identifier) {
         Ok(report) => report,
         Err(refusal) => return Err(Error::from(refusal)),
     };
+    print_packs(
+        alloc,
+        plain_log(),
+        report.findings.items(),
+        &report.files,
+        err,
+        begun,
+    )?;
     match write_summary(out, &report) {
         Ok(()) => Ok(report),
         Err(SinkFailed) => Err(Error::WriteFault {
@@ -197,10 +213,10 @@ fn exit_status(report: &Report) -> u8
 }
 
 /// Runs the licence gate over the words of a command line, whose first is the program's name. Paths in them
-/// are read from `cwd`. The summary goes to `out`; what is told of the policy's load and the line of a refusal
-/// go to `err`.
+/// are read from `cwd`. The summary goes to `out`; what is told of the policy's load, then what was found, and
+/// the line of a refusal go to `err`.
 ///
-/// The status is 0 where no crate is rejected, 4 where one is, and 1 after a refusal.
+/// The status is 0 where no finding is an error, 4 where one is, and 1 after a refusal.
 pub fn run<T: Tree, O: Sink, E: Sink, C: Catalog, I: Identifier>(
     alloc: Global,
     words: &[String],
@@ -242,6 +258,9 @@ pub fn run<T: Tree, O: Sink, E: Sink, C: Catalog, I: Identifier>(
         (answer_of result.ended) }
     ensures out_later { O.fault_count out.old ≤ O.fault_count out.new }
     ensures err_later { E.fault_count err.old ≤ E.fault_count err.new }
+
+    // Each label of each finding lies in the text of its file, between characters.
+    ensures labels { LabelsLie (answer_of result.ended) }
 
     // The status is that of the counts.
     ensures status { result.status ≡ exit_status (answer_of result.ended) }

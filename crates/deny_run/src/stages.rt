@@ -1,5 +1,5 @@
 //! The stages of a run before its verdicts: where the policy's files are, and the crates that are checked.
-ghost use Rattle.std.specs.Prelude.{◌≡◌, ◌≤◌, ◌++◌, map, IfErr, IfOk, OnOk};
+ghost use Rattle.std.specs.Prelude.{◌≡◌, ◌≤◌, ◌++◌, map, All, IfErr, IfOk, OnOk};
 ghost use Rattle.std.specs.List.{filter_map};
 ghost use Rattle.std.specs.Option.{ForSome};
 ghost use Rattle.tree_core.specs.Hearing.{KeepsTree};
@@ -7,15 +7,16 @@ ghost use Rattle.heard_core.specs.Cause.{ReadCounts};
 ghost use Rattle.search_core.specs.Search.{search_cause};
 ghost use Rattle.selection_core.specs.Choice.{choice_of, spec_of, spec_read};
 ghost use Rattle.context_core.specs.Asked.{read_one};
+ghost use Rattle.policy_core.specs.Places.{PolicyStands};
+ghost use Rattle.check_core.specs.Labels.{PackLies};
 ghost use Rattle.deny_run.specs.Error.{cause_of, error_of};
 ghost use Rattle.deny_run.specs.Selection.{choice_by};
 ghost use Rattle.deny_run.specs.Steps.{ChecksAt, IsAfterLoad, paths_by, scanner_by};
 
+use crate::check::{CheckedCrates, check_all};
 use crate::error::Refusal;
-use crate::judge::check_all;
-use crate::report::CrateReport;
 use deny_text::path::join;
-use deny_text::{ListOf, PathBuf, Text, Texts};
+use deny_text::{PathBuf, Text, Texts};
 use diag_core::Files;
 use load_core::{LoadedPolicy, PolicyPaths};
 use search_core::{SearchError, Sought, find_upwards};
@@ -86,18 +87,20 @@ fn selection_by(alloc: Global, excludes: &Texts) -> Result<Selection, AllocError
 /// licences are settled, and then they are judged. `begun` is the tree's count of faults when the run began.
 pub(crate) fn check_crates<T: Tree, C: Catalog, I: Identifier>(
     alloc: Global,
-    policy: &LoadedPolicy,
+    policy: LoadedPolicy,
     metadata_path: &str,
     files: &mut Files,
     tree: &mut T,
     catalog: &C,
     identifier: &I,
     begun: u64,
-) -> Result<ListOf<CrateReport>, Refusal>
-    requires { begun ≤ T.fault_count tree.old }
+) -> Result<CheckedCrates, Refusal>
+    requires begun { begun ≤ T.fault_count tree.old }
+    requires places { PolicyStands files.old policy.licenses }
     ensures answer { ForSome (T.content tree.old) (λ c. ChecksAt
-        (scanner_by (C.lists catalog.now) (I.match_of identifier.now) policy.now.licenses) policy.now c files.old begun
-        metadata_path.now (T.fault_count tree.old) (T.fault_count tree.new) result) }
+        (scanner_by (C.lists catalog.now) (I.match_of identifier.now) policy.licenses) policy c files.old files.new
+        begun metadata_path.now (T.fault_count tree.old) (T.fault_count tree.new) result) }
+    ensures labels { IfOk result (λ checked. All (PackLies files.new) checked.findings) }
     ensures cause { IfErr result IsAfterLoad }
     ensures kept { KeepsTree (T.content tree.old) (T.content tree.new)
         (T.fault_count tree.old) (T.fault_count tree.new) }
@@ -106,13 +109,14 @@ pub(crate) fn check_crates<T: Tree, C: Catalog, I: Identifier>(
 {
     let selection = selection_by(alloc, &policy.graph.exclude)?;
     let krates = krates_at(alloc, tree, metadata_path, &selection, begun)?;
-    check_all(
+    let checked = check_all(
         alloc,
-        &policy.licenses,
+        policy.licenses,
         &krates,
         files,
         tree,
         catalog,
         identifier,
-    )
+    )?;
+    Ok(checked)
 }

@@ -28,10 +28,17 @@ const ROWS: [(&str, &str, &str); 17] = [
         "Apache-2.0",
         "a 1.0.0: LicenseRef-x Rejected; licenses FAILED\n",
     ),
-    // More than one term is not judged yet, be it the same one twice.
-    ("MIT OR MIT", "MIT", "crate a 1.0.0; "),
-    ("MIT/ISC", "MIT", "crate a 1.0.0; "),
-    ("MIT AND ISC", "MIT", "crate a 1.0.0; "),
+    (
+        "MIT OR MIT",
+        "MIT",
+        "a 1.0.0: MIT OR MIT Accepted; licenses ok\n",
+    ),
+    ("MIT/ISC", "MIT", "a 1.0.0: MIT/ISC Accepted; licenses ok\n"),
+    (
+        "MIT AND ISC",
+        "MIT",
+        "a 1.0.0: MIT AND ISC Rejected; licenses FAILED\n",
+    ),
     // No expression in strict mode, but one in lax mode.
     (
         "GPL-3.0",

@@ -33,7 +33,11 @@ fn each_field_and_policy_has_its_answer(rt: HostRuntime) -> Result<(), Fail> {
             "[licenses]\nallow = [\"ISC\", \"Zlib\"]\n",
             accepted("a 1.0.0: Zlib Accepted"),
         ),
-        ("MIT OR ISC", POLICY, refused("crate a 1.0.0", OPEN)),
+        (
+            "MIT OR ISC",
+            POLICY,
+            accepted("a 1.0.0: MIT OR ISC Accepted"),
+        ),
         ("", POLICY, rejected("a 1.0.0: none Unlicensed")),
         (
             "MIT",

@@ -4,7 +4,8 @@ ghost use Rattle.std.specs.Prelude.{◌≤◌, length, IfSome};
 use crate::rows::compare;
 use deny_gate::{exit_code, gate_over};
 use run_rows::{
-    OPEN, POLICY, Seen, Want, accepted, notes_of, refused, rejected, text, told, told_policy, tree,
+    OPEN, POLICY, Seen, Want, accepted, before_findings, notes_of, refused, rejected, text, told,
+    told_policy, tree,
 };
 use std::alloc::Global;
 use std::env::{Env, FillError};
@@ -93,9 +94,9 @@ fn started(words: &'static [&'static [u8]], folder: Option<&'static str>, want: 
 fn watch(alloc: Global, process: Process, tree: &mut MemTree) -> Result<(ExitCode, Seen), Fail> {
     let mut out = MemSink::new(alloc, 1000, 1000)?;
     let mut err = MemSink::new(alloc, 1000, 1000)?;
-    let ended = gate_over(&(process, alloc), tree, &mut out, &mut err);
-    let code = exit_code(&ended);
-    let (status, notes, policy, ended) = match &ended {
+    let ended_at = gate_over(&(process, alloc), tree, &mut out, &mut err);
+    let code = exit_code(&ended_at);
+    let (status, notes, policy, ended) = match &ended_at {
         Ok(outcome) => (
             outcome.status,
             notes_of(&outcome.ended),
@@ -105,7 +106,10 @@ fn watch(alloc: Global, process: Process, tree: &mut MemTree) -> Result<(ExitCod
         Err(error) => (1, 0, String::new(alloc), format!(in alloc; "{error:?}")?),
     };
     let out = text(alloc, out.written())?;
-    let err = text(alloc, err.written())?;
+    let err = match &ended_at {
+        Ok(outcome) => before_findings(alloc, &outcome.ended, err.written())?,
+        Err(_) => text(alloc, err.written())?,
+    };
     Ok((
         code,
         Seen {

@@ -9,7 +9,10 @@ const ACCEPTED: &str = "a 1.0.0: MIT Accepted";
 
 /// A policy of this many names, of which only the last is the crate's.
 fn policy_of(alloc: Global, names: usize) -> Result<String, AllocError> {
-    let mut text = String::from_str(alloc, "[licenses]\nallow = [")?;
+    let mut text = String::from_str(
+        alloc,
+        "[licenses]\nunused-allowed-license = \"allow\"\nallow = [",
+    )?;
     'names: for _ in 1..names {
         text.push_str("\"ISC\", ")?;
     }

@@ -1,6 +1,6 @@
 //! Metadata of several crates, and metadata that is refused.
 use crate::rows::expect;
-use run_rows::{OPEN, POLICY, WORDS, Want, accepted, metadata, refused, rejected, tree};
+use run_rows::{POLICY, WORDS, Want, accepted, metadata, refused, rejected, tree};
 use std::alloc::{AllocError, Global};
 use std::test::Fail;
 
@@ -55,7 +55,10 @@ fn crates_are_checked_in_the_order_of_their_ids(rt: HostRuntime) -> Result<(), F
             [MIT, "null", MIT, "null"],
             rejected("a: MIT Accepted, b: none Unlicensed, d: none Unlicensed"),
         ),
-        ([MIT, "\"MIT OR ISC\"", MIT, MIT], refused("crate b", OPEN)),
+        (
+            [MIT, "\"MIT OR ISC\"", MIT, MIT],
+            accepted("a: MIT Accepted, b: MIT OR ISC Accepted, d: MIT Accepted"),
+        ),
         (
             [MIT, MIT, MIT, "\"ISC\""],
             rejected("a: MIT Accepted, b: MIT Accepted, d: ISC Rejected"),

@@ -22,8 +22,6 @@ const BARE: Case = Case {
     wanted: "4\na: none Unlicensed; Listing /w Got\n",
 };
 
-const NOT_YET: &str = "1\ncrate a";
-
 /// A clarification by the hash of one LF, as `xxhsum -H0` has it.
 const BY_LICENSE: &str = "[[licenses.clarify]]\ncrate = \"a\"\nexpression = \"ISC\"\n\
 license-files = [{ path = \"LICENSE\", hash = 0x81c9d352 }]\n";
@@ -125,7 +123,7 @@ pub static FILES: [Case; 19] = [
     },
     Case {
         license: "\"MIT OR ISC\"",
-        wanted: NOT_YET,
+        wanted: "0\na: MIT OR ISC Accepted by the field; Manifest /w/Cargo.toml Got\n",
         ..BARE
     },
     Case {
@@ -176,7 +174,7 @@ pub static FILES: [Case; 19] = [
     },
     Case {
         files: &[("/w/LICENSE-MIT", b"MIT"), ("/w/LICENSE-ISC", b"ISC")],
-        wanted: NOT_YET,
+        wanted: "0\na: ISC AND MIT Accepted by files LICENSE-ISC LICENSE-MIT; Listing /w Got; LicenseFile LICENSE-ISC Got; LicenseFile LICENSE-MIT Got\n",
         ..BARE
     },
     // by parts `./LICENSE` is another path than `LICENSE`
@@ -189,7 +187,7 @@ pub static FILES: [Case; 19] = [
     Case {
         license_file: "\"./LICENSE\"",
         files: &[("/w/LICENSE", b"MIT")],
-        wanted: NOT_YET,
+        wanted: "0\na: MIT AND MIT Accepted by files ./LICENSE LICENSE; Listing /w Got; LicenseFile LICENSE Got; LicenseFile ./LICENSE Got\n",
         ..BARE
     },
     Case {

@@ -3,6 +3,7 @@ use deny_run::LicenseExprSource;
 use deny_run::report::{CrateReport, Report};
 use deny_text::{Span, Text};
 use diag_core::FileId;
+use run_rows::told_verdict;
 use std::alloc::{AllocError, Global};
 use tree_core::ReadRecord;
 
@@ -67,8 +68,8 @@ fn put_crate(alloc: Global, line: &mut String, checked: &CrateReport) -> Result<
         None => "none",
     };
     let id = checked.id.as_str();
-    let verdict = checked.verdict;
-    line.push_str(format!(in alloc; "{id}: {expression} {verdict:?}")?.as_str())?;
+    let verdict = told_verdict(&checked.verdict);
+    line.push_str(format!(in alloc; "{id}: {expression} {verdict}")?.as_str())?;
     if let Some(source) = &checked.source {
         put_source(alloc, line, source)?;
     }

@@ -1,16 +1,18 @@
 -- Findings are printed one after another.
-use Rattle.std.proofs.Common.{◌≡◌, ◌∙◌, refl, sym, ap, ap₂, ℕ, ◌+◌, ◌<◌, cond, List, [], ◌∷◌, ◌++◌, length, take, drop, get_or, Option, Some, None, Result, Ok, Err, OnErr, append_assoc, append-nil}
+use Rattle.std.proofs.Common.{◌≡◌, ◌∙◌, refl, sym, ap, ap₂, subst, ℕ, ◌+◌, ◌<◌, cond, List, [], ◌∷◌, ◌++◌, length, take, drop, get_or, Option, Some, None, Result, Ok, Err, OnErr, append_assoc, append-nil}
 use Rattle.std.specs.List.{flat_map}
-use Rattle.std.proofs.lemmas.List.{take-append-drop, drop_more}
+use Rattle.std.proofs.lemmas.List.{take-append-drop, drop_more, take_more}
 use Rattle.std.proofs.lemmas.List.Concat.{flat_map-append}
 use Rattle.tree_core.specs.Faults.{Gained, GainedPrefix}
 use Rattle.tree_core.proofs.GainedLemmas.{Gained-then}
 use Rattle.diag_core.specs.File.{File}
 use Rattle.diag_core.specs.declared.diagnostic.Diagnostic.{Diagnostic}
 use Rattle.diag_core.specs.declared.severity.LevelFilter.TheVariants.{Off}
-use Rattle.print_core.specs.Printed.{is_heard, printed_of}
+use Rattle.diag_core.specs.Pack.{PackOf}
+use Rattle.diag_core.specs.declared.pack.Diag.{Diag}
+use Rattle.print_core.specs.Printed.{all_printed_at, is_heard, printed_of}
 use Rattle.print_core.specs.declared.context.LogContext.{LogContext}
-use Rattle.load_core.specs.Print.{printed_findings}
+use Rattle.load_core.specs.Print.{printed_findings, printed_packs}
 
 module _ {A : Type 0} (f : A → List ℕ) (xs : List A) where
   -- the whole text, cut before and behind an item
@@ -37,6 +39,16 @@ module _ {A : Type 0} (f : A → List ℕ) (xs : List A) where
         gained = Gained-then old mid new earlier cut.front before cut.gained;
       }
 
+  -- the texts of one item more
+  pub one_more : (i : ℕ) (x : A) (old mid new : Option (List ℕ)) → i < length xs → x ≡ get_or xs i x
+      → Gained old mid (flat_map f (take i xs)) → Gained mid new (f x) → Gained old new (flat_map f (take (i + 1) xs))
+  one_more i x old mid new within at before gained =
+      subst (Gained old new)
+      (sym (ap (flat_map f) (take_more xs i x within ∙ ap (λ y. take i xs ++ y ∷ []) (sym at))
+      ∙ flat_map-append f (take i xs) (x ∷ [])
+      ∙ ap (λ text. flat_map f (take i xs) ++ text) (append-nil (f x))))
+      (Gained-then old mid new (flat_map f (take i xs)) (f x) before gained)
+
 -- nothing is printed at level off
 pub off_is_silent : (context : LogContext) (files : List File) (findings : List Diagnostic) → context.log_level ≡ Off → printed_findings context files findings ≡ []
 off_is_silent context files [] off = refl
@@ -44,6 +56,17 @@ off_is_silent context files (finding ∷ findings) off =
     ap₂ ◌++◌
     (ap (λ level. cond (is_heard level finding.severity) (printed_of context.format files finding) []) off)
     (off_is_silent context files findings off)
+
+pack_is_silent : (context : LogContext) (files : List File) (findings : List Diag) → context.log_level ≡ Off → all_printed_at context files findings ≡ []
+pack_is_silent context files [] off = refl
+pack_is_silent context files (finding ∷ findings) off =
+    ap₂ ◌++◌
+    (ap (λ level. cond (is_heard level finding.diag.severity) (printed_of context.format files finding.diag) []) off)
+    (pack_is_silent context files findings off)
+
+pub packs_are_silent : (context : LogContext) (files : List File) (packs : List PackOf) → context.log_level ≡ Off → printed_packs context files packs ≡ []
+packs_are_silent context files [] off = refl
+packs_are_silent context files (pack ∷ packs) off = ap₂ ◌++◌ (pack_is_silent context files pack.findings off) (packs_are_silent context files packs off)
 
 pub gained_nothing : (old : Option (List ℕ)) (text : List ℕ) → text ≡ [] → Gained old old text
 gained_nothing None text none = refl

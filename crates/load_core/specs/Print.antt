@@ -6,8 +6,9 @@ use Rattle.diag_core.specs.File.{File}
 use Rattle.diag_core.specs.Severity.{is_same_severity}
 use Rattle.diag_core.specs.declared.diagnostic.Diagnostic.{Diagnostic}
 use Rattle.diag_core.specs.declared.severity.Severity.TheVariants as severity
-use Rattle.print_core.specs.Places.{LabelsAreInside}
-use Rattle.print_core.specs.Printed.{printed_at}
+use Rattle.diag_core.specs.Pack.{PackOf}
+use Rattle.print_core.specs.Places.{AllLabelsAreInside, LabelsAreInside}
+use Rattle.print_core.specs.Printed.{all_printed_at, printed_at}
 use Rattle.print_core.specs.declared.context.LogContext.{LogContext}
 use Rattle.print_core.specs.declared.printer.PrintError.{PrintError}
 use Rattle.print_core.specs.declared.printer.PrintError.TheVariants.{WriteFault, Memory}
@@ -23,6 +24,14 @@ AreInside files findings = All (LabelsAreInside files) findings
 -- the lines of findings, in order
 abbrev pub printed_findings : LogContext → List File → List Diagnostic → List ℕ
 printed_findings context files findings = flat_map (printed_at context files) findings
+
+-- the same of packs
+abbrev pub PacksAreInside : List File → List PackOf → Type 0
+PacksAreInside files packs = All (λ (pack : PackOf). AllLabelsAreInside files pack.findings) packs
+
+-- the lines of the findings of packs, in order
+abbrev pub printed_packs : LogContext → List File → List PackOf → List ℕ
+printed_packs context files packs = flat_map (λ (pack : PackOf). all_printed_at context files pack.findings) packs
 
 -- a refused write tells the sink's count of faults at the start of the call and the one after that, and it rose between
 abbrev pub HasReasonSince : ℕ → ℕ → PrintError → Type 0

@@ -2,11 +2,12 @@
 ghost use Rattle.std.specs.Prelude.{◌≡◌, ◌≤◌, IfErr, OnOk, OnErr};
 ghost use Rattle.std.specs.List.{list_any};
 ghost use Rattle.tree_core.specs.Faults.{Gained, GainedPrefix};
-ghost use Rattle.print_core.specs.Places.{LabelsAreInside};
-ghost use Rattle.print_core.specs.Printed.{printed_at};
-ghost use Rattle.load_core.specs.Print.{AreInside, HasReasonSince, is_error, printed_findings};
+ghost use Rattle.print_core.specs.Places.{AllLabelsAreInside, LabelsAreInside};
+ghost use Rattle.print_core.specs.Printed.{all_printed_at, printed_at};
+ghost use Rattle.load_core.specs.Print.{AreInside, HasReasonSince, PacksAreInside, is_error, printed_findings};
+ghost use Rattle.load_core.specs.Print.{printed_packs};
 
-use diag_core::{Diagnostic, Files, Severity};
+use diag_core::{Diagnostic, Files, Pack, Severity};
 use print_core::{DiagPrinter, LogContext, PrintError};
 use std::alloc::Global;
 use tree_core::Sink;
@@ -95,6 +96,84 @@ pub fn print_findings<S: Sink>(
     let begun = sink.faults();
     match DiagPrinter::new(context) {
         Some(printer) => print_all(alloc, &printer, findings.items(), files, sink, begun),
+        None => Ok(()),
+    }
+}
+
+/// Prints the findings of a pack. `begun` is the sink's count of faults when the printing of all began.
+fn print_pack<S: Sink>(
+    alloc: Global,
+    printer: &DiagPrinter,
+    pack: &Pack,
+    files: &Files,
+    sink: &mut S,
+    begun: u64,
+) -> Result<(), PrintError>
+    requires inside { AllLabelsAreInside files.now pack.now.findings }
+    requires begun { begun ≤ S.fault_count sink.old }
+    ensures ok { OnOk result (Gained (S.written sink.old) (S.written sink.new)
+        (all_printed_at printer.now files.now pack.now.findings)) }
+    ensures err { OnErr result (GainedPrefix (S.written sink.old) (S.written sink.new)
+        (all_printed_at printer.now files.now pack.now.findings)) }
+    ensures reason { IfErr result (HasReasonSince begun (S.fault_count sink.new)) }
+    ensures later { S.fault_count sink.old ≤ S.fault_count sink.new }
+{
+    let mut lock = printer.lock(sink);
+    match lock.print_krate_pack(alloc, pack, files) {
+        Ok(()) => Ok(()),
+        Err(PrintError::WriteFault { before: _, after }) => Err(PrintError::WriteFault {
+            before: begun,
+            after,
+        }),
+        Err(PrintError::Memory) => Err(PrintError::Memory),
+    }
+}
+
+/// Prints the findings of packs, one pack after another.
+fn print_each<S: Sink>(
+    alloc: Global,
+    printer: &DiagPrinter,
+    packs: &[Pack],
+    files: &Files,
+    sink: &mut S,
+    begun: u64,
+) -> Result<(), PrintError>
+    requires inside { PacksAreInside files.now packs.now }
+    requires begun { begun ≤ S.fault_count sink.old }
+    ensures ok { OnOk result (Gained (S.written sink.old) (S.written sink.new)
+        (printed_packs printer.now files.now packs.now)) }
+    ensures err { OnErr result (GainedPrefix (S.written sink.old) (S.written sink.new)
+        (printed_packs printer.now files.now packs.now)) }
+    ensures reason { IfErr result (HasReasonSince begun (S.fault_count sink.new)) }
+    ensures later { S.fault_count sink.old ≤ S.fault_count sink.new }
+{
+    'packs: for pack in packs {
+        print_pack(alloc, printer, pack, files, sink, begun)?;
+    }
+    Ok(())
+}
+
+/// Prints the findings of packs at or above the context's level, in order. A refused write tells `begun`, which
+/// is a count of the sink's faults at an earlier moment, and the count after that write.
+pub fn print_packs<S: Sink>(
+    alloc: Global,
+    context: LogContext,
+    packs: &[Pack],
+    files: &Files,
+    sink: &mut S,
+    begun: u64,
+) -> Result<(), PrintError>
+    requires inside { PacksAreInside files.now packs.now }
+    requires begun { begun ≤ S.fault_count sink.old }
+    ensures ok { OnOk result (Gained (S.written sink.old) (S.written sink.new)
+        (printed_packs context files.now packs.now)) }
+    ensures err { OnErr result (GainedPrefix (S.written sink.old) (S.written sink.new)
+        (printed_packs context files.now packs.now)) }
+    ensures reason { IfErr result (HasReasonSince begun (S.fault_count sink.new)) }
+    ensures later { S.fault_count sink.old ≤ S.fault_count sink.new }
+{
+    match DiagPrinter::new(context) {
+        Some(printer) => print_each(alloc, &printer, packs, files, sink, begun),
         None => Ok(()),
     }
 }

@@ -1,8 +1,7 @@
 //! Policies of every form, and what a run with each comes to.
 use crate::rows::{compare, expect};
 use run_rows::{
-    OPEN, POLICY, Room, WORDS, Want, accepted, files, metadata, observe, observe_in, refused,
-    rejected, tree,
+    POLICY, Room, WORDS, Want, accepted, files, observe, observe_in, refused, rejected, tree,
 };
 use std::alloc::Global;
 use std::process::Abort;
@@ -166,7 +165,6 @@ const NOTHING: &str = "{\"packages\":[],\"workspace_members\":[],\"workspace_roo
 #[test]
 fn warnings_stand_before_the_line_of_each_later_refusal(rt: HostRuntime) -> Result<(), Fail> {
     let alloc = rt.alloc();
-    let two = metadata(alloc, "MIT OR ISC")?;
     for (bytes, ended, line) in [
         ("{", "no json", "error: the metadata could not be parsed\n"),
         (
@@ -175,7 +173,6 @@ fn warnings_stand_before_the_line_of_each_later_refusal(rt: HostRuntime) -> Resu
             "error: the metadata has not the stated shape\n",
         ),
         (NOTHING, "no roots: 0 0 0", "error: no root crate is left\n"),
-        (two.as_str(), "crate a 1.0.0", OPEN),
     ] {
         let mut tree = tree(alloc, "MIT", WARNED.as_bytes())?;
         tree.put("/w/m.json", bytes.as_bytes())?;

@@ -2,10 +2,11 @@
 #![tactic(auto)]
 
 use deny_run::error::{Error, Part};
-use deny_run::report::{CrateReport, Ended, Report};
+use deny_run::report::{CrateReport, Ended, Report, Verdict};
 use deny_run::run::run;
-use deny_run::{Diagnostics, ShapeErrors};
+use deny_run::{Color, DiagPrinter, Diagnostics, Format, LogContext, ShapeErrors};
 use deny_text::Span;
+use diag_core::LevelFilter;
 use spdx_core::{LicenseStore, Table};
 use std::alloc::{AllocError, Global};
 use std::test::Fail;
@@ -63,6 +64,7 @@ pub struct Seen {
     pub policy: String,
     pub ended: String,
     pub out: String,
+    /// What was written to `err`, but for the findings of a report.
     pub err: String,
 }
 
@@ -104,7 +106,6 @@ pub fn told(alloc: Global, ended: &Ended) -> Result<String, AllocError> {
 fn told_part(alloc: Global, part: &Part) -> Result<String, AllocError> {
     match part {
         Part::Words => String::from_str(alloc, "words"),
-        Part::Crate(id) => format!(in alloc; "crate {id}"),
     }
 }
 
@@ -186,13 +187,54 @@ pub fn told_crate(alloc: Global, checked: &CrateReport) -> Result<String, AllocE
         Some(expression) => expression.as_ref(),
         None => "none",
     };
-    let verdict = checked.verdict;
-    format!(in alloc; "{id}: {expression} {verdict:?}")
+    let verdict = told_verdict(&checked.verdict);
+    format!(in alloc; "{id}: {expression} {verdict}")
+}
+
+/// A verdict in one word.
+pub fn told_verdict(verdict: &Verdict) -> &'static str {
+    match verdict {
+        Verdict::Skipped => "Skipped",
+        Verdict::Unlicensed => "Unlicensed",
+        Verdict::Accepted { .. } => "Accepted",
+        Verdict::Rejected { .. } => "Rejected",
+    }
 }
 
 pub fn text(alloc: Global, bytes: &[u8]) -> Result<String, Fail> {
     let text = str::from_utf8(bytes)?;
     Ok(String::from_str(alloc, text)?)
+}
+
+/// The findings of a report from a level on, as they are printed.
+pub fn findings(alloc: Global, report: &Report, log_level: LevelFilter) -> Result<String, Fail> {
+    let mut sink = MemSink::new(alloc, 4000, 1000)?;
+    let context = LogContext {
+        format: Format::Human,
+        color: Color::Auto,
+        log_level,
+    };
+    if let Some(printer) = DiagPrinter::new(context) {
+        let mut lock = printer.lock(&mut sink);
+        for pack in report.findings.items() {
+            lock.print_krate_pack(alloc, pack, &report.files)?;
+        }
+    }
+    text(alloc, sink.written())
+}
+
+/// What stands on `err` before what was found.
+pub fn before_findings(alloc: Global, ended: &Ended, err: &[u8]) -> Result<String, Fail> {
+    let err = text(alloc, err)?;
+    let Ended::Checked(report) = ended else {
+        return Ok(err);
+    };
+    let found = findings(alloc, report, LevelFilter::Warn)?;
+    let front = err
+        .as_str()
+        .strip_suffix(found.as_str())
+        .unwrap_or("no findings");
+    Ok(String::from_str(alloc, front)?)
 }
 
 /// How many bytes each sink takes.
@@ -224,7 +266,7 @@ pub fn observe_in(
         policy: told_policy(alloc, &outcome.ended)?,
         ended: told(alloc, &outcome.ended)?,
         out: text(alloc, out.written())?,
-        err: text(alloc, err.written())?,
+        err: before_findings(alloc, &outcome.ended, err.written())?,
     })
 }
 

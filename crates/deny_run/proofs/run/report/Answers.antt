@@ -1,12 +1,11 @@
 -- Each end of `report`: the words, the looks for the exceptions file, the load, the crates, and the report.
-use Rattle.std.proofs.Common.{[], Ok, Err, ◌∙◌, sym, ap, subst, arith}
+use Rattle.std.proofs.Common.{[], Ok, Err, ◌∙◌, sym, subst, arith}
 use Rattle.std.proofs.lemmas.Result.{err_from_is_err_and}
-use Rattle.deny_run.specs.Counts.{counts_of}
 use Rattle.deny_run.specs.Error.{cause_of, error_of}
-use Rattle.std.specs.Option.{ForSome}
 use Rattle.deny_run.specs.Given.{given_of}
 use Rattle.deny_run.specs.Heard.{scanner_in}
-use Rattle.deny_run.specs.Steps.{ChecksAt}
+use Rattle.deny_run.specs.Report.{IsReport, LabelsLie}
+use Rattle.deny_run.specs.Script.{WritesLoad}
 use Rattle.deny_run.specs.declared.error.Refusal.TheVariants as refusal
 use Rattle.search_core.specs.Search.{search_cause}
 use Rattle.deny_run.proofs.AnswerLemmas.{is_refusal, words_refused}
@@ -110,8 +109,8 @@ returns-in_err-policy-clause-written g c =
 
 -- ---- the crates
 
-pub returns-in_err-crates-clause-answer : goal.returns-in_err-crates-clause-answer
-returns-in_err-crates-clause-answer g c = λ content told.
+pub returns-in_err-checked-clause-answer : goal.returns-in_err-checked-clause-answer
+returns-in_err-checked-clause-answer g c = λ content told.
     let given = given_of (g.C.Catalog.lists c.args.catalog.now) (g.I.Identifier.match_of c.args.identifier.now) c.args.words.now c.args.cwd.now in
     let there = g.T.Tree.content c.args.tree.now in
     let begun = g.T.Tree.fault_count c.args.tree.now in
@@ -122,22 +121,22 @@ returns-in_err-crates-clause-answer g c = λ content told.
     let first = g.E.Sink.fault_count c.args.err.now in
     let last = g.E.Sink.fault_count c.load.new.sink in
     let policy = c.in_ok-policy.policy in
-    let refused = c.in_err-crates.field-0.0 in
+    let refused = c.in_err-checked.field-0.0 in
     let asked = sym c.in_ok-request.ensures.ok ∙ c.in-Some.is in
     let same = c.in_ok-policy.ensures.kept.content ∙ c.in_ok-paths.ensures.kept.content in
     let early = c.in_ok-paths.ensures.kept.later in
     let then = c.in_ok-policy.ensures.kept.later in
     let loads = loads_at given.lists c.plain_log.result c.in_ok-paths.paths there (g.T.Tree.content c.policy_paths.new.tree) begun c.faults-begun.result middle c.new-files.result c.load.new.files old new (Ok policy)
     c.plain_log.ensures c.in_ok-paths.ensures.kept.content c.faults-begun.ensures c.new-files.ensures c.in_ok-policy.ensures.loads in
-    let checks = checks_at (scanner_in given policy.licenses) policy c.load.new.files there (g.T.Tree.content c.load.new.tree) begun c.faults-begun.result c.in-Some.request.metadata_path c.as_path.result.now middle after (Err refused)
-    same c.faults-begun.ensures c.as_path.ensures c.in_err-crates.ensures.answer in
-    let p = err_from_is_err_and c.from_residual-in_err-crates.result c.from_residual-in_err-crates.ensures.1 in
+    let checks = checks_at (scanner_in given policy.licenses) policy c.load.new.files c.check_crates.new.files there (g.T.Tree.content c.load.new.tree) begun c.faults-begun.result c.in-Some.request.metadata_path c.as_path.result.now middle after (Err refused)
+    same c.faults-begun.ensures c.as_path.ensures c.in_err-checked.ensures.answer in
+    let p = err_from_is_err_and c.from_residual-in_err-checked.result c.from_residual-in_err-checked.ensures.1 in
     rw (p.1, p.2)
-    (crates_answer given there begun middle after (omega arith) c.in_err-crates.ensures.kept.later c.in-Some.request asked c.in_ok-paths.paths c.load.new.files old new first last policy loads
-    content told (c.in_ok-paths.ensures.answer content told) refused c.in_err-crates.ensures.cause (checks content told))
+    (crates_answer given there begun middle after (omega arith) c.in_err-checked.ensures.kept.later c.in-Some.request asked c.in_ok-paths.paths c.load.new.files old new first last policy loads
+    content told (c.in_ok-paths.ensures.answer content told) c.check_crates.new.files refused c.in_err-checked.ensures.cause (checks content told))
 
-pub returns-in_err-crates-clause-written : goal.returns-in_err-crates-clause-written
-returns-in_err-crates-clause-written g c =
+pub returns-in_err-checked-clause-written : goal.returns-in_err-checked-clause-written
+returns-in_err-checked-clause-written g c =
     let given = given_of (g.C.Catalog.lists c.args.catalog.now) (g.I.Identifier.match_of c.args.identifier.now) c.args.words.now c.args.cwd.now in
     let there = g.T.Tree.content c.args.tree.now in
     let begun = g.T.Tree.fault_count c.args.tree.now in
@@ -148,19 +147,19 @@ returns-in_err-crates-clause-written g c =
     let first = g.E.Sink.fault_count c.args.err.now in
     let last = g.E.Sink.fault_count c.load.new.sink in
     let policy = c.in_ok-policy.policy in
-    let refused = c.in_err-crates.field-0.0 in
+    let refused = c.in_err-checked.field-0.0 in
     let asked = sym c.in_ok-request.ensures.ok ∙ c.in-Some.is in
     let same = c.in_ok-policy.ensures.kept.content ∙ c.in_ok-paths.ensures.kept.content in
     let early = c.in_ok-paths.ensures.kept.later in
     let then = c.in_ok-policy.ensures.kept.later in
     let loads = loads_at given.lists c.plain_log.result c.in_ok-paths.paths there (g.T.Tree.content c.policy_paths.new.tree) begun c.faults-begun.result middle c.new-files.result c.load.new.files old new (Ok policy)
     c.plain_log.ensures c.in_ok-paths.ensures.kept.content c.faults-begun.ensures c.new-files.ensures c.in_ok-policy.ensures.loads in
-    let checks = checks_at (scanner_in given policy.licenses) policy c.load.new.files there (g.T.Tree.content c.load.new.tree) begun c.faults-begun.result c.in-Some.request.metadata_path c.as_path.result.now middle after (Err refused)
-    same c.faults-begun.ensures c.as_path.ensures c.in_err-crates.ensures.answer in
-    let p = err_from_is_err_and c.from_residual-in_err-crates.result c.from_residual-in_err-crates.ensures.1 in
+    let checks = checks_at (scanner_in given policy.licenses) policy c.load.new.files c.check_crates.new.files there (g.T.Tree.content c.load.new.tree) begun c.faults-begun.result c.in-Some.request.metadata_path c.as_path.result.now middle after (Err refused)
+    same c.faults-begun.ensures c.as_path.ensures c.in_err-checked.ensures.answer in
+    let p = err_from_is_err_and c.from_residual-in_err-checked.result c.from_residual-in_err-checked.ensures.1 in
     rw (p.1, p.2)
-    (crates_writes given there begun middle after (omega arith) c.in_err-crates.ensures.kept.later c.in-Some.request asked c.in_ok-paths.paths c.load.new.files old new first last policy loads
-    c.in_ok-paths.ensures.answer refused c.in_err-crates.ensures.cause checks)
+    (crates_writes given there begun middle after (omega arith) c.in_err-checked.ensures.kept.later c.in-Some.request asked c.in_ok-paths.paths c.load.new.files old new first last policy loads
+    c.in_ok-paths.ensures.answer c.check_crates.new.files refused c.in_err-checked.ensures.cause checks)
 
 -- ---- the report
 
@@ -182,12 +181,11 @@ returns-clause-answer g c = λ content told.
     let then = c.in_ok-policy.ensures.kept.later in
     let loads = loads_at given.lists c.plain_log.result c.in_ok-paths.paths there (g.T.Tree.content c.policy_paths.new.tree) begun c.faults-begun.result middle c.new-files.result c.load.new.files old new (Ok policy)
     c.plain_log.ensures c.in_ok-paths.ensures.kept.content c.faults-begun.ensures c.new-files.ensures c.in_ok-policy.ensures.loads in
-    let checks = checks_at (scanner_in given policy.licenses) policy c.load.new.files there (g.T.Tree.content c.load.new.tree) begun c.faults-begun.result c.in-Some.request.metadata_path c.as_path.result.now middle after (Ok c.in_ok-crates.crates)
-    same c.faults-begun.ensures c.as_path.ensures c.in_ok-crates.ensures.answer in
-    report_answer given there begun middle after (omega arith) c.in_ok-crates.ensures.kept.later c.in-Some.request asked c.in_ok-paths.paths c.load.new.files old new first last policy loads
-    c.report_of.result c.report_of.ensures.policy content told (c.in_ok-paths.ensures.answer content told)
-    (subst (λ crates. ChecksAt (scanner_in given policy.licenses) policy content c.load.new.files begun c.in-Some.request.metadata_path middle after (Ok crates)) (sym c.report_of.ensures.crates) (checks content told))
-    (c.report_of.ensures.stats ∙ ap counts_of (sym c.report_of.ensures.crates))
+    let checks = checks_at (scanner_in given policy.licenses) policy c.load.new.files c.check_crates.new.files there (g.T.Tree.content c.load.new.tree) begun c.faults-begun.result c.in-Some.request.metadata_path c.as_path.result.now middle after (Ok c.in_ok-checked.checked)
+    same c.faults-begun.ensures c.as_path.ensures c.in_ok-checked.ensures.answer in
+    subst (IsReport given content begun after) (sym c.report_of.ensures)
+    (report_answer given there begun middle after (omega arith) c.in_ok-checked.ensures.kept.later c.in-Some.request asked c.in_ok-paths.paths c.load.new.files old new first last policy loads
+    c.check_crates.new.files c.in_ok-checked.checked content told (c.in_ok-paths.ensures.answer content told) (checks content told))
 
 pub returns-clause-written : goal.returns-clause-written
 returns-clause-written g c =
@@ -207,23 +205,28 @@ returns-clause-written g c =
     let then = c.in_ok-policy.ensures.kept.later in
     let loads = loads_at given.lists c.plain_log.result c.in_ok-paths.paths there (g.T.Tree.content c.policy_paths.new.tree) begun c.faults-begun.result middle c.new-files.result c.load.new.files old new (Ok policy)
     c.plain_log.ensures c.in_ok-paths.ensures.kept.content c.faults-begun.ensures c.new-files.ensures c.in_ok-policy.ensures.loads in
-    let checks = checks_at (scanner_in given policy.licenses) policy c.load.new.files there (g.T.Tree.content c.load.new.tree) begun c.faults-begun.result c.in-Some.request.metadata_path c.as_path.result.now middle after (Ok c.in_ok-crates.crates)
-    same c.faults-begun.ensures c.as_path.ensures c.in_ok-crates.ensures.answer in
-    report_writes given there begun middle after (omega arith) c.in_ok-crates.ensures.kept.later c.in-Some.request asked c.in_ok-paths.paths c.load.new.files old new first last policy loads
-    c.report_of.result c.report_of.ensures.policy c.in_ok-paths.ensures.answer
-    (subst (λ crates. ForSome there (λ one. ChecksAt (scanner_in given policy.licenses) policy one c.load.new.files begun c.in-Some.request.metadata_path middle after (Ok crates))) (sym c.report_of.ensures.crates) checks)
+    let checks = checks_at (scanner_in given policy.licenses) policy c.load.new.files c.check_crates.new.files there (g.T.Tree.content c.load.new.tree) begun c.faults-begun.result c.in-Some.request.metadata_path c.as_path.result.now middle after (Ok c.in_ok-checked.checked)
+    same c.faults-begun.ensures c.as_path.ensures c.in_ok-checked.ensures.answer in
+    subst (λ one. WritesLoad given there begun after old new first last (Ok one)) (sym c.report_of.ensures)
+    (report_writes given there begun middle after (omega arith) c.in_ok-checked.ensures.kept.later c.in-Some.request asked c.in_ok-paths.paths c.load.new.files old new first last policy loads
+    c.check_crates.new.files c.in_ok-checked.checked c.in_ok-paths.ensures.answer checks)
 
 -- ---- the counts are those since the run began
 
-pub returns-in_err-crates-clause-counts : goal.returns-in_err-crates-clause-counts
-returns-in_err-crates-clause-counts g c =
+pub returns-in_err-checked-clause-counts : goal.returns-in_err-checked-clause-counts
+returns-in_err-checked-clause-counts g c =
     let begun = g.T.Tree.fault_count c.args.tree.now in
     let middle = g.T.Tree.fault_count c.load.new.tree in
     let after = g.T.Tree.fault_count c.check_crates.new.tree in
-    let refused = c.in_err-crates.field-0.0 in
+    let refused = c.in_err-checked.field-0.0 in
     let early = c.in_ok-paths.ensures.kept.later in
     let then = c.in_ok-policy.ensures.kept.later in
-    let p = err_from_is_err_and c.from_residual-in_err-crates.result c.from_residual-in_err-crates.ensures.1 in
+    let p = err_from_is_err_and c.from_residual-in_err-checked.result c.from_residual-in_err-checked.ensures.1 in
     rw (p.1, p.2)
     (since_begun begun middle after (cause_of (error_of refused)) (omega arith)
-    (counts_at begun c.faults-begun.result middle after (cause_of (error_of refused)) c.faults-begun.ensures c.in_err-crates.ensures.counts))
+    (counts_at begun c.faults-begun.result middle after (cause_of (error_of refused)) c.faults-begun.ensures c.in_err-checked.ensures.counts))
+
+-- ---- labels
+
+pub returns-clause-labels : goal.returns-clause-labels
+returns-clause-labels g c = subst (λ one. LabelsLie (Ok one)) (sym c.report_of.ensures) c.in_ok-checked.ensures.labels

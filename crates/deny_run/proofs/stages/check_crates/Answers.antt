@@ -6,7 +6,7 @@ use Rattle.deny_run.proofs.stages.check_crates.Goals as goal
 
 pub returns-clause-answer : goal.returns-clause-answer
 returns-clause-answer g c = λ content told.
-    by_checks (scanner_by (g.C.Catalog.lists c.args.catalog.now) (g.I.Identifier.match_of c.args.identifier.now) c.args.policy.now.licenses) c.args.policy.now content c.args.files.now c.args.begun c.args.metadata_path.now
-    (g.T.Tree.fault_count c.args.tree.now) (g.T.Tree.fault_count c.krates_at.new.tree) (g.T.Tree.fault_count c.check_all.new.tree) c.in_ok-krates.ensures.kept.later
-    (choice_of c.in_ok-selection.selection) c.in_ok-selection.ensures c.in_ok-krates.krates (c.in_ok-krates.ensures.answer content told) c.check_all.result
-    (c.check_all.ensures.checked content (c.in_ok-krates.ensures.kept.content ∙ told)) c.check_all.ensures.cause
+    by_checks (scanner_by (g.C.Catalog.lists c.args.catalog.now) (g.I.Identifier.match_of c.args.identifier.now) c.args.policy.licenses) c.args.policy content c.args.files.now c.check_all.new.files
+    c.args.begun c.args.metadata_path.now (g.T.Tree.fault_count c.args.tree.now) (g.T.Tree.fault_count c.krates_at.new.tree) (g.T.Tree.fault_count c.check_all.new.tree) c.in_ok-krates.ensures.kept.later
+    (choice_of c.in_ok-selection.selection) c.in_ok-selection.ensures c.in_ok-krates.krates (c.in_ok-krates.ensures.answer content told) c.in_ok-checked.checked
+    (c.in_ok-checked.ensures.checked content (c.in_ok-krates.ensures.kept.content ∙ told))

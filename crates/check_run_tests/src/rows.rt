@@ -1,0 +1,119 @@
+//! Rows of one crate, and what a run over each comes to.
+use crate::shown::verdicts;
+use deny_run::report::Ended;
+use deny_run::run::run;
+use diag_core::LevelFilter;
+use run_rows::{WORDS, findings, told};
+use spdx_core::{LicenseStore, Table};
+use std::alloc::Global;
+use std::test::Fail;
+use tree_core::{MemSink, MemTree};
+
+/// A crate `a` in the folder `/w`.
+#[derive(Clone, Copy)]
+pub struct Row {
+    /// Its field, in the metadata and in the manifest.
+    pub license: Option<&'static str>,
+    /// Further keys of the package in the metadata, each with a comma in front.
+    pub package: &'static str,
+    pub policy: &'static str,
+    pub files: &'static [(&'static str, &'static [u8])],
+    /// Which call of the tree fails once the metadata was read, counted from 1; 0 is none.
+    pub failing: u64,
+    /// The status, and a line for the verdict.
+    pub verdict: &'static str,
+    /// What is found, notes too.
+    pub found: &'static str,
+    /// What stands on `err`: of what is found no note.
+    pub err: &'static str,
+}
+
+/// What is allowed is one licence, which is that of the crate.
+pub const BASE: Row = Row {
+    license: Some("MIT"),
+    package: "",
+    policy: "[licenses]\nallow = [\"MIT\"]\n",
+    files: &[],
+    failing: 0,
+    verdict: "0 a 1.0.0: accepted by 0 Allowed(0)\n",
+    found: "note[accepted]: license requirements satisfied\n\
+\x20 ::: /w/Cargo.toml:4:12: license expression retrieved via Cargo.toml `license`\n\
+\x20 --> /w/Cargo.toml:4:12: accepted: license is explicitly allowed\n",
+    err: "",
+};
+
+/// The looks for an exceptions file, the reads of the policy and of the metadata.
+const EARLIER_CALLS: u64 = 8;
+
+fn metadata_of(alloc: Global, row: &Row) -> Result<String, Fail> {
+    let field = match row.license {
+        Some(license) => format!(in alloc; ",\"license\":\"{license}\"")?,
+        None => String::new(alloc),
+    };
+    let package = row.package;
+    let front = format!(in alloc;
+        r#"{{"packages":[{{"name":"a","version":"1.0.0","id":"a 1.0.0"{field}{package}"#
+    )?;
+    let rest =
+        r#""workspace_root":"/w","resolve":{"nodes":[{"id":"a 1.0.0","deps":[]}],"root":"a 1.0.0"}}"#;
+    Ok(format!(in alloc;
+        r#"{front},"manifest_path":"/w/Cargo.toml"}}],"workspace_members":["a 1.0.0"],{rest}"#
+    )?)
+}
+
+fn manifest_of(alloc: Global, row: &Row) -> Result<String, Fail> {
+    let mut text = String::from_str(alloc, "[package]\nname = \"a\"\nversion = \"1.0.0\"\n")?;
+    if let Some(license) = row.license {
+        write!(text, "license = \"{license}\"\n")?;
+    }
+    Ok(text)
+}
+
+fn tree_of(alloc: Global, row: &Row) -> Result<MemTree, Fail> {
+    let mut tree = MemTree::new(alloc);
+    tree.put("/w/Cargo.toml", manifest_of(alloc, row)?.as_bytes())?;
+    tree.put("/w/p.toml", row.policy.as_bytes())?;
+    tree.put("/w/m.json", metadata_of(alloc, row)?.as_bytes())?;
+    for (path, bytes) in row.files {
+        tree.put(path, bytes)?;
+    }
+    if row.failing > 0 {
+        if let Some(call) = EARLIER_CALLS.checked_add(row.failing) {
+            tree.fail_call(call)?;
+        }
+    }
+    Ok(tree)
+}
+
+/// The status, the verdict, what is found, and what stands on `err`.
+pub fn come_to(alloc: Global, row: &Row) -> Result<String, Fail> {
+    let mut tree = tree_of(alloc, row)?;
+    let mut words = Vec::new(alloc);
+    for word in WORDS {
+        words.push(String::from_str(alloc, word)?)?;
+    }
+    let mut out = MemSink::new(alloc, 1000, 1000)?;
+    let mut err = MemSink::new(alloc, 4000, 1000)?;
+    let store = LicenseStore::default(alloc);
+    let outcome = run(
+        alloc, &words, "/w", &mut tree, &mut out, &mut err, &Table, &store,
+    );
+    let status = outcome.status;
+    let err = str::from_utf8(err.written())?;
+    match &outcome.ended {
+        Ended::Checked(report) => {
+            let verdicts = verdicts(alloc, report)?;
+            let found = findings(alloc, report, LevelFilter::Info)?;
+            Ok(format!(in alloc; "{status} {verdicts}{found}--\n{err}")?)
+        }
+        Ended::Refused(_) => Ok(told(alloc, &outcome.ended)?),
+    }
+}
+
+/// The same as a row has it.
+pub fn wanted(alloc: Global, row: &Row) -> Result<String, Fail> {
+    let verdict = row.verdict;
+    let found = row.found;
+    let err = row.err;
+    Ok(format!(in alloc; "{verdict}{found}--\n{err}")?)
+}

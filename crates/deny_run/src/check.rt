@@ -1,0 +1,197 @@
+//! The licences of all crates, and the check of them.
+ghost use Rattle.std.specs.Prelude.{◌≡◌, ◌<◌, [], None, All, IfOk, OnOk};
+ghost use Rattle.std.specs.Option.{ForSome};
+ghost use Rattle.tree_core.specs.Hearing.{KeepsTree};
+ghost use Rattle.graph_core.specs.Metadata.{Graph};
+ghost use Rattle.selection_core.specs.Choice.{Choice};
+ghost use Rattle.selection_core.specs.Listed.{IsChosen};
+ghost use Rattle.valid_policy.specs.View.{policy_of};
+ghost use Rattle.policy_core.specs.Places.{PolicyStands};
+ghost use Rattle.gather_core.specs.Premises.{IsPlacedAt};
+ghost use Rattle.unused_core.specs.Laws.{EntriesLie};
+ghost use Rattle.check_core.specs.Check.{AreVerdicts, findings_of};
+ghost use Rattle.check_core.specs.Labels.{PackLies, VerdictPoints};
+ghost use Rattle.check_core.specs.Summary.{all_asked};
+ghost use Rattle.deny_run.specs.Steps.{IsCheckOf, IsChecked, all_reported, reported, scanner_by};
+
+use crate::report::CrateReport;
+use check_core::check::check;
+use check_core::{CheckCtx, Verdicts};
+use deny_text::{ListOf, Steps, Text};
+use diag_core::{ErrorSink, Files, LevelFilter, Packs};
+use evaluate_core::Verdict;
+use gather_core::{Gatherer, KrateLicense, KrateLicenses, LicenseInfo, Summary};
+use spdx_core::{Catalog, Identifier};
+use std::alloc::{AllocError, Global};
+use std::marker::Brand;
+use std::sync::ledger::{Blank, Ledger};
+use tree_core::Tree;
+use valid_policy::ValidConfig;
+use workspace_core::Krates;
+
+/// What a check of all crates comes to, and the policy that it was made by.
+#[derive(Drop)]
+pub(crate) struct CheckedCrates {
+    pub(crate) policy: ValidConfig,
+    pub(crate) crates: ListOf<CrateReport>,
+    pub(crate) findings: Packs,
+}
+
+/// The report on a crate, by its licence and the verdict on it.
+fn report_on(
+    alloc: Global,
+    license: KrateLicense<'_>,
+    verdict: Verdict,
+) -> Result<CrateReport, AllocError>
+    ensures { IfOk result (λ report. report ≡ reported license.entry verdict) }
+{
+    let KrateLicense {
+        krate,
+        lic_info,
+        notes,
+        diags: _,
+        reads,
+    } = license;
+    let id = Text::copy(alloc, krate.id.as_str())?;
+    match lic_info {
+        LicenseInfo::SpdxExpression { expr, nfo } => Ok(CrateReport {
+            id,
+            reads,
+            expression: Some(expr),
+            source: Some(nfo.source),
+            notes,
+            verdict,
+        }),
+        LicenseInfo::Unlicensed => Ok(CrateReport {
+            id,
+            reads,
+            expression: None,
+            source: None,
+            notes,
+            verdict,
+        }),
+    }
+}
+
+/// The reports on crates, in order, by their licences and the verdicts on them.
+fn reports_on(
+    alloc: Global,
+    licenses: KrateLicenses<'_>,
+    verdicts: Verdicts,
+) -> Result<ListOf<CrateReport>, AllocError>
+    ensures { IfOk result (λ reports. reports ≡ all_reported licenses.entry verdicts) }
+{
+    let mut reports = ListOf::new(alloc);
+    let verdicts = verdicts.into_vec();
+    'crates: for (license, verdict) in licenses.into_vec().into_iter().zip(verdicts) {
+        let report = report_on(alloc, license, verdict)?;
+        reports.push(report)?;
+    }
+    Ok(reports)
+}
+
+/// The verdicts on the crates of a summary, with the steps of the check counted in a ledger. What is found goes
+/// into the sink.
+fn check_in<L: Ledger>(
+    ledger: Blank,
+    alloc: Global,
+    ctx: &CheckCtx<'_, ValidConfig>,
+    summary: &Summary<'_>,
+    sink: &mut ErrorSink,
+) -> Result<Verdicts, AllocError>
+    requires name { ledger.name ≡ L.name }
+    requires parts { ledger.parts ≡ L.parts }
+    requires some { 0 < ledger.parts }
+    requires placed { All (IsPlacedAt ctx.now.files.now) summary.now.nfos }
+    requires entries { EntriesLie ctx.now.files.now ctx.now.cfg }
+    requires empty { sink.old ≡ record { overrides = None; packs = [] } }
+    ensures verdicts { IfOk result (λ verdicts.
+        AreVerdicts (policy_of ctx.now.cfg) (all_asked summary.now.nfos) verdicts) }
+    ensures packs { IfOk result (λ verdicts.
+        sink.new.packs ≡ findings_of ctx.now.cfg (all_asked summary.now.nfos) verdicts) }
+    ensures terms { All (VerdictPoints ctx.now.files.now (policy_of ctx.now.cfg)) (all_asked summary.now.nfos) }
+    ensures labels { OnOk result (All (PackLies ctx.now.files.now) sink.new.packs) }
+{
+    let mut steps = Steps::<L>::new(ledger);
+    check(alloc, ctx, summary, sink, &mut steps)
+}
+
+/// The same, with its steps counted in a ledger of its own.
+fn check_into(
+    alloc: Global,
+    ctx: &CheckCtx<'_, ValidConfig>,
+    summary: &Summary<'_>,
+    sink: &mut ErrorSink,
+) -> Result<Verdicts, AllocError>
+    requires placed { All (IsPlacedAt ctx.now.files.now) summary.now.nfos }
+    requires entries { EntriesLie ctx.now.files.now ctx.now.cfg }
+    requires empty { sink.old ≡ record { overrides = None; packs = [] } }
+    ensures verdicts { IfOk result (λ verdicts.
+        AreVerdicts (policy_of ctx.now.cfg) (all_asked summary.now.nfos) verdicts) }
+    ensures packs { IfOk result (λ verdicts.
+        sink.new.packs ≡ findings_of ctx.now.cfg (all_asked summary.now.nfos) verdicts) }
+    ensures terms { All (VerdictPoints ctx.now.files.now (policy_of ctx.now.cfg)) (all_asked summary.now.nfos) }
+    ensures labels { OnOk result (All (PackLies ctx.now.files.now) sink.new.packs) }
+{
+    check_in::<Brand>(Blank::new(1), alloc, ctx, summary, sink)
+}
+
+/// The check of the crates of a summary under a policy.
+fn check_summary(
+    alloc: Global,
+    policy: ValidConfig,
+    krates: &Krates,
+    files: &Files,
+    summary: Summary<'_>,
+) -> Result<CheckedCrates, AllocError>
+    requires placed { All (IsPlacedAt files.now) summary.nfos }
+    requires entries { EntriesLie files.now policy }
+    ensures check { IfOk result (IsCheckOf policy summary.entry.nfos) }
+    ensures terms { IfOk result (λ _.
+        All (VerdictPoints files.now (policy_of policy)) (all_asked summary.entry.nfos)) }
+    ensures labels { IfOk result (λ checked. All (PackLies files.now) checked.findings) }
+{
+    let ctx = CheckCtx {
+        cfg: policy,
+        krates,
+        log_level: LevelFilter::Warn,
+        files,
+    };
+    let mut sink = ErrorSink::new(alloc, None);
+    let verdicts = check_into(alloc, &ctx, &summary, &mut sink)?;
+    let crates = reports_on(alloc, summary.nfos, verdicts)?;
+    Ok(CheckedCrates {
+        policy: ctx.cfg,
+        crates,
+        findings: sink.packs,
+    })
+}
+
+/// The check of the crates that a policy has checked, in the order of their ids, once the licence of each was
+/// settled.
+pub(crate) fn check_all<T: Tree, C: Catalog, I: Identifier>(
+    alloc: Global,
+    policy: ValidConfig,
+    krates: &Krates,
+    files: &mut Files,
+    tree: &mut T,
+    catalog: &C,
+    identifier: &I,
+) -> Result<CheckedCrates, AllocError>
+    requires { PolicyStands files.old policy }
+    // of each graph and choice that the crates are of
+    ensures checked { ForSome (T.content tree.old) (λ c.
+        (graph : Graph) (choice : Choice) → IsChosen graph choice krates.now
+        → IfOk result (IsChecked (scanner_by (C.lists catalog.now) (I.match_of identifier.now) policy) policy c
+        files.old files.new (T.fault_count tree.old) (T.fault_count tree.new) graph choice)) }
+    ensures labels { IfOk result (λ checked. All (PackLies files.new) checked.findings) }
+    ensures kept { KeepsTree (T.content tree.old) (T.content tree.new)
+        (T.fault_count tree.old) (T.fault_count tree.new) }
+{
+    let gatherer: Gatherer<'_, I> = Gatherer::default();
+    let gatherer = gatherer
+        .with_store(identifier)
+        .with_confidence_threshold(policy.confidence_threshold);
+    let summary = gatherer.gather(alloc, krates, files, &policy, tree, catalog)?;
+    check_summary(alloc, policy, krates, files, summary)
+}
