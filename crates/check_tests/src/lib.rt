@@ -6,12 +6,6 @@ mod computed;
 #[cfg(test)]
 mod crates;
 #[cfg(test)]
-mod policies;
-#[cfg(test)]
 mod printed;
 #[cfg(test)]
-mod unused;
-#[cfg(test)]
 mod verdicts;
-#[cfg(test)]
-mod whole;
