@@ -1,0 +1,1 @@
+//! A map on a ball.
