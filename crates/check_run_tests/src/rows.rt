@@ -1,9 +1,9 @@
 //! Rows of one crate, and what a run over each comes to.
 use crate::shown::verdicts;
-use deny_run::report::Ended;
+use deny_run::report::{Ended, Outcome, Report};
 use deny_run::run::run;
 use diag_core::LevelFilter;
-use run_rows::{WORDS, findings, told};
+use run_rows::{WORDS, findings, text, told};
 use spdx_core::{LicenseStore, Table};
 use std::alloc::Global;
 use std::test::Fail;
@@ -85,8 +85,8 @@ fn tree_of(alloc: Global, row: &Row) -> Result<MemTree, Fail> {
     Ok(tree)
 }
 
-/// The status, the verdict, what is found, and what stands on `err`.
-pub fn come_to(alloc: Global, row: &Row) -> Result<String, Fail> {
+/// How a run over a row ends, and what stands on `err`.
+fn run_over(alloc: Global, row: &Row) -> Result<(Outcome, String), Fail> {
     let mut tree = tree_of(alloc, row)?;
     let mut words = Vec::new(alloc);
     for word in WORDS {
@@ -98,16 +98,27 @@ pub fn come_to(alloc: Global, row: &Row) -> Result<String, Fail> {
     let outcome = run(
         alloc, &words, "/w", &mut tree, &mut out, &mut err, &Table, &store,
     );
+    let err = text(alloc, err.written())?;
+    Ok((outcome, err))
+}
+
+/// The verdicts of a report, and what is found.
+fn reported(alloc: Global, report: &Report) -> Result<String, Fail> {
+    let mut lines = verdicts(alloc, report)?;
+    let found = findings(alloc, report, LevelFilter::Info)?;
+    lines.push_str(found.as_str())?;
+    Ok(lines)
+}
+
+/// The status, the verdict, what is found, and what stands on `err`.
+pub fn come_to(alloc: Global, row: &Row) -> Result<String, Fail> {
+    let (outcome, err) = run_over(alloc, row)?;
     let status = outcome.status;
-    let err = str::from_utf8(err.written())?;
-    match &outcome.ended {
-        Ended::Checked(report) => {
-            let verdicts = verdicts(alloc, report)?;
-            let found = findings(alloc, report, LevelFilter::Info)?;
-            Ok(format!(in alloc; "{status} {verdicts}{found}--\n{err}")?)
-        }
-        Ended::Refused(_) => Ok(told(alloc, &outcome.ended)?),
-    }
+    let ended = match &outcome.ended {
+        Ended::Checked(report) => reported(alloc, report)?,
+        Ended::Refused(_) => told(alloc, &outcome.ended)?,
+    };
+    Ok(format!(in alloc; "{status} {ended}--\n{err}")?)
 }
 
 /// The same as a row has it.
