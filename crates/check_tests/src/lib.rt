@@ -6,6 +6,10 @@ mod computed;
 #[cfg(test)]
 mod crates;
 #[cfg(test)]
+mod policies;
+#[cfg(test)]
 mod printed;
+#[cfg(test)]
+mod unused;
 #[cfg(test)]
 mod verdicts;

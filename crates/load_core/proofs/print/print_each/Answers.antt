@@ -13,7 +13,7 @@ packs-preserved g c =
       omega arith,
       omega arith,
       one_more (λ (pack : PackOf). all_printed_at c.args.printer.now c.args.files.now pack.findings) c.args.packs.now c.packs.pack-index c.pack-item.result _ _ _
-      c.packs-test.true c.pack-item.is before.2 c.in_ok-print_pack.ensures.ok,
+          c.packs-test.true c.pack-item.is before.2 c.in_ok-print_pack.ensures.ok,
     )
 
 pub returns-in_err-print_pack-clause-err : goal.returns-in_err-print_pack-clause-err
