@@ -13,3 +13,5 @@ mod printed;
 mod unused;
 #[cfg(test)]
 mod verdicts;
+#[cfg(test)]
+mod whole;

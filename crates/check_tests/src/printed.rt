@@ -47,6 +47,18 @@ pub fn print(
     Ok(())
 }
 
+/// The crates that the findings of a pack are about, each in a line.
+pub fn kids(alloc: Global, pack: &Pack) -> Result<String, Fail> {
+    let mut kids = String::new(alloc);
+    for finding in pack.iter() {
+        for node in finding.graph_nodes.items() {
+            kids.push_str(node.kid.as_str())?;
+            kids.push_str("\n")?;
+        }
+    }
+    Ok(kids)
+}
+
 /// Appends what was written and what is wanted, where they differ.
 pub fn push_unlike(lines: &mut String, sink: &MemSink, wanted: &str) -> Result<(), Fail> {
     let written = str::from_utf8(sink.written())?;

@@ -49,7 +49,7 @@ const GRANTED: Lists = Lists {
 };
 
 /// A policy of `MIT` alone.
-const POLICY: &str = "[licenses]\nallow = [\"MIT\"]\n";
+pub const POLICY: &str = "[licenses]\nallow = [\"MIT\"]\n";
 
 /// That no crate needs `MIT`.
 const MIT_UNUSED: &str = "warning[license-not-encountered]: license was not encountered
@@ -66,7 +66,7 @@ const FIRST_RUN: Row = Row {
 };
 
 /// No crate needs what is allowed.
-const NO_HIT: Row = Row {
+pub const NO_HIT: Row = Row {
     crates: &[&[None], &[]],
     wanted: MIT_UNUSED,
     ..FIRST_RUN

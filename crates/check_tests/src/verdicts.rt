@@ -1,5 +1,4 @@
 //! Verdicts on expressions where they stand, by hits that are given, and what is written of them.
-use crate::computed::rows_by_hand;
 use crate::crates::{files, krate};
 use crate::printed::{print, push_unlike};
 use certificate_core::Hit;
@@ -15,7 +14,7 @@ use verdict_findings::{ExprPlace, Retrieved, judged, pack_of};
 /// A file and an expression that stands in it, what allows each of its terms, and what is written of a crate
 /// that has it.
 #[derive(Clone, Copy)]
-struct Row {
+pub struct Row {
     /// The file by its path and its text.
     pub file: (&'static str, &'static str),
     pub place: ExprPlace,
@@ -35,7 +34,7 @@ const FIELD: ExprPlace = ExprPlace {
 };
 
 /// A crate whose field is `MIT`, which the policy allows.
-const FIRST_RUN: Row = Row {
+pub const FIRST_RUN: Row = Row {
     file: (
         "/w/Cargo.toml",
         "[package]\nname = \"a\"\nversion = \"1.0.0\"\nlicense = \"MIT\"\n",
@@ -217,7 +216,7 @@ fn judged_there(
 }
 
 /// The verdict on the expression of a row.
-fn verdict(alloc: Global, row: &Row, notes: &[Text]) -> Result<Diag, Fail> {
+pub fn verdict(alloc: Global, row: &Row, notes: &[Text]) -> Result<Diag, Fail> {
     let expression = expression(alloc, row.expression)?;
     judged_there(alloc, row, &expression, notes)
 }
@@ -248,7 +247,6 @@ fn unlike(alloc: Global) -> Result<String, Fail> {
 
 #[test]
 fn verdicts_are_told(rt: HostRuntime) -> Result<(), Fail> {
-    rows_by_hand();
     let lines = unlike(rt.alloc())?;
     assert_eq!(rt; lines.as_str(), "");
     Ok(())
