@@ -1,5 +1,6 @@
 //! What the definitions make of rows.
 ghost use Rattle.std.specs.Prelude.{◌≡◌, map, take};
+ghost use Rattle.check_core.specs.Rows.{judged, rows, source_rows, worded};
 ghost use Rattle.unused_core.specs.Rows.{reported, unused_rows};
 ghost use Rattle.verdict_findings.specs.Rows.{findings_meant, findings_said, label_rows, labelled};
 
@@ -8,4 +9,6 @@ pub fn rows_by_hand()
     ensures labels { map labelled label_rows ≡ label_rows }
     ensures findings { take 2 findings_said ≡ take 2 findings_meant }
     ensures unused { map reported unused_rows ≡ unused_rows }
+    ensures sources { map worded source_rows ≡ source_rows }
+    ensures judged { map judged rows ≡ rows }
 {}
