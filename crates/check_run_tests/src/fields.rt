@@ -4,7 +4,8 @@ use crate::rows::{BASE, Row};
 const UNUSED: &str = "warning[license-not-encountered]: license was not encountered\n\
 \x20 --> /w/p.toml:2:11: unmatched license allowance\n";
 
-const DEPRECATED: &str = "warning[parse-error]: error parsing SPDX license expression\n\
+/// What is found of the field `GPL-3.0` where it is not allowed.
+pub const DEPRECATED: &str = "warning[parse-error]: error parsing SPDX license expression\n\
 \x20 ::: /w/Cargo.toml:4:12: a deprecated license identifier was used\n\
 error[rejected]: failed to satisfy license requirements\n\
 \x20 ::: /w/Cargo.toml:4:12: license expression retrieved via Cargo.toml `license`\n\

@@ -29,13 +29,49 @@ error[unlicensed]: a = 1.0.0 is unlicensed\n\
 warning[license-not-encountered]: license was not encountered\n\
 \x20 --> /w/p.toml:2:11: unmatched license allowance\n";
 
+const MISSING: &str =
+    "warning[missing-clarification-file]: unable to locate specified license file\n\
+\x20 ::: /w/p.toml:6:28\n\
+warning[no-license-field]: license expression was not specified in manifest for crate 'a = 1.0.0'\n\
+warning[gather-failure]\n\
+\x20 ::: a 1.0.0-synthesized.toml:6:35: unable to read license file\n\
+warning[unlicensed]: a valid license expression could not be retrieved for the crate\n\
+\x20 --> a 1.0.0-synthesized.toml:2:9\n\
+error[unlicensed]: a = 1.0.0 is unlicensed\n\
+warning[license-not-encountered]: license was not encountered\n\
+\x20 --> /w/p.toml:2:11: unmatched license allowance\n";
+
+const NOTHING: &str =
+    "warning[no-license-field]: license expression was not specified in manifest for crate 'a = 1.0.0'\n\
+warning[unlicensed]: a valid license expression could not be retrieved for the crate\n\
+\x20 --> a 1.0.0-synthesized.toml:2:9\n\
+error[unlicensed]: a = 1.0.0 is unlicensed\n\
+warning[license-not-encountered]: license was not encountered\n\
+\x20 --> /w/p.toml:2:11: unmatched license allowance\n";
+
 const NONE: Row = Row {
     license: None,
     verdict: "4 a 1.0.0: unlicensed\n",
     ..BASE
 };
 
-pub static FILES: [Row; 4] = [
+pub static FILES: [Row; 6] = [
+    // a line end in an id is printed as a blank
+    Row {
+        id: "a\\n1.0.0",
+        verdict: "4 a\n1.0.0: unlicensed\n",
+        found: NOTHING,
+        err: NOTHING,
+        ..NONE
+    },
+    // the file of a clarification is not there
+    Row {
+        policy: "[licenses]\nallow = [\"MIT\"]\n[[licenses.clarify]]\ncrate = \"a\"\nexpression = \"ISC\"\n\
+license-files = [{ path = \"LICENSE\", hash = 0x81c9d352 }]\n",
+        found: MISSING,
+        err: MISSING,
+        ..NONE
+    },
     Row {
         files: &[("/w/LICENSE", b"\xff")],
         found: BROKEN,

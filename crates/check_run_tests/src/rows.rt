@@ -12,6 +12,8 @@ use tree_core::{MemSink, MemTree};
 /// A crate `a` in the folder `/w`.
 #[derive(Clone, Copy)]
 pub struct Row {
+    /// Its id, as JSON writes it.
+    pub id: &'static str,
     /// Its field, in the metadata and in the manifest.
     pub license: Option<&'static str>,
     /// Further keys of the package in the metadata, each with a comma in front.
@@ -20,6 +22,8 @@ pub struct Row {
     pub files: &'static [(&'static str, &'static [u8])],
     /// Which call of the tree fails once the metadata was read, counted from 1; 0 is none.
     pub failing: u64,
+    /// How many bytes `err` takes.
+    pub room: usize,
     /// The status, and a line for the verdict.
     pub verdict: &'static str,
     /// What is found, notes too.
@@ -30,11 +34,13 @@ pub struct Row {
 
 /// What is allowed is one licence, which is that of the crate.
 pub const BASE: Row = Row {
+    id: "a 1.0.0",
     license: Some("MIT"),
     package: "",
     policy: "[licenses]\nallow = [\"MIT\"]\n",
     files: &[],
     failing: 0,
+    room: 4000,
     verdict: "0 a 1.0.0: accepted by 0 Allowed(0)\n",
     found: "note[accepted]: license requirements satisfied\n\
 \x20 ::: /w/Cargo.toml:4:12: license expression retrieved via Cargo.toml `license`\n\
@@ -51,14 +57,15 @@ fn metadata_of(alloc: Global, row: &Row) -> Result<String, Fail> {
         None => String::new(alloc),
     };
     let package = row.package;
+    let id = row.id;
     let front = format!(in alloc;
-        r#"{{"packages":[{{"name":"a","version":"1.0.0","id":"a 1.0.0"{field}{package}"#
+        r#"{{"packages":[{{"name":"a","version":"1.0.0","id":"{id}"{field}{package}"#
     )?;
-    let rest =
-        r#""workspace_root":"/w","resolve":{"nodes":[{"id":"a 1.0.0","deps":[]}],"root":"a 1.0.0"}}"#;
-    Ok(format!(in alloc;
-        r#"{front},"manifest_path":"/w/Cargo.toml"}}],"workspace_members":["a 1.0.0"],{rest}"#
-    )?)
+    let rest = format!(in alloc;
+        r#""resolve":{{"nodes":[{{"id":"{id}","deps":[]}}],"root":"{id}"}}}}"#
+    )?;
+    let members = format!(in alloc; r#""workspace_members":["{id}"],"workspace_root":"/w""#)?;
+    Ok(format!(in alloc; r#"{front},"manifest_path":"/w/Cargo.toml"}}],{members},{rest}"#)?)
 }
 
 fn manifest_of(alloc: Global, row: &Row) -> Result<String, Fail> {
@@ -85,21 +92,30 @@ fn tree_of(alloc: Global, row: &Row) -> Result<MemTree, Fail> {
     Ok(tree)
 }
 
-/// How a run over a row ends, and what stands on `err`.
-fn run_over(alloc: Global, row: &Row) -> Result<(Outcome, String), Fail> {
+/// How a run ends, and what it has written.
+#[derive(Drop)]
+pub struct Ending {
+    pub outcome: Outcome,
+    pub out: String,
+    pub err: String,
+}
+
+/// How a run over a row ends.
+fn run_over(alloc: Global, row: &Row) -> Result<Ending, Fail> {
     let mut tree = tree_of(alloc, row)?;
     let mut words = Vec::new(alloc);
     for word in WORDS {
         words.push(String::from_str(alloc, word)?)?;
     }
     let mut out = MemSink::new(alloc, 1000, 1000)?;
-    let mut err = MemSink::new(alloc, 4000, 1000)?;
+    let mut err = MemSink::new(alloc, row.room, 1000)?;
     let store = LicenseStore::default(alloc);
     let outcome = run(
         alloc, &words, "/w", &mut tree, &mut out, &mut err, &Table, &store,
     );
+    let out = text(alloc, out.written())?;
     let err = text(alloc, err.written())?;
-    Ok((outcome, err))
+    Ok(Ending { outcome, out, err })
 }
 
 /// The verdicts of a report, and what is found.
@@ -112,13 +128,23 @@ fn reported(alloc: Global, report: &Report) -> Result<String, Fail> {
 
 /// The status, the verdict, what is found, and what stands on `err`.
 pub fn come_to(alloc: Global, row: &Row) -> Result<String, Fail> {
-    let (outcome, err) = run_over(alloc, row)?;
-    let status = outcome.status;
-    let ended = match &outcome.ended {
+    let ending = run_over(alloc, row)?;
+    let status = ending.outcome.status;
+    let err = ending.err.as_str();
+    let ended = match &ending.outcome.ended {
         Ended::Checked(report) => reported(alloc, report)?,
-        Ended::Refused(_) => told(alloc, &outcome.ended)?,
+        Ended::Refused(_) => told(alloc, &ending.outcome.ended)?,
     };
     Ok(format!(in alloc; "{status} {ended}--\n{err}")?)
+}
+
+/// How a run over a row ends where `err` takes so many bytes, and what stands on `out` and on `err`.
+pub fn cut_at(alloc: Global, row: &Row, room: usize) -> Result<String, Fail> {
+    let ending = run_over(alloc, &Row { room, ..*row })?;
+    let ended = told(alloc, &ending.outcome.ended)?;
+    let out = ending.out.as_str();
+    let err = ending.err.as_str();
+    Ok(format!(in alloc; "{ended}; {out}; {err}")?)
 }
 
 /// The same as a row has it.

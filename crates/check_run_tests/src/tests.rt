@@ -1,7 +1,7 @@
 //! What a run finds of one crate, row by row.
-use crate::fields::FIELDS;
+use crate::fields::{DEPRECATED, FIELDS};
 use crate::files::FILES;
-use crate::rows::{Row, come_to, wanted};
+use crate::rows::{BASE, Row, come_to, cut_at, wanted};
 use std::alloc::Global;
 use std::test::Fail;
 
@@ -30,5 +30,21 @@ fn fields_and_policies(rt: HostRuntime) -> Result<(), Fail> {
 fn licence_files(rt: HostRuntime) -> Result<(), Fail> {
     let lines = unlike(rt.alloc(), &FILES)?;
     assert_eq!(rt; lines.as_str(), "");
+    Ok(())
+}
+
+#[test]
+fn findings_that_err_refuses_are_cut(rt: HostRuntime) -> Result<(), Fail> {
+    let alloc = rt.alloc();
+    let row = Row {
+        license: Some("GPL-3.0"),
+        ..BASE
+    };
+    for room in 0..DEPRECATED.len() {
+        let seen = cut_at(alloc, &row, room)?;
+        let front = DEPRECATED.get(..room).unwrap_or("");
+        let want = format!(in alloc; "write: 0 1; ; {front}")?;
+        assert_eq!(rt; seen.as_str(), want.as_str());
+    }
     Ok(())
 }
