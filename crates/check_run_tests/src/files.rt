@@ -1,6 +1,24 @@
 //! Crates without a field, or with an empty one.
 use crate::rows::{BASE, Row};
 
+/// The MIT licence in lines as it is published, without its title and the holder of the copyright.
+const MIT: &[u8] = b"\
+Permission is hereby granted, free of charge, to any person obtaining a copy\n\
+of this software and associated documentation files (the \"Software\"), to deal\n\
+in the Software without restriction, including without limitation the rights\n\
+to use, copy, modify, merge, publish, distribute, sublicense, and/or sell\n\
+copies of the Software, and to permit persons to whom the Software is\n\
+furnished to do so, subject to the following conditions:\n\n\
+The above copyright notice and this permission notice shall be included in all\n\
+copies or substantial portions of the Software.\n\n\
+THE SOFTWARE IS PROVIDED \"AS IS\", WITHOUT WARRANTY OF ANY KIND, EXPRESS OR\n\
+IMPLIED, INCLUDING BUT NOT LIMITED TO THE WARRANTIES OF MERCHANTABILITY,\n\
+FITNESS FOR A PARTICULAR PURPOSE AND NONINFRINGEMENT. IN NO EVENT SHALL THE\n\
+AUTHORS OR COPYRIGHT HOLDERS BE LIABLE FOR ANY CLAIM, DAMAGES OR OTHER\n\
+LIABILITY, WHETHER IN AN ACTION OF CONTRACT, TORT OR OTHERWISE, ARISING FROM,\n\
+OUT OF OR IN CONNECTION WITH THE SOFTWARE OR THE USE OR OTHER DEALINGS IN THE\n\
+SOFTWARE.\n";
+
 const BROKEN: &str =
     "warning[no-license-field]: license expression was not specified in manifest for crate 'a = 1.0.0'\n\
 warning[gather-failure]\n\
@@ -49,13 +67,23 @@ error[unlicensed]: a = 1.0.0 is unlicensed\n\
 warning[license-not-encountered]: license was not encountered\n\
 \x20 --> /w/p.toml:2:11: unmatched license allowance\n";
 
-const NONE: Row = Row {
+/// What is found where the file of a clarification is the licence that is allowed, and a listed file is none.
+const KEPT: &str =
+    "warning[no-license-field]: license expression was not specified in manifest for crate 'a = 1.0.0'\n\
+warning[gather-failure]\n\
+\x20 ::: a 1.0.0-synthesized.toml:8:57: low confidence in the license text\n\
+note[accepted]: license requirements satisfied\n\
+\x20 ::: a 1.0.0-synthesized.toml:5:15: license expression retrieved via license files: A-TERMS\n\
+\x20 --> a 1.0.0-synthesized.toml:5:15: accepted: license is explicitly allowed\n";
+
+/// Without a field and files.
+pub const NONE: Row = Row {
     license: None,
     verdict: "4 a 1.0.0: unlicensed\n",
     ..BASE
 };
 
-pub static FILES: [Row; 6] = [
+pub static FILES: [Row; 7] = [
     // a line end in an id is printed as a blank
     Row {
         id: "a\\n1.0.0",
@@ -70,6 +98,18 @@ pub static FILES: [Row; 6] = [
 license-files = [{ path = \"LICENSE\", hash = 0x81c9d352 }]\n",
         found: MISSING,
         err: MISSING,
+        ..NONE
+    },
+    // a file whose hash is not the clarification's stays among the licence files
+    Row {
+        files: &[("/w/A-TERMS", MIT), ("/w/LICENSE-Z", b"z")],
+        policy: "[licenses]\nallow = [\"MIT\"]\n[[licenses.clarify]]\ncrate = \"a\"\nexpression = \"ISC\"\n\
+license-files = [{ path = \"A-TERMS\", hash = 0x81c9d352 }, { path = \"LICENSE-B\", hash = 0x81c9d352 }]\n",
+        verdict: "0 a 1.0.0: accepted by 0 Allowed(0)\n",
+        found: KEPT,
+        err: "warning[no-license-field]: license expression was not specified in manifest for crate 'a = 1.0.0'\n\
+warning[gather-failure]\n\
+\x20 ::: a 1.0.0-synthesized.toml:8:57: low confidence in the license text\n",
         ..NONE
     },
     Row {

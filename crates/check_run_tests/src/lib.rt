@@ -8,6 +8,10 @@ mod files;
 #[cfg(test)]
 mod rows;
 #[cfg(test)]
+mod says;
+#[cfg(test)]
 mod shown;
+#[cfg(test)]
+mod sure;
 #[cfg(test)]
 mod tests;

@@ -1,5 +1,6 @@
 //! Rows of one crate, and what a run over each comes to.
 use crate::shown::verdicts;
+use catalog_core::Identifier;
 use deny_run::report::{Ended, Outcome, Report};
 use deny_run::run::run;
 use diag_core::LevelFilter;
@@ -100,8 +101,8 @@ pub struct Ending {
     pub err: String,
 }
 
-/// How a run over a row ends.
-fn run_over(alloc: Global, row: &Row) -> Result<Ending, Fail> {
+/// How a run over a row ends, where licence files are identified so.
+pub fn run_over<I: Identifier>(alloc: Global, row: &Row, identifier: &I) -> Result<Ending, Fail> {
     let mut tree = tree_of(alloc, row)?;
     let mut words = Vec::new(alloc);
     for word in WORDS {
@@ -109,9 +110,8 @@ fn run_over(alloc: Global, row: &Row) -> Result<Ending, Fail> {
     }
     let mut out = MemSink::new(alloc, 1000, 1000)?;
     let mut err = MemSink::new(alloc, row.room, 1000)?;
-    let store = LicenseStore::default(alloc);
     let outcome = run(
-        alloc, &words, "/w", &mut tree, &mut out, &mut err, &Table, &store,
+        alloc, &words, "/w", &mut tree, &mut out, &mut err, &Table, identifier,
     );
     let out = text(alloc, out.written())?;
     let err = text(alloc, err.written())?;
@@ -126,9 +126,20 @@ fn reported(alloc: Global, report: &Report) -> Result<String, Fail> {
     Ok(lines)
 }
 
+/// How a run over a row ends, where licence files are what the built-in texts say.
+fn built_in_run(alloc: Global, row: &Row) -> Result<Ending, Fail> {
+    let store = LicenseStore::from_cache(alloc)?;
+    run_over(alloc, row, &store)
+}
+
 /// The status, the verdict, what is found, and what stands on `err`.
 pub fn come_to(alloc: Global, row: &Row) -> Result<String, Fail> {
-    let ending = run_over(alloc, row)?;
+    let ending = built_in_run(alloc, row)?;
+    told_ending(alloc, &ending)
+}
+
+/// The same of an ending.
+pub fn told_ending(alloc: Global, ending: &Ending) -> Result<String, Fail> {
     let status = ending.outcome.status;
     let err = ending.err.as_str();
     let ended = match &ending.outcome.ended {
@@ -140,7 +151,7 @@ pub fn come_to(alloc: Global, row: &Row) -> Result<String, Fail> {
 
 /// How a run over a row ends where `err` takes so many bytes, and what stands on `out` and on `err`.
 pub fn cut_at(alloc: Global, row: &Row, room: usize) -> Result<String, Fail> {
-    let ending = run_over(alloc, &Row { room, ..*row })?;
+    let ending = built_in_run(alloc, &Row { room, ..*row })?;
     let ended = told(alloc, &ending.outcome.ended)?;
     let out = ending.out.as_str();
     let err = ending.err.as_str();

@@ -2,6 +2,7 @@
 use crate::fields::{DEPRECATED, FIELDS};
 use crate::files::FILES;
 use crate::rows::{BASE, Row, come_to, cut_at, wanted};
+use crate::sure::{SURE, come_to_at, wanted_at};
 use std::alloc::Global;
 use std::test::Fail;
 
@@ -30,6 +31,17 @@ fn fields_and_policies(rt: HostRuntime) -> Result<(), Fail> {
 fn licence_files(rt: HostRuntime) -> Result<(), Fail> {
     let lines = unlike(rt.alloc(), &FILES)?;
     assert_eq!(rt; lines.as_str(), "");
+    Ok(())
+}
+
+#[test]
+fn sure_enough(rt: HostRuntime) -> Result<(), Fail> {
+    let alloc = rt.alloc();
+    for sure in &SURE {
+        let seen = come_to_at(alloc, sure)?;
+        let want = wanted_at(alloc, sure)?;
+        assert_eq!(rt; seen.as_str(), want.as_str());
+    }
     Ok(())
 }
 
