@@ -1,4 +1,5 @@
 mod Examples
+pub mod FileKeyLemmas
 pub mod FoundLemmas
 pub mod PackLemmas
 pub mod PathLemmas

@@ -3,11 +3,11 @@ use Rattle.std.proofs.lemmas.List.Elements.{filter_map-append}
 use Rattle.std.proofs.lemmas.List.{take_more}
 use Rattle.std.proofs.lemmas.List.Sums.{fold-append}
 use Rattle.std.proofs.lemmas.Map.Made.{lookup-map_values}
-use Rattle.std.proofs.Common.{◌≡◌, ℕ, ◌+◌, ◌<◌, ◌≤◌, get_or, length, take, Bool, true, false, ◌&&◌, ◌||◌, cond, List, [], ◌∷◌, ◌++◌, map, Option, None, Some, is_some, Result, refl, sym, ap, subst, ◌∙◌, arith}
+use Rattle.std.proofs.Common.{◌≡◌, ℕ, ◌+◌, ◌<◌, ◌≤◌, get_or, length, take, Bool, true, false, ◌&&◌, ◌||◌, cond, List, [], ◌∷◌, ◌++◌, map, Option, None, Some, is_some, Result, Ok, Err, IfOk, refl, sym, ap, subst, ◌∙◌, arith}
 use Rattle.std.specs.BTreeMap.{is_at, insert_entry}
 use Rattle.std.specs.List.{fold, list_any}
 use Rattle.std.specs.Map.{lookup}
-use Rattle.std.specs.Option.{option_and_then, option_map, option_map_or}
+use Rattle.std.specs.Option.{option_and_then, option_map}
 use Rattle.std.specs.Ordering.{is_eq, is_lt, match_ordering}
 use Rattle.std.specs.declared.cmp.Ordering.TheVariants.{Less, Equal, Greater}
 use Rattle.std.specs.Cmp.Lexicographic.{slice_cmp}
@@ -30,7 +30,9 @@ use Rattle.pack_core.specs.Ears.{Ears, ears_of, has_hash, is_absent, matches, mi
 use Rattle.pack_core.specs.NamedFile.{Named}
 use Rattle.pack_core.specs.Pack.{found_of, same_path, placed, in_path_order}
 use Rattle.pack_core.specs.Steps.{Advances, Agrees, Begins, IsHeardIn, file_record, records_by, with_file, with_path}
-use Rattle.pack_core.specs.View.{PackView, IsKept, counts_of, file_at, files_of, has_normal_hash, normal_heard, path_read, paths_of, paths_read, unlisted_of}
+use Rattle.pack_core.specs.Told.{tells_absent, tells_hash, told_of}
+use Rattle.pack_core.specs.declared.told.Told.{Told}
+use Rattle.pack_core.specs.View.{PackView, IsKept, counts_of, file_at, files_of, normal_heard, path_read, paths_of, paths_read, unlisted_of}
 use Rattle.pack_core.proofs.PathLemmas.{parts_of_same, same_itself, list_any-in_path_order, in_path_order-push}
 
 by_test : {G : Type 0} (b : Bool) → (b ≡ true → G) → (b ≡ false → G) → G
@@ -305,79 +307,80 @@ is_some-map : {A B : Type 0} (f : A → B) (o : Option A) → is_some (option_ma
 is_some-map f None = refl
 is_some-map f (Some x) = refl
 
-pub has_file : (held : List (List ℕ × Result (List ℕ) BadRead)) (path : List ℕ) → is_some (lookup (is_at (path_order path)) held) ≡ is_some (file_at (files_of held) path)
-has_file held path = sym (ap is_some (lookup-map_values heard_file (is_at (path_order path)) held) ∙ is_some-map heard_file (lookup (is_at (path_order path)) held))
+map_twice : {A B C : Type 0} (g : B → C) (f : A → B) (o : Option A) → option_map g (option_map f o) ≡ option_map (λ x. g (f x)) o
+map_twice g f None = refl
+map_twice g f (Some x) = refl
+
+-- what is told of what is kept at a path
+pub told_found : (held : List (List ℕ × Result (List ℕ) BadRead)) (path : List ℕ) (found : Option (Result (List ℕ) BadRead)) → found ≡ lookup (is_at (path_order path)) held
+    → option_map told_of (file_at (files_of held) path) ≡ option_map (λ kept. told_of (heard_file kept)) found
+told_found held path found is =
+    ap (option_map told_of) (lookup-map_values heard_file (is_at (path_order path)) held)
+    ∙ map_twice told_of heard_file (lookup (is_at (path_order path)) held)
+    ∙ ap (option_map (λ kept. told_of (heard_file kept))) (sym is)
 
 -- what is in the pack was read
-pub read_before : (pack : PackView) (path : List ℕ) → IsKept pack → is_some (file_at pack.files path) ≡ list_any (same_path path) (paths_read pack.reads)
+read_before : (pack : PackView) (path : List ℕ) → IsKept pack → is_some (file_at pack.files path) ≡ list_any (same_path path) (paths_read pack.reads)
 read_before pack path kept =
     has_path pack.files path ∙ ap (list_any (same_path path)) kept.paths ∙ list_any-in_path_order (same_path path) (paths_read pack.reads)
 
-pub none_of : {A : Type 0} (o : Option A) → is_some o ≡ false → o ≡ None
-none_of None e = refl
-none_of (Some x) e = cc
+-- what is told of a file tells whether that was read
+pub told_read : (pack : PackView) (path : List ℕ) (found : Option (Result (List ℕ) BadRead)) → IsKept pack
+    → option_map told_of (file_at pack.files path) ≡ option_map (λ kept. told_of (heard_file kept)) found
+    → is_some found ≡ list_any (same_path path) (paths_read pack.reads)
+told_read pack path found kept is =
+    sym (is_some-map (λ kept. told_of (heard_file kept)) found)
+    ∙ ap is_some (sym is)
+    ∙ is_some-map told_of (file_at pack.files path) ∙ read_before pack path kept
+
+pub none_told : (there : Option Heard) → None ≡ option_map told_of there → there ≡ None
+none_told None e = refl
+none_told (Some heard) e = cc
+
+pub both_ok : {A E : Type 0} (result : Result A E) (P Q R : A → Type 0) → ((x : A) → P x → Q x → R x) → IfOk result P → IfOk result Q → IfOk result R
+both_ok (Ok x) P Q R holds first second = holds x first second
+both_ok (Err e) P Q R holds first second = tt
 
 pub there-with_file : (pack : PackView) (path : List ℕ) (heard : Heard) → file_at pack.files path ≡ None → file_at (with_file pack path heard).files path ≡ Some (normal_heard heard)
 there-with_file pack path heard none =
     file_at-insert pack.files path (normal_heard heard) path none ∙ ap (λ b. cond b (Some (normal_heard heard)) (file_at pack.files path)) (same_itself path)
 
--- ---- hashes
+-- ---- what is told of a file
 
-pub no_hash : (hash : ℕ) (error : BadRead) → has_normal_hash hash (heard_bad error) ≡ false
-no_hash hash bad.Absent = refl
-no_hash hash bad.WrongKind = refl
-no_hash hash bad.NotUtf8 = refl
-no_hash hash (bad.Failed before after) = refl
+tells_hash-told : (hash : ℕ) (heard : Heard) → tells_hash hash (told_of (normal_heard heard)) ≡ has_hash hash heard
+tells_hash-told hash (failed before after) = refl
+tells_hash-told hash absent = refl
+tells_hash-told hash wrong_kind = refl
+tells_hash-told hash not_utf8 = refl
+tells_hash-told hash (text bytes) = refl
+tells_hash-told hash (entries listed) = refl
 
-pub has_hash-normal : (hash : ℕ) (heard : Heard) → has_normal_hash hash (normal_heard heard) ≡ has_hash hash heard
-has_hash-normal hash (failed before after) = refl
-has_hash-normal hash absent = refl
-has_hash-normal hash wrong_kind = refl
-has_hash-normal hash not_utf8 = refl
-has_hash-normal hash (text bytes) = refl
-has_hash-normal hash (entries listed) = refl
+tells_absent-told : (heard : Heard) → tells_absent (told_of (normal_heard heard)) ≡ is_absent heard
+tells_absent-told (failed before after) = refl
+tells_absent-told absent = refl
+tells_absent-told wrong_kind = refl
+tells_absent-told not_utf8 = refl
+tells_absent-told (text bytes) = refl
+tells_absent-told (entries listed) = refl
 
-map_or : {A B : Type 0} (test : B → Bool) (f : A → B) (o : Option A) → option_map_or test (option_map f o) false ≡ option_map_or (λ x. test (f x)) o false
-map_or test f None = refl
-map_or test f (Some x) = refl
+told_by : (there : Option Heard) (heard : Heard) (is : Told) → ((found : Heard) → there ≡ Some found → normal_heard heard ≡ found) → option_map told_of there ≡ Some is
+    → is ≡ told_of (normal_heard heard)
+told_by None heard is agrees told = cc
+told_by (Some found) heard is agrees told = let same : told_of found ≡ is = cc in sym same ∙ ap told_of (sym (agrees found refl))
 
--- a test of what is kept at a path
-pub found_test : (test : Heard → Bool) (held : List (List ℕ × Result (List ℕ) BadRead)) (path : List ℕ) (found : Option (Result (List ℕ) BadRead)) → found ≡ lookup (is_at (path_order path)) held
-    → option_map_or test (file_at (files_of held) path) false ≡ option_map_or (λ kept. test (heard_file kept)) found false
-found_test test held path found is =
-    ap (λ o. option_map_or test o false) (lookup-map_values heard_file (is_at (path_order path)) held)
-    ∙ map_or test heard_file (lookup (is_at (path_order path)) held)
-    ∙ ap (λ o. option_map_or (λ kept. test (heard_file kept)) o false) (sym is)
+-- what is told of a file of the pack is told of it by ears that agree with the pack
+told_heard : (ears : Ears) (pack : PackView) (path : List ℕ) (is : Told) → Agrees ears pack → option_map told_of (file_at pack.files path) ≡ Some is
+    → is ≡ told_of (normal_heard (ears.file (components_of path)))
+told_heard ears pack path is agrees told = told_by (file_at pack.files path) (ears.file (components_of path)) is (agrees.files path) told
 
-matched_by : (hash : ℕ) (there : Option Heard) (heard : Heard) → ((found : Heard) → there ≡ Some found → normal_heard heard ≡ found) → is_some there ≡ true
-    → option_map_or (has_normal_hash hash) there false ≡ has_hash hash heard
-matched_by hash None heard agrees some = cc
-matched_by hash (Some found) heard agrees some = ap (has_normal_hash hash) (sym (agrees found refl)) ∙ has_hash-normal hash heard
+pub matched : (ears : Ears) (pack : PackView) (path : List ℕ) (is : Told) (hash : ℕ) → Agrees ears pack → option_map told_of (file_at pack.files path) ≡ Some is
+    → tells_hash hash is ≡ has_hash hash (ears.file (components_of path))
+matched ears pack path is hash agrees told =
+    ap (tells_hash hash) (told_heard ears pack path is agrees told) ∙ tells_hash-told hash (ears.file (components_of path))
 
--- a file of the pack matches by its hash exactly where it does by ears that agree with the pack
-pub matched : (ears : Ears) (pack : PackView) (path : List ℕ) (hash : ℕ) → Agrees ears pack → is_some (file_at pack.files path) ≡ true
-    → option_map_or (has_normal_hash hash) (file_at pack.files path) false ≡ has_hash hash (ears.file (components_of path))
-matched ears pack path hash agrees there = matched_by hash (file_at pack.files path) (ears.file (components_of path)) (agrees.files path) there
-
--- ---- nothing there
-
-is_absent-normal : (heard : Heard) → is_absent (normal_heard heard) ≡ is_absent heard
-is_absent-normal (failed before after) = refl
-is_absent-normal absent = refl
-is_absent-normal wrong_kind = refl
-is_absent-normal not_utf8 = refl
-is_absent-normal (text bytes) = refl
-is_absent-normal (entries listed) = refl
-
-absent_by : (there : Option Heard) (heard : Heard) → ((found : Heard) → there ≡ Some found → normal_heard heard ≡ found) → is_some there ≡ true
-    → option_map_or is_absent there false ≡ is_absent heard
-absent_by None heard agrees some = cc
-absent_by (Some found) heard agrees some = ap is_absent (sym (agrees found refl)) ∙ is_absent-normal heard
-
--- nothing is kept of a file exactly where nothing is there by ears that agree with the pack
-pub lacked : (ears : Ears) (pack : PackView) (path : List ℕ) → Agrees ears pack → is_some (file_at pack.files path) ≡ true
-    → option_map_or is_absent (file_at pack.files path) false ≡ is_absent (ears.file (components_of path))
-lacked ears pack path agrees there = absent_by (file_at pack.files path) (ears.file (components_of path)) (agrees.files path) there
+pub lacked : (ears : Ears) (pack : PackView) (path : List ℕ) (is : Told) → Agrees ears pack → option_map told_of (file_at pack.files path) ≡ Some is
+    → tells_absent is ≡ is_absent (ears.file (components_of path))
+lacked ears pack path is agrees told = ap tells_absent (told_heard ears pack path is agrees told) ∙ tells_absent-told (ears.file (components_of path))
 
 pub unlisted_by : (error : BadRead) → unlisted_of (heard_bad error) ≡ Some error
 unlisted_by bad.Absent = refl

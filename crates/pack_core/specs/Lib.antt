@@ -1,5 +1,7 @@
 pub mod Ears
+pub mod FileKey
 pub mod NamedFile
 pub mod Pack
 pub mod Steps
+pub mod Told
 pub mod View

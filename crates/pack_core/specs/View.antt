@@ -1,10 +1,9 @@
 -- A pack, as contracts see it.
-use Rattle.std.specs.Prelude.{◌≡◌, ℕ, ◌==◌, Bool, false, List, map, Option, Some, None, is_none, Result, if◌then◌else◌}
+use Rattle.std.specs.Prelude.{◌≡◌, ℕ, Bool, List, map, Option, Some, None, is_none, Result, if◌then◌else◌}
 use Rattle.std.specs.BTreeMap.{is_at}
 use Rattle.std.specs.List.{filter_map}
 use Rattle.std.specs.Map.{lookup}
 use Rattle.std.specs.Option.{option_and_then}
-use Rattle.deny_text.specs.Hash.{xxh32_of}
 use Rattle.deny_text.specs.Normal.{normal_of}
 use Rattle.deny_text.specs.Path.{components_of, path_order}
 use Rattle.tree_core.specs.declared.reads.ReadKind.TheVariants.{Listing, LicenseFile}
@@ -76,12 +75,3 @@ pub record IsKept (pack : PackView) : Type 0 where
   pub paths : paths_of pack.files ≡ in_path_order (paths_read pack.reads)
   pub files_failed : (path : List ℕ) → failed_counts LicenseFile (components_of path) pack.reads ≡ option_and_then counts_of (file_at pack.files path)
   pub listing_failed : failed_counts Listing (components_of pack.folder) pack.reads ≡ counts_of pack.listing
-
--- a text in its normal form that has the hash
-abbrev pub has_normal_hash : ℕ → Heard → Bool
-has_normal_hash hash (failed before after) = false
-has_normal_hash hash absent = false
-has_normal_hash hash wrong_kind = false
-has_normal_hash hash not_utf8 = false
-has_normal_hash hash (text normal) = xxh32_of normal == hash
-has_normal_hash hash (entries listed) = false

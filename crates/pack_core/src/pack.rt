@@ -4,22 +4,24 @@ ghost use Rattle.std.specs.Prelude.{if◌then◌else◌};
 ghost use Rattle.deny_text.specs.Path.{components_of};
 ghost use Rattle.std.specs.List.{fold, list_any};
 ghost use Rattle.std.specs.Iterator.{YieldsFirstBy, item_count};
-ghost use Rattle.std.specs.Option.{option_map_or};
+ghost use Rattle.std.specs.Option.{option_map};
 ghost use Rattle.tree_core.specs.Content.{Content};
 ghost use Rattle.tree_core.specs.Hearing.{KeepsTree};
 ghost use Rattle.tree_core.specs.declared.reads.ReadKind.TheVariants.{Listing};
 ghost use Rattle.reads_core.specs.Heard.{record_of};
-ghost use Rattle.reads_core.specs.Views.{heard_bad, heard_file, heard_folder};
+ghost use Rattle.reads_core.specs.Views.{heard_file, heard_folder};
 ghost use Rattle.pack_core.specs.Ears as spec;
 ghost use Rattle.pack_core.specs.Ears.{Ears, ears_of, looked_of, missing_from};
 ghost use Rattle.pack_core.specs.Pack.{in_path_order, same_path};
 ghost use Rattle.pack_core.specs.Steps.{Advances, Agrees, Begins, IsHeardIn, with_file, with_path};
-ghost use Rattle.pack_core.specs.View.{file_at, has_normal_hash, is_listed, normal_heard, paths_of};
-ghost use Rattle.pack_core.specs.View.{paths_read, unlisted_of};
+ghost use Rattle.pack_core.specs.Told.{told_of};
+ghost use Rattle.pack_core.specs.View.{file_at, normal_heard, paths_of, paths_read, unlisted_of};
 
+use crate::file_key::FileKey;
 use crate::found::found;
 use crate::license_text::LicenseText;
 use crate::named_file::NamedFile;
+use crate::told::Told;
 use deny_text::PathBuf;
 use reads_core::{
     BadRead, FileHeard, FolderHeard, file_record, list_folder, listing_record, read_file,
@@ -33,12 +35,12 @@ use tree_core::{Reads, Tree};
 pub type PackData = Result<LicenseText, BadRead>;
 
 /// The licence files of a crate, each read once, with the records of the reads. A look-up among n files takes
-/// about log2 n comparisons of paths.
+/// about log2 n comparisons of paths; plain names are compared by their bytes.
 #[derive(Drop)]
 pub struct Pack {
     folder: PathBuf,
     listing: FolderHeard,
-    files: BTreeMap<PathBuf, PackData>,
+    files: BTreeMap<FileKey, PackData>,
     reads: Reads,
 }
 
@@ -72,6 +74,13 @@ pub struct Tried {
     pub missing: Option<usize>,
 }
 
+/// A pack, and what is told of a file of it.
+#[derive(Drop)]
+struct Looked {
+    pack: Pack,
+    told: Told,
+}
+
 /// A pack, and what a file that a clarification names is.
 #[derive(Drop)]
 struct Matched {
@@ -90,38 +99,6 @@ fn kept_of(alloc: Global, heard: FileHeard) -> Result<PackData, AllocError>
             Ok(Ok(licence))
         }
         Err(error) => Ok(Err(error)),
-    }
-}
-
-/// Whether what is kept of a file is a text with a hash.
-#[tactic(auto, using(crate::proofs::PackLemmas::no_hash))]
-fn kept_has_hash(kept: &PackData, hash: u32) -> bool
-    ensures { result ≡ has_normal_hash hash (heard_file kept.now) }
-{
-    match kept {
-        Ok(text) => text.hash() == hash,
-        Err(_) => false,
-    }
-}
-
-fn is_absent(error: BadRead) -> bool
-    ensures { result ≡ spec.is_absent (heard_bad error) }
-{
-    match error {
-        BadRead::Absent => true,
-        BadRead::WrongKind => false,
-        BadRead::NotUtf8 => false,
-        BadRead::Failed { .. } => false,
-    }
-}
-
-/// Whether nothing was there to be kept of a file.
-fn kept_is_absent(kept: &PackData) -> bool
-    ensures { result ≡ spec.is_absent (heard_file kept.now) }
-{
-    match kept {
-        Ok(_) => false,
-        Err(error) => is_absent(*error),
     }
 }
 
@@ -154,10 +131,11 @@ impl Pack {
         })
     }
 
-    /// The pack and a further file, which was just read.
-    fn with_file(self, alloc: Global, path: &PathBuf, heard: FileHeard) -> Result<Pack, AllocError>
-        requires { file_at self.files path.now ≡ None }
-        ensures { IfOk result (λ pack. pack ≡ with_file self path.now (heard_file heard)) }
+    /// The pack and a further file, which was just read, and what is told of that.
+    fn with_file(self, alloc: Global, key: FileKey, heard: FileHeard) -> Result<Looked, AllocError>
+        requires { file_at self.files key ≡ None }
+        ensures pack { IfOk result (λ looked. looked.pack ≡ with_file self key (heard_file heard)) }
+        ensures told { IfOk result (λ looked. looked.told ≡ told_of (normal_heard (heard_file heard))) }
     {
         let Pack {
             folder,
@@ -165,66 +143,54 @@ impl Pack {
             mut files,
             mut reads,
         } = self;
-        let record = file_record(alloc, path, &heard)?;
+        let record = file_record(alloc, key.path(), &heard)?;
         reads.push(record)?;
         let kept = kept_of(alloc, heard)?;
-        let key = PathBuf::copy(alloc, path.as_path())?;
+        let told = Told::of(&kept);
         files.insert(key, kept)?;
-        Ok(Pack {
+        let pack = Pack {
             folder,
             listing,
             files,
             reads,
-        })
+        };
+        Ok(Looked { pack, told })
     }
 
-    /// Whether a file at a path of the same parts was read.
-    fn has(&self, path: &PathBuf) -> bool
-        ensures has { result ≡ is_some (file_at self.now.files path.now) }
-        ensures read { result ≡ list_any (same_path path.now) (paths_read self.now.reads) }
+    /// What is told of a file, where one at a path of the same parts was read.
+    fn told(&self, key: &FileKey) -> Option<Told>
+        ensures told { result ≡ option_map told_of (file_at self.now.files key.now) }
+        ensures read { is_some result ≡ list_any (same_path key.now) (paths_read self.now.reads) }
     {
-        self.files.contains_key(path)
+        match self.files.get(key) {
+            Some(kept) => Some(Told::of(kept)),
+            None => None,
+        }
     }
 
-    /// The pack with the file at a path, which is read where none of the same parts was.
+    /// The pack with the file at a path, which is read where none of the same parts was, and what is told of it.
     fn look_up<T: Tree>(
         self,
         alloc: Global,
         tree: &mut T,
         path: &PathBuf,
-    ) -> Result<Pack, AllocError>
+    ) -> Result<Looked, AllocError>
         ensures kept { KeepsTree (T.content tree.old) (T.content tree.new)
             (T.fault_count tree.old) (T.fault_count tree.new) }
-        ensures advances { IfOk result (λ pack.
-            Advances (T.content tree.old) (T.fault_count tree.old) (T.fault_count tree.new) self pack) }
-        ensures paths { IfOk result (λ pack.
-            paths_read pack.reads ≡ with_path (paths_read self.reads) path.now) }
-        ensures there { IfOk result (λ pack. is_some (file_at pack.files path.now) ≡ true) }
+        ensures advances { IfOk result (λ looked.
+            Advances (T.content tree.old) (T.fault_count tree.old) (T.fault_count tree.new) self looked.pack) }
+        ensures paths { IfOk result (λ looked.
+            paths_read looked.pack.reads ≡ with_path (paths_read self.reads) path.now) }
+        ensures told { IfOk result (λ looked.
+            option_map told_of (file_at looked.pack.files path.now) ≡ Some looked.told) }
     {
-        if self.has(path) {
-            return Ok(self);
-        }
-        let heard = read_file(alloc, tree, self.folder.as_path(), path.as_path())?;
-        self.with_file(alloc, path, heard)
-    }
-
-    /// Whether the file at a path is a text with a hash.
-    fn has_hash(&self, path: &PathBuf, hash: u32) -> bool
-        ensures { result ≡ option_map_or (has_normal_hash hash) (file_at self.now.files path.now) false }
-    {
-        match self.files.get(path) {
-            Some(kept) => kept_has_hash(kept, hash),
-            None => false,
-        }
-    }
-
-    /// Whether nothing was there where a file was read.
-    fn lacks(&self, path: &PathBuf) -> bool
-        ensures { result ≡ option_map_or spec.is_absent (file_at self.now.files path.now) false }
-    {
-        match self.files.get(path) {
-            Some(kept) => kept_is_absent(kept),
-            None => false,
+        let key = FileKey::of(alloc, path)?;
+        match self.told(&key) {
+            Some(told) => Ok(Looked { pack: self, told }),
+            None => {
+                let heard = read_file(alloc, tree, self.folder.as_path(), path.as_path())?;
+                self.with_file(alloc, key, heard)
+            }
         }
     }
 
@@ -246,14 +212,11 @@ impl Pack {
         ensures absent { IfOk result (λ tried. (ears : Ears) → Agrees ears tried.pack
             → tried.absent ≡ spec.is_absent (ears.file (components_of (F.named file.now).path))) }
     {
-        let named = file.path();
-        let pack = self.look_up(alloc, tree, named)?;
-        let holds = pack.has_hash(named, file.hash());
-        let absent = pack.lacks(named);
+        let looked = self.look_up(alloc, tree, file.path())?;
         Ok(Matched {
-            pack,
-            holds,
-            absent,
+            pack: looked.pack,
+            holds: looked.told.has_hash(file.hash()),
+            absent: looked.told.is_absent(),
         })
     }
 
@@ -312,7 +275,8 @@ impl Pack {
     {
         let mut pack = self;
         'paths: for path in paths {
-            pack = pack.look_up(alloc, tree, path)?;
+            let looked = pack.look_up(alloc, tree, path)?;
+            pack = looked.pack;
         }
         Ok(pack)
     }
@@ -334,13 +298,6 @@ impl Pack {
         let listed = Pack::of_listing(alloc, folder, listing)?;
         let pack = listed.look_up_all(alloc, tree, names.items())?;
         Ok(pack)
-    }
-
-    /// Whether the folder was listed.
-    pub fn is_listed(&self) -> bool
-        ensures { result ≡ is_listed self.now.listing }
-    {
-        self.listing.is_ok()
     }
 
     /// Why the folder was not listed.
@@ -379,7 +336,7 @@ impl Pack {
 /// The files of a pack that are still to come, in path order.
 #[derive(Drop)]
 pub struct PackIter<'a> {
-    held: btree_map::Iter<'a, PathBuf, PackData>,
+    held: btree_map::Iter<'a, FileKey, PackData>,
 }
 
 impl<'a> Model for PackIter<'a> {
@@ -400,6 +357,9 @@ impl<'a> Iterator for PackIter<'a> {
     ghost remaining = { item_count (λ files. files) };
 
     fn next(&mut self) -> Option<(&'a PathBuf, &'a PackData)> {
-        self.held.next()
+        match self.held.next() {
+            Some((key, kept)) => Some((key.path(), kept)),
+            None => None,
+        }
     }
 }

@@ -1,47 +1,54 @@
-use Rattle.std.proofs.Common.{ℕ, List, [], ◌∷◌, ◌++◌, cond, is_some, sym, ap, subst, ◌∙◌}
+use Rattle.std.proofs.Common.{◌≡◌, ℕ, List, [], ◌∷◌, ◌++◌, cond, None, Some, sym, ap, subst, ◌∙◌}
 use Rattle.std.proofs.lemmas.Result.{IfOk-weaker}
+use Rattle.std.specs.Option.{option_map}
 use Rattle.deny_text.specs.Path.{components_of}
 use Rattle.tree_core.specs.Content.{resolve}
 use Rattle.tree_core.specs.declared.reads.ReadKind.TheVariants.{LicenseFile}
 use Rattle.reads_core.specs.Heard.{place_of, there_heard}
 use Rattle.reads_core.specs.Told.{IsHeardOf}
 use Rattle.reads_core.specs.Views.{heard_file}
-use Rattle.pack_core.specs.Steps.{Advances}
+use Rattle.pack_core.specs.Steps.{Advances, with_file, with_path}
+use Rattle.pack_core.specs.Told.{told_of}
 use Rattle.pack_core.specs.View.{PackView, file_at, paths_read}
-use Rattle.pack_core.proofs.PackLemmas.{none_of, advances-with_file, paths_read-push, there-with_file}
+use Rattle.pack_core.specs.declared.told.Told.{Told}
+use Rattle.pack_core.proofs.PackLemmas.{none_told, advances-with_file, both_ok, paths_read-push, there-with_file}
 use Rattle.pack_core.proofs.pack.Pack.look_up.Goals as goal
 
-pub returns-clause-advances : goal.returns-clause-advances
-returns-clause-advances g c =
+pub returns-in_ok-heard-in-None-clause-advances : goal.returns-in_ok-heard-in-None-clause-advances
+returns-in_ok-heard-in-None-clause-advances g c =
     let pack = c.args.self in
-    let path = c.args.path.now in
-    let heard = heard_file c.in_ok-heard.heard in
+    let key = c.in_ok-key.key in
+    let heard = heard_file c.in_ok-heard-in-None.heard in
     IfOk-weaker c.with_file.result _ _
-    (λ new is. subst (Advances (g.T.Tree.content c.args.tree.now) (g.T.Tree.fault_count c.args.tree.now) (g.T.Tree.fault_count c.read_file.new.tree) pack) (sym is)
-    (advances-with_file _ _ _ pack path heard (none_of (file_at pack.files path) (sym c.has.ensures.has ∙ c.if-has.false))
-    c.read_file.ensures.kept.later c.in_ok-heard.ensures.counts
+    (λ looked is. subst (Advances (g.T.Tree.content c.args.tree.now) (g.T.Tree.fault_count c.args.tree.now) (g.T.Tree.fault_count c.read_file.new.tree) pack) (sym is)
+    (advances-with_file _ _ _ pack key heard (none_told (file_at pack.files key) c.in-None.ensures.told)
+    c.read_file.ensures.kept.later c.in_ok-heard-in-None.ensures.counts
     (λ content told.
-    subst (λ (at : List ℕ). IsHeardOf (there_heard LicenseFile content (place_of LicenseFile (resolve pack.folder) (components_of at))) heard) c.as_path-2.ensures
-    (subst (λ (folder : List ℕ). IsHeardOf (there_heard LicenseFile content (place_of LicenseFile (resolve folder) (components_of c.as_path-2.result.now))) heard)
-    (c.as_path.ensures ∙ ap (λ (p : PackView). p.folder) c.self.view_is) (c.in_ok-heard.ensures.told content told)))))
-    c.with_file.ensures
+    subst (λ (at : List ℕ). IsHeardOf (there_heard LicenseFile content (place_of LicenseFile (resolve pack.folder) (components_of at))) heard)
+    (c.as_path-in-None.ensures ∙ sym c.in_ok-key.ensures)
+    (subst (λ (folder : List ℕ). IsHeardOf (there_heard LicenseFile content (place_of LicenseFile (resolve folder) (components_of c.as_path-in-None.result.now))) heard)
+    (c.as_path.ensures ∙ ap (λ (p : PackView). p.folder) c.self.view_is) (c.in_ok-heard-in-None.ensures.told content told)))))
+    c.with_file.ensures.pack
 
-pub returns-clause-paths : goal.returns-clause-paths
-returns-clause-paths g c =
+pub returns-in_ok-heard-in-None-clause-paths : goal.returns-in_ok-heard-in-None-clause-paths
+returns-in_ok-heard-in-None-clause-paths g c =
     let pack = c.args.self in
-    let path = c.args.path.now in
+    let key = c.in_ok-key.key in
     IfOk-weaker c.with_file.result _ _
-    (λ new is.
-    ap (λ (p : PackView). paths_read p.reads) is ∙ paths_read-push pack.reads path (heard_file c.in_ok-heard.heard)
-    ∙ sym (ap (λ b. cond b (paths_read pack.reads) (paths_read pack.reads ++ path ∷ [])) (sym c.has.ensures.read ∙ c.if-has.false)))
-    c.with_file.ensures
+    (λ looked is.
+    ap (λ (p : PackView). paths_read p.reads) is ∙ paths_read-push pack.reads key (heard_file c.in_ok-heard-in-None.heard)
+    ∙ sym (ap (λ b. cond b (paths_read pack.reads) (paths_read pack.reads ++ key ∷ [])) (sym c.in-None.ensures.read))
+    ∙ ap (λ (path : List ℕ). with_path (paths_read pack.reads) path) c.in_ok-key.ensures)
+    c.with_file.ensures.pack
 
-pub returns-clause-there : goal.returns-clause-there
-returns-clause-there g c =
+pub returns-in_ok-heard-in-None-clause-told : goal.returns-in_ok-heard-in-None-clause-told
+returns-in_ok-heard-in-None-clause-told g c =
     let pack = c.args.self in
-    let path = c.args.path.now in
-    IfOk-weaker c.with_file.result _ _
-    (λ new is.
-    ap (λ (p : PackView). is_some (file_at p.files path)) is
-    ∙ ap is_some (there-with_file pack path (heard_file c.in_ok-heard.heard) (none_of (file_at pack.files path) (sym c.has.ensures.has ∙ c.if-has.false))))
-    c.with_file.ensures
+    let key = c.in_ok-key.key in
+    both_ok c.with_file.result _ _ _
+    (λ looked is told.
+    ap (λ (p : PackView). option_map told_of (file_at p.files c.args.path.now)) is
+    ∙ ap (λ (path : List ℕ). option_map told_of (file_at (with_file pack key (heard_file c.in_ok-heard-in-None.heard)).files path)) (sym c.in_ok-key.ensures)
+    ∙ ap (option_map told_of) (there-with_file pack key (heard_file c.in_ok-heard-in-None.heard) (none_told (file_at pack.files key) c.in-None.ensures.told))
+    ∙ ap (λ (is : Told). Some is) (sym told))
+    c.with_file.ensures.pack c.with_file.ensures.told

@@ -14,9 +14,9 @@ paths-preserved g c =
     let after : middle ≤ last = c.look_up.ensures.kept.later in
     record {
       kept = record { content = c.look_up.ensures.kept.content ∙ so_far.kept.content; later = omega arith };
-      goes = advances_then (g.T.Tree.content c.args.tree.now) first middle last c.args.self c.paths.pack c.in_ok-pack.pack so_far.goes
-          (subst (λ told. Advances told middle last c.paths.pack c.in_ok-pack.pack) so_far.kept.content c.in_ok-pack.ensures.advances);
+      goes = advances_then (g.T.Tree.content c.args.tree.now) first middle last c.args.self c.paths.pack c.in_ok-looked.looked.pack so_far.goes
+          (subst (λ told. Advances told middle last c.paths.pack c.in_ok-looked.looked.pack) so_far.kept.content c.in_ok-looked.ensures.advances);
       read =
-          c.in_ok-pack.ensures.paths ∙ ap (λ paths. with_path paths c.path-item.result) so_far.read
+          c.in_ok-looked.ensures.paths ∙ ap (λ paths. with_path paths c.path-item.result) so_far.read
           ∙ sym (fold_more (paths_read c.args.self.reads) c.args.paths.now c.paths.path-index c.path-item.result c.paths-test.true c.path-item.is);
     }

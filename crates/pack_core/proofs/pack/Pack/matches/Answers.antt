@@ -7,13 +7,13 @@ use Rattle.pack_core.proofs.pack.Pack.matches.Goals as goal
 pub returns-clause-holds : goal.returns-clause-holds
 returns-clause-holds g c = λ ears agrees.
     let named = g.F.NamedFile.named c.args.file.now in
-    c.has_hash-holds.ensures
-    ∙ matched ears c.in_ok-pack.pack c.path-named.result.now c.hash.result agrees c.in_ok-pack.ensures.there
-    ∙ ap (λ (hash : ℕ). has_hash hash (ears.file (components_of c.path-named.result.now))) c.hash.ensures
-    ∙ ap (λ (path : List ℕ). has_hash named.hash (ears.file (components_of path))) c.path-named.ensures
+    c.has_hash.ensures
+    ∙ matched ears c.in_ok-looked.looked.pack c.path.result.now c.in_ok-looked.looked.told c.hash.result agrees c.in_ok-looked.ensures.told
+    ∙ ap (λ (hash : ℕ). has_hash hash (ears.file (components_of c.path.result.now))) c.hash.ensures
+    ∙ ap (λ (path : List ℕ). has_hash named.hash (ears.file (components_of path))) c.path.ensures
 
 pub returns-clause-absent : goal.returns-clause-absent
 returns-clause-absent g c = λ ears agrees.
-    c.lacks-absent.ensures
-    ∙ lacked ears c.in_ok-pack.pack c.path-named.result.now agrees c.in_ok-pack.ensures.there
-    ∙ ap (λ (path : List ℕ). is_absent (ears.file (components_of path))) c.path-named.ensures
+    c.is_absent.ensures
+    ∙ lacked ears c.in_ok-looked.looked.pack c.path.result.now c.in_ok-looked.looked.told agrees c.in_ok-looked.ensures.told
+    ∙ ap (λ (path : List ℕ). is_absent (ears.file (components_of path))) c.path.ensures
