@@ -1,3 +1,4 @@
+pub mod BySome
 pub mod Counts
 pub mod Error
 pub mod Given

@@ -12,6 +12,7 @@ ghost use Rattle.unused_core.specs.Laws.{EntriesLie};
 ghost use Rattle.check_core.specs.Check.{AreVerdicts, findings_of};
 ghost use Rattle.check_core.specs.Labels.{PackLies, VerdictPoints};
 ghost use Rattle.check_core.specs.Summary.{all_asked};
+ghost use Rattle.deny_run.specs.BySome.{IsFoundBySome};
 ghost use Rattle.deny_run.specs.Steps.{IsCheckOf, IsChecked, all_reported, reported, scanner_by};
 
 use crate::report::CrateReport;
@@ -184,6 +185,10 @@ pub(crate) fn check_all<T: Tree, C: Catalog, I: Identifier>(
         (graph : Graph) (choice : Choice) → IsChosen graph choice krates.now
         → IfOk result (IsChecked (scanner_by (C.lists catalog.now) (I.match_of identifier.now) policy) policy c
         files.old files.new (T.fault_count tree.old) (T.fault_count tree.new) graph choice)) }
+    // over any tree, by something that is heard
+    ensures by_some { IfOk result (λ checked.
+        IsFoundBySome (C.lists catalog.now) (I.match_of identifier.now) files.old files.new
+        checked.policy checked.crates checked.findings) }
     ensures labels { IfOk result (λ checked. All (PackLies files.new) checked.findings) }
     ensures kept { KeepsTree (T.content tree.old) (T.content tree.new)
         (T.fault_count tree.old) (T.fault_count tree.new) }

@@ -7,6 +7,7 @@ ghost use Rattle.tree_core.specs.Script.{LineWritten};
 ghost use Rattle.deny_run.specs.declared.error.Part.{Part};
 ghost use Rattle.heard_core.specs.declared.fault.ReadFault.{ReadFault};
 ghost use Rattle.heard_core.specs.Cause.{ReadCounts};
+ghost use Rattle.deny_run.specs.BySome.{IsReportBySome};
 ghost use Rattle.deny_run.specs.Counts.{status_of, summary_of};
 ghost use Rattle.deny_run.specs.Error.{cause_of, fault_line};
 ghost use Rattle.deny_run.specs.Given.{given_of};
@@ -83,6 +84,8 @@ fn report<T: Tree, E: Sink, C: Catalog, I: Identifier>(
         (T.content tree.old) (T.fault_count tree.old) (T.fault_count tree.new)
         (E.written err.old) (E.written err.new) (E.fault_count err.old) (E.fault_count err.new)
         (answer_from result) }
+    ensures by_some { IsReportBySome
+        (given_of (C.lists catalog.now) (I.match_of identifier.now) words.now cwd.now) (answer_from result) }
     ensures labels { LabelsLie (answer_from result) }
     ensures later { E.fault_count err.old ≤ E.fault_count err.new }
 {
@@ -169,6 +172,8 @@ fn check<T: Tree, O: Sink, E: Sink, C: Catalog, I: Identifier>(
         (record { out = O.written out.old; err = E.written err.old })
         (record { out = O.written out.new; err = E.written err.new })
         result }
+    ensures by_some { IsReportBySome
+        (given_of (C.lists catalog.now) (I.match_of identifier.now) words.now cwd.now) result }
     ensures labels { LabelsLie result }
     ensures out_later { O.fault_count out.old ≤ O.fault_count out.new }
     ensures err_later { E.fault_count err.old ≤ E.fault_count err.new }
@@ -259,7 +264,10 @@ pub fn run<T: Tree, O: Sink, E: Sink, C: Catalog, I: Identifier>(
     ensures out_later { O.fault_count out.old ≤ O.fault_count out.new }
     ensures err_later { E.fault_count err.old ≤ E.fault_count err.new }
 
-    // Each label of each finding lies in the text of its file, between characters.
+    // Over any tree a report is that of something that is heard, and each label of each finding lies in the text of
+    // its file, between characters.
+    ensures by_some { IsReportBySome
+        (given_of (C.lists catalog.now) (I.match_of identifier.now) words.now cwd.now) (answer_of result.ended) }
     ensures labels { LabelsLie (answer_of result.ended) }
 
     // The status is that of the counts.

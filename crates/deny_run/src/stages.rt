@@ -9,6 +9,7 @@ ghost use Rattle.selection_core.specs.Choice.{choice_of, spec_of, spec_read};
 ghost use Rattle.context_core.specs.Asked.{read_one};
 ghost use Rattle.policy_core.specs.Places.{PolicyStands};
 ghost use Rattle.check_core.specs.Labels.{PackLies};
+ghost use Rattle.deny_run.specs.BySome.{IsFoundBySome};
 ghost use Rattle.deny_run.specs.Error.{cause_of, error_of};
 ghost use Rattle.deny_run.specs.Selection.{choice_by};
 ghost use Rattle.deny_run.specs.Steps.{ChecksAt, IsAfterLoad, paths_by, scanner_by};
@@ -100,6 +101,9 @@ pub(crate) fn check_crates<T: Tree, C: Catalog, I: Identifier>(
     ensures answer { ForSome (T.content tree.old) (λ c. ChecksAt
         (scanner_by (C.lists catalog.now) (I.match_of identifier.now) policy.licenses) policy c files.old files.new
         begun metadata_path.now (T.fault_count tree.old) (T.fault_count tree.new) result) }
+    ensures by_some { IfOk result (λ checked.
+        IsFoundBySome (C.lists catalog.now) (I.match_of identifier.now) files.old files.new
+        checked.policy checked.crates checked.findings) }
     ensures labels { IfOk result (λ checked. All (PackLies files.new) checked.findings) }
     ensures cause { IfErr result IsAfterLoad }
     ensures kept { KeepsTree (T.content tree.old) (T.content tree.new)

@@ -49,18 +49,22 @@ turns_push scanner policy all content files (first ∷ licenses) license middle 
 )
 
 pub turns_push_some : (scanner : Scanner) (policy : ℕ) (all : List Entry) (ears : Ears) (manifest : Heard) (files : List File) (licenses : List KrateLicense) (license : KrateLicense) (middle last : List File)
-    → AreTurnsBySome scanner policy all files licenses middle → IsTurn (turn_of scanner policy all ears manifest middle license) license last
-    → AreTurnsBySome scanner policy all files (licenses ++ license ∷ []) last
-turns_push_some scanner policy all ears manifest files [] license middle last same is =
+    → AreTurnsBySome scanner policy all files licenses middle → Grows middle last → IsTurn (turn_of scanner policy all ears manifest middle license) license last
+    → IsCutOut last (turn_of scanner policy all ears manifest middle license) → AreTurnsBySome scanner policy all files (licenses ++ license ∷ []) last
+turns_push_some scanner policy all ears manifest files [] license middle last same grows is cut =
     let here = subst (λ (files : List File). IsTurn (turn_of scanner policy all ears manifest files license) license last) same is in
-    (ears, (manifest, (subst (IsTurn (turn_of scanner policy all ears manifest files license) license) here.table here, here.table)))
-turns_push_some scanner policy all ears manifest files (first ∷ licenses) license middle last turns is = (
+    let cut_here = subst (λ (files : List File). IsCutOut last (turn_of scanner policy all ears manifest files license)) same cut in
+    (ears, (manifest, (subst (IsTurn (turn_of scanner policy all ears manifest files license) license) here.table here, (cut_here, here.table))))
+turns_push_some scanner policy all ears manifest files (first ∷ licenses) license middle last turns grows is cut = (
   turns.0,
   (
     turns.1.0,
     (
       turns.1.1.0,
-      turns_push_some scanner policy all ears manifest (files_behind (turn_of scanner policy all turns.0 turns.1.0 files first)) licenses license middle last turns.1.1.1 is,
+      (
+        cut_grown middle last (turn_of scanner policy all turns.0 turns.1.0 files first) grows turns.1.1.1.0,
+        turns_push_some scanner policy all ears manifest (files_behind (turn_of scanner policy all turns.0 turns.1.0 files first)) licenses license middle last turns.1.1.1.1 grows is cut,
+      ),
     ),
   ),
 )
@@ -81,7 +85,7 @@ pub turns_grow : (scanner : Scanner) (policy : ℕ) (all : List Entry) (files : 
 turns_grow scanner policy all files [] last turns = ([], turns ∙ sym (append-nil files))
 turns_grow scanner policy all files (license ∷ licenses) last turns =
     let turn = turn_of scanner policy all turns.0 turns.1.0 files license in
-    grows_then files (files_behind turn) last (grows_behind turn) (turns_grow scanner policy all (files_behind turn) licenses last turns.1.1.1)
+    grows_then files (files_behind turn) last (grows_behind turn) (turns_grow scanner policy all (files_behind turn) licenses last turns.1.1.1.1)
 
 -- ---- what is told has priority
 

@@ -96,10 +96,19 @@ license_told scanner policy all content old new krate reads (Err error) krate_is
 pub license_some : (scanner : Scanner) (policy : ℕ) (all : List Entry) (ears : Ears) (manifest : Heard) (old new : List File) (krate : Record) (result : Result KrateLicense AllocError)
     → IfOk result (λ license. krate_of license ≡ krate)
     → IfOk result (λ license. IsTurn (turn_with scanner policy (clarifications_of krate all) krate ears manifest old) license new)
+    → OnOk result (IsCutOut new (turn_with scanner policy (clarifications_of krate all) krate ears manifest old))
     → IfOk result (λ license. IsTurnBySome scanner policy all old license new)
-license_some scanner policy all ears manifest old new krate (Ok license) krate_is is =
-    (ears, (manifest, subst (λ (krate : Record). IsTurn (turn_with scanner policy (clarifications_of krate all) krate ears manifest old) license new) (sym krate_is) is))
-license_some scanner policy all ears manifest old new krate (Err error) krate_is is = tt
+license_some scanner policy all ears manifest old new krate (Ok license) krate_is is cut = (
+  ears,
+  (
+    manifest,
+    (
+      subst (λ (krate : Record). IsTurn (turn_with scanner policy (clarifications_of krate all) krate ears manifest old) license new) (sym krate_is) is,
+      subst (λ (krate : Record). IsCutOut new (turn_with scanner policy (clarifications_of krate all) krate ears manifest old)) (sym krate_is) cut,
+    ),
+  ),
+)
+license_some scanner policy all ears manifest old new krate (Err error) krate_is is cut = tt
 
 pub license_cut : (scanner : Scanner) (policy : ℕ) (all : List Entry) (content : Content) (old new : List File) (krate : Record) (reads : List ReadRecord) (result : Result KrateLicense AllocError)
     → IfOk result (λ license. krate_of license ≡ krate) → IfOk result (λ license. license.reads ≡ reads)

@@ -75,9 +75,11 @@ turn_of scanner policy all ears manifest files license =
 abbrev pub own_turn : Scanner → ℕ → List Entry → Content → List File → KrateLicense → Turn
 own_turn scanner policy all content files license = turn_of scanner policy all (own_ears content license) (own_manifest content license) files license
 
--- over any tree, by something that is heard
+-- over any tree, by something that is heard, with what the labels cut out
 abbrev pub IsTurnBySome : Scanner → ℕ → List Entry → List File → KrateLicense → List File → Type 0
-IsTurnBySome scanner policy all files license last = (ears : Ears) × ((manifest : Heard) × IsTurn (turn_of scanner policy all ears manifest files license) license last)
+IsTurnBySome scanner policy all files license last =
+    (ears : Ears) × ((manifest : Heard) × (IsTurn (turn_of scanner policy all ears manifest files license) license last
+    × IsCutOut last (turn_of scanner policy all ears manifest files license)))
 
 -- what is told of each crate is what its turn says, from a table on to the one that is left at last
 abbrev pub AreTurns : Scanner → ℕ → List Entry → Content → List File → List KrateLicense → List File → Type 0
@@ -86,12 +88,14 @@ AreTurns scanner policy all content files (license ∷ more) last =
     IsTurn (own_turn scanner policy all content files license) license (files_behind (own_turn scanner policy all content files license))
     × AreTurns scanner policy all content (files_behind (own_turn scanner policy all content files license)) more last
 
--- over any tree the same holds of each crate by something that is heard
+-- over any tree the same holds of each crate by something that is heard, with what the labels cut out of the table that is
+-- left at last
 abbrev pub AreTurnsBySome : Scanner → ℕ → List Entry → List File → List KrateLicense → List File → Type 0
 AreTurnsBySome scanner policy all files [] last = last ≡ files
 AreTurnsBySome scanner policy all files (license ∷ more) last =
     (ears : Ears) × ((manifest : Heard) × (IsTurn (turn_of scanner policy all ears manifest files license) license (files_behind (turn_of scanner policy all ears manifest files license))
-    × AreTurnsBySome scanner policy all (files_behind (turn_of scanner policy all ears manifest files license)) more last))
+    × (IsCutOut last (turn_of scanner policy all ears manifest files license)
+    × AreTurnsBySome scanner policy all (files_behind (turn_of scanner policy all ears manifest files license)) more last)))
 
 -- the labels of what is found of each crate, in the table that is left at last
 abbrev pub AreCutOut : Scanner → ℕ → List Entry → Content → List File → List KrateLicense → List File → Type 0

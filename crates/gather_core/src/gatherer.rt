@@ -192,11 +192,11 @@ impl<'i, I: Identifier> Gatherer<'i, I> {
         ensures turns { ForSome (T.content tree.old) (λ c. IfOk result (λ summary.
             AreTurns (scanner_of (C.lists catalog.now) I.match_of self.entry) policy.now.file_id
             (entries_of policy.now) c files.old summary.nfos files.new)) }
-        // over any tree, by something that is heard
+        // over any tree, by something that is heard, with what the labels cut out of the table that is left
         ensures by_some { IfOk result (λ summary.
             AreTurnsBySome (scanner_of (C.lists catalog.now) I.match_of self.entry) policy.now.file_id
             (entries_of policy.now) files.old summary.nfos files.new) }
-        // the labels of what is found cut out what they say, in the table that is left
+        // by the crates' own reads the labels of what is found cut out what they say, in the table that is left
         ensures cuts { ForSome (T.content tree.old) (λ c. IfOk result (λ summary.
             AreCutOut (scanner_of (C.lists catalog.now) I.match_of self.entry) policy.now.file_id
             (entries_of policy.now) c files.old summary.nfos files.new)) }

@@ -5,12 +5,12 @@ use mir.Syntax.{w64}
 use mir.Val.{SFits}
 use Rattle.std.specs.Prelude.{All}
 use Rattle.valid_policy.specs.View.{policy_of}
-use Rattle.check_core.specs.Labels.{VerdictPoints}
+use Rattle.check_core.specs.Labels.{PackLies, VerdictPoints}
 use Rattle.check_core.specs.Summary.{all_asked}
-use Rattle.deny_run.proofs.CheckLemmas.{both_of}
+use Rattle.deny_run.proofs.CheckLemmas.{both_of, found_by_some}
 use Rattle.expression_core.specs.Scanned.{Scanner}
 use Rattle.gather_core.specs.Entries.{entries_of}
-use Rattle.gather_core.specs.Gathered.{AreCutOut, ArePriorities, AreTurns, scanner_of, threshold_of}
+use Rattle.gather_core.specs.Gathered.{AreCutOut, ArePriorities, AreTurns, AreTurnsBySome, scanner_of, threshold_of}
 use Rattle.deny_run.specs.Steps.{IsCheckOf, scanner_by}
 use Rattle.placed_policy.proofs.PlaceLemmas.{are_placed, entries_lie}
 use Rattle.deny_run.proofs.check.check_all.Goals as goal
@@ -43,3 +43,23 @@ returns-clause-checked g c = λ content told. λ graph choice chosen.
       check = both.0;
       points = both.1;
     }) (both_of c.check_summary.result (IsCheckOf policy nfos) (λ _. All (VerdictPoints c.gather.new.files (policy_of policy)) (all_asked nfos)) c.check_summary.ensures.check c.check_summary.ensures.terms)
+
+pub returns-clause-by_some : goal.returns-clause-by_some
+returns-clause-by_some g c =
+    let policy = c.args.policy in
+    let lists = g.C.Catalog.lists c.args.catalog.now in
+    let match_of = g.I.Identifier.match_of c.args.identifier.now in
+    let own = scanner_by lists match_of policy in
+    let nfos = c.in_ok-summary.summary.nfos in
+    let last = c.gather.new.files in
+    let fits : SFits w64 c.args.policy.confidence_threshold = search rules in
+    let cut = simp to_z-of_z at c.with_confidence_threshold-gatherer.ensures in
+    let same : ◌≡◌ {A = Scanner} (scanner_of lists g.I.Identifier.match_of c.with_confidence_threshold-gatherer.result) own =
+    ap (scanner_of lists g.I.Identifier.match_of) cut
+    ∙ ap (λ one. scanner_of lists g.I.Identifier.match_of (record one { threshold = threshold_of policy.confidence_threshold })) c.with_store.ensures in
+    let turns = subst (λ scanner. AreTurnsBySome scanner policy.file_id (entries_of policy) c.args.files.now nfos last) same c.in_ok-summary.ensures.by_some in
+    let Points = All (VerdictPoints last (policy_of policy)) (all_asked nfos) in
+    IfOk-weaker c.check_summary.result (λ checked. IsCheckOf policy nfos checked × (Points × All (PackLies last) checked.findings)) _
+    (λ checked all. found_by_some lists match_of c.args.files.now last policy nfos checked turns all.0 all.1.0 all.1.1)
+    (both_of c.check_summary.result (IsCheckOf policy nfos) (λ checked. Points × All (PackLies last) checked.findings) c.check_summary.ensures.check
+    (both_of c.check_summary.result (λ _. Points) (λ checked. All (PackLies last) checked.findings) c.check_summary.ensures.terms c.check_summary.ensures.labels))

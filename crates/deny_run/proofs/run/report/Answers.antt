@@ -1,6 +1,7 @@
 -- Each end of `report`: the words, the looks for the exceptions file, the load, the crates, and the report.
 use Rattle.std.proofs.Common.{[], Ok, Err, ◌∙◌, sym, subst, arith}
 use Rattle.std.proofs.lemmas.Result.{err_from_is_err_and}
+use Rattle.deny_run.specs.BySome.{IsReportBySome}
 use Rattle.deny_run.specs.Error.{cause_of, error_of}
 use Rattle.deny_run.specs.Given.{given_of}
 use Rattle.deny_run.specs.Heard.{scanner_in}
@@ -230,3 +231,8 @@ returns-in_err-checked-clause-counts g c =
 
 pub returns-clause-labels : goal.returns-clause-labels
 returns-clause-labels g c = subst (λ one. LabelsLie (Ok one)) (sym c.report_of.ensures) c.in_ok-checked.ensures.labels
+
+pub returns-clause-by_some : goal.returns-clause-by_some
+returns-clause-by_some g c =
+    let given = given_of (g.C.Catalog.lists c.args.catalog.now) (g.I.Identifier.match_of c.args.identifier.now) c.args.words.now c.args.cwd.now in
+    subst (λ one. IsReportBySome given (Ok one)) (sym c.report_of.ensures) (c.load.new.files, c.in_ok-checked.ensures.by_some)

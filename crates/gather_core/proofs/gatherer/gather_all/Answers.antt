@@ -29,7 +29,7 @@ krates-preserved g c =
     let new_files = c.license_of.new.files in
     let by_some = c.in_ok-license.ensures.some in
     let grows : Grows c.krates.files new_files =
-    subst (Grows c.krates.files) (sym by_some.1.1.table) (grows_behind (turn_of scanner policy all by_some.0 by_some.1.0 c.krates.files license)) in
+    subst (Grows c.krates.files) (sym by_some.1.1.0.table) (grows_behind (turn_of scanner policy all by_some.0 by_some.1.0 c.krates.files license)) in
     record {
       kept = record { content = c.license_of.ensures.kept.content ∙ so_far.kept.content; later = omega arith };
       krates =
@@ -46,7 +46,7 @@ krates-preserved g c =
           (c.in_ok-license.ensures.told content (so_far.kept.content ∙ is)));
       some =
           subst (λ licenses. AreTurnsBySome scanner policy all c.args.files.now licenses new_files) (sym pushed)
-          (turns_push_some scanner policy all by_some.0 by_some.1.0 c.args.files.now c.krates.licenses license c.krates.files new_files so_far.some by_some.1.1);
+          (turns_push_some scanner policy all by_some.0 by_some.1.0 c.args.files.now c.krates.licenses license c.krates.files new_files so_far.some grows by_some.1.1.0 by_some.1.1.1);
       cuts = λ content is.
           subst (λ licenses. AreCutOut scanner policy all content c.args.files.now licenses new_files) (sym pushed)
           (cuts_push scanner policy all content c.args.files.now c.krates.licenses license c.krates.files new_files (so_far.told content is) grows (so_far.cuts content is)

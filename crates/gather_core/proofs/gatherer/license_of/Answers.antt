@@ -34,7 +34,7 @@ returns-clause-some g c =
     let by_some = subst (λ (matching : List Clarification). IsTakenBySome scanner c.args.policy matching krate c.args.files.now taken c.take.new.files) matching
     (c.in_ok-taken.ensures.some c.args.policy) in
     license_some scanner c.args.policy all by_some.0 by_some.1.0 c.args.files.now c.tell.new.files krate c.tell.result c.tell.ensures.krate
-    (c.tell.ensures.turn _ refl refl c.in_ok-field.ensures.faults by_some.1.1)
+    (c.tell.ensures.turn _ refl refl c.in_ok-field.ensures.faults by_some.1.1) (c.tell.ensures.found _ refl c.in_ok-field.ensures.faults by_some.1.1)
 
 pub returns-clause-cuts : goal.returns-clause-cuts
 returns-clause-cuts g c = λ content is.
