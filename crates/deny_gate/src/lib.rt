@@ -8,6 +8,7 @@ ghost use Rattle.tree_core.specs.Hearing.{KeepsTree};
 ghost use Rattle.tree_core.specs.Script.{LineWritten};
 ghost use Rattle.deny_run.specs.Run.{answer_of};
 ghost use Rattle.deny_run.specs.Run as run;
+ghost use Rattle.deny_run.specs.Script.{between};
 ghost use Rattle.deny_gate.specs.Start.{IsRun, ending_of, start_line};
 
 use deny_run::report::Outcome;
@@ -122,14 +123,9 @@ fn run_started<T: Tree, O: Sink, E: Sink>(
     ensures kept { KeepsTree (T.content tree.old) (T.content tree.new)
         (T.fault_count tree.old) (T.fault_count tree.new) }
     ensures ran { IsRun (T.content tree.old)
-        (record {
-          tree_before = T.fault_count tree.old;
-          tree_after = T.fault_count tree.new;
-          out_before = O.fault_count out.old;
-          out_after = O.fault_count out.new;
-          err_before = E.fault_count err.old;
-          err_after = E.fault_count err.new;
-        })
+        (between
+        (record { tree = T.fault_count tree.old; out = O.fault_count out.old; err = E.fault_count err.old })
+        (record { tree = T.fault_count tree.new; out = O.fault_count out.new; err = E.fault_count err.new }))
         (record { out = O.written out.old; err = E.written err.old })
         (record { out = O.written out.new; err = E.written err.new })
         result }
@@ -164,14 +160,9 @@ pub fn gate_over<V: Env + AllocGlobal, T: Tree, O: Sink, E: Sink>(
 
     // Where it ran, it did what a run over some words and some folder does.
     ensures ran { IfOk result (IsRun (T.content tree.old)
-        (record {
-          tree_before = T.fault_count tree.old;
-          tree_after = T.fault_count tree.new;
-          out_before = O.fault_count out.old;
-          out_after = O.fault_count out.new;
-          err_before = E.fault_count err.old;
-          err_after = E.fault_count err.new;
-        })
+        (between
+        (record { tree = T.fault_count tree.old; out = O.fault_count out.old; err = E.fault_count err.old })
+        (record { tree = T.fault_count tree.new; out = O.fault_count out.new; err = E.fault_count err.new }))
         (record { out = O.written out.old; err = E.written err.old })
         (record { out = O.written out.new; err = E.written err.new })) }
 {

@@ -22,6 +22,23 @@ use Rattle.deny_run.specs.Hearing.{all_told, RunHearing, IsRunHearing}
 use Rattle.deny_run.specs.Report.{IsReport, reads_told}
 use Rattle.deny_run.specs.Selection.{Refuses}
 
+-- how many faults a tree and two sinks have counted so far
+pub record Faults : Type 0 where
+  pub tree : ℕ
+  pub out : ℕ
+  pub err : ℕ
+
+-- those that were counted when a call began, and when it ended
+abbrev pub between : Faults → Faults → FaultCounts
+between before after = record {
+  tree_before = before.tree;
+  tree_after = after.tree;
+  out_before = before.out;
+  out_after = after.out;
+  err_before = before.err;
+  err_after = after.err;
+}
+
 -- how findings are written: as lines for a person, warnings and what is worse; the words ask for no other form yet
 abbrev pub plain_log : LogContext
 plain_log = record { format = Human; color = Auto; log_level = Warn }

@@ -15,7 +15,7 @@ ghost use Rattle.deny_run.specs.Headline.{Headline};
 ghost use Rattle.deny_run.specs.Report.{IsAnswer, LabelsLie};
 ghost use Rattle.deny_run.specs.Steps.{report_with};
 ghost use Rattle.deny_run.specs.Run.{answer_from, answer_of, exit_status};
-ghost use Rattle.deny_run.specs.Script.{Writes, WritesFirst, WritesLoad, plain_log};
+ghost use Rattle.deny_run.specs.Script.{Writes, WritesFirst, WritesLoad, between, plain_log};
 ghost use Rattle.deny_run.specs.Words.{request_of, texts};
 
 use crate::check::CheckedCrates;
@@ -161,14 +161,9 @@ fn check<T: Tree, O: Sink, E: Sink, C: Catalog, I: Identifier>(
         (cause_of error)) }
     ensures written { WritesFirst
         (given_of (C.lists catalog.now) (I.match_of identifier.now) words.now cwd.now) (T.content tree.old)
-        (record {
-          tree_before = T.fault_count tree.old;
-          tree_after = T.fault_count tree.new;
-          out_before = O.fault_count out.old;
-          out_after = O.fault_count out.new;
-          err_before = E.fault_count err.old;
-          err_after = E.fault_count err.new;
-        })
+        (between
+        (record { tree = T.fault_count tree.old; out = O.fault_count out.old; err = E.fault_count err.old })
+        (record { tree = T.fault_count tree.new; out = O.fault_count out.new; err = E.fault_count err.new }))
         (record { out = O.written out.old; err = E.written err.old })
         (record { out = O.written out.new; err = E.written err.new })
         result }
@@ -250,14 +245,9 @@ pub fn run<T: Tree, O: Sink, E: Sink, C: Catalog, I: Identifier>(
     // What was written, and when a write was refused.
     ensures written { Writes
         (given_of (C.lists catalog.now) (I.match_of identifier.now) words.now cwd.now) (T.content tree.old)
-        (record {
-          tree_before = T.fault_count tree.old;
-          tree_after = T.fault_count tree.new;
-          out_before = O.fault_count out.old;
-          out_after = O.fault_count out.new;
-          err_before = E.fault_count err.old;
-          err_after = E.fault_count err.new;
-        })
+        (between
+        (record { tree = T.fault_count tree.old; out = O.fault_count out.old; err = E.fault_count err.old })
+        (record { tree = T.fault_count tree.new; out = O.fault_count out.new; err = E.fault_count err.new }))
         (record { out = O.written out.old; err = E.written err.old })
         (record { out = O.written out.new; err = E.written err.new })
         (answer_of result.ended) }
@@ -276,14 +266,9 @@ pub fn run<T: Tree, O: Sink, E: Sink, C: Catalog, I: Identifier>(
     // The headline, in the words of policies, records and verdicts.
     ensures headline { ForSome (T.content tree.old) (λ c. Headline
         (given_of (C.lists catalog.now) (I.match_of identifier.now) words.now cwd.now) c
-        (record {
-          tree_before = T.fault_count tree.old;
-          tree_after = T.fault_count tree.new;
-          out_before = O.fault_count out.old;
-          out_after = O.fault_count out.new;
-          err_before = E.fault_count err.old;
-          err_after = E.fault_count err.new;
-        })
+        (between
+        (record { tree = T.fault_count tree.old; out = O.fault_count out.old; err = E.fault_count err.old })
+        (record { tree = T.fault_count tree.new; out = O.fault_count out.new; err = E.fault_count err.new }))
         result) }
 {
     match check(alloc, words, cwd, tree, out, err, catalog, identifier) {
