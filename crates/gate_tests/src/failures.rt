@@ -1,6 +1,5 @@
 //! Each call of the tree fails in turn.
-use crate::rows::expect;
-use run_rows::{POLICY, WORDS, Want, accepted, refused, tree};
+use run_rows::{POLICY, WORDS, Want, accepted, expect, refused, tree};
 use std::test::Fail;
 use tree_core::Tree;
 
@@ -63,7 +62,7 @@ fn each_failed_call_is_told_as_its_own(rt: HostRuntime) -> Result<(), Fail> {
                 tree.put("/w/m.json", metadata)?;
             }
             tree.fail_call(call)?;
-            expect(&rt, alloc, &WORDS, &mut tree, 1000, &want)?;
+            expect(alloc, &WORDS, &mut tree, 1000, &want)?;
         }
     }
     Ok(())
@@ -81,7 +80,7 @@ fn counts_begin_where_the_run_does(rt: HostRuntime) -> Result<(), Fail> {
         tree.fail_call(1)?;
         let _ = tree.is_file(alloc, "/w/p.toml");
         tree.fail_call(call)?;
-        expect(&rt, alloc, &WORDS, &mut tree, 1000, &want)?;
+        expect(alloc, &WORDS, &mut tree, 1000, &want)?;
     }
     Ok(())
 }

@@ -1,6 +1,5 @@
 //! One crate, a policy with a list of licences, and the seven words.
-use crate::rows::expect;
-use run_rows::{OPEN, POLICY, WORDS, Want, accepted, refused, rejected, tree};
+use run_rows::{OPEN, POLICY, WORDS, Want, accepted, expect, refused, rejected, tree};
 use std::alloc::Global;
 use std::test::Fail;
 use tree_core::MemTree;
@@ -11,7 +10,7 @@ fn always_out_of_memory_is_caught_by_the_first_run(rt: HostRuntime) -> Result<()
     let alloc = rt.alloc();
     let mut tree = tree(alloc, "MIT", POLICY.as_bytes())?;
     let want = accepted("a 1.0.0: MIT Accepted");
-    expect(&rt, alloc, &WORDS, &mut tree, 1000, &want)
+    expect(alloc, &WORDS, &mut tree, 1000, &want)
 }
 
 #[test]
@@ -51,7 +50,7 @@ fn each_field_and_policy_has_its_answer(rt: HostRuntime) -> Result<(), Fail> {
         ),
     ] {
         let mut tree = tree(alloc, license, policy.as_bytes())?;
-        expect(&rt, alloc, &WORDS, &mut tree, 1000, &want)?;
+        expect(alloc, &WORDS, &mut tree, 1000, &want)?;
     }
     Ok(())
 }
@@ -95,7 +94,7 @@ fn other_words_are_refused(rt: HostRuntime) -> Result<(), Fail> {
         &[],
     ] {
         let mut tree = tree(alloc, "MIT", POLICY.as_bytes())?;
-        expect(&rt, alloc, words, &mut tree, 1000, &want)?;
+        expect(alloc, words, &mut tree, 1000, &want)?;
     }
     Ok(())
 }
@@ -132,7 +131,7 @@ fn other_files_are_refused(rt: HostRuntime) -> Result<(), Fail> {
     ] {
         let mut tree = tree(alloc, "MIT", POLICY.as_bytes())?;
         tree.put(path, bytes)?;
-        expect(&rt, alloc, &WORDS, &mut tree, 1000, &want)?;
+        expect(alloc, &WORDS, &mut tree, 1000, &want)?;
     }
     Ok(())
 }
@@ -170,7 +169,7 @@ error: the metadata could not be read\n",
         ),
     ] {
         let mut tree = lone_file(alloc, path, POLICY.as_bytes())?;
-        expect(&rt, alloc, &WORDS, &mut tree, 1000, &want)?;
+        expect(alloc, &WORDS, &mut tree, 1000, &want)?;
     }
     Ok(())
 }
@@ -184,7 +183,7 @@ fn metadata_that_is_a_folder_is_refused(rt: HostRuntime) -> Result<(), Fail> {
         "metadata: Folder",
         "error: the metadata could not be read\n",
     );
-    expect(&rt, alloc, &WORDS, &mut tree, 1000, &want)
+    expect(alloc, &WORDS, &mut tree, 1000, &want)
 }
 
 #[test]
@@ -208,7 +207,7 @@ fn faults_of_files_and_sinks_are_counted(rt: HostRuntime) -> Result<(), Fail> {
     ] {
         let mut tree = tree(alloc, "MIT", POLICY.as_bytes())?;
         tree.fail_call(call)?;
-        expect(&rt, alloc, &WORDS, &mut tree, 1000, &want)?;
+        expect(alloc, &WORDS, &mut tree, 1000, &want)?;
     }
     let cut = Want {
         status: 1,
@@ -217,5 +216,5 @@ fn faults_of_files_and_sinks_are_counted(rt: HostRuntime) -> Result<(), Fail> {
         err: "error: writing failed\n",
     };
     let mut tree = tree(alloc, "MIT", POLICY.as_bytes())?;
-    expect(&rt, alloc, &WORDS, &mut tree, 7, &cut)
+    expect(alloc, &WORDS, &mut tree, 7, &cut)
 }

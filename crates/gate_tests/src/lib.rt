@@ -10,8 +10,6 @@ mod first_path;
 #[cfg(test)]
 mod process;
 #[cfg(test)]
-mod rows;
-#[cfg(test)]
 mod sizes;
 #[cfg(test)]
 mod workspace;

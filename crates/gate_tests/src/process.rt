@@ -1,11 +1,10 @@
 //! The gate over the words and the folder of a process that is made up.
 ghost use Rattle.std.specs.Prelude.{◌≤◌, length, IfSome};
 
-use crate::rows::compare;
 use deny_gate::{exit_code, gate_over};
 use run_rows::{
-    OPEN, POLICY, Seen, Want, accepted, before_findings, notes_of, refused, rejected, text, told,
-    told_policy, tree,
+    OPEN, POLICY, Seen, Want, accepted, before_findings, compare, notes_of, refused, rejected,
+    text, told, told_policy, tree,
 };
 use std::alloc::Global;
 use std::env::{Env, FillError};
@@ -145,7 +144,7 @@ fn each_ending_has_its_status_and_its_line(rt: HostRuntime) -> Result<(), Fail> 
     ] {
         let mut tree = tree(alloc, "MIT", policy.as_bytes())?;
         let (code, seen) = watch(alloc, process, &mut tree)?;
-        compare(&rt, &seen, &want);
+        compare(&seen, &want)?;
         assert!(rt; code == ExitCode::from(want.status));
     }
     Ok(())

@@ -1,6 +1,5 @@
 //! Inputs that are longer than the first row's, and other places of the same files.
-use crate::rows::{compare, expect};
-use run_rows::{POLICY, WORDS, accepted, metadata, observe, tree};
+use run_rows::{POLICY, WORDS, accepted, compare, expect, metadata, observe, tree, words_with};
 use std::alloc::{AllocError, Global};
 use std::test::Fail;
 use tree_core::MemTree;
@@ -26,7 +25,7 @@ fn every_name_of_a_long_policy_is_read(rt: HostRuntime) -> Result<(), Fail> {
     for names in [3, 40, 2_000] {
         let policy = policy_of(alloc, names)?;
         let mut tree = tree(alloc, "MIT", policy.as_bytes())?;
-        expect(&rt, alloc, &WORDS, &mut tree, 1000, &accepted(ACCEPTED))?;
+        expect(alloc, &WORDS, &mut tree, 1000, &accepted(ACCEPTED))?;
     }
     Ok(())
 }
@@ -50,7 +49,7 @@ fn a_long_file_is_read_whole(rt: HostRuntime) -> Result<(), Fail> {
         let text = long_metadata(alloc, bytes)?;
         let mut tree = tree(alloc, "MIT", POLICY.as_bytes())?;
         tree.put("/w/m.json", text.as_bytes())?;
-        expect(&rt, alloc, &WORDS, &mut tree, 1000, &accepted(ACCEPTED))?;
+        expect(alloc, &WORDS, &mut tree, 1000, &accepted(ACCEPTED))?;
     }
     Ok(())
 }
@@ -68,25 +67,8 @@ fn a_path_of_4000_bytes_is_followed(rt: HostRuntime) -> Result<(), Fail> {
     let mut tree = MemTree::new(alloc);
     tree.put("/w/p.toml", POLICY.as_bytes())?;
     tree.put(place.as_str(), metadata(alloc, "MIT")?.as_bytes())?;
-    let [
-        program,
-        metadata_option,
-        _,
-        config_option,
-        config,
-        command,
-        check,
-    ] = WORDS;
-    let words = [
-        program,
-        metadata_option,
-        path.as_str(),
-        config_option,
-        config,
-        command,
-        check,
-    ];
-    expect(&rt, alloc, &words, &mut tree, 1000, &accepted(ACCEPTED))
+    let words = words_with(path.as_str(), "p.toml");
+    expect(alloc, &words, &mut tree, 1000, &accepted(ACCEPTED))
 }
 
 #[test]
@@ -108,7 +90,7 @@ fn the_first_word_and_the_way_to_the_folder_change_nothing(rt: HostRuntime) -> R
         tree.put("/m.json", text.as_bytes())?;
         tree.put("/p.toml", POLICY.as_bytes())?;
         let seen = observe(alloc, &words, cwd, &mut tree, 1000)?;
-        compare(&rt, &seen, &accepted(ACCEPTED));
+        compare(&seen, &accepted(ACCEPTED))?;
     }
     Ok(())
 }

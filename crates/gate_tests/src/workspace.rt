@@ -1,6 +1,5 @@
 //! Metadata of several crates, and metadata that is refused.
-use crate::rows::expect;
-use run_rows::{POLICY, WORDS, Want, accepted, metadata, refused, rejected, tree};
+use run_rows::{POLICY, WORDS, Want, accepted, expect, metadata, refused, rejected, tree};
 use std::alloc::{AllocError, Global};
 use std::test::Fail;
 
@@ -70,7 +69,7 @@ fn crates_are_checked_in_the_order_of_their_ids(rt: HostRuntime) -> Result<(), F
     ] {
         let mut tree = tree(alloc, "MIT", POLICY.as_bytes())?;
         tree.put("/w/m.json", four(alloc, fields)?.as_bytes())?;
-        expect(&rt, alloc, &WORDS, &mut tree, 1000, &want)?;
+        expect(alloc, &WORDS, &mut tree, 1000, &want)?;
     }
     Ok(())
 }
@@ -146,7 +145,7 @@ fn metadata_is_refused_by_what_it_is(rt: HostRuntime) -> Result<(), Fail> {
     ] {
         let mut tree = tree(alloc, "MIT", POLICY.as_bytes())?;
         tree.put("/w/m.json", text_with(alloc, &row)?.as_bytes())?;
-        expect(&rt, alloc, &WORDS, &mut tree, 1000, &row.want)?;
+        expect(alloc, &WORDS, &mut tree, 1000, &row.want)?;
     }
     Ok(())
 }
@@ -169,7 +168,7 @@ fn metadata_without_json_or_roots_is_refused(rt: HostRuntime) -> Result<(), Fail
     ] {
         let mut tree = tree(alloc, "MIT", POLICY.as_bytes())?;
         tree.put("/w/m.json", bytes)?;
-        expect(&rt, alloc, &WORDS, &mut tree, 1000, &want)?;
+        expect(alloc, &WORDS, &mut tree, 1000, &want)?;
     }
     Ok(())
 }
@@ -185,5 +184,5 @@ fn a_failed_read_of_cut_metadata_is_told(rt: HostRuntime) -> Result<(), Fail> {
         "metadata: Failed { before: 0, after: 1 }",
         "error: the metadata could not be read\n",
     );
-    expect(&rt, alloc, &WORDS, &mut tree, 1000, &want)
+    expect(alloc, &WORDS, &mut tree, 1000, &want)
 }

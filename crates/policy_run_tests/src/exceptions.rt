@@ -1,10 +1,10 @@
 //! Exceptions, of the policy and of its exceptions file, and specs of crates that are left out.
 ghost use Rattle.std.specs.Prelude.{◌≤◌};
 
-use crate::rows::expect;
-use run_rows::{POLICY, WORDS, Want, accepted, files, observe, refused, rejected};
+use run_rows::{
+    POLICY, WORDS, Want, accepted, expect, files, observe, refused, rejected, words_with,
+};
 use std::alloc::Global;
-use std::process::Abort;
 use std::test::Fail;
 use tree_core::MemTree;
 
@@ -43,9 +43,9 @@ struct Row {
     want: Want,
 }
 
-fn compare_row(rt: &impl Abort, alloc: Global, row: &Row) -> Result<(), Fail> {
+fn compare_row(alloc: Global, row: &Row) -> Result<(), Fail> {
     let mut tree = tree_with(alloc, row.policy, row.path, row.bytes)?;
-    expect(rt, alloc, &WORDS, &mut tree, 1000, &row.want)
+    expect(alloc, &WORDS, &mut tree, 1000, &row.want)
 }
 
 #[test]
@@ -81,7 +81,7 @@ fn an_exceptions_file_is_found_and_used(rt: HostRuntime) -> Result<(), Fail> {
             want: one,
         },
     ] {
-        compare_row(&rt, alloc, &row)?;
+        compare_row(alloc, &row)?;
     }
     Ok(())
 }
@@ -142,7 +142,7 @@ error: the policy is not valid\n";
         ),
     ] {
         let mut tree = tree_with(alloc, POLICY, path, bytes)?;
-        expect(&rt, alloc, &WORDS, &mut tree, 1000, &want)?;
+        expect(alloc, &WORDS, &mut tree, 1000, &want)?;
     }
     Ok(())
 }
@@ -150,32 +150,14 @@ error: the policy is not valid\n";
 #[test]
 fn a_policy_is_not_its_own_exceptions_file(rt: HostRuntime) -> Result<(), Fail> {
     let alloc = rt.alloc();
-    let [
-        program,
-        metadata_option,
-        metadata,
-        config_option,
-        _,
-        command,
-        check,
-    ] = WORDS;
-    let config = "./deny.exceptions.toml";
-    let words = [
-        program,
-        metadata_option,
-        metadata,
-        config_option,
-        config,
-        command,
-        check,
-    ];
+    let words = words_with("m.json", "./deny.exceptions.toml");
     let want = refused(
         "invalid:",
         "error: exceptions file is the policy itself\n  = path = '/w/deny.exceptions.toml'\n\
 error: the policy is not valid\n",
     );
     let mut tree = tree_with(alloc, POLICY, "/w/deny.exceptions.toml", POLICY.as_bytes())?;
-    expect(&rt, alloc, &words, &mut tree, 1000, &want)
+    expect(alloc, &words, &mut tree, 1000, &want)
 }
 
 #[test]
@@ -197,7 +179,7 @@ fn excluded_crates_are_not_checked(rt: HostRuntime) -> Result<(), Fail> {
         ),
     ] {
         let mut tree = tree_with(alloc, policy, "/w/x", b"")?;
-        expect(&rt, alloc, &WORDS, &mut tree, 1000, &want)?;
+        expect(alloc, &WORDS, &mut tree, 1000, &want)?;
     }
     Ok(())
 }
@@ -205,12 +187,12 @@ fn excluded_crates_are_not_checked(rt: HostRuntime) -> Result<(), Fail> {
 const UNREAD: &str = "error: the policy could not be read\n";
 
 /// Compares what a run comes to where one call of the tree fails. Calls are counted from 1.
-fn fail_one(rt: &impl Abort, alloc: Global, path: &str, call: u64, want: &Want) -> Result<(), Fail>
+fn fail_one(alloc: Global, path: &str, call: u64, want: &Want) -> Result<(), Fail>
     requires { 1 ≤ call }
 {
     let mut tree = tree_with(alloc, POLICY, path, ALLOWS_ISC.as_bytes())?;
     tree.fail_call(call)?;
-    expect(rt, alloc, &WORDS, &mut tree, 1000, want)
+    expect(alloc, &WORDS, &mut tree, 1000, want)
 }
 
 #[test]
@@ -228,18 +210,18 @@ fn each_look_and_read_that_fails_is_told(rt: HostRuntime) -> Result<(), Fail> {
     );
     // Six looks in two folders, then the policy and the metadata.
     for call in 1..8 {
-        fail_one(&rt, alloc, "/x", call, &policy)?;
+        fail_one(alloc, "/x", call, &policy)?;
     }
-    fail_one(&rt, alloc, "/x", 8, &metadata)?;
+    fail_one(alloc, "/x", 8, &metadata)?;
     let one = rejected("a: MIT Accepted, b: ISC Rejected");
-    fail_one(&rt, alloc, "/x", 9, &one)?;
+    fail_one(alloc, "/x", 9, &one)?;
     // Two looks, the second of which finds the file; the policy, the exceptions file, the metadata.
     let found = "/w/.deny.exceptions.toml";
     for call in 1..4 {
-        fail_one(&rt, alloc, found, call, &policy)?;
+        fail_one(alloc, found, call, &policy)?;
     }
-    fail_one(&rt, alloc, found, 4, &exceptions)?;
-    fail_one(&rt, alloc, found, 5, &metadata)?;
+    fail_one(alloc, found, 4, &exceptions)?;
+    fail_one(alloc, found, 5, &metadata)?;
     let both = accepted("a: MIT Accepted, b: ISC Accepted");
-    fail_one(&rt, alloc, found, 6, &both)
+    fail_one(alloc, found, 6, &both)
 }

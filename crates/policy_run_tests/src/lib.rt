@@ -7,5 +7,3 @@ mod exceptions;
 mod policy;
 #[cfg(test)]
 mod private;
-#[cfg(test)]
-mod rows;

@@ -1,16 +1,15 @@
 //! Policies of every form, and what a run with each comes to.
-use crate::rows::{compare, expect};
 use run_rows::{
-    POLICY, Room, WORDS, Want, accepted, files, observe, observe_in, refused, rejected, tree,
+    POLICY, Room, WORDS, Want, accepted, compare, expect, files, observe, observe_in, refused,
+    rejected, tree, words_with,
 };
 use std::alloc::Global;
-use std::process::Abort;
 use std::test::Fail;
 
 /// Compares what a run with a policy comes to over the base.
-fn with_policy(rt: &impl Abort, alloc: Global, policy: &[u8], want: &Want) -> Result<(), Fail> {
+fn with_policy(alloc: Global, policy: &[u8], want: &Want) -> Result<(), Fail> {
     let mut tree = tree(alloc, "MIT", policy)?;
-    expect(rt, alloc, &WORDS, &mut tree, 1000, want)
+    expect(alloc, &WORDS, &mut tree, 1000, want)
 }
 
 const NO_SYNTAX: &str = "error: the policy could not be parsed\n";
@@ -20,30 +19,13 @@ const NOT_CARRIED: &str = "error: the request is not carried\n";
 #[test]
 fn an_absent_policy_is_empty(rt: HostRuntime) -> Result<(), Fail> {
     let alloc = rt.alloc();
-    let [
-        program,
-        metadata_option,
-        metadata,
-        config_option,
-        _,
-        command,
-        check,
-    ] = WORDS;
-    let words = [
-        program,
-        metadata_option,
-        metadata,
-        config_option,
-        "q.toml",
-        command,
-        check,
-    ];
+    let words = words_with("m.json", "q.toml");
     let want = Want {
         err: "warning: config path '/w/q.toml' doesn't exist, falling back to default config\n",
         ..rejected("a 1.0.0: MIT Rejected")
     };
     let mut tree = tree(alloc, "MIT", POLICY.as_bytes())?;
-    expect(&rt, alloc, &words, &mut tree, 1000, &want)
+    expect(alloc, &words, &mut tree, 1000, &want)
 }
 
 #[test]
@@ -54,7 +36,7 @@ fn a_removed_key_refuses_the_policy(rt: HostRuntime) -> Result<(), Fail> {
 https://github.com/EmbarkStudios/cargo-deny/pull/611 for migration information\n  --> /w/p.toml:2:1\n\
 error: the policy is not valid\n",
     );
-    with_policy(&rt, rt.alloc(), b"[licenses]\ncopyleft = \"warn\"\n", &want)
+    with_policy(rt.alloc(), b"[licenses]\ncopyleft = \"warn\"\n", &want)
 }
 
 #[test]
@@ -64,7 +46,7 @@ fn another_shape_refuses_the_policy(rt: HostRuntime) -> Result<(), Fail> {
         "error: expected an array, found a string\n  --> /w/p.toml:2:10\n\
 error: the policy could not be deserialized\n",
     );
-    with_policy(&rt, rt.alloc(), b"[licenses]\nallow = \"MIT\"\n", &want)
+    with_policy(rt.alloc(), b"[licenses]\nallow = \"MIT\"\n", &want)
 }
 
 #[test]
@@ -85,7 +67,7 @@ fn a_text_without_a_value_refuses_the_policy(rt: HostRuntime) -> Result<(), Fail
             refused("policy: NotUtf8 { at: 11 }", no_utf8),
         ),
     ] {
-        with_policy(&rt, alloc, policy, &want)?;
+        with_policy(alloc, policy, &want)?;
     }
     Ok(())
 }
@@ -113,7 +95,7 @@ error: the policy could not be deserialized\n",
             shape,
         ),
     ] {
-        with_policy(&rt, alloc, policy.as_bytes(), &want)?;
+        with_policy(alloc, policy.as_bytes(), &want)?;
     }
     Ok(())
 }
@@ -134,7 +116,7 @@ fn warnings_are_written_and_refuse_nothing(rt: HostRuntime) -> Result<(), Fail> 
         err: WARNINGS,
         ..accepted("a 1.0.0: MIT Accepted")
     };
-    with_policy(&rt, rt.alloc(), WARNED.as_bytes(), &want)
+    with_policy(rt.alloc(), WARNED.as_bytes(), &want)
 }
 
 /// The same, and the line of a refusal.
@@ -155,7 +137,7 @@ fn warnings_stand_before_the_line_of_absent_metadata(rt: HostRuntime) -> Result<
     let alloc = rt.alloc();
     let mut tree = files(alloc, &[("/w/p.toml", WARNED.as_bytes())])?;
     let want = refused("metadata: Absent", WARNINGS_NO_METADATA);
-    expect(&rt, alloc, &WORDS, &mut tree, 1000, &want)
+    expect(alloc, &WORDS, &mut tree, 1000, &want)
 }
 
 /// The metadata of no crates.
@@ -194,7 +176,7 @@ fn warnings_stand_before_the_line_of_a_summary_that_is_cut(rt: HostRuntime) -> R
         err: WARNINGS_NO_WRITE,
     };
     let mut tree = tree(alloc, "MIT", WARNED.as_bytes())?;
-    expect(&rt, alloc, &WORDS, &mut tree, 7, &want)
+    expect(alloc, &WORDS, &mut tree, 7, &want)
 }
 
 #[test]
@@ -211,7 +193,7 @@ fn a_write_that_err_refuses_is_told(rt: HostRuntime) -> Result<(), Fail> {
             err: room,
         };
         let seen = observe_in(alloc, &WORDS, "/w", &mut tree, room)?;
-        compare(&rt, &seen, &want);
+        compare(&seen, &want)?;
     }
     Ok(())
 }
@@ -221,7 +203,6 @@ fn the_first_exception_counts(rt: HostRuntime) -> Result<(), Fail> {
     let policy = "[licenses]\nallow = []\n\
 exceptions = [{ crate = \"a\", allow = [\"ISC\"] }, { crate = \"a\", allow = [\"MIT\"] }]\n";
     with_policy(
-        &rt,
         rt.alloc(),
         policy.as_bytes(),
         &rejected("a 1.0.0: MIT Rejected"),

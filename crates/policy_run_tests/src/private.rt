@@ -1,6 +1,5 @@
 //! Private crates, and the crates that a policy includes.
-use crate::rows::{compare, expect};
-use run_rows::{Seen, WORDS, Want, accepted, files, observe};
+use run_rows::{Seen, WORDS, Want, accepted, compare, expect, files, observe};
 use std::alloc::Global;
 use std::test::Fail;
 
@@ -51,7 +50,7 @@ fn private_crates_are_passed_over_where_the_policy_says_so(rt: HostRuntime) -> R
         ),
     ] {
         let seen = seen_with(alloc, members, lines)?;
-        compare(&rt, &seen, &want);
+        compare(&seen, &want)?;
         assert_eq!(rt; seen.notes, 1);
     }
     Ok(())
@@ -67,7 +66,7 @@ fn private_crates_may_lack_an_expression(rt: HostRuntime) -> Result<(), Fail> {
     ] {
         let members = format!(in alloc; "\"publish\":[],\"license\":{license}")?;
         let seen = seen_with(alloc, members.as_str(), "private = { ignore = true }")?;
-        compare(&rt, &seen, &want);
+        compare(&seen, &want)?;
     }
     Ok(())
 }
@@ -138,7 +137,7 @@ fn include_flags_choose_the_crates(rt: HostRuntime) -> Result<(), Fail> {
                 ("/w/p.toml", policy.as_bytes()),
             ],
         )?;
-        expect(&rt, alloc, &WORDS, &mut tree, 1000, &row.want)?;
+        expect(alloc, &WORDS, &mut tree, 1000, &row.want)?;
     }
     Ok(())
 }

@@ -28,6 +28,28 @@ pub const WORDS: [&str; 7] = [
     "licenses",
 ];
 
+/// The same with other paths of the metadata and of the policy.
+pub fn words_with<'p>(metadata: &'p str, config: &'p str) -> [&'p str; 7] {
+    let [
+        program,
+        metadata_option,
+        _,
+        config_option,
+        _,
+        command,
+        check,
+    ] = WORDS;
+    [
+        program,
+        metadata_option,
+        metadata,
+        config_option,
+        config,
+        command,
+        check,
+    ]
+}
+
 pub const OPEN: &str = "error: the input is of a form that is not built yet\n";
 
 const BEFORE_LICENSE: &str =
@@ -327,6 +349,33 @@ pub struct Want {
     pub ended: &'static str,
     pub out: &'static str,
     pub err: &'static str,
+}
+
+/// Fails where a run came to something else than what is wanted of it.
+pub fn compare(seen: &Seen, want: &Want) -> Result<(), Fail> {
+    let status = seen.status;
+    let ended = seen.ended.as_str();
+    let out = seen.out.as_str();
+    let err = seen.err.as_str();
+    if status == want.status && ended == want.ended && out == want.out && err == want.err {
+        return Ok(());
+    }
+    let wanted = want.ended;
+    Err(Fail::new(format_args!(
+        "{wanted} is wanted, and the run came to {status} {ended}; {out}; {err}"
+    )))
+}
+
+/// Runs the gate over the tree in `/w`, with this much room for the summary, and compares what it came to.
+pub fn expect(
+    alloc: Global,
+    words: &[&str],
+    tree: &mut MemTree,
+    room: usize,
+    want: &Want,
+) -> Result<(), Fail> {
+    let seen = observe(alloc, words, "/w", tree, room)?;
+    compare(&seen, want)
 }
 
 /// A tree of files.
