@@ -1,5 +1,8 @@
 //! One crate, a policy with a list of licences, and the seven words.
-use run_rows::{OPEN, POLICY, WORDS, Want, accepted, expect, refused, rejected, tree};
+use run_rows::{
+    OPEN, POLICY, WORDS, Want, accepted, compare, expect, metadata, observe, refused, rejected,
+    tree,
+};
 use std::alloc::Global;
 use std::test::Fail;
 use tree_core::MemTree;
@@ -95,6 +98,30 @@ fn other_words_are_refused(rt: HostRuntime) -> Result<(), Fail> {
     ] {
         let mut tree = tree(alloc, "MIT", POLICY.as_bytes())?;
         expect(alloc, words, &mut tree, 1000, &want)?;
+    }
+    Ok(())
+}
+
+#[test]
+fn the_first_word_and_the_way_to_the_folder_change_nothing(rt: HostRuntime) -> Result<(), Fail> {
+    let alloc = rt.alloc();
+    let [_, metadata_option, m, config_option, p, command, check] = WORDS;
+    let words = [
+        "another",
+        metadata_option,
+        m,
+        config_option,
+        p,
+        command,
+        check,
+    ];
+    let text = metadata(alloc, "MIT")?;
+    for cwd in ["/w", "/", "/w/x/..", "w"] {
+        let mut tree = tree(alloc, "MIT", POLICY.as_bytes())?;
+        tree.put("/m.json", text.as_bytes())?;
+        tree.put("/p.toml", POLICY.as_bytes())?;
+        let seen = observe(alloc, &words, cwd, &mut tree, 1000)?;
+        compare(&seen, &accepted("a 1.0.0: MIT Accepted"))?;
     }
     Ok(())
 }

@@ -3,7 +3,7 @@ use run_rows::{
     POLICY, Room, WORDS, Want, accepted, compare, expect, files, observe, observe_in, refused,
     rejected, tree, words_with,
 };
-use std::alloc::Global;
+use std::alloc::{AllocError, Global};
 use std::test::Fail;
 
 /// Compares what a run with a policy comes to over the base.
@@ -207,4 +207,28 @@ exceptions = [{ crate = \"a\", allow = [\"ISC\"] }, { crate = \"a\", allow = [\"
         policy.as_bytes(),
         &rejected("a 1.0.0: MIT Rejected"),
     )
+}
+
+/// A policy of this many names, of which only the last is the crate's.
+fn policy_of(alloc: Global, names: usize) -> Result<String, AllocError> {
+    let mut text = String::from_str(
+        alloc,
+        "[licenses]\nunused-allowed-license = \"allow\"\nallow = [",
+    )?;
+    'names: for _ in 1..names {
+        text.push_str("\"ISC\", ")?;
+    }
+    text.push_str("\"MIT\"]\n")?;
+    Ok(text)
+}
+
+#[test]
+fn every_name_of_a_long_policy_is_read(rt: HostRuntime) -> Result<(), Fail> {
+    let alloc = rt.alloc();
+    for names in [3, 40, 2_000] {
+        let policy = policy_of(alloc, names)?;
+        let want = accepted("a 1.0.0: MIT Accepted");
+        with_policy(alloc, policy.as_bytes(), &want)?;
+    }
+    Ok(())
 }
