@@ -1,36 +1,12 @@
 //! Packs as lines.
-ghost use Rattle.print_core.specs.Places.{AllLabelsAreInside};
-
 use diag_core::{Files, LevelFilter, Pack};
-use print_core::{Color, DiagPrinter, Format, LogContext, PrintError, pack_labels_are_inside};
+use finding_rows::print_pack;
+use print_core::Format;
 use std::alloc::Global;
 use std::test::Fail;
 use tree_core::MemSink;
 
-fn print_inside(
-    alloc: Global,
-    format: Format,
-    pack: &Pack,
-    files: &Files,
-    sink: &mut MemSink,
-) -> Result<(), PrintError>
-    requires { AllLabelsAreInside files.now pack.now.findings }
-{
-    let context = LogContext {
-        format,
-        color: Color::Auto,
-        log_level: LevelFilter::Info,
-    };
-    match DiagPrinter::new(context) {
-        Some(printer) => {
-            let mut lock = printer.lock(sink);
-            lock.print_krate_pack(alloc, pack, files)
-        }
-        None => Ok(()),
-    }
-}
-
-/// Writes the lines of a pack, whose labels have to be inside their files.
+/// Writes the lines of a pack, those of notes too.
 pub fn print(
     alloc: Global,
     format: Format,
@@ -38,13 +14,7 @@ pub fn print(
     files: &Files,
     sink: &mut MemSink,
 ) -> Result<(), Fail> {
-    if !pack_labels_are_inside(pack, files) {
-        return Err(Fail::from("labels inside their files"));
-    }
-    print_inside(alloc, format, pack, files, sink)
-        .ok()
-        .ok_or("a sink")?;
-    Ok(())
+    print_pack(alloc, format, LevelFilter::Info, pack, files, sink)
 }
 
 /// The crates that the findings of a pack are about, each in a line.

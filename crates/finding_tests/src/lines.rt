@@ -1,35 +1,19 @@
 //! Findings, in lines.
 use diag_core::{Diag, Files, Label, LabelStyle};
+use finding_rows::put_label;
 use std::alloc::{AllocError, Global};
 use std::test::Fail;
 
-/// The text that a label cuts out of its file.
-fn cut<'f>(files: &'f Files, label: &Label) -> Result<&'f str, Fail> {
-    let source = files.source(label.file_id).ok().ok_or("a file")?;
-    let there = source.get(label.range.start..label.range.end);
-    Ok(there.ok_or("a place")?)
-}
-
-/// The file, the line and the column of a label, its style where that is primary, its text, and what it cuts
-/// out.
-fn put_label(alloc: Global, line: &mut String, files: &Files, label: &Label) -> Result<(), Fail> {
-    let name = files.name(label.file_id).ok().ok_or("a file")?;
-    let place = files
-        .location(label.file_id, label.range.start)
-        .ok()
-        .ok_or("a place")?;
-    let there = cut(files, label)?;
-    let message = &label.message;
-    let (row, column) = (place.line, place.column);
-    let text = format!(in alloc; " {name}:{row}:{column} `{there}` {message}")?;
-    line.push_str(text.as_str())?;
+/// A label, and a mark where its style is primary.
+fn put_marked(alloc: Global, line: &mut String, files: &Files, label: &Label) -> Result<(), Fail> {
+    put_label(alloc, line, files, label)?;
     if label.style == LabelStyle::Primary {
         line.push_str("!")?;
     }
     Ok(())
 }
 
-/// Its code and its labels. Lines and columns are counted from 0.
+/// Its code and its labels.
 pub fn put_finding(
     alloc: Global,
     lines: &mut String,
@@ -40,7 +24,7 @@ pub fn put_finding(
     let text = format!(in alloc; "{code}")?;
     lines.push_str(text.as_str())?;
     for label in finding.diag.labels.items() {
-        put_label(alloc, lines, files, label)?;
+        put_marked(alloc, lines, files, label)?;
     }
     lines.push_str("\n")?;
     Ok(())

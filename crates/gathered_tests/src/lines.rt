@@ -1,6 +1,7 @@
 //! What was gathered of a crate, in one line.
 use deny_text::Text;
-use diag_core::{Diag, Files, Label};
+use diag_core::{Diag, Files};
+use finding_rows::put_label;
 use gather_core::{KrateLicense, LicenseExprSource, LicenseInfo, Summary};
 use std::alloc::{AllocError, Global};
 use std::test::Fail;
@@ -71,27 +72,6 @@ pub fn lines_of(alloc: Global, summary: &Summary<'_>) -> Result<String, Fail> {
         lines.push_str("\n")?;
     }
     Ok(lines)
-}
-
-/// The text that a label cuts out of its file.
-fn cut<'f>(files: &'f Files, label: &Label) -> Result<&'f str, Fail> {
-    let source = files.source(label.file_id).ok().ok_or("a file")?;
-    let there = source.get(label.range.start..label.range.end);
-    Ok(there.ok_or("a place")?)
-}
-
-fn put_label(alloc: Global, line: &mut String, files: &Files, label: &Label) -> Result<(), Fail> {
-    let name = files.name(label.file_id).ok().ok_or("a file")?;
-    let place = files
-        .location(label.file_id, label.range.start)
-        .ok()
-        .ok_or("a place")?;
-    let there = cut(files, label)?;
-    let message = &label.message;
-    let (row, column) = (place.line, place.column);
-    let text = format!(in alloc; " {name}:{row}:{column} `{there}` {message}")?;
-    line.push_str(text.as_str())?;
-    Ok(())
 }
 
 fn put_finding(

@@ -1,15 +1,14 @@
 //! The rows of tests of the run: a tree and words, and what a run over them comes to.
 #![tactic(auto)]
 
-ghost use Rattle.print_core.specs.Places.{AllLabelsAreInside};
-
 use deny_run::error::{Error, Part};
 use deny_run::report::{CrateReport, Ended, Report, Verdict};
 use deny_run::run::run;
 use deny_run::{Diagnostics, ShapeErrors};
 use deny_text::Span;
-use diag_core::{Files, LevelFilter, Pack};
-use print_core::{Color, DiagPrinter, Format, LogContext, PrintError, pack_labels_are_inside};
+use diag_core::LevelFilter;
+use finding_rows::print_pack;
+use print_core::Format;
 use spdx_core::{LicenseStore, Table};
 use std::alloc::{AllocError, Global};
 use std::test::Fail;
@@ -231,51 +230,18 @@ pub fn text(alloc: Global, bytes: &[u8]) -> Result<String, Fail> {
     Ok(String::from_str(alloc, text)?)
 }
 
-fn print_inside(
-    alloc: Global,
-    log_level: LevelFilter,
-    pack: &Pack,
-    files: &Files,
-    sink: &mut MemSink,
-) -> Result<(), PrintError>
-    requires { AllLabelsAreInside files.now pack.now.findings }
-{
-    let context = LogContext {
-        format: Format::Human,
-        color: Color::Auto,
-        log_level,
-    };
-    match DiagPrinter::new(context) {
-        Some(printer) => {
-            let mut lock = printer.lock(sink);
-            lock.print_krate_pack(alloc, pack, files)
-        }
-        None => Ok(()),
-    }
-}
-
-/// Prints a pack, whose labels have to be inside their files.
-fn print(
-    alloc: Global,
-    log_level: LevelFilter,
-    pack: &Pack,
-    files: &Files,
-    sink: &mut MemSink,
-) -> Result<(), Fail> {
-    if !pack_labels_are_inside(pack, files) {
-        return Err(Fail::from("labels inside their files"));
-    }
-    print_inside(alloc, log_level, pack, files, sink)
-        .ok()
-        .ok_or("a sink")?;
-    Ok(())
-}
-
 /// The findings of a report from a level on, as they are printed.
 pub fn findings(alloc: Global, report: &Report, log_level: LevelFilter) -> Result<String, Fail> {
     let mut sink = MemSink::new(alloc, 4000, 1000)?;
     for pack in report.findings.items() {
-        print(alloc, log_level, pack, &report.files, &mut sink)?;
+        print_pack(
+            alloc,
+            Format::Human,
+            log_level,
+            pack,
+            &report.files,
+            &mut sink,
+        )?;
     }
     text(alloc, sink.written())
 }
