@@ -11,7 +11,8 @@ use Rattle.deny_run.proofs.CheckLemmas.{both_of, found_by_some}
 use Rattle.expression_core.specs.Scanned.{Scanner}
 use Rattle.gather_core.specs.Entries.{entries_of}
 use Rattle.gather_core.specs.Gathered.{AreCutOut, ArePriorities, AreTurns, AreTurnsBySome, scanner_of, threshold_of}
-use Rattle.deny_run.specs.Steps.{IsCheckOf, scanner_by}
+use Rattle.deny_run.specs.BySome.{IsFoundBySome}
+use Rattle.deny_run.specs.Steps.{IsCheckOf, IsChecked, scanner_by}
 use Rattle.placed_policy.proofs.PlaceLemmas.{are_placed, entries_lie}
 use Rattle.deny_run.proofs.check.check_all.Goals as goal
 
@@ -33,7 +34,8 @@ returns-clause-checked g c = λ content told. λ graph choice chosen.
     let same : ◌≡◌ {A = Scanner} (scanner_of lists g.I.Identifier.match_of c.with_confidence_threshold-gatherer.result) own =
     ap (scanner_of lists g.I.Identifier.match_of) cut
     ∙ ap (λ one. scanner_of lists g.I.Identifier.match_of (record one { threshold = threshold_of policy.confidence_threshold })) c.with_store.ensures in
-    IfOk-weaker c.check_summary.result (λ checked. IsCheckOf policy nfos checked × All (VerdictPoints c.gather.new.files (policy_of policy)) (all_asked nfos)) _ (λ checked both. record {
+    let is_checked = IsChecked own policy content c.args.files.now c.gather.new.files (g.T.Tree.fault_count c.args.tree.now) (g.T.Tree.fault_count c.gather.new.tree) graph choice in
+    IfOk-weaker c.check_summary.result (λ checked. IsCheckOf policy nfos checked × All (VerdictPoints c.gather.new.files (policy_of policy)) (all_asked nfos)) is_checked (λ checked both. record {
       licenses = nfos;
       selected = c.in_ok-summary.ensures.listed graph choice chosen;
       priorities = subst (λ scanner. ArePriorities scanner (entries_of policy) content nfos) same (c.in_ok-summary.ensures.answers content told);
@@ -59,7 +61,8 @@ returns-clause-by_some g c =
     ∙ ap (λ one. scanner_of lists g.I.Identifier.match_of (record one { threshold = threshold_of policy.confidence_threshold })) c.with_store.ensures in
     let turns = subst (λ scanner. AreTurnsBySome scanner policy.file_id (entries_of policy) c.args.files.now nfos last) same c.in_ok-summary.ensures.by_some in
     let Points = All (VerdictPoints last (policy_of policy)) (all_asked nfos) in
-    IfOk-weaker c.check_summary.result (λ checked. IsCheckOf policy nfos checked × (Points × All (PackLies last) checked.findings)) _
+    IfOk-weaker c.check_summary.result (λ checked. IsCheckOf policy nfos checked × (Points × All (PackLies last) checked.findings))
+    (λ checked. IsFoundBySome lists match_of c.args.files.now last checked.policy checked.crates checked.findings)
     (λ checked all. found_by_some lists match_of c.args.files.now last policy nfos checked turns all.0 all.1.0 all.1.1)
     (both_of c.check_summary.result (IsCheckOf policy nfos) (λ checked. Points × All (PackLies last) checked.findings) c.check_summary.ensures.check
     (both_of c.check_summary.result (λ _. Points) (λ checked. All (PackLies last) checked.findings) c.check_summary.ensures.terms c.check_summary.ensures.labels))
