@@ -1,6 +1,5 @@
 -- The labels of one more term.
-use Rattle.std.proofs.Common.{◌≡◌, ◌∙◌, refl, sym, ap, ℕ, zero, suc, ◌+◌, ◌<◌, ◌≤◌, List, [], ◌∷◌, ◌++◌, length, drop, get_or, Option, None, append_assoc, append-nil, arith}
-use Rattle.std.proofs.lemmas.List.{drop_all}
+use Rattle.std.proofs.Common.{◌≡◌, ◌∙◌, refl, sym, ap, ℕ, zero, suc, ◌+◌, ◌<◌, List, [], ◌∷◌, ◌++◌, length, drop, get_or, Option, None, append_assoc, arith}
 use Rattle.term_core.specs.declared.term.ExpressionReq.{ExpressionReq}
 use Rattle.certificate_core.specs.declared.verdict.Hit.{Hit}
 use Rattle.certificate_core.specs.Certificates.{hit_at}
@@ -36,8 +35,3 @@ label_more at done i terms hits term below is =
     (ap (λ (n : ℕ). term_label at term.span (hit_at hits i) ∷ term_labels at (drop n terms) (drop n hits)) next
     ∙ ap (λ (one : ExpressionReq). term_label at one.span (hit_at hits i) ∷ term_labels at (drop (suc i) terms) (drop (suc i) hits)) is
     ∙ sym (next_label at i terms hits term below))
-
-pub labels_end : (at : ExprPlace) (done : List Label) (i : ℕ) (terms : List ExpressionReq) (hits : List (Option Hit)) → length terms ≤ i
-    → done ++ term_labels at (drop i terms) (drop i hits) ≡ done
-labels_end at done i terms hits past =
-    ap (λ (l : List ExpressionReq). done ++ term_labels at l (drop i hits)) (drop_all i terms past) ∙ append-nil done

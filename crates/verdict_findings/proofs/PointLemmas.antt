@@ -1,5 +1,5 @@
 -- Places in a text that stands in another.
-use Rattle.std.proofs.Common.{◌≡◌, ◌∙◌, refl, sym, ap, subst, ℕ, zero, suc, ◌+◌, ◌-◌, ◌<◌, ◌≤◌, ◌⊎◌, inl, inr, List, [], ◌∷◌, ◌++◌, length, map, take, drop, get_or, slice_get, Option, Some, None, arith}
+use Rattle.std.proofs.Common.{◌≡◌, ◌∙◌, refl, sym, ap, subst, ℕ, zero, suc, ◌+◌, ◌-◌, ◌<◌, ◌≤◌, ◌⊎◌, inl, inr, List, [], ◌∷◌, ◌++◌, length, map, take, drop, get_or, Option, Some, None, arith}
 use Rattle.std.specs.Prelude.{slice_range}
 use Rattle.std.specs.List.{AllZip}
 use Rattle.std.specs.Str.{IsCharBoundary}
@@ -15,8 +15,8 @@ use Rattle.diag_core.specs.File.{File, source_of}
 use Rattle.verdict_findings.specs.declared.place.ExprPlace.{ExprPlace}
 use Rattle.verdict_findings.specs.Findings.{term_label, term_labels}
 use Rattle.verdict_findings.specs.Laws.{LabelsPoint, words_of}
-use Rattle.verdict_findings.specs.Places.{all_of, span_by, CutsIn, LabelPoints, PointsBy, Stands}
-use Rattle.verdict_findings.proofs.PlaceLemmas.{rises_below, span_of}
+use Rattle.verdict_findings.specs.Places.{all_of, span_by, LabelPoints, PointsBy, Stands}
+use Rattle.verdict_findings.proofs.PlaceLemmas.{span_of}
 
 -- ---- a text that stands in another from a place on
 

@@ -7,7 +7,6 @@ use Rattle.spdx_core.specs.Reading.{ExpressionView}
 use Rattle.certificate_core.specs.declared.verdict.Hit.{Hit}
 use Rattle.certificate_core.specs.declared.verdict.Hit.TheVariants.{Allowed, Exception}
 use Rattle.graph_core.specs.Krate.{Record}
-use Rattle.diag_core.specs.declared.code.DiagnosticCode.{DiagnosticCode}
 use Rattle.diag_core.specs.declared.code.DiagnosticCode.TheVariants.{License}
 use Rattle.diag_core.specs.declared.label.Label.{Label}
 use Rattle.diag_core.specs.declared.label.LabelStyle.TheVariants.{Primary, Secondary}

@@ -5,7 +5,6 @@ use Rattle.term_core.specs.declared.term.ExpressionReq.{ExpressionReq}
 use Rattle.spdx_core.specs.Expressions.{IsExpression}
 use Rattle.spdx_core.specs.Reading.{ExpressionView}
 use Rattle.certificate_core.specs.declared.verdict.Hit.{Hit}
-use Rattle.diag_core.specs.declared.label.Label.{Label}
 use Rattle.diag_core.specs.File.{File}
 use Rattle.verdict_findings.specs.declared.place.ExprPlace.{ExprPlace}
 use Rattle.verdict_findings.specs.Findings.{term_labels, whole_label}

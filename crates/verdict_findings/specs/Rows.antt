@@ -1,5 +1,5 @@
 -- Rows of expressions and crates, with what is told of them, worked out by hand from the rules.
-use Rattle.std.specs.Prelude.{ℕ, Bool, true, false, List, [], ◌∷◌, codes, Option, Some, None}
+use Rattle.std.specs.Prelude.{ℕ, true, false, List, [], ◌∷◌, codes, Option, Some, None}
 use Rattle.deny_text.specs.declared.span.Span.{Span}
 use Rattle.term_core.specs.declared.term.ExpressionReq.{ExpressionReq}
 use Rattle.term_core.specs.declared.term.LicenseItem.TheVariants.{Spdx}

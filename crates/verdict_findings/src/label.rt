@@ -3,7 +3,7 @@ ghost use Rattle.std.specs.Prelude.{◌≡◌, ◌++◌, IfOk, OnOk, All, length
 ghost use Rattle.certificate_core.specs.Certificates as certificates;
 ghost use Rattle.verdict_findings.specs.Findings as spec;
 ghost use Rattle.verdict_findings.specs.Findings.{hit_text, labels_of};
-ghost use Rattle.verdict_findings.specs.Places.{Fits, HasRoom, TermHasRoom};
+ghost use Rattle.verdict_findings.specs.Places.{Fits, TermHasRoom};
 
 use crate::place::ExprPlace;
 use certificate_core::Hit;

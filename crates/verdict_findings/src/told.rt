@@ -1,5 +1,5 @@
 //! The verdict on a crate, as a finding.
-ghost use Rattle.std.specs.Prelude.{◌≡◌, ◌++◌, [], IfOk, OnOk, length};
+ghost use Rattle.std.specs.Prelude.{◌≡◌, IfOk, length};
 ghost use Rattle.graph_core.specs.Krate.{record_of};
 ghost use Rattle.verdict_findings.specs.Findings as spec;
 ghost use Rattle.verdict_findings.specs.Findings.{labels_of};

@@ -4,7 +4,7 @@ use Rattle.certificate_core.specs.declared.verdict.Hit.{Hit}
 use Rattle.diag_core.specs.declared.label.Label.{Label}
 use Rattle.verdict_findings.specs.Findings.{term_label, term_labels}
 use Rattle.verdict_findings.specs.Places.{TermHasRoom}
-use Rattle.verdict_findings.proofs.LabelLemmas.{label_more, labels_end}
+use Rattle.verdict_findings.proofs.LabelLemmas.{label_more}
 use Rattle.verdict_findings.proofs.label.push_terms.Goals as goal
 
 pub term_label-requires : goal.term_label-requires
