@@ -1,11 +1,9 @@
 //! One crate, a policy with a list of licences, and the seven words.
 use run_rows::{
-    OPEN, POLICY, WORDS, Want, accepted, compare, expect, metadata, observe, refused, rejected,
-    tree,
+    OPEN, POLICY, WORDS, Want, accepted, compare, expect, files, metadata, observe, refused,
+    rejected, tree,
 };
-use std::alloc::Global;
 use std::test::Fail;
-use tree_core::MemTree;
 
 // The first row catches a body that always answers want of memory.
 #[test]
@@ -163,13 +161,6 @@ fn other_files_are_refused(rt: HostRuntime) -> Result<(), Fail> {
     Ok(())
 }
 
-/// A tree with one file of these bytes.
-fn lone_file(alloc: Global, path: &str, bytes: &[u8]) -> Result<MemTree, Fail> {
-    let mut tree = MemTree::new(alloc);
-    tree.put(path, bytes)?;
-    Ok(tree)
-}
-
 #[test]
 fn absent_files_and_folders_are_refused(rt: HostRuntime) -> Result<(), Fail> {
     let alloc = rt.alloc();
@@ -195,22 +186,10 @@ error: the metadata could not be read\n",
             ),
         ),
     ] {
-        let mut tree = lone_file(alloc, path, POLICY.as_bytes())?;
+        let mut tree = files(alloc, &[(path, POLICY.as_bytes())])?;
         expect(alloc, &WORDS, &mut tree, 1000, &want)?;
     }
     Ok(())
-}
-
-#[test]
-fn metadata_that_is_a_folder_is_refused(rt: HostRuntime) -> Result<(), Fail> {
-    let alloc = rt.alloc();
-    let mut tree = lone_file(alloc, "/w/p.toml", POLICY.as_bytes())?;
-    tree.put("/w/m.json/x", b"")?;
-    let want = refused(
-        "metadata: Folder",
-        "error: the metadata could not be read\n",
-    );
-    expect(alloc, &WORDS, &mut tree, 1000, &want)
 }
 
 #[test]

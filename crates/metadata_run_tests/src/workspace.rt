@@ -1,5 +1,5 @@
 //! Metadata of several crates, and metadata that is refused.
-use run_rows::{POLICY, WORDS, Want, accepted, expect, metadata, refused, rejected, tree};
+use run_rows::{POLICY, WORDS, Want, accepted, expect, files, metadata, refused, rejected, tree};
 use std::alloc::{AllocError, Global};
 use std::test::Fail;
 
@@ -171,6 +171,23 @@ fn metadata_without_json_or_roots_is_refused(rt: HostRuntime) -> Result<(), Fail
         expect(alloc, &WORDS, &mut tree, 1000, &want)?;
     }
     Ok(())
+}
+
+#[test]
+fn metadata_that_is_a_folder_is_refused(rt: HostRuntime) -> Result<(), Fail> {
+    let alloc = rt.alloc();
+    let mut tree = files(
+        alloc,
+        &[
+            ("/w/p.toml", POLICY.as_bytes()),
+            ("/w/m.json/x", b"".as_slice()),
+        ],
+    )?;
+    let want = refused(
+        "metadata: Folder",
+        "error: the metadata could not be read\n",
+    );
+    expect(alloc, &WORDS, &mut tree, 1000, &want)
 }
 
 // The read comes before the text, so a failed read is told of metadata that is cut.
