@@ -1,66 +1,22 @@
 -- The items that are no hit, one after another.
-use Rattle.std.proofs.Common.{◌≡◌, ◌∙◌, refl, sym, ap, ℕ, suc, ◌+◌, ◌<◌, ◌≤◌, Bool, true, false, cond, List, [], ◌∷◌, ◌++◌, length, map, drop, get_or, Option, Some, None, append-nil, append_assoc, arith}
-use Rattle.std.specs.List.{filter}
+use Rattle.std.proofs.Common.{◌≡◌, ◌∙◌, refl, sym, ap, ℕ, suc, ◌+◌, ◌<◌, Bool, true, false, cond, List, [], ◌∷◌, ◌++◌, length, map, None, append-nil, arith}
 use Rattle.std.specs.Option.{option_map_or}
-use Rattle.std.proofs.lemmas.List.{at_drop_more, drop_all, map-append, map-id}
-use Rattle.std.proofs.lemmas.List.Elements.{filter-append}
+use Rattle.std.proofs.lemmas.List.{map-id}
 use Rattle.certificate_core.specs.declared.verdict.Hit.{Hit}
 use Rattle.diag_core.specs.declared.pack.Check.TheVariants.{Licenses}
 use Rattle.diag_core.specs.declared.pack.Diag.{Diag}
-use Rattle.diag_core.specs.declared.severity.Severity.{Severity}
 use Rattle.diag_core.specs.Pack.{PackOf, with_crate}
 use Rattle.policy_entries.specs.declared.licensee.Licensee.{Licensee}
-use Rattle.policy_parts.specs.declared.names.LintLevel.{LintLevel}
 use Rattle.valid_policy.specs.declared.policy.ValidConfig.{ValidConfig}
 use Rattle.valid_policy.specs.declared.policy.ValidException.{ValidException}
-use Rattle.unused_core.specs.Flags.{Flags, flag_at, flags_by, flags_of, pack_by, with_more}
-use Rattle.unused_core.specs.Unused.{exception_findings, is_exception_hit, is_license_hit, is_own, last_pack, own_told, license_findings, severity_asked, unhit, unused_exception, unused_license}
+use Rattle.unused_core.specs.Flags.{flag_at, flags_by, flags_of, pack_by, with_more}
+use Rattle.unused_core.specs.Unused.{exception_findings, is_exception_hit, is_license_hit, last_pack, own_told, license_findings, severity_asked, unhit, unused_license}
 use Rattle.unused_core.proofs.FlagLemmas.{flag_is}
 
 -- ---- packs that gain findings
 
-more_and_more : (pack : PackOf) (some more : List Diag) → with_more (with_more pack some) more ≡ with_more pack (some ++ more)
-more_and_more pack some more =
-    let about = with_crate pack.kid in
-    ap (λ (findings : List Diag). record { check = pack.check; kid = pack.kid; findings = findings })
-    (append_assoc pack.findings (map about some) (map about more) ∙ ap (λ (l : List Diag). pack.findings ++ l) (sym (map-append about some more)))
-
 pub nothing_more : (pack : PackOf) → with_more pack [] ≡ pack
 nothing_more pack = ap (λ (findings : List Diag). record { check = pack.check; kid = pack.kid; findings = findings }) (append-nil pack.findings)
-
--- ---- one more item
-
-if_unhit : {A : Type 0} → Bool → A → List A
-if_unhit is_hit x = cond is_hit [] (x ∷ [])
-
-module _ {A : Type 0} (tell : List A → List Diag) (joins : (xs ys : List A) → tell (xs ++ ys) ≡ tell xs ++ tell ys) (is_hit : ℕ → Bool) where
-  next_told : (pack : PackOf) (items : List A) (i : ℕ) (item : A) → i < length items → item ≡ get_or items i item
-      → with_more (with_more pack (tell (cond (is_hit i) [] (item ∷ [])))) (tell (unhit is_hit (i + 1) (drop (i + 1) items))) ≡ with_more pack (tell (unhit is_hit i (drop i items)))
-  next_told pack items i item inside is =
-      let next : i + 1 ≡ suc i = omega arith in
-      let here = cond (is_hit i) [] (item ∷ []) in
-      more_and_more pack (tell here) (tell (unhit is_hit (i + 1) (drop (i + 1) items)))
-      ∙ ap (with_more pack)
-      (sym (joins here (unhit is_hit (i + 1) (drop (i + 1) items)))
-      ∙ ap (λ (n : ℕ). tell (here ++ unhit is_hit n (drop (i + 1) items))) next
-      ∙ ap (λ (one : A). tell (cond (is_hit i) [] (one ∷ []) ++ unhit is_hit (suc i) (drop (i + 1) items))) is
-      ∙ ap tell (sym (at_drop_more (unhit is_hit i) items i item inside)))
-
--- a licensee
-pub license_more : (severity : Severity) (file : ℕ) (flags : List Bool) (pack : PackOf) (items : List Licensee) (i : ℕ) (item : Licensee) → i < length items → item ≡ get_or items i item
-    → with_more (with_more pack (map (unused_license severity file) (cond (flag_at flags i) [] (item ∷ [])))) (map (unused_license severity file) (unhit (flag_at flags) (i + 1) (drop (i + 1) items)))
-    ≡ with_more pack (map (unused_license severity file) (unhit (flag_at flags) i (drop i items)))
-license_more severity file flags = next_told (map (unused_license severity file)) (map-append (unused_license severity file)) (flag_at flags)
-
--- an exception
-own_joins : (severity : Severity) (file : ℕ) (xs ys : List ValidException) → own_told severity file (xs ++ ys) ≡ own_told severity file xs ++ own_told severity file ys
-own_joins severity file xs ys =
-    ap (map (unused_exception severity)) (filter-append (is_own file) xs ys) ∙ map-append (unused_exception severity) (filter (is_own file) xs) (filter (is_own file) ys)
-
-pub exception_more : (severity : Severity) (file : ℕ) (flags : List Bool) (pack : PackOf) (items : List ValidException) (i : ℕ) (item : ValidException) → i < length items → item ≡ get_or items i item
-    → with_more (with_more pack (own_told severity file (cond (flag_at flags i) [] (item ∷ [])))) (own_told severity file (unhit (flag_at flags) (i + 1) (drop (i + 1) items)))
-    ≡ with_more pack (own_told severity file (unhit (flag_at flags) i (drop i items)))
-exception_more severity file flags = next_told (own_told severity file) (own_joins severity file) (flag_at flags)
 
 -- ---- all items, by flags that say what is a hit
 
@@ -103,14 +59,6 @@ if_hit pack tell item is_hit hit none =
 pub pushed : (pack new : PackOf) (told meant : Diag) → new ≡ record { check = pack.check; kid = pack.kid; findings = pack.findings ++ with_crate pack.kid told ∷ [] } → told ≡ meant → new ≡ with_more pack (meant ∷ [])
 pushed pack new told meant push is =
     push ∙ ap (λ (one : Diag). record { check = pack.check; kid = pack.kid; findings = pack.findings ++ with_crate pack.kid one ∷ [] }) is
-
--- by the level
-pub at_level : (pack new : PackOf) (tell : Severity → List Diag) (severity : Severity) (asked : Option Severity) → Some severity ≡ asked → new ≡ with_more pack (tell severity)
-    → new ≡ with_more pack (option_map_or tell asked [])
-at_level pack new tell severity asked is told = told ∙ ap (λ (o : Option Severity). with_more pack (option_map_or tell o [])) is
-
-pub not_asked : (pack : PackOf) (tell : Severity → List Diag) (asked : Option Severity) → None ≡ asked → pack ≡ with_more pack (option_map_or tell asked [])
-not_asked pack tell asked is = sym (nothing_more pack) ∙ ap (λ (o : Option Severity). with_more pack (option_map_or tell o [])) is
 
 -- both after one another, about no crate
 pub both_told : (pack first second : PackOf) (some more : List Diag) → pack ≡ record { check = Licenses; kid = None; findings = [] } → first ≡ with_more pack some → second ≡ with_more first more

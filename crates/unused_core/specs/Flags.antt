@@ -1,5 +1,5 @@
 -- Flags by place, which say what is a hit so far. Only contracts of calls that set or read them cite these.
-use Rattle.std.specs.Prelude.{ℕ, Bool, false, true, List, [], ◌++◌, length, map, get_or, slice_set, Option, Some, None}
+use Rattle.std.specs.Prelude.{ℕ, Bool, false, true, List, ◌++◌, length, map, get_or, slice_set, Option, Some, None}
 use Rattle.std.specs.List.{range_with_len}
 use Rattle.certificate_core.specs.declared.verdict.Hit.{Hit}
 use Rattle.certificate_core.specs.declared.verdict.Hit.TheVariants.{Allowed, Exception}

@@ -2,7 +2,6 @@
 use Rattle.std.specs.Prelude.{ℕ, pos, false, List, [], ◌∷◌, map, codes, Option, Some, None}
 use Rattle.deny_text.specs.declared.span.Span.{Span}
 use Rattle.term_core.specs.declared.term.LicenseItem.TheVariants.{Spdx}
-use Rattle.term_core.specs.declared.term.LicenseReq.{LicenseReq}
 use Rattle.certificate_core.specs.declared.verdict.Hit.{Hit}
 use Rattle.certificate_core.specs.declared.verdict.Hit.TheVariants.{Allowed, Exception}
 use Rattle.diag_core.specs.declared.label.Label.{Label}
