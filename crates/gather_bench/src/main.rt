@@ -1,25 +1,28 @@
-//! Gathers the licences of crates that are made in memory, and prints how many of them the policy gives one.
-//! With the argument `bench` it prints how long 5,000, 10,000 and 20,000 crates take, and how many MB of
-//! files a second that is; and how long the search for a licence field takes over texts of 64 MiB or a little
-//! more. With the words `crates N`, or `files N M`, it does one thing, for tools that count instructions: it
-//! gathers N crates with a licence file and a manifest each, or N crates of M clarified files each; with the
-//! word `made` as well it makes these, and gathers nothing.
+//! Gathers the licences of crates that are made in memory, by a policy that is loaded there, checks them and
+//! prints what is found to memory, at level info; then it prints how many crates have an expression, how many
+//! the policy accepts and rejects, how many packs of findings there are, and how many bytes they take.
+//! With the argument `bench` it prints how long each stage of 5,000, 10,000 and 20,000 crates takes, and how
+//! many MB of files a second are gathered; and how long the search for a licence field takes over texts of
+//! 64 MiB or a little more. With the words `crates N`, `files N M` or `entries N M` it does one thing, for
+//! tools that count instructions: N crates with a licence file and a manifest each, or N crates of M clarified
+//! files each, or M crates under a policy of N allowed licences and N exceptions. With the word `made`,
+//! `loaded`, `gathered` or `checked` as well it goes so far, and no further.
 #![tactic(auto)]
 
 mod policy;
+mod stages;
 mod text;
+mod times;
 mod world;
 
-use catalog_core::LicenseStore;
-use gather_core::{Gatherer, LicenseInfo, Summary};
 use manifest_core::license_span;
-use policy::table;
-use spdx_core::Table;
+use stages::{Stage, run};
 use std::alloc::{AllocError, Global};
 use std::io::Print;
 use std::time::{Clock, Instant};
 use std::{env, io};
-use world::{World, with_files, with_licences};
+use times::Times;
+use world::{World, with_entries, with_files, with_licences};
 
 const COUNT: u32 = 20_000;
 
@@ -28,54 +31,65 @@ const ROUNDS: u64 = 5;
 /// How many pieces of 8 bytes make 64 MiB.
 const PIECES: u32 = 8_388_608;
 
+/// Which crates are made.
+#[derive(Clone, Copy)]
+enum Kind {
+    Crates,
+    Files,
+    Entries,
+}
+
 /// What is asked for by words.
 #[derive(Clone, Copy)]
 struct Asked {
     is_bench: bool,
-    is_files: bool,
-    is_made: bool,
+    kind: Kind,
+    stage: Stage,
     /// The numbers among the words, the last one last.
     first: u32,
     last: u32,
 }
 
-/// How many crates have an expression.
-fn licensed(summary: &Summary<'_>) -> usize {
-    summary
-        .nfos
-        .items()
-        .iter()
-        .filter(|license| matches!(&license.lic_info, LicenseInfo::SpdxExpression { .. }))
-        .count()
+impl Asked {
+    fn world(self, alloc: Global) -> Result<Option<World>, AllocError> {
+        match self.kind {
+            Kind::Crates => with_licences(alloc, self.last),
+            Kind::Files => with_files(alloc, self.first, self.last),
+            Kind::Entries => with_entries(alloc, self.first, self.last),
+        }
+    }
+
+    fn take_number(&mut self, word: &str) {
+        self.first = self.last;
+        self.last = word.parse::<u32>().unwrap_or(self.last);
+    }
+
+    fn take(&mut self, word: &str) {
+        match word {
+            "bench" => self.is_bench = true,
+            "files" => self.kind = Kind::Files,
+            "entries" => self.kind = Kind::Entries,
+            "made" => self.stage = Stage::Made,
+            "loaded" => self.stage = Stage::Loaded,
+            "gathered" => self.stage = Stage::Gathered,
+            "checked" => self.stage = Stage::Checked,
+            _ => self.take_number(word),
+        }
+    }
 }
 
-/// Gathers the licences of all crates; how many have one.
-fn gathered(alloc: Global, world: &mut World) -> Result<usize, AllocError> {
-    let store = LicenseStore::from_cache(alloc)?;
-    let gatherer: Gatherer<'_, LicenseStore> = Gatherer::default();
-    let gatherer = gatherer.with_store(&store);
-    let mut files = table(alloc)?;
-    let summary = gatherer.gather(
-        alloc,
-        &world.krates,
-        &mut files,
-        &world.policy,
-        &mut world.tree,
-        &Table,
-    )?;
-    Ok(licensed(&summary))
-}
-
-fn tell<R: Print>(rt: &R, alloc: Global, world: Option<World>, is_made: bool) -> io::Result<()> {
+fn tell<R: Clock + Print>(
+    rt: &R,
+    alloc: Global,
+    world: Option<World>,
+    stage: Stage,
+) -> io::Result<()> {
     match world {
         Some(mut world) => {
-            let licensed = if is_made {
-                0
-            } else {
-                gathered(alloc, &mut world)?
-            };
+            let seen = run(rt, alloc, &mut world, stage)?;
             let crates = world.krates.krates().len();
-            println!(rt; "{crates} crates, {} bytes: {licensed}", world.bytes)
+            println!(rt; "{crates} crates, {} bytes: {} licensed, {} accepted, {} rejected; {} packs, {} bytes",
+                world.bytes, seen.licensed, seen.accepted, seen.rejected, seen.packs, seen.printed)
         }
         None => println!(rt; "no crates"),
     }
@@ -93,24 +107,30 @@ fn bench_search(rt: &HostRuntime, piece: &str) -> io::Result<()> {
     println!(rt; "{piece}: {took} us, {found}")
 }
 
-/// Prints the least time of some rounds.
-fn bench(rt: &HostRuntime) -> io::Result<()> {
+/// Prints the least times of some rounds over so many crates.
+fn bench_crates(rt: &HostRuntime, count: u32) -> io::Result<()> {
     let alloc = rt.alloc();
+    let Some(mut world) = with_licences(alloc, count)? else {
+        return println!(rt; "no crates");
+    };
+    let mut times = Times::all(u128::MAX);
+    for _ in 0..ROUNDS {
+        let seen = run(rt, alloc, &mut world, Stage::Printed)?;
+        times = times.least(seen.times);
+    }
+    let Times {
+        load,
+        gather,
+        check,
+        print,
+    } = times;
+    let speed = u128::from(world.bytes) / gather.max(1);
+    println!(rt; "{count} crates: load {load} us, gather {gather} us ({speed} MB/s), check {check} us, print {print} us")
+}
+
+fn bench(rt: &HostRuntime) -> io::Result<()> {
     for part in [4, 2, 1] {
-        if let Some(mut world) = with_licences(alloc, COUNT / part)? {
-            let mut least = u128::MAX;
-            for _ in 0..ROUNDS {
-                let start = Instant::now(rt)?;
-                gathered(alloc, &mut world)?;
-                least = least.min(start.elapsed(rt)?.as_micros());
-            }
-            let speed = if least == 0 {
-                0
-            } else {
-                u128::from(world.bytes) / least
-            };
-            println!(rt; "{} crates: {least} us, {speed} MB/s", COUNT / part)?;
-        }
+        bench_crates(rt, COUNT / part)?;
     }
     for piece in ["license ", "license=\"", "license=", "license\u{3000}"] {
         bench_search(rt, piece)?;
@@ -121,21 +141,13 @@ fn bench(rt: &HostRuntime) -> io::Result<()> {
 fn of_words(rt: &HostRuntime) -> io::Result<Asked> {
     let mut asked = Asked {
         is_bench: false,
-        is_files: false,
-        is_made: false,
+        kind: Kind::Crates,
+        stage: Stage::Printed,
         first: 300,
         last: 300,
     };
     for word in env::args(rt)?.skip(1) {
-        match word.as_str() {
-            "bench" => asked.is_bench = true,
-            "files" => asked.is_files = true,
-            "made" => asked.is_made = true,
-            text => {
-                asked.first = asked.last;
-                asked.last = text.parse::<u32>().unwrap_or(asked.last);
-            }
-        }
+        asked.take(word.as_str());
     }
     Ok(asked)
 }
@@ -146,10 +158,6 @@ fn main(rt: HostRuntime) -> io::Result<()> {
     if asked.is_bench {
         return bench(&rt);
     }
-    let world = if asked.is_files {
-        with_files(alloc, asked.first, asked.last)?
-    } else {
-        with_licences(alloc, asked.last)?
-    };
-    tell(&rt, alloc, world, asked.is_made)
+    let world = asked.world(alloc)?;
+    tell(&rt, alloc, world, asked.stage)
 }

@@ -1,85 +1,94 @@
-//! Policies of many clarifications.
-use deny_text::{PathBuf, Span, Spanned, Text, Texts};
-use diag_core::Files;
+//! Texts of policies.
 use pack_core::LicenseText;
-use policy_entries::Licensees;
-use policy_parts::{FileSource, FileSources, LintLevel, Private, SpannedTexts};
-use policy_spec::PackageSpec;
-use spdx_core::{Expression, ParseMode, Table};
 use std::alloc::{AllocError, Global};
-use valid_policy::{Urls, ValidClarification, ValidClarifications, ValidConfig, ValidExceptions};
 
-const NOWHERE: Span = Span { start: 0, end: 0 };
+/// Forty licences. No crate is under one of them.
+const NAMES: [&str; 40] = [
+    "0BSD",
+    "BlueOak-1.0.0",
+    "BSD-1-Clause",
+    "BSD-2-Clause",
+    "BSD-2-Clause-Patent",
+    "BSD-3-Clause",
+    "BSD-3-Clause-Clear",
+    "BSD-4-Clause",
+    "BSL-1.0",
+    "BUSL-1.1",
+    "bzip2-1.0.6",
+    "CC0-1.0",
+    "CDLA-Permissive-2.0",
+    "curl",
+    "FTL",
+    "HPND",
+    "ICU",
+    "IJG",
+    "ISC",
+    "MIT-0",
+    "NCSA",
+    "OpenSSL",
+    "PostgreSQL",
+    "PSF-2.0",
+    "Python-2.0",
+    "Ruby",
+    "Unicode-3.0",
+    "Unicode-DFS-2016",
+    "Unlicense",
+    "UPL-1.0",
+    "Vim",
+    "WTFPL",
+    "X11",
+    "Zlib",
+    "MPL-2.0",
+    "EPL-2.0",
+    "CC-BY-4.0",
+    "GPL-2.0-only",
+    "GPL-3.0-only",
+    "LGPL-3.0-only",
+];
 
-/// The expression of each clarification, which is the text of the policy's file.
-const EXPRESSION: &str = "MIT";
+/// One of the forty names, by turns.
+fn name_at(index: u32) -> &'static str {
+    NAMES[(index % 40) as usize]
+}
 
-/// A file with the hash of the normal form of a text.
-pub(crate) fn source(alloc: Global, path: &str, text: &str) -> Result<FileSource, AllocError> {
-    let value = PathBuf::copy(alloc, path)?;
+/// The head of a policy that allows what clarified crates are under.
+pub(crate) fn permissive(alloc: Global) -> Result<String, AllocError> {
+    String::from_str(alloc, "[licenses]\nallow = [\"MIT\"]\n")
+}
+
+/// The head of a policy of so many allowed licences, of forty names, and as many exceptions.
+pub(crate) fn head_of(alloc: Global, entries: u32) -> Result<String, AllocError> {
+    let mut text = String::from_str(alloc, "[licenses]\nallow = [")?;
+    for index in 0..entries {
+        let entry = format!(in alloc; r#""{}", "#, name_at(index))?;
+        text.push_str(entry.as_str())?;
+    }
+    text.push_str("]\nexceptions = [")?;
+    for index in 0..entries {
+        let entry = format!(in alloc; r#"{{ crate = "c{index}", allow = ["{}"] }}, "#, name_at(index))?;
+        text.push_str(entry.as_str())?;
+    }
+    text.push_str("]\n")?;
+    Ok(text)
+}
+
+/// A file of a clarification, with the hash of the normal form of a text.
+pub(crate) fn source(alloc: Global, path: &str, text: &str) -> Result<String, AllocError> {
     let licence = LicenseText::of(alloc, text)?;
-    Ok(FileSource {
-        path: Spanned {
-            value,
-            span: NOWHERE,
-        },
-        hash: licence.hash(),
-    })
+    let hash = licence.hash();
+    format!(in alloc; r#"{{ path = "{path}", hash = {hash} }}, "#)
 }
 
-/// A clarification of the crates of a name.
-pub(crate) fn clarification(
+/// Appends the clarification of the crates of a name.
+pub(crate) fn push_clarification(
     alloc: Global,
-    name: String,
-    license_files: FileSources,
-) -> Result<ValidClarification, AllocError> {
-    let name = Spanned {
-        value: Text::from(name),
-        span: NOWHERE,
-    };
-    match Expression::parse_mode(alloc, EXPRESSION, ParseMode::STRICT, &Table) {
-        Ok(expression) => Ok(ValidClarification {
-            spec: PackageSpec {
-                name,
-                version_req: None,
-            },
-            expr_offset: 0,
-            whole: None,
-            expression,
-            license_files,
-        }),
-        Err(_) => Err(AllocError),
-    }
-}
-
-/// A policy of clarifications and nothing else.
-pub(crate) fn policy(alloc: Global, clarifications: ValidClarifications) -> ValidConfig {
-    ValidConfig {
-        file_id: 0,
-        private: Private {
-            ignore: false,
-            ignore_sources: SpannedTexts::new(alloc),
-            registries: Texts::new(alloc),
-        },
-        unused_allowed_license: LintLevel::Warn,
-        unused_license_exception: LintLevel::Warn,
-        confidence_threshold: 80,
-        allowed: Licensees::new(alloc),
-        clarifications,
-        exceptions: ValidExceptions::new(alloc),
-        ignore_sources: Urls::new(alloc),
-        include_dev: false,
-        include_build: true,
-    }
-}
-
-/// The table with the policy's file.
-pub(crate) fn table(alloc: Global) -> Result<Files, AllocError> {
-    let path = PathBuf::copy(alloc, "/w/deny.toml")?;
-    let text = Text::copy(alloc, EXPRESSION)?;
-    let mut files = Files::new(alloc);
-    match files.add(path, text) {
-        Ok(_) => Ok(files),
-        Err(_) => Err(AllocError),
-    }
+    policy: &mut String,
+    name: &str,
+    files: &str,
+) -> Result<(), AllocError> {
+    let head = format!(in alloc; "[[licenses.clarify]]\ncrate = \"{name}\"\nexpression = \"MIT\"\n")?;
+    policy.push_str(head.as_str())?;
+    policy.push_str("license-files = [")?;
+    policy.push_str(files)?;
+    policy.push_str("]\n")
 }

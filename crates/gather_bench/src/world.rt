@@ -1,36 +1,38 @@
 //! Crates with their files, and a policy that clarifies some.
-use crate::policy::{clarification, policy, source};
+use crate::policy::{head_of, permissive, push_clarification, source};
 use crate::text::{licence, manifest, metadata};
-use policy_parts::FileSources;
 use records_core::records;
 use selection_core::{ExcludeSpecs, Krates, Selection};
 use std::alloc::{AllocError, Global};
 use tree_core::MemTree;
-use valid_policy::{ValidClarifications, ValidConfig};
+
+/// Where the policy is.
+pub(crate) const POLICY: &str = "/w/deny.toml";
 
 /// What is gathered from.
 #[derive(Drop)]
 pub(crate) struct World {
     pub(crate) krates: Krates,
-    pub(crate) policy: ValidConfig,
+    /// The files of the crates, and the policy.
     pub(crate) tree: MemTree,
-    /// How many bytes all files have.
+    /// How many bytes the files of the crates have.
     pub(crate) bytes: u64,
 }
 
-/// Crates so far: their files, and the clarifications of them.
+/// Crates so far: their files, and the text of a policy with their clarifications.
 #[derive(Drop)]
 struct Made {
     tree: MemTree,
-    clarifications: ValidClarifications,
+    policy: String,
     bytes: u64,
 }
 
 impl Made {
-    fn new(alloc: Global) -> Made {
+    /// No crate yet, and the head of a policy.
+    fn with_head(alloc: Global, policy: String) -> Made {
         Made {
             tree: MemTree::new(alloc),
-            clarifications: ValidClarifications::new(alloc),
+            policy,
             bytes: 0,
         }
     }
@@ -41,16 +43,6 @@ impl Made {
             Ok(()) => Ok(()),
             Err(_) => Err(AllocError),
         }
-    }
-
-    fn clarify(
-        &mut self,
-        alloc: Global,
-        name: String,
-        files: FileSources,
-    ) -> Result<(), AllocError> {
-        let one = clarification(alloc, name, files)?;
-        self.clarifications.push(one)
     }
 
     fn add_manifest(&mut self, alloc: Global, index: u32) -> Result<(), AllocError> {
@@ -66,38 +58,44 @@ impl Made {
         let path = format!(in alloc; "/w/c{index}/LICENSE")?;
         self.put(path.as_str(), text.as_str())?;
         self.add_manifest(alloc, index)?;
-        let mut files = FileSources::new(alloc);
-        files.push(source(alloc, "LICENSE", text.as_str())?)?;
+        let files = source(alloc, "LICENSE", text.as_str())?;
         let name = if index % 3 == 0 {
             format!(in alloc; "c{index}")?
         } else {
             format!(in alloc; "x{index}")?
         };
-        self.clarify(alloc, name, files)
+        push_clarification(alloc, &mut self.policy, name.as_str(), files.as_str())
     }
 
     /// A crate with so many files that one clarification names.
     fn add_clarified(&mut self, alloc: Global, index: u32, count: u32) -> Result<(), AllocError> {
-        let mut files = FileSources::new(alloc);
+        let mut files = String::new(alloc);
         for number in 0..count {
             let text = licence(alloc, number, 1)?;
             let path = format!(in alloc; "/w/c{index}/f{number}")?;
             self.put(path.as_str(), text.as_str())?;
             let name = format!(in alloc; "f{number}")?;
-            files.push(source(alloc, name.as_str(), text.as_str())?)?;
+            let file = source(alloc, name.as_str(), text.as_str())?;
+            files.push_str(file.as_str())?;
         }
         let name = format!(in alloc; "c{index}")?;
-        self.clarify(alloc, name, files)
+        push_clarification(alloc, &mut self.policy, name.as_str(), files.as_str())
     }
 
     fn world(self, alloc: Global, count: u32) -> Result<Option<World>, AllocError> {
-        let krates = krates(alloc, count)?;
-        match krates {
+        let Made {
+            mut tree,
+            policy,
+            bytes,
+        } = self;
+        if tree.put(POLICY, policy.as_bytes()).is_err() {
+            return Err(AllocError);
+        }
+        match krates(alloc, count)? {
             Some(krates) => Ok(Some(World {
                 krates,
-                policy: policy(alloc, self.clarifications),
-                tree: self.tree,
-                bytes: self.bytes,
+                tree,
+                bytes,
             })),
             None => Ok(None),
         }
@@ -119,22 +117,40 @@ fn krates(alloc: Global, count: u32) -> Result<Option<Krates>, AllocError> {
     }
 }
 
-/// So many crates with a manifest and a licence file each, and as many clarifications, a third of which are for them.
-pub(crate) fn with_licences(alloc: Global, count: u32) -> Result<Option<World>, AllocError> {
-    let mut made = Made::new(alloc);
+fn licensed_crates(
+    alloc: Global,
+    count: u32,
+    policy: String,
+) -> Result<Option<World>, AllocError> {
+    let mut made = Made::with_head(alloc, policy);
     for index in 0..count {
         made.add_licensed(alloc, index)?;
     }
     made.world(alloc, count)
 }
 
-/// So many crates, each clarified by so many files.
+/// So many crates with a manifest and a licence file each, and as many clarifications, a third of which are for them.
+/// The policy allows these.
+pub(crate) fn with_licences(alloc: Global, count: u32) -> Result<Option<World>, AllocError> {
+    licensed_crates(alloc, count, permissive(alloc)?)
+}
+
+/// The same under a policy that allows none of the crates, with so many allowed licences and exceptions.
+pub(crate) fn with_entries(
+    alloc: Global,
+    entries: u32,
+    count: u32,
+) -> Result<Option<World>, AllocError> {
+    licensed_crates(alloc, count, head_of(alloc, entries)?)
+}
+
+/// So many crates, each clarified by so many files, and a policy that allows them.
 pub(crate) fn with_files(
     alloc: Global,
     crates: u32,
     files: u32,
 ) -> Result<Option<World>, AllocError> {
-    let mut made = Made::new(alloc);
+    let mut made = Made::with_head(alloc, permissive(alloc)?);
     for index in 0..crates {
         made.add_clarified(alloc, index, files)?;
     }
