@@ -1,10 +1,10 @@
 //! The stages of a run, by the calls: the policy is loaded, licences are gathered and checked, and what was
 //! found is printed.
 ghost use Rattle.std.specs.Prelude.{◌≡◌, ◌<◌, [], All, IfOk, OnOk};
-ghost use Rattle.load_core.specs.Print.{PacksAreInside};
 ghost use Rattle.policy_core.specs.Places.{PolicyStands};
 ghost use Rattle.gather_core.specs.Premises.{IsPlacedAt};
 ghost use Rattle.unused_core.specs.Laws.{EntriesLie};
+ghost use Rattle.check_core.specs.Labels.{PackLies};
 
 use crate::times::{Times, Watch};
 use crate::world::{POLICY, World};
@@ -115,7 +115,7 @@ fn checked_in<L: Ledger>(
     requires placed { All (IsPlacedAt ctx.now.files.now) summary.now.nfos }
     requires entries { EntriesLie ctx.now.files.now ctx.now.cfg }
     requires empty { sink.old ≡ record { overrides = None; packs = [] } }
-    ensures { OnOk result (PacksAreInside ctx.now.files.now sink.new.packs) }
+    ensures { OnOk result (All (PackLies ctx.now.files.now) sink.new.packs) }
 {
     let mut steps = Steps::<L>::new(ledger);
     check(alloc, ctx, summary, sink, &mut steps)
@@ -131,14 +131,14 @@ fn checked(
     requires placed { All (IsPlacedAt ctx.now.files.now) summary.now.nfos }
     requires entries { EntriesLie ctx.now.files.now ctx.now.cfg }
     requires empty { sink.old ≡ record { overrides = None; packs = [] } }
-    ensures { OnOk result (PacksAreInside ctx.now.files.now sink.new.packs) }
+    ensures { OnOk result (All (PackLies ctx.now.files.now) sink.new.packs) }
 {
     checked_in::<Brand>(Blank::new(1), alloc, ctx, summary, sink)
 }
 
 /// Prints what was found.
 fn print(alloc: Global, packs: &[Pack], files: &Files, sink: &mut MemSink) -> io::Result<()>
-    requires { PacksAreInside files.now packs.now }
+    requires { All (PackLies files.now) packs.now }
 {
     let begun = sink.faults();
     match print_packs(alloc, CONTEXT, packs, files, sink, begun) {
