@@ -88,8 +88,10 @@ fn tell<R: Clock + Print>(
         Some(mut world) => {
             let seen = run(rt, alloc, &mut world, stage)?;
             let crates = world.krates.krates().len();
-            println!(rt; "{crates} crates, {} bytes: {} licensed, {} accepted, {} rejected; {} packs, {} bytes",
-                world.bytes, seen.licensed, seen.accepted, seen.rejected, seen.packs, seen.printed)
+            println!(rt;
+                "{crates} crates, {} bytes: {} licensed, {} accepted, {} rejected; {} packs, {} bytes",
+                world.bytes, seen.licensed, seen.accepted, seen.rejected, seen.packs, seen.printed
+            )
         }
         None => println!(rt; "no crates"),
     }
@@ -125,7 +127,9 @@ fn bench_crates(rt: &HostRuntime, count: u32) -> io::Result<()> {
         print,
     } = times;
     let speed = u128::from(world.bytes) / gather.max(1);
-    println!(rt; "{count} crates: load {load} us, gather {gather} us ({speed} MB/s), check {check} us, print {print} us")
+    println!(rt;
+        "{count} crates: load {load} us, gather {gather} us ({speed} MB/s), check {check} us, print {print} us"
+    )
 }
 
 fn bench(rt: &HostRuntime) -> io::Result<()> {

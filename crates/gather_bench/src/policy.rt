@@ -65,7 +65,10 @@ pub(crate) fn head_of(alloc: Global, entries: u32) -> Result<String, AllocError>
     }
     text.push_str("]\nexceptions = [")?;
     for index in 0..entries {
-        let entry = format!(in alloc; r#"{{ crate = "c{index}", allow = ["{}"] }}, "#, name_at(index))?;
+        let entry = format!(in alloc;
+            r#"{{ crate = "c{index}", allow = ["{}"] }}, "#,
+            name_at(index)
+        )?;
         text.push_str(entry.as_str())?;
     }
     text.push_str("]\n")?;
@@ -86,7 +89,9 @@ pub(crate) fn push_clarification(
     name: &str,
     files: &str,
 ) -> Result<(), AllocError> {
-    let head = format!(in alloc; "[[licenses.clarify]]\ncrate = \"{name}\"\nexpression = \"MIT\"\n")?;
+    let head = format!(in alloc;
+        "[[licenses.clarify]]\ncrate = \"{name}\"\nexpression = \"MIT\"\n"
+    )?;
     policy.push_str(head.as_str())?;
     policy.push_str("license-files = [")?;
     policy.push_str(files)?;

@@ -117,11 +117,7 @@ fn krates(alloc: Global, count: u32) -> Result<Option<Krates>, AllocError> {
     }
 }
 
-fn licensed_crates(
-    alloc: Global,
-    count: u32,
-    policy: String,
-) -> Result<Option<World>, AllocError> {
+fn licensed_crates(alloc: Global, count: u32, policy: String) -> Result<Option<World>, AllocError> {
     let mut made = Made::with_head(alloc, policy);
     for index in 0..count {
         made.add_licensed(alloc, index)?;
