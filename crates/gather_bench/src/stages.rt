@@ -62,6 +62,15 @@ pub(crate) struct Seen {
     pub(crate) times: Times,
 }
 
+/// A run: how far it goes, its clock, and what was seen so far.
+#[derive(Clone, Copy)]
+struct Course<'r, R> {
+    rt: &'r R,
+    last: Stage,
+    watch: Watch,
+    seen: Seen,
+}
+
 /// The policy of a tree. What is wrong with it is printed.
 fn loaded(
     alloc: Global,
@@ -157,28 +166,116 @@ fn licensed(summary: &Summary<'_>) -> usize {
         .count()
 }
 
-impl Seen {
-    fn new() -> Seen {
-        Seen {
-            licensed: 0,
-            accepted: 0,
-            rejected: 0,
-            packs: 0,
-            printed: 0,
-            times: Times::all(0),
-        }
+/// How many verdicts accept a crate.
+fn accepted(verdicts: &[Verdict]) -> usize {
+    verdicts
+        .iter()
+        .filter(|verdict| matches!(verdict, Verdict::Accepted { .. }))
+        .count()
+}
+
+/// How many verdicts reject one.
+fn rejected(verdicts: &[Verdict]) -> usize {
+    verdicts
+        .iter()
+        .filter(|verdict| matches!(verdict, Verdict::Rejected { .. }))
+        .count()
+}
+
+impl<'r, R: Clock> Course<'r, R> {
+    fn start(rt: &'r R, last: Stage) -> io::Result<Course<'r, R>> {
+        Ok(Course {
+            rt,
+            last,
+            watch: Watch::start(rt)?,
+            seen: Seen {
+                licensed: 0,
+                accepted: 0,
+                rejected: 0,
+                packs: 0,
+                printed: 0,
+                times: Times::all(0),
+            },
+        })
     }
 
-    fn count(&mut self, verdicts: &[Verdict]) {
-        self.accepted = verdicts
-            .iter()
-            .filter(|verdict| matches!(verdict, Verdict::Accepted { .. }))
-            .count();
-        self.rejected = verdicts
-            .iter()
-            .filter(|verdict| matches!(verdict, Verdict::Rejected { .. }))
-            .count();
+    /// Takes the time of a stage, which is over; whether it is the last one.
+    fn ends_at(&mut self, stage: Stage) -> io::Result<bool> {
+        let took = self.watch.lap(self.rt)?;
+        match stage {
+            Stage::Made => {}
+            Stage::Loaded => self.seen.times.load = took,
+            Stage::Gathered => self.seen.times.gather = took,
+            Stage::Checked => self.seen.times.check = took,
+            Stage::Printed => self.seen.times.print = took,
+        }
+        Ok(self.last == stage)
     }
+}
+
+/// Checks the crates of a summary, and prints what is found.
+fn from_check<R: Clock>(
+    course: &mut Course<'_, R>,
+    alloc: Global,
+    ctx: &CheckCtx<'_, ValidConfig>,
+    summary: &Summary<'_>,
+    sink: &mut MemSink,
+) -> io::Result<()>
+    requires placed { All (IsPlacedAt ctx.now.files.now) summary.now.nfos }
+    requires entries { EntriesLie ctx.now.files.now ctx.now.cfg }
+{
+    let mut found = ErrorSink::new(alloc, None);
+    let verdicts = checked(alloc, ctx, summary, &mut found)?;
+    course.seen.accepted = accepted(verdicts.items());
+    course.seen.rejected = rejected(verdicts.items());
+    course.seen.packs = found.packs.items().len();
+    if course.ends_at(Stage::Checked)? {
+        return Ok(());
+    }
+    print(alloc, found.packs.items(), ctx.files, sink)?;
+    course.seen.printed = sink.written().len();
+    course.ends_at(Stage::Printed)?;
+    Ok(())
+}
+
+/// Gathers the licences of crates under their policy, and goes on from there.
+fn from_gathering<R: Clock>(
+    course: &mut Course<'_, R>,
+    alloc: Global,
+    policy: ValidConfig,
+    world: &mut World,
+    files: &mut Files,
+    sink: &mut MemSink,
+) -> io::Result<()>
+    requires { PolicyStands files.old policy }
+{
+    let summary = gathered(alloc, &world.krates, files, &policy, &mut world.tree)?;
+    course.seen.licensed = licensed(&summary);
+    if course.ends_at(Stage::Gathered)? {
+        return Ok(());
+    }
+    let ctx = CheckCtx {
+        cfg: policy,
+        krates: &world.krates,
+        log_level: LevelFilter::Info,
+        files,
+    };
+    from_check(course, alloc, &ctx, &summary, sink)
+}
+
+/// Loads the policy of crates, and goes on from there.
+fn from_load<R: Clock>(
+    course: &mut Course<'_, R>,
+    alloc: Global,
+    world: &mut World,
+) -> io::Result<()> {
+    let mut files = Files::new(alloc);
+    let mut sink = MemSink::new(alloc, ROOM, LINE)?;
+    let policy = loaded(alloc, &mut files, &mut world.tree, &mut sink)?;
+    if course.ends_at(Stage::Loaded)? {
+        return Ok(());
+    }
+    from_gathering(course, alloc, policy, world, &mut files, &mut sink)
 }
 
 /// Goes over crates and their policy, from its load to a stage.
@@ -188,40 +285,9 @@ pub(crate) fn run<R: Clock>(
     world: &mut World,
     last: Stage,
 ) -> io::Result<Seen> {
-    let mut seen = Seen::new();
-    if last == Stage::Made {
-        return Ok(seen);
+    let mut course = Course::start(rt, last)?;
+    if last != Stage::Made {
+        from_load(&mut course, alloc, world)?;
     }
-    let mut files = Files::new(alloc);
-    let mut sink = MemSink::new(alloc, ROOM, LINE)?;
-    let mut watch = Watch::start(rt)?;
-    let policy = loaded(alloc, &mut files, &mut world.tree, &mut sink)?;
-    seen.times.load = watch.lap(rt)?;
-    if last == Stage::Loaded {
-        return Ok(seen);
-    }
-    let summary = gathered(alloc, &world.krates, &mut files, &policy, &mut world.tree)?;
-    seen.times.gather = watch.lap(rt)?;
-    seen.licensed = licensed(&summary);
-    if last == Stage::Gathered {
-        return Ok(seen);
-    }
-    let ctx = CheckCtx {
-        cfg: policy,
-        krates: &world.krates,
-        log_level: LevelFilter::Info,
-        files: &files,
-    };
-    let mut found = ErrorSink::new(alloc, None);
-    let verdicts = checked(alloc, &ctx, &summary, &mut found)?;
-    seen.times.check = watch.lap(rt)?;
-    seen.count(verdicts.items());
-    seen.packs = found.packs.items().len();
-    if last == Stage::Checked {
-        return Ok(seen);
-    }
-    print(alloc, found.packs.items(), &files, &mut sink)?;
-    seen.times.print = watch.lap(rt)?;
-    seen.printed = sink.written().len();
-    Ok(seen)
+    Ok(course.seen)
 }
