@@ -1,7 +1,8 @@
 //! The gate over the words and the folder of a process that is made up.
 ghost use Rattle.std.specs.Prelude.{◌≤◌, length, IfSome};
 
-use deny_gate::{exit_code, gate_over};
+use deny_gate::{StartError, exit_code, gate_over};
+use deny_run::report::Outcome;
 use run_rows::{
     OPEN, POLICY, Seen, Want, accepted, before_findings, compare, notes_of, refused, rejected,
     text, told, told_policy, tree,
@@ -89,37 +90,41 @@ fn started(words: &'static [&'static [u8]], folder: Option<&'static str>, want: 
     }
 }
 
-/// The gate over a process, and what it writes.
+/// What the gate over a process came to, and what it wrote.
+fn seen(
+    alloc: Global,
+    ended_at: &Result<Outcome, StartError>,
+    out: &[u8],
+    err: &[u8],
+) -> Result<Seen, Fail> {
+    let out = text(alloc, out)?;
+    match ended_at {
+        Ok(outcome) => Ok(Seen {
+            status: outcome.status,
+            notes: notes_of(&outcome.ended),
+            policy: told_policy(alloc, &outcome.ended)?,
+            ended: told(alloc, &outcome.ended)?,
+            out,
+            err: before_findings(alloc, &outcome.ended, err)?,
+        }),
+        Err(error) => Ok(Seen {
+            status: 1,
+            notes: 0,
+            policy: String::new(alloc),
+            ended: format!(in alloc; "{error:?}")?,
+            out,
+            err: text(alloc, err)?,
+        }),
+    }
+}
+
+/// Runs the gate over a process; the code that the process ends with, and what was seen.
 fn watch(alloc: Global, process: Process, tree: &mut MemTree) -> Result<(ExitCode, Seen), Fail> {
     let mut out = MemSink::new(alloc, 1000, 1000)?;
     let mut err = MemSink::new(alloc, 1000, 1000)?;
     let ended_at = gate_over(&(process, alloc), tree, &mut out, &mut err);
     let code = exit_code(&ended_at);
-    let (status, notes, policy, ended) = match &ended_at {
-        Ok(outcome) => (
-            outcome.status,
-            notes_of(&outcome.ended),
-            told_policy(alloc, &outcome.ended)?,
-            told(alloc, &outcome.ended)?,
-        ),
-        Err(error) => (1, 0, String::new(alloc), format!(in alloc; "{error:?}")?),
-    };
-    let out = text(alloc, out.written())?;
-    let err = match &ended_at {
-        Ok(outcome) => before_findings(alloc, &outcome.ended, err.written())?,
-        Err(_) => text(alloc, err.written())?,
-    };
-    Ok((
-        code,
-        Seen {
-            status,
-            notes,
-            policy,
-            ended,
-            out,
-            err,
-        },
-    ))
+    seen(alloc, &ended_at, out.written(), err.written()).map(|seen| (code, seen))
 }
 
 #[test]
