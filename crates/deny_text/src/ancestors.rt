@@ -44,21 +44,3 @@ pub fn ancestors(path: &str) -> AncestorIter<'_>
 pub fn ancestors_go_up()
     ensures { AncestorsGoUp }
 {}
-
-#[cfg(test)]
-mod tests {
-    use super::*;
-
-    #[test]
-    fn goes_up_to_the_root(rt: HostRuntime) {
-        let mut paths = ancestors("/w/a");
-        assert_eq!(rt; paths.next(), Some("/w/a"));
-        assert_eq!(rt; paths.next(), Some("/w"));
-        assert_eq!(rt; paths.next(), Some("/"));
-        assert_eq!(rt; paths.next(), None);
-        let mut paths = ancestors("a");
-        assert_eq!(rt; paths.next(), Some("a"));
-        assert_eq!(rt; paths.next(), Some(""));
-        assert_eq!(rt; paths.next(), None);
-    }
-}

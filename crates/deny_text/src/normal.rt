@@ -59,24 +59,3 @@ pub fn normal_is_normal()
 pub fn normal_ignores_returns()
     ensures { NormalIgnoresReturns }
 {}
-
-#[cfg(test)]
-mod tests {
-    use super::*;
-    use std::test::Fail;
-
-    #[test]
-    fn ends_each_line_with_one_feed(rt: HostRuntime) -> Result<(), Fail> {
-        for (text, want) in [
-            ("", ""),
-            ("\r", "\n"),
-            ("a", "a\n"),
-            ("a\r\n\r\nb", "a\n\nb\n"),
-            ("a\rb\r\r\n", "a\rb\n"),
-        ] {
-            let normal = normalize(rt.alloc(), text)?;
-            assert_eq!(rt; normal.as_str(), want);
-        }
-        Ok(())
-    }
-}

@@ -18,30 +18,3 @@ pub fn contains<T: Eq>(s: &[T], query: &T) -> bool
 {
     s.contains(query)
 }
-
-#[cfg(test)]
-mod tests {
-    use super::*;
-    use std::test::Fail;
-
-    #[test]
-    fn finds_places(rt: HostRuntime) -> Result<(), Fail> {
-        let mut items: Vec<u32> = Vec::from_array(rt.alloc(), [7, 1, 4])?;
-        items.sort()?;
-        for (query, want) in [
-            (0, Err(0)),
-            (1, Ok(0)),
-            (4, Ok(1)),
-            (5, Err(2)),
-            (8, Err(3)),
-        ] {
-            assert_eq!(rt; binary_search(&items, &query), want, "place of {query}");
-            assert_eq!(rt;
-                contains(&items, &query),
-                want.is_ok(),
-                "whether {query} is there"
-            );
-        }
-        Ok(())
-    }
-}

@@ -27,26 +27,3 @@ pub fn compares_by_value<T: Ord>(x: &Spanned<T>, y: &Spanned<T>) -> (bool, Order
 {
     (x == y, x.cmp(y))
 }
-
-#[cfg(test)]
-mod tests {
-    use super::*;
-
-    #[test]
-    fn places_do_not_count(rt: HostRuntime) {
-        let near = Spanned {
-            value: 1u32,
-            span: Span { start: 0, end: 1 },
-        };
-        let far = Spanned {
-            value: 1u32,
-            span: Span { start: 8, end: 9 },
-        };
-        let more = Spanned {
-            value: 2u32,
-            span: Span { start: 0, end: 1 },
-        };
-        assert_eq!(rt; compares_by_value(&near, &far), (true, Ordering::Equal));
-        assert_eq!(rt; compares_by_value(&far, &more), (false, Ordering::Less));
-    }
-}

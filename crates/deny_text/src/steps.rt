@@ -38,34 +38,3 @@ impl<L: Ledger> Steps<L> {
         self.book.add(&mut self.share, 1);
     }
 }
-
-#[cfg(test)]
-mod tests {
-    use super::*;
-    use std::marker::Brand;
-
-    fn two_steps<L: Ledger>(ledger: Blank) -> Steps<L>
-        requires name { ledger.name ≡ L.name }
-        requires parts { ledger.parts ≡ L.parts }
-        requires some { 0 < ledger.parts }
-        ensures { result ≡ 2 }
-    {
-        let mut steps = Steps::new(ledger);
-        steps.tick();
-        steps.tick();
-        steps
-    }
-
-    fn count<L: Ledger>(ledger: Blank)
-        requires name { ledger.name ≡ L.name }
-        requires parts { ledger.parts ≡ L.parts }
-        requires some { 0 < ledger.parts }
-    {
-        let _steps = two_steps::<L>(ledger);
-    }
-
-    #[test]
-    fn counts_at_a_ledger_of_its_own() {
-        count::<Brand>(Blank::new(1));
-    }
-}

@@ -124,33 +124,3 @@ impl<'a, V> Iterator for TextMapIter<'a, V> {
         }
     }
 }
-
-#[cfg(test)]
-mod tests {
-    use super::*;
-    use std::test::Fail;
-
-    #[test]
-    fn keeps_the_last_value(rt: HostRuntime) -> Result<(), Fail> {
-        let mut map = TextMap::new(rt.alloc());
-        for (key, value, old) in [
-            ("b", 1u32, None),
-            ("a", 2, None),
-            ("b", 3, Some(1)),
-            ("", 4, None),
-        ] {
-            assert_eq!(rt; map.insert(Text::copy(rt.alloc(), key)?, value)?, old);
-        }
-        let mut entries = map.iter();
-        for want in [("", 4), ("a", 2), ("b", 3)] {
-            let next = entries.next().map(|entry| (entry.0, *entry.1));
-            assert_eq!(rt; next, Some(want));
-        }
-        assert!(rt; entries.next().is_none());
-        assert_eq!(rt; map.get("a").copied(), Some(2));
-        assert_eq!(rt; map.get("c").copied(), None);
-        assert_eq!(rt; map.len(), 3);
-        assert!(rt; !map.is_empty());
-        Ok(())
-    }
-}

@@ -6,8 +6,6 @@ ghost use Rattle.key_index.specs.KeyPlaces.{place_of};
 
 mod parts;
 mod places;
-#[cfg(test)]
-mod tests;
 
 use deny_text::TextMap;
 pub use parts::KeyParts;

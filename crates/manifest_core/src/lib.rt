@@ -11,6 +11,3 @@ pub use manifest::Told;
 pub use slashes::correct_span;
 pub use span_search::license_span;
 pub use synthetic::{Piece, Synthetic};
-
-#[cfg(test)]
-mod tests;

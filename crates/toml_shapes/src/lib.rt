@@ -2,7 +2,5 @@
 #![tactic(auto)]
 
 pub mod shape;
-#[cfg(test)]
-mod tests;
 
 pub use shape::{DeserError, ErrorKind, Kind, ShapeError, ShapeErrors, answer, one_fault, refuse};
