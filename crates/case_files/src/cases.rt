@@ -1,0 +1,205 @@
+//! Compares the cases of a file with what they come to.
+use crate::case::{Block, Case, Entry, blocks_of, word_of};
+use crate::told::{Told, bytes_of, show, text_of};
+use std::alloc::{AllocError, Global};
+use std::io;
+
+/// What a program makes of cases.
+pub trait Cases {
+    /// Whether a key says what is put in. Each other key says what is wanted.
+    fn is_given(&self, key: &str) -> bool;
+
+    /// What a case comes to under a key; none where there is no such key.
+    fn told(&self, alloc: Global, case: &Case<'_>, key: &str) -> io::Result<Option<String>>;
+}
+
+/// Whether a key is for each program the same: the base, and a value that stands in texts by its name.
+pub fn is_shared(key: &str) -> bool {
+    key == "with" || key == "let"
+}
+
+/// What an entry wants: the word behind its key, or else the text below it.
+pub fn wanted(entry: &Entry) -> &str {
+    if entry.word.as_str().is_empty() {
+        str::from_utf8(&entry.text).unwrap_or("no UTF-8")
+    } else {
+        entry.word.as_str()
+    }
+}
+
+fn block_named<'b>(blocks: &'b [Block], is_base: bool, name: &str) -> Option<&'b Block> {
+    for block in blocks {
+        if block.is_base == is_base && block.name.as_str() == name {
+            return Some(block);
+        }
+    }
+    None
+}
+
+/// The entries of a block's base; none where there is no such base.
+fn base_of<'b>(blocks: &'b [Block], block: &Block) -> Option<&'b [Entry]> {
+    let name = word_of(block, "with");
+    if name.is_empty() {
+        return Some(&[]);
+    }
+    match block_named(blocks, true, name) {
+        Some(base) => Some(&base.entries),
+        None => None,
+    }
+}
+
+/// What is wrong with a block by itself, among all of its file.
+fn fault_of(blocks: &[Block], block: &Block) -> Option<&'static str> {
+    let name = block.name.as_str();
+    if name.is_empty() {
+        return Some("a case without a name");
+    }
+    match block_named(blocks, block.is_base, name) {
+        Some(first) if first.line != block.line => Some("a second case of this name"),
+        _ => None,
+    }
+}
+
+/// A case of a file, or what is wrong with it.
+pub fn case_of<'c>(
+    file: &'c str,
+    blocks: &'c [Block],
+    block: &'c Block,
+) -> Result<Case<'c>, &'static str> {
+    if let Some(fault) = fault_of(blocks, block) {
+        return Err(fault);
+    }
+    match base_of(blocks, block) {
+        Some(base) => Ok(Case {
+            file,
+            name: block.name.as_str(),
+            base,
+            own: &block.entries,
+        }),
+        None => Err("a base that is not there"),
+    }
+}
+
+/// Compares what was seen under a key with what is wanted.
+pub fn compare(
+    told: &mut Told,
+    case: &Case<'_>,
+    entry: &Entry,
+    seen: &io::Result<Option<String>>,
+) -> Result<(), AllocError> {
+    match seen {
+        Ok(Some(seen)) if seen.as_str() == wanted(entry) => Ok(()),
+        Ok(Some(seen)) => told.differ(
+            case.file,
+            entry.line,
+            case.name,
+            seen.as_str(),
+            wanted(entry),
+        ),
+        Ok(None) => told.tell(case.file, entry.line, "a key that is not known"),
+        Err(_) => told.tell(case.file, entry.line, "a case that can't be tried"),
+    }
+}
+
+/// Compares an entry that says what is wanted, and returns whether it is one.
+fn compare_entry<C: Cases>(
+    alloc: Global,
+    told: &mut Told,
+    case: &Case<'_>,
+    entry: &Entry,
+    cases: &C,
+) -> Result<bool, AllocError> {
+    let key = entry.key.as_str();
+    if is_shared(key) || cases.is_given(key) {
+        return Ok(false);
+    }
+    let seen = cases.told(alloc, case, key);
+    compare(told, case, entry, &seen)?;
+    Ok(true)
+}
+
+fn compare_case<C: Cases>(
+    alloc: Global,
+    told: &mut Told,
+    case: &Case<'_>,
+    line: u64,
+    cases: &C,
+) -> Result<(), AllocError> {
+    let mut has_wanted = false;
+    for entry in case.own {
+        let is_wanted = compare_entry(alloc, told, case, entry, cases)?;
+        has_wanted = has_wanted | is_wanted;
+    }
+    if has_wanted {
+        Ok(())
+    } else {
+        told.tell(case.file, line, "a case that wants nothing")
+    }
+}
+
+fn take<C: Cases>(
+    alloc: Global,
+    told: &mut Told,
+    file: &str,
+    blocks: &[Block],
+    block: &Block,
+    cases: &C,
+) -> Result<(), AllocError> {
+    match case_of(file, blocks, block) {
+        Err(what) => told.tell(file, block.line, what),
+        Ok(case) if !block.is_base => compare_case(alloc, told, &case, block.line, cases),
+        Ok(_) => Ok(()),
+    }
+}
+
+/// How many cases there are, bases left out.
+pub fn number_of(blocks: &[Block]) -> u64 {
+    let mut number: u64 = 0;
+    for block in blocks {
+        if !block.is_base {
+            number = number.saturating_add(1);
+        }
+    }
+    number
+}
+
+/// What is told of the cases of a text.
+pub fn told_cases<C: Cases>(
+    alloc: Global,
+    file: &str,
+    text: &str,
+    cases: &C,
+) -> Result<Told, AllocError> {
+    let mut told = Told::new(alloc);
+    let blocks = blocks_of(alloc, &mut told, file, text)?;
+    for block in blocks.iter() {
+        take(alloc, &mut told, file, &blocks, block, cases)?;
+    }
+    told.count(file, number_of(&blocks), "cases")?;
+    Ok(told)
+}
+
+fn told_bytes<C: Cases>(
+    alloc: Global,
+    file: &str,
+    bytes: &[u8],
+    cases: &C,
+) -> Result<Told, AllocError> {
+    let mut told = Told::new(alloc);
+    match text_of(&mut told, file, bytes)? {
+        Some(text) => told_cases(alloc, file, text, cases),
+        None => Ok(told),
+    }
+}
+
+fn told_file<C: Cases>(rt: &HostRuntime, file: &str, cases: &C) -> io::Result<Told> {
+    let bytes = bytes_of(rt, file)?;
+    Ok(told_bytes(rt.alloc(), file, &bytes, cases)?)
+}
+
+/// Compares the cases of a file of the folder that the program runs in, prints how many there are, and on standard error what
+/// differs. Returns whether nothing does.
+pub fn compare_cases<C: Cases>(rt: &HostRuntime, file: &str, cases: &C) -> bool {
+    let told = told_file(rt, file, cases);
+    show(rt, file, &told)
+}

@@ -1,0 +1,16 @@
+//! Rows and cases that stand in files: how they are written, and how a program compares them with what it answers.
+#![tactic(auto)]
+
+pub mod case;
+pub mod cases;
+pub mod escapes;
+pub mod rows;
+#[cfg(test)]
+mod tests;
+pub mod told;
+pub mod tree;
+
+pub use case::{Case, Entry};
+pub use cases::{Cases, compare_cases};
+pub use rows::{Rows, compare_rows};
+pub use told::{Told, exit_code};

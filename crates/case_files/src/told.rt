@@ -1,0 +1,125 @@
+//! What a program tells of a file: how many rows or cases it has, and what differs in them.
+use std::alloc::{AllocError, Global};
+use std::process::ExitCode;
+use std::rt::Runtime;
+use std::{fs, io};
+
+/// Why a line can't be read.
+#[derive(Clone, Copy, Debug, PartialEq, Eq)]
+pub enum Unread {
+    Memory,
+    /// What is wrong with it, in words.
+    Line(&'static str),
+}
+
+impl From<AllocError> for Unread {
+    fn from(_: AllocError) -> Unread {
+        Unread::Memory
+    }
+}
+
+/// A line for each group or file with the number of its rows or cases, and what is to be told of single lines.
+#[derive(Drop)]
+pub struct Told {
+    pub counts: String,
+    pub differences: String,
+}
+
+impl Told {
+    pub fn new(alloc: Global) -> Told {
+        Told {
+            counts: String::new(alloc),
+            differences: String::new(alloc),
+        }
+    }
+
+    /// Tells how many rows or cases something has.
+    pub fn count(&mut self, name: &str, number: u64, of: &str) -> Result<(), AllocError> {
+        write!(self.counts, "{name}: {number} {of}\n")
+    }
+
+    /// Tells something of a line, which is counted from 1.
+    pub fn tell(&mut self, file: &str, line: u64, what: &str) -> Result<(), AllocError> {
+        write!(self.differences, "{file}:{line}: {what}\n")
+    }
+
+    /// Tells that a line can't be read.
+    pub fn tell_unread(&mut self, file: &str, line: u64, why: Unread) -> Result<(), AllocError> {
+        match why {
+            Unread::Memory => Err(AllocError),
+            Unread::Line(what) => self.tell(file, line, what),
+        }
+    }
+
+    /// Tells that something of a line is not as it is wanted.
+    pub fn differ(
+        &mut self,
+        file: &str,
+        line: u64,
+        what: &str,
+        seen: &str,
+        wanted: &str,
+    ) -> Result<(), AllocError> {
+        write!(
+            self.differences,
+            "{file}:{line}: {what}\n  is  {seen:?}\n  not {wanted:?}\n"
+        )
+    }
+}
+
+/// The line that a byte stands in, counted from 1.
+fn line_at(bytes: &[u8], place: usize) -> u64 {
+    let mut line: u64 = 1;
+    for byte in bytes.iter().take(place) {
+        if *byte == b'\n' {
+            line = line.saturating_add(1);
+        }
+    }
+    line
+}
+
+/// The text of a file; none where it is no UTF-8, which is told.
+pub fn text_of<'b>(
+    told: &mut Told,
+    file: &str,
+    bytes: &'b [u8],
+) -> Result<Option<&'b str>, AllocError> {
+    match str::from_utf8(bytes) {
+        Ok(text) => Ok(Some(text)),
+        Err(error) => {
+            let line = line_at(bytes, error.valid_up_to());
+            told.tell(file, line, "the file is no UTF-8")?;
+            Ok(None)
+        }
+    }
+}
+
+/// The bytes of a file of the folder that the program runs in.
+pub fn bytes_of(rt: &HostRuntime, file: &str) -> io::Result<Vec<u8>> {
+    fs::read(rt, file)
+}
+
+fn print(rt: &HostRuntime, told: &Told) -> io::Result<()> {
+    print!(rt; "{}", told.counts.as_str())?;
+    eprint!(rt; "{}", told.differences.as_str())
+}
+
+/// Prints what is told of a file, and returns whether all of it is as wanted.
+pub fn show(rt: &HostRuntime, file: &str, told: &io::Result<Told>) -> bool {
+    match told {
+        Ok(told) => print(rt, told).is_ok() && told.differences.is_empty(),
+        Err(error) => {
+            let _ = eprintln!(rt; "{file}: {error}");
+            false
+        }
+    }
+}
+
+/// What a program ends with: 0 where all is as wanted, else 1.
+pub fn exit_code(all_is_as_wanted: bool) -> ExitCode {
+    if all_is_as_wanted {
+        ExitCode::from(0)
+    } else {
+        ExitCode::from(1)
+    }
+}

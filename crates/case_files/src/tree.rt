@@ -1,0 +1,115 @@
+//! The tree of a case, and the values, words and numbers of it.
+use crate::case::{Case, Entry};
+use std::alloc::{AllocError, Global};
+use std::io;
+use tree_core::MemTree;
+
+/// The value of an entry `let NAME = VALUE`, if it is of this name.
+fn value_in<'e>(entry: &'e Entry, name: &str) -> Option<&'e str> {
+    if entry.key.as_str() != "let" {
+        return None;
+    }
+    let (key, value) = entry.word.as_str().split_once(" =")?;
+    if key == name {
+        Some(value.trim())
+    } else {
+        None
+    }
+}
+
+fn value_among<'e>(entries: &'e [Entry], name: &str) -> Option<&'e str> {
+    for entry in entries {
+        if let Some(value) = value_in(entry, name) {
+            return Some(value);
+        }
+    }
+    None
+}
+
+/// A value by its name: of the case, or else of its base.
+fn value_of<'c>(case: &Case<'c>, name: &str) -> Option<&'c str> {
+    match value_among(case.own, name) {
+        Some(value) => Some(value),
+        None => value_among(case.base, name),
+    }
+}
+
+/// Appends a piece behind a dollar sign, and returns whether it was the name of a value.
+fn put_named(out: &mut Vec<u8>, case: &Case<'_>, piece: &str) -> Result<bool, AllocError> {
+    match value_of(case, piece) {
+        Some(value) => {
+            out.extend_from_slice(value.as_bytes())?;
+            Ok(true)
+        }
+        None => {
+            out.push(b'$')?;
+            out.extend_from_slice(piece.as_bytes())?;
+            Ok(false)
+        }
+    }
+}
+
+fn put_filled(out: &mut Vec<u8>, case: &Case<'_>, text: &str) -> Result<(), AllocError> {
+    let mut is_behind_dollar = false;
+    for piece in text.split('$') {
+        if is_behind_dollar {
+            is_behind_dollar = !put_named(out, case, piece)?;
+        } else {
+            out.extend_from_slice(piece.as_bytes())?;
+            is_behind_dollar = true;
+        }
+    }
+    Ok(())
+}
+
+/// The text of an entry, in which each value stands whose name is between dollar signs.
+pub fn text_of(alloc: Global, case: &Case<'_>, entry: &Entry) -> Result<Vec<u8>, AllocError> {
+    let mut out = Vec::new(alloc);
+    match str::from_utf8(&entry.text) {
+        Ok(text) => put_filled(&mut out, case, text)?,
+        Err(_) => out.extend_from_slice(&entry.text)?,
+    }
+    Ok(out)
+}
+
+fn put_file(alloc: Global, tree: &mut MemTree, case: &Case<'_>, entry: &Entry) -> io::Result<()> {
+    let bytes = text_of(alloc, case, entry)?;
+    match tree.put(entry.word.as_str(), &bytes) {
+        Ok(()) => Ok(()),
+        Err(_) => Err(io::Error::from(io::ErrorKind::InvalidInput)),
+    }
+}
+
+/// Puts the files of some entries into a tree.
+fn put_files(
+    alloc: Global,
+    tree: &mut MemTree,
+    case: &Case<'_>,
+    entries: &[Entry],
+) -> io::Result<()> {
+    for entry in entries {
+        if entry.key.as_str() == "file" {
+            put_file(alloc, tree, case, entry)?;
+        }
+    }
+    Ok(())
+}
+
+/// The tree of a case: the files of its base, and then its own, by the key `file`.
+pub fn tree_of(alloc: Global, case: &Case<'_>) -> io::Result<MemTree> {
+    let mut tree = MemTree::new(alloc);
+    put_files(alloc, &mut tree, case, case.base)?;
+    put_files(alloc, &mut tree, case, case.own)?;
+    Ok(tree)
+}
+
+/// A number, if the word is one.
+pub fn number(word: &str) -> Option<u64> {
+    word.parse::<u64>().ok()
+}
+
+/// The first and the last of a range of numbers, written as `7` or as `1..7`.
+pub fn range_of(word: &str) -> Option<(u64, u64)> {
+    let (first, last) = word.split_once("..").unwrap_or((word, word));
+    Some((number(first)?, number(last)?))
+}
