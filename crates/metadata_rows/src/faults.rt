@@ -1,9 +1,7 @@
 //! Whether a text is metadata, or what its fault is.
+use crate::sources::SPARSE_DIR;
 use records_core::{MetaError, records};
 use std::alloc::{AllocError, Global};
-
-/// The folder in which cargo keeps crates of the sparse index of crates.io.
-pub const SPARSE_DIR: &str = "index.crates.io-1949cf8c6b5b557f";
 
 /// The metadata of one crate, in which a row puts one text in place of another.
 const ONE_CRATE: &str = r#"

@@ -1,8 +1,10 @@
 //! Sources, the addresses that they match, and the normal form of git addresses.
-use crate::faults::SPARSE_DIR;
 use source_core::{Source, SourceError, matches_address, normalize_git_url};
 use std::alloc::{AllocError, Global};
 use url::Url;
+
+/// The folder in which cargo keeps crates of the sparse index of crates.io.
+pub const SPARSE_DIR: &str = "index.crates.io-1949cf8c6b5b557f";
 
 /// The source that metadata has, with the path of the crate's manifest behind ` at `; or `crates.io`, or `crates.io, sparse`.
 pub fn source_of(alloc: Global, text: &str) -> Result<Source, SourceError> {

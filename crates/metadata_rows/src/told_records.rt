@@ -1,7 +1,7 @@
 //! The records that metadata tells, and the order of sources.
-use crate::faults::SPARSE_DIR;
 use crate::given::text_below;
 use crate::source_order;
+use crate::sources::SPARSE_DIR;
 use case_files::{Case, Cases};
 use deny_text::{PathBuf, Text, Texts};
 use records_core::{Edge, FeatureMap, Krate, Metadata, records};
