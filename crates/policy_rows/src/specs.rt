@@ -13,12 +13,7 @@ use toml_value::read_value;
 pub struct SpecRows;
 
 impl Rows for SpecRows {
-    fn answer(
-        &self,
-        alloc: Global,
-        group: &str,
-        text: &str,
-    ) -> Result<Option<String>, AllocError> {
+    fn answer(&self, alloc: Global, group: &str, text: &str) -> Result<Option<String>, AllocError> {
         let seen = match group {
             "strings" => string_read(alloc, text)?,
             "values" => value_read(alloc, text)?,

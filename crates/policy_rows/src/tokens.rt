@@ -13,12 +13,7 @@ use toml_subset::{
 pub struct TokenRows;
 
 impl Rows for TokenRows {
-    fn answer(
-        &self,
-        alloc: Global,
-        group: &str,
-        text: &str,
-    ) -> Result<Option<String>, AllocError> {
+    fn answer(&self, alloc: Global, group: &str, text: &str) -> Result<Option<String>, AllocError> {
         let seen = match group {
             "numbers" => number_shown(alloc, text)?,
             "numbers in a text" => number_at(alloc, text)?,

@@ -8,20 +8,12 @@ use toml_value::{Value, ValueInner, parse, read_value};
 pub struct TomlRows;
 
 impl Rows for TomlRows {
-    fn answer(
-        &self,
-        alloc: Global,
-        group: &str,
-        text: &str,
-    ) -> Result<Option<String>, AllocError> {
+    fn answer(&self, alloc: Global, group: &str, text: &str) -> Result<Option<String>, AllocError> {
         let seen = match group {
             "values" | "values with faults" => front_shown(alloc, text)?,
             "deep values" => front_placed(alloc, text)?,
-            "texts"
-            | "texts with faults"
-            | "examples"
-            | "examples with faults"
-            | "refused keys" => text_shown(alloc, text)?,
+            "texts" | "texts with faults" | "examples" | "examples with faults" | "refused keys" =>
+                text_shown(alloc, text)?,
             "deep texts" => text_placed(alloc, text)?,
             "at paths" => paths_shown(alloc, text)?,
             "names" => names_shown(alloc, text)?,

@@ -11,12 +11,7 @@ use toml_value::{Value, parse};
 pub struct TypedRows;
 
 impl Rows for TypedRows {
-    fn answer(
-        &self,
-        alloc: Global,
-        group: &str,
-        text: &str,
-    ) -> Result<Option<String>, AllocError> {
+    fn answer(&self, alloc: Global, group: &str, text: &str) -> Result<Option<String>, AllocError> {
         let seen = match group {
             "a type of two keys"
             | "a type of five keys"
