@@ -1,6 +1,6 @@
 //! Rows of a policy's entries, and of what is heard of its file.
 use crate::loads::refusal;
-use crate::policies::threshold;
+use crate::policies::shape_told;
 use crate::shown::{read, value_of};
 use case_files::Rows;
 use deny_text::Text;
@@ -77,7 +77,7 @@ impl Rows for EntryRows {
             "exception" => read::<Exception>(alloc, text)?,
             "exceptions file" => read::<ExceptionsFile>(alloc, text)?,
             "clarification" => read::<Clarification>(alloc, text)?,
-            "threshold" => threshold(alloc, text)?,
+            "threshold" => shape_told(alloc, group, text)?,
             "policy's file" => heard(alloc, text)?,
             _ => return Ok(None),
         };

@@ -1,7 +1,7 @@
 //! Exceptions files beside policies, out of trees in memory, and all that is told of the two. The policy has the
 //! number 0.
 ghost use Rattle.std.specs.Prelude.{◌≡◌, IsTrue};
-ghost use Rattle.std.specs.Option.{ForSome};
+ghost use Rattle.std.specs.Option.{ForSome, option_and_then};
 ghost use Rattle.diag_core.specs.File.{id_at};
 
 use crate::findings::put_findings;
@@ -35,22 +35,11 @@ pub fn path_of(alloc: Global, word: &str) -> Result<Option<PathBuf>, AllocError>
 
 /// Where a case has its policy: at `/w/p.toml`, or where it is absent.
 fn source_of<'c>(case: &Case<'c>) -> PolicySource<'c> {
-    match case.entry("absent") {
-        Some(entry) if entry.word.as_str().is_empty() => PolicySource {
-            file_id: 0,
-            path: None,
-            is_there: false,
-        },
-        Some(entry) => PolicySource {
-            file_id: 0,
-            path: Some(entry.word.as_str()),
-            is_there: false,
-        },
-        None => PolicySource {
-            file_id: 0,
-            path: Some("/w/p.toml"),
-            is_there: true,
-        },
+    let path = case.word_or("absent", "/w/p.toml");
+    PolicySource {
+        file_id: 0,
+        path: if path.is_empty() { None } else { Some(path) },
+        is_there: case.entry("absent").is_none(),
     }
 }
 
@@ -68,12 +57,15 @@ fn known(alloc: Global, case: &Case<'_>) -> io::Result<Files> {
     }
 }
 
-/// Whether the path is that of no file, or of this one.
-fn is_of_no_other(files: &Files, path: &str, file: FileId) -> bool
-    ensures { IsTrue result → ForSome (id_at files.now path.now) (λ id. id ≡ file) }
+/// Whether a path, if there is one, is that of no file or of this one.
+fn is_of_no_other(files: &Files, path: &Option<PathBuf>, file: FileId) -> bool
+    ensures { IsTrue result → ForSome (option_and_then (id_at files.now) path.now) (λ id. id ≡ file) }
 {
-    match files.id_for_path(path) {
-        Some(id) => id == file,
+    match path {
+        Some(path) => match files.id_for_path(path.as_path()) {
+            Some(id) => id == file,
+            None => true,
+        },
         None => true,
     }
 }
@@ -84,39 +76,15 @@ fn loaded_with(
     alloc: Global,
     source: &PolicySource<'_>,
     root: RootConfig,
-    path: PathBuf,
+    path: Option<PathBuf>,
     tree: &mut MemTree,
     files: &mut Files,
 ) -> io::Result<Loaded> {
     let mut found = Diagnostics::new(alloc);
-    if !is_of_no_other(files, path.as_path(), source.file_id) {
+    if !is_of_no_other(files, &path, source.file_id) {
         return Err(io::Error::from(io::ErrorKind::InvalidInput));
     }
-    match load_policy(
-        alloc,
-        source,
-        root,
-        Some(path),
-        tree,
-        files,
-        &mut found,
-        &Table,
-    ) {
-        Ok(policy) => Ok(Loaded { policy, found }),
-        Err(error) => Err(io::Error::from(error)),
-    }
-}
-
-/// A policy without an exceptions file.
-fn loaded_alone(
-    alloc: Global,
-    source: &PolicySource<'_>,
-    root: RootConfig,
-    tree: &mut MemTree,
-    files: &mut Files,
-) -> io::Result<Loaded> {
-    let mut found = Diagnostics::new(alloc);
-    match load_policy(alloc, source, root, None, tree, files, &mut found, &Table) {
+    match load_policy(alloc, source, root, path, tree, files, &mut found, &Table) {
         Ok(policy) => Ok(Loaded { policy, found }),
         Err(error) => Err(io::Error::from(error)),
     }
@@ -130,11 +98,8 @@ fn load_case(
     tree: &mut MemTree,
 ) -> io::Result<Loaded> {
     let mut files = known(alloc, case)?;
-    let source = source_of(case);
-    match path_of(alloc, case.word("exceptions"))? {
-        Some(path) => loaded_with(alloc, &source, root, path, tree, &mut files),
-        None => loaded_alone(alloc, &source, root, tree, &mut files),
-    }
+    let path = path_of(alloc, case.word("exceptions"))?;
+    loaded_with(alloc, &source_of(case), root, path, tree, &mut files)
 }
 
 fn put_exception(said: &mut String, exception: &ValidException) -> Result<(), AllocError> {

@@ -1,11 +1,11 @@
 //! Policies and their exceptions files in trees in memory, and what comes of their loads.
 use crate::exceptions::{path_of, tree_with_failure};
+use crate::findings::put_findings;
+use crate::shown::put_shape;
 use case_files::{Case, Cases};
 use deny_text::Span;
 use diag_core::{Files, LevelFilter};
-use load_core::{
-    Diagnostics, LoadError, LoadedPolicy, PolicyPaths, ShapeErrors, SyntaxError, load,
-};
+use load_core::{LoadError, LoadedPolicy, PolicyPaths, SyntaxError, load};
 use print_core::{Color, Format, LogContext};
 use spdx_core::Table;
 use std::alloc::{AllocError, Global};
@@ -83,33 +83,9 @@ fn ending_of(alloc: Global, case: &Case<'_>, room: usize) -> io::Result<Ending> 
     Ok(ending_in(alloc, case, room, &mut tree)?)
 }
 
-fn put_span(said: &mut String, span: Span) -> Result<(), AllocError> {
-    let Span { start, end } = span;
-    write!(said, " {start}..{end}")
-}
-
-fn put_shape(said: &mut String, faults: &ShapeErrors) -> Result<(), AllocError> {
-    said.push_str("shape")?;
-    for fault in faults.items() {
-        put_span(said, fault.span)?;
-        write!(said, " {fault};")?;
-    }
-    Ok(())
-}
-
-fn put_places_of(said: &mut String, found: &Diagnostics) -> Result<(), AllocError> {
-    write!(said, "invalid {}", found.items().len())?;
-    for finding in found.items() {
-        for label in finding.labels.items() {
-            put_span(said, label.range)?;
-        }
-    }
-    Ok(())
-}
-
 fn put_syntax(said: &mut String, fault: &SyntaxError) -> Result<(), AllocError> {
-    write!(said, "{:?}", fault.reason)?;
-    put_span(said, fault.span)
+    let Span { start, end } = fault.span;
+    write!(said, "{:?} {start}..{end}", fault.reason)
 }
 
 fn put_refusal(said: &mut String, error: &LoadError) -> Result<(), AllocError> {
@@ -119,7 +95,7 @@ fn put_refusal(said: &mut String, error: &LoadError) -> Result<(), AllocError> {
         LoadError::ConfigSyntax(fault) => put_syntax(said, fault),
         LoadError::ConfigShape(faults) => put_shape(said, faults),
         LoadError::NotCarried => said.push_str("not carried"),
-        LoadError::ConfigInvalid(found) => put_places_of(said, found),
+        LoadError::ConfigInvalid(found) => put_findings(said, found),
         LoadError::WriteFault { before, after } => write!(said, "write {before} {after}"),
     }
 }

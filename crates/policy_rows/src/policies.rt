@@ -1,6 +1,6 @@
 //! Cases of whole policies as they are written, and the parts of their texts that other modules need.
 use crate::loads::refusal;
-use crate::shown::{Shown, put_faults, told};
+use crate::shown::{Shown, put_faults, put_told};
 use case_files::{Case, Cases};
 use key_rows::take_value;
 use load_core::LoadError;
@@ -34,30 +34,6 @@ fn licenses_in<'v>(root: &mut Value<'v>) -> Option<Value<'v>> {
     }
 }
 
-/// The table `licenses` of a policy's text.
-fn licenses_of(alloc: Global, text: &str) -> Option<Value<'_>> {
-    match parse(alloc, text) {
-        Ok(mut root) => licenses_in(&mut root),
-        Err(_) => None,
-    }
-}
-
-/// What the table `licenses` alone says, or its faults.
-fn licenses_told(alloc: Global, text: &str) -> Result<String, AllocError> {
-    match licenses_of(alloc, text) {
-        Some(mut value) => told::<Config>(alloc, &mut value),
-        None => String::from_str(alloc, "no licences"),
-    }
-}
-
-/// What the whole policy says, or its faults.
-fn root_told(alloc: Global, text: &str) -> Result<String, AllocError> {
-    match parse(alloc, text) {
-        Ok(mut value) => told::<RootConfig>(alloc, &mut value),
-        Err(_) => String::from_str(alloc, "no value"),
-    }
-}
-
 fn put_faults_of<T: Deserialize<Table> + Drop>(
     alloc: Global,
     value: &mut Value<'_>,
@@ -67,26 +43,6 @@ fn put_faults_of<T: Deserialize<Table> + Drop>(
         Ok(_) => said.push_str("none"),
         Err(error) => put_faults(said, &error),
     }
-}
-
-/// The faults of the table `licenses` alone.
-fn licenses_faults(alloc: Global, text: &str) -> Result<String, AllocError> {
-    let mut said = String::new(alloc);
-    match licenses_of(alloc, text) {
-        Some(mut value) => put_faults_of::<Config>(alloc, &mut value, &mut said)?,
-        None => said.push_str("no licences")?,
-    }
-    Ok(said)
-}
-
-/// The faults of the whole policy.
-fn root_faults(alloc: Global, text: &str) -> Result<String, AllocError> {
-    let mut said = String::new(alloc);
-    match parse(alloc, text) {
-        Ok(mut value) => put_faults_of::<RootConfig>(alloc, &mut value, &mut said)?,
-        Err(_) => said.push_str("no value")?,
-    }
-    Ok(said)
 }
 
 fn put_threshold(
@@ -100,12 +56,43 @@ fn put_threshold(
     }
 }
 
-/// The threshold of the table `licenses`.
-pub fn threshold(alloc: Global, text: &str) -> Result<String, AllocError> {
+/// Appends what a key names of the table `licenses` alone.
+fn put_licenses(
+    alloc: Global,
+    key: &str,
+    root: &mut Value<'_>,
+    said: &mut String,
+) -> Result<(), AllocError> {
+    match licenses_in(root) {
+        Some(mut value) => match key {
+            "licenses" => put_told::<Config>(alloc, &mut value, said),
+            "threshold" => put_threshold(alloc, &mut value, said),
+            _ => put_faults_of::<Config>(alloc, &mut value, said),
+        },
+        None => said.push_str("no licences"),
+    }
+}
+
+fn put_shape_of(
+    alloc: Global,
+    key: &str,
+    root: &mut Value<'_>,
+    said: &mut String,
+) -> Result<(), AllocError> {
+    match key {
+        "whole" => put_told::<RootConfig>(alloc, root, said),
+        "whole-faults" => put_faults_of::<RootConfig>(alloc, root, said),
+        _ => put_licenses(alloc, key, root, said),
+    }
+}
+
+/// What a key names of the policy that a text is: the fields or the faults of the whole, or those of its table
+/// `licenses` alone.
+pub fn shape_told(alloc: Global, key: &str, text: &str) -> Result<String, AllocError> {
     let mut said = String::new(alloc);
-    match licenses_of(alloc, text) {
-        Some(mut value) => put_threshold(alloc, &mut value, &mut said)?,
-        None => said.push_str("no licences")?,
+    match parse(alloc, text) {
+        Ok(mut root) => put_shape_of(alloc, key, &mut root, &mut said)?,
+        Err(_) => said.push_str("no value")?,
     }
     Ok(said)
 }
@@ -161,11 +148,8 @@ impl Cases for PolicyCases {
     fn told(&self, alloc: Global, case: &Case<'_>, key: &str) -> io::Result<Option<String>> {
         let text = policy_of(case);
         let answer = match key {
-            "licenses" => licenses_told(alloc, text)?,
-            "faults" => licenses_faults(alloc, text)?,
+            "licenses" | "faults" | "whole" | "whole-faults" => shape_told(alloc, key, text)?,
             "left-out" => left_out(alloc)?,
-            "whole" => root_told(alloc, text)?,
-            "whole-faults" => root_faults(alloc, text)?,
             "read" => read_told(alloc, text)?,
             _ => return Ok(None),
         };

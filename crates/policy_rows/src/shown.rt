@@ -5,7 +5,7 @@ use policy_core::{
     BlanketAgreement, Clarification, Config, Exception, ExceptionsFile, FileSource, GraphConfig,
     Licensee, LintLevel, OutputConfig, Private, Reason, RootConfig, Scope, Target,
 };
-use policy_toml::{DeserError, Deserialize, Value};
+use policy_toml::{DeserError, Deserialize, ShapeErrors, Value};
 use spdx_core::Table;
 use std::alloc::{AllocError, Global};
 use toml_value::read_value;
@@ -214,20 +214,24 @@ impl Shown for RootConfig {
 }
 
 /// Appends faults of a value's shape.
+pub fn put_shape(said: &mut String, faults: &ShapeErrors) -> Result<(), AllocError> {
+    for fault in faults.items() {
+        let Span { start, end } = fault.span;
+        write!(said, "{start}..{end} {fault};")?;
+    }
+    Ok(())
+}
+
+/// Appends why a value is refused.
 pub fn put_faults(said: &mut String, error: &DeserError) -> Result<(), AllocError> {
     match error {
-        DeserError::Faults(faults) => {
-            for fault in faults.items() {
-                let Span { start, end } = fault.span;
-                write!(said, "{start}..{end} {fault};")?;
-            }
-            Ok(())
-        }
+        DeserError::Faults(faults) => put_shape(said, faults),
         DeserError::Memory => said.push_str("out of memory"),
     }
 }
 
-fn put_told<T: Deserialize<Table> + Shown + Drop>(
+/// Appends what a type reads from a value, or its faults.
+pub fn put_told<T: Deserialize<Table> + Shown + Drop>(
     alloc: Global,
     value: &mut Value<'_>,
     said: &mut String,
