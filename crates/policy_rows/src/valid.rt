@@ -147,9 +147,8 @@ fn addresses(alloc: Global, strings: &str) -> Result<String, AllocError> {
     all_told(alloc, policy.as_str())
 }
 
-/// The words of a text, which stand at 0, 1 and so on.
-fn list_of<'t>(alloc: Global, text: &'t str) -> Result<SpannedList<&'t str>, AllocError> {
-    let mut list = SpannedList::new(alloc);
+/// Appends the words of a text, which stand at 0, 1 and so on.
+fn put_words<'t>(list: &mut SpannedList<&'t str>, text: &'t str) -> Result<(), AllocError> {
     let mut place: usize = 0;
     for value in text.split_whitespace() {
         let span = Span {
@@ -159,7 +158,7 @@ fn list_of<'t>(alloc: Global, text: &'t str) -> Result<SpannedList<&'t str>, All
         list.push(Spanned { value, span })?;
         place = place.wrapping_add(1);
     }
-    Ok(list)
+    Ok(())
 }
 
 /// Takes equal items out of a list, of which nothing is said, and returns what is told of it.
@@ -186,7 +185,8 @@ fn put_items(said: &mut String, list: &SpannedList<&str>) -> Result<(), AllocErr
 
 /// The words that are left of a list where equal ones are taken out, and what is told of it.
 fn without_equal(alloc: Global, text: &str) -> Result<String, AllocError> {
-    let mut list = list_of(alloc, text)?;
+    let mut list = SpannedList::new(alloc);
+    put_words(&mut list, text)?;
     let found = take_equal(alloc, &mut list)?;
     let mut said = findings(alloc, &found)?;
     put_items(&mut said, &list)?;
