@@ -3,7 +3,7 @@ use crate::findings::{findings, put_findings};
 use crate::policies::{policy_of, root_of};
 use case_files::{Case, Cases, Rows};
 use deny_text::{Span, Spanned};
-use diag_core::Files;
+use diag_core::{Diagnostic, Files, Severity};
 use policy_core::{
     Config, Diagnostics, SpannedList, UnvalidatedConfig, ValidClarification, ValidConfig,
     ValidationContext,
@@ -176,6 +176,20 @@ fn take_equal(alloc: Global, list: &mut SpannedList<&str>) -> Result<Diagnostics
     }
 }
 
+/// Pushes a finding with this message into a context, and returns what is told then.
+fn pushed(alloc: Global, message: &str) -> Result<String, AllocError> {
+    let mut files = Files::new(alloc);
+    let mut found = Diagnostics::new(alloc);
+    let mut context = ValidationContext {
+        cfg_id: 3,
+        files: &mut files,
+        diagnostics: &mut found,
+    };
+    let note = Diagnostic::new(alloc, Severity::Note).with_message(message)?;
+    context.push(note)?;
+    findings(alloc, &found)
+}
+
 fn put_items(said: &mut String, list: &SpannedList<&str>) -> Result<(), AllocError> {
     for item in list.items() {
         write!(said, "{} at {};", item.value, item.span.start)?;
@@ -202,6 +216,7 @@ impl Rows for ValidRows {
             "clarified expression" => clarified(alloc, text)?,
             "private addresses" => addresses(alloc, text)?,
             "equal items" => without_equal(alloc, text)?,
+            "finding" => pushed(alloc, text)?,
             _ => return Ok(None),
         };
         Ok(Some(answer))
