@@ -1,5 +1,0 @@
-//! Tests of lists with equal items.
-#![tactic(auto)]
-
-#[cfg(test)]
-mod tests;
