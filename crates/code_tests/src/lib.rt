@@ -1,5 +1,7 @@
-//! Tests that can't stand as rows in files: of generic code at types of their own.
+//! Tests that no row of a file can be: of files that can't be read as rows, and of generic code at types of the tests' own.
 #![tactic(auto)]
 
+#[cfg(test)]
+mod files;
 #[cfg(test)]
 mod sinks;
