@@ -1,5 +1,5 @@
-//! Texts of cases whose lines are calls, each with what it answers behind an arrow: `read a/x => "one"`. The calls are made in
-//! their order, and the same lines are told with what was seen.
+//! Texts of cases whose lines are calls, each with what it answers behind an arrow: `read a/x => "one"`. The calls
+//! are made in their order, and the same lines are told with what was seen.
 use case_files::Case;
 use case_files::escapes::unescaped;
 use case_files::told::Unread;

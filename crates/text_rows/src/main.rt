@@ -1,5 +1,5 @@
-//! Compares the files of data/ with what paths, trees, findings, printers and command lines come to: what differs is told, and
-//! how many rows each group has.
+//! Compares the files of data/ with what paths, trees, findings, printers and command lines come to: what differs is
+//! told, and how many rows each group has.
 #![tactic(auto)]
 
 mod calls;

@@ -96,10 +96,7 @@ fn environment(alloc: Global, words: &str) -> Result<HomeEnv, AllocError> {
     Ok(HomeEnv { home, cargo_home })
 }
 
-fn folder_shown(
-    alloc: Global,
-    folder: &Result<PathBuf, HomeError>,
-) -> Result<String, AllocError> {
+fn folder_shown(alloc: Global, folder: &Result<PathBuf, HomeError>) -> Result<String, AllocError> {
     match folder {
         Ok(path) => String::from_str(alloc, path.as_path()),
         Err(error) => format!(in alloc; "{error}"),

@@ -15,10 +15,7 @@ fn copied(alloc: Global, source: &str) -> Result<Files, AllocError>
     Ok(files)
 }
 
-fn location_shown(
-    alloc: Global,
-    place: Result<Location, FilesErr>,
-) -> Result<String, AllocError> {
+fn location_shown(alloc: Global, place: Result<Location, FilesErr>) -> Result<String, AllocError> {
     match place {
         Ok(place) => {
             let line = place.line;

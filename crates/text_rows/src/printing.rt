@@ -85,11 +85,7 @@ fn label_of(alloc: Global, entry: &Entry) -> Result<Label, AllocError> {
 }
 
 /// A finding with what an entry adds to it.
-fn with_entry(
-    alloc: Global,
-    finding: Diagnostic,
-    entry: &Entry,
-) -> Result<Diagnostic, AllocError> {
+fn with_entry(alloc: Global, finding: Diagnostic, entry: &Entry) -> Result<Diagnostic, AllocError> {
     match entry.key.as_str() {
         "code" => finding.with_code(wanted(entry)),
         "message" => finding.with_message(wanted(entry)),
@@ -103,11 +99,7 @@ fn with_entry(
 }
 
 /// Begins a finding, or adds to the last one.
-fn take(
-    alloc: Global,
-    findings: &mut Vec<Diagnostic>,
-    entry: &Entry,
-) -> Result<(), AllocError> {
+fn take(alloc: Global, findings: &mut Vec<Diagnostic>, entry: &Entry) -> Result<(), AllocError> {
     if entry.key.as_str() == "finding" {
         let severity = severity_named(entry.word.as_str());
         return Ok(findings.push(Diagnostic::new(alloc, severity))?);
@@ -139,11 +131,7 @@ fn empty_pack(alloc: Global, case: &Case<'_>) -> Result<Pack, AllocError> {
     if id.is_empty() {
         return Ok(Pack::new(alloc, Check::Licenses));
     }
-    Ok(Pack::with_kid(
-        alloc,
-        Check::Licenses,
-        Text::copy(alloc, id)?,
-    ))
+    Ok(Pack::with_kid(alloc, Check::Licenses, Text::copy(alloc, id)?))
 }
 
 fn pack_of(alloc: Global, case: &Case<'_>) -> Result<Pack, AllocError> {
@@ -231,22 +219,38 @@ fn sink_of(alloc: Global, case: &Case<'_>) -> Result<MemSink, AllocError> {
     MemSink::new(alloc, room as usize, 7)
 }
 
+fn print_pack(
+    alloc: Global,
+    case: &Case<'_>,
+    files: &Files,
+    sink: &mut MemSink,
+) -> Result<String, AllocError> {
+    let pack = pack_of(alloc, case)?;
+    pack_printed(alloc, context_of(case), &pack, files, sink)
+}
+
+fn print_first(
+    alloc: Global,
+    case: &Case<'_>,
+    files: &Files,
+    sink: &mut MemSink,
+) -> Result<String, AllocError> {
+    let findings = findings_of(alloc, case)?;
+    match findings.first() {
+        Some(finding) => printed(alloc, context_of(case), finding, files, sink),
+        None => String::from_str(alloc, "no finding"),
+    }
+}
+
+/// Prints the findings of a case as a pack, or else the first one, and tells the answer.
 fn print(alloc: Global, case: &Case<'_>, sink: &mut MemSink) -> io::Result<String> {
     let files = files_of(alloc, case)?;
-    if case.entry("pack").is_some() {
-        let pack = pack_of(alloc, case)?;
-        return Ok(pack_printed(
-            alloc,
-            context_of(case),
-            &pack,
-            &files,
-            sink,
-        )?);
-    }
-    match findings_of(alloc, case)?.first() {
-        Some(finding) => Ok(printed(alloc, context_of(case), finding, &files, sink)?),
-        None => Ok(String::from_str(alloc, "no finding")?),
-    }
+    let answer = if case.entry("pack").is_some() {
+        print_pack(alloc, case, &files, sink)
+    } else {
+        print_first(alloc, case, &files, sink)
+    };
+    Ok(answer?)
 }
 
 fn ending_of(alloc: Global, case: &Case<'_>) -> io::Result<Ending> {
@@ -290,7 +294,10 @@ fn put_finding(out: &mut String, finding: &Diag) -> Result<(), AllocError> {
     let labels = finding.diag.labels.items().len();
     let notes = finding.diag.notes.items().len();
     let crates = finding.graph_nodes.items().len();
-    write!(out, "; {message}, {labels} labels, {notes} notes, {crates} crates")
+    write!(
+        out,
+        "; {message}, {labels} labels, {notes} notes, {crates} crates"
+    )
 }
 
 /// How many findings a pack has, whether it is empty, and what each has that is taken out of it.
@@ -308,7 +315,16 @@ impl Cases for Printing {
     fn is_given(&self, key: &str) -> bool {
         matches!(
             key,
-            "file" | "finding" | "code" | "message" | "label" | "note" | "pack" | "format" | "level" | "room"
+            "file"
+                | "finding"
+                | "code"
+                | "message"
+                | "label"
+                | "note"
+                | "pack"
+                | "format"
+                | "level"
+                | "room"
         )
     }
 

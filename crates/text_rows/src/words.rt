@@ -5,9 +5,7 @@ use diag_core::LevelFilter;
 use print_core::{Color, Format};
 use request_core::options::{OptionRow, Values, check_rows, list_rows, main_rows};
 use request_core::read::{Given, read};
-use request_core::{
-    ArgsError, CodeOrLevel, FromWord, Layout, OutputFormat, WhichCheck, list,
-};
+use request_core::{ArgsError, CodeOrLevel, FromWord, Layout, OutputFormat, WhichCheck, list};
 use std::alloc::{AllocError, Global};
 use std::io;
 
