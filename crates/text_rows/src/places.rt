@@ -64,9 +64,7 @@ fn source_shown(alloc: Global, files: &Files) -> Result<String, AllocError> {
     format!(in alloc; "{name}: {source}")
 }
 
-fn updated(alloc: Global, text: &str) -> Result<Files, AllocError>
-    ensures { IfOk result (λ files. length files ≡ 1) }
-{
+fn updated(alloc: Global, text: &str) -> Result<Files, AllocError> {
     let (first, second) = text.split_once(", then ").unwrap_or((text, ""));
     let mut files = copied(alloc, first)?;
     files.update(0, Text::copy(alloc, second)?)?;
