@@ -249,30 +249,51 @@ fn put_pack(
     }
 }
 
-/// Appends what is told of the crate, where the case has a verdict on it, and then of the policy, where it has one.
-fn put_packs(
+/// Appends what is told of the crate, where the case has a verdict on it.
+fn put_krate(
     alloc: Global,
     out: &mut String,
     asked: Asked,
     case: &Case<'_>,
     files: &Files,
 ) -> io::Result<()> {
-    if case.entry("verdict").is_some() {
-        let pack = krate_pack(alloc, case)?;
-        put_pack(alloc, out, asked, &pack, files)?;
+    if case.entry("verdict").is_none() {
+        return Ok(());
     }
-    if case.entry("allow").is_some() {
-        let pack = policy_pack(alloc, case)?;
-        put_pack(alloc, out, asked, &pack, files)?;
+    let pack = krate_pack(alloc, case)?;
+    Ok(put_pack(alloc, out, asked, &pack, files)?)
+}
+
+/// Appends what is told of the policy, where the case has one.
+fn put_policy(
+    alloc: Global,
+    out: &mut String,
+    asked: Asked,
+    case: &Case<'_>,
+    files: &Files,
+) -> io::Result<()> {
+    if case.entry("allow").is_none() {
+        return Ok(());
     }
-    Ok(())
+    let pack = policy_pack(alloc, case)?;
+    Ok(put_pack(alloc, out, asked, &pack, files)?)
+}
+
+fn shown_over(
+    alloc: Global,
+    case: &Case<'_>,
+    asked: Asked,
+    files: &Files,
+) -> io::Result<Option<String>> {
+    let mut out = String::new(alloc);
+    put_krate(alloc, &mut out, asked, case, files)?;
+    put_policy(alloc, &mut out, asked, case, files)?;
+    Ok(Some(out))
 }
 
 fn shown(alloc: Global, case: &Case<'_>, asked: Asked) -> io::Result<Option<String>> {
     let files = table(alloc, case)?;
-    let mut out = String::new(alloc);
-    put_packs(alloc, &mut out, asked, case, &files)?;
-    Ok(Some(out))
+    shown_over(alloc, case, asked, &files)
 }
 
 /// Cases of crates and policies, and what is told of them.

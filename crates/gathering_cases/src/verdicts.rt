@@ -104,6 +104,12 @@ fn asked_twice<L: Ledger>(
     evaluator.evaluate(expression, krate, policy, &mut steps)
 }
 
+fn line_of(alloc: Global, accepts: bool, verdict: &Verdict) -> Result<String, AllocError> {
+    let mut out = String::from_str(alloc, if accepts { "accepted:" } else { "rejected:" })?;
+    put_certificate(&mut out, verdict)?;
+    Ok(out)
+}
+
 /// Whether the evaluator accepts an expression, and the certificate.
 fn answer_shown(
     alloc: Global,
@@ -112,9 +118,7 @@ fn answer_shown(
     accepts: bool,
 ) -> Result<String, AllocError> {
     let verdict = evaluator.certificate(alloc, expression)?;
-    let mut out = String::from_str(alloc, if accepts { "accepted:" } else { "rejected:" })?;
-    put_certificate(&mut out, &verdict)?;
-    Ok(out)
+    line_of(alloc, accepts, &verdict)
 }
 
 fn evaluated(
@@ -129,10 +133,14 @@ fn evaluated(
     answer_shown(alloc, &evaluator, expression, accepts)
 }
 
-fn judged_under(alloc: Global, text: &str, policy: &ValidConfig) -> io::Result<String> {
+fn judged_by(alloc: Global, expression: &Expression, policy: &ValidConfig) -> io::Result<String> {
     let krate = krate(alloc, "a", "a", None)?;
+    Ok(evaluated(alloc, expression, &krate, policy)?)
+}
+
+fn judged_under(alloc: Global, text: &str, policy: &ValidConfig) -> io::Result<String> {
     match Expression::parse_mode(alloc, text, SLASHED, &Table) {
-        Ok(expression) => Ok(evaluated(alloc, &expression, &krate, policy)?),
+        Ok(expression) => judged_by(alloc, &expression, policy),
         Err(_) => Err(unread()),
     }
 }
@@ -177,18 +185,26 @@ fn krate_from(alloc: Global, words: &str, from: &str) -> io::Result<Krate> {
     Ok(krate)
 }
 
-fn passed(alloc: Global, krate: &Krate, ignore: bool) -> io::Result<&'static str> {
+fn is_passed_over(alloc: Global, krate: &Krate, ignore: bool) -> io::Result<bool> {
     let policy = policy(alloc, lists("", "", ignore))?;
-    Ok(if policy.is_private(krate) { "yes" } else { "no" })
+    Ok(policy.is_private(krate))
+}
+
+fn yes_or_no(is_so: bool) -> &'static str {
+    if is_so { "yes" } else { "no" }
+}
+
+fn passed_both_ways(alloc: Global, krate: &Krate) -> io::Result<String> {
+    let there = yes_or_no(is_passed_over(alloc, krate, true)?);
+    let back = yes_or_no(is_passed_over(alloc, krate, false)?);
+    Ok(format!(in alloc; "{there} {back}")?)
 }
 
 /// Whether a crate is passed over where private ones are, and where they are not. Behind the bar stands its source.
 fn passed_over(alloc: Global, text: &str) -> io::Result<String> {
     let (words, from) = beside_bar(text);
     let krate = krate_from(alloc, words, from)?;
-    let there = passed(alloc, &krate, true)?;
-    let back = passed(alloc, &krate, false)?;
-    Ok(format!(in alloc; "{there} {back}")?)
+    passed_both_ways(alloc, &krate)
 }
 
 /// Rows of verdicts, and of crates that are passed over.

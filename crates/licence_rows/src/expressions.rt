@@ -60,10 +60,15 @@ fn expression_shown(alloc: Global, read: &Expression) -> Result<String, AllocErr
     Ok(out)
 }
 
-/// The terms of a text with their places, and its nodes; or its fault.
+fn copy_shown(alloc: Global, read: &Expression) -> Result<String, AllocError> {
+    let copy = read.copy(alloc)?;
+    expression_shown(alloc, &copy)
+}
+
+/// The terms of a text with their places, and its nodes, as a copy has them; or its fault.
 pub fn shown(alloc: Global, text: &str, mode: ParseMode) -> Result<String, AllocError> {
     match Expression::parse_mode(alloc, text, mode, &Table) {
-        Ok(read) => expression_shown(alloc, &read),
+        Ok(read) => copy_shown(alloc, &read),
         Err(error) => fault_shown(alloc, &error),
     }
 }

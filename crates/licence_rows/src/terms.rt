@@ -8,7 +8,6 @@ use std::alloc::{AllocError, Global};
 use std::cmp::Ordering;
 use std::marker::Brand;
 use std::sync::ledger::{Blank, Ledger};
-use term_core::items::item_vec;
 use term_core::*;
 
 const NAMED: ParseMode = ParseMode {
@@ -72,8 +71,8 @@ fn term_among(alloc: Global, items: &[Item]) -> Result<Option<LicenseReq>, Alloc
 }
 
 fn term_of(alloc: Global, text: &str) -> Result<Option<LicenseReq>, AllocError> {
-    let items = item_vec(alloc, text, NAMED, &Table)?;
-    term_among(alloc, &items)
+    let items = items::items(alloc, text, NAMED, &Table)?;
+    term_among(alloc, items.items())
 }
 
 fn term_shown(alloc: Global, text: &str) -> Result<String, AllocError> {
