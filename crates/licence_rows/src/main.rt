@@ -30,12 +30,7 @@ fn of_terms(alloc: Global, group: &str, text: &str) -> Result<Option<String>, Al
 }
 
 impl Rows for Files {
-    fn answer(
-        &self,
-        alloc: Global,
-        group: &str,
-        text: &str,
-    ) -> Result<Option<String>, AllocError> {
+    fn answer(&self, alloc: Global, group: &str, text: &str) -> Result<Option<String>, AllocError> {
         let seen = match group {
             "license name" => names::license_shown(alloc, text),
             "exception name" => names::exception_shown(alloc, text),
