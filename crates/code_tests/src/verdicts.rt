@@ -1,0 +1,22 @@
+//! What the definitions make of verdicts and of what is told of them.
+ghost use Rattle.std.specs.Prelude.{◌≡◌, map, take};
+ghost use Rattle.check_core.specs.Rows.{judged, rows, source_rows, worded};
+ghost use Rattle.unused_core.specs.Rows.{reported, unused_rows};
+ghost use Rattle.valid_policy.specs.Rows as hits;
+ghost use Rattle.verdict_findings.specs.Rows.{findings_meant, findings_said, label_rows, labelled};
+
+/// Does nothing: the definitions make of each row what was worked out by hand. Findings that name a crate are left
+/// out.
+fn rows_by_hand()
+    ensures labels { map labelled label_rows ≡ label_rows }
+    ensures findings { take 2 findings_said ≡ take 2 findings_meant }
+    ensures unused { map reported unused_rows ≡ unused_rows }
+    ensures sources { map worded source_rows ≡ source_rows }
+    ensures judged { map judged rows ≡ rows }
+    ensures hits { map hits.computed hits.rows ≡ hits.rows }
+{}
+
+#[test]
+fn definitions_of_verdicts() {
+    rows_by_hand();
+}
