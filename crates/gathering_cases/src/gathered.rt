@@ -70,10 +70,7 @@ pub fn lines_of(alloc: Global, summary: &Summary<'_>) -> Result<String, AllocErr
 /// Whether a text stands in a file from an offset on.
 fn stands_at(files: &Files, nfo: &LicenseExprInfo, text: &str) -> bool {
     match files.source(nfo.file_id) {
-        Ok(source) => source
-            .get(nfo.offset..)
-            .unwrap_or("")
-            .starts_with(text),
+        Ok(source) => source.get(nfo.offset..).unwrap_or("").starts_with(text),
         Err(_) => false,
     }
 }
@@ -92,11 +89,7 @@ fn put_place(lines: &mut String, files: &Files, info: &LicenseInfo) -> Result<()
 }
 
 /// What is found of each crate, and where its expression stands.
-pub fn found_of(
-    alloc: Global,
-    files: &Files,
-    summary: &Summary<'_>,
-) -> Result<String, AllocError> {
+pub fn found_of(alloc: Global, files: &Files, summary: &Summary<'_>) -> Result<String, AllocError> {
     let mut lines = String::new(alloc);
     for license in summary.nfos.items() {
         put_findings(&mut lines, files, license.diags.items())?;

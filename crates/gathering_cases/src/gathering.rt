@@ -118,12 +118,7 @@ fn shown_in(
     shown_of(alloc, &world.files, &summary, asked)
 }
 
-fn shown_with(
-    alloc: Global,
-    case: &Case<'_>,
-    krates: &Krates,
-    asked: Asked,
-) -> io::Result<String> {
+fn shown_with(alloc: Global, case: &Case<'_>, krates: &Krates, asked: Asked) -> io::Result<String> {
     let mut world = world_of(alloc, case)?;
     Ok(shown_in(alloc, krates, &mut world, asked)?)
 }

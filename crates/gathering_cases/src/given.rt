@@ -25,10 +25,7 @@ pub fn text(alloc: Global, case: &Case<'_>, key: &str) -> io::Result<String> {
     match case.entry(key) {
         Some(entry) => {
             let bytes = text_of(alloc, case, entry)?;
-            Ok(String::from_str(
-                alloc,
-                str::from_utf8(&bytes).unwrap_or("no UTF-8"),
-            )?)
+            Ok(String::from_str(alloc, str::from_utf8(&bytes).unwrap_or("no UTF-8"))?)
         }
         None => Ok(String::new(alloc)),
     }

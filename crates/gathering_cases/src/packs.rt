@@ -89,11 +89,7 @@ pub fn pack_shown(alloc: Global, case: &Case<'_>) -> io::Result<String> {
 }
 
 /// The expression of the names that the files of a pack are identified by.
-fn expression(
-    alloc: Global,
-    pack: &Pack,
-    threshold: u8,
-) -> Result<Option<Expression>, AllocError> {
+fn expression(alloc: Global, pack: &Pack, threshold: u8) -> Result<Option<Expression>, AllocError> {
     let files = scan_pack(alloc, Some(&Says), threshold, pack, &Table)?;
     joined(alloc, files.items(), &Table)
 }
@@ -110,11 +106,7 @@ fn joined_of(alloc: Global, pack: &Pack, threshold: u8) -> Result<String, AllocE
     expression_shown(alloc, &read)
 }
 
-fn joined_over(
-    alloc: Global,
-    tree: &mut MemTree,
-    case: &Case<'_>,
-) -> Result<String, AllocError> {
+fn joined_over(alloc: Global, tree: &mut MemTree, case: &Case<'_>) -> Result<String, AllocError> {
     let pack = pack(alloc, tree, case)?;
     let threshold = case.word("threshold").parse::<u8>().unwrap_or(80);
     joined_of(alloc, &pack, threshold)

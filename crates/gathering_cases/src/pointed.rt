@@ -192,12 +192,7 @@ fn shown_over(
     shown_of(alloc, &files, &points, asked)
 }
 
-fn shown_with(
-    alloc: Global,
-    case: &Case<'_>,
-    krate: &Krate,
-    asked: Asked,
-) -> io::Result<String> {
+fn shown_with(alloc: Global, case: &Case<'_>, krate: &Krate, asked: Asked) -> io::Result<String> {
     let mut tree = tree(alloc, case)?;
     let scanned = scanned_files(alloc, case.own)?;
     let settles = settles(case, scanned.items());

@@ -4,6 +4,7 @@ use case_files::{Case, Entry};
 use deny_text::Span;
 use manifest_core::{Piece, Synthetic, Told};
 use std::alloc::{AllocError, Global};
+use std::io;
 
 /// What is asked for of a text.
 #[derive(Clone, Copy)]
@@ -80,12 +81,16 @@ fn cuts_shown(alloc: Global, text: &str, spans: &[Span]) -> Result<String, Alloc
     Ok(lines)
 }
 
-/// The text that the entries of a case write, or the places that were kept in it.
-pub fn shown(alloc: Global, case: &Case<'_>, asked: Asked) -> Result<String, AllocError> {
-    let text = written(alloc, case.own)?;
+fn shown_of(alloc: Global, text: Synthetic, asked: Asked) -> Result<String, AllocError> {
     match asked {
         Asked::Text => String::from_str(alloc, text.into_text().as_str()),
         Asked::Spans => spans_shown(alloc, text.spans()),
         Asked::Cuts => cuts_shown(alloc, text.text(), text.spans()),
     }
+}
+
+/// The text that the entries of a case write, or the places that were kept in it.
+pub fn shown(alloc: Global, case: &Case<'_>, asked: Asked) -> io::Result<String> {
+    let text = written(alloc, case.own)?;
+    Ok(shown_of(alloc, text, asked)?)
 }
