@@ -1,7 +1,0 @@
-//! Rows of reads of crates' files, and of packs.
-#![tactic(auto)]
-
-#[cfg(test)]
-mod packs;
-#[cfg(test)]
-mod reads;
