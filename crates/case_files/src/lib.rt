@@ -5,8 +5,6 @@ pub mod case;
 pub mod cases;
 pub mod escapes;
 pub mod rows;
-#[cfg(test)]
-mod tests;
 pub mod told;
 pub mod tree;
 

@@ -1,8 +1,8 @@
 //! What is told of files that can't be read, and of rows and cases that differ.
-use crate::case::Case;
-use crate::cases::{Cases, told_cases};
-use crate::rows::{Rows, told_rows};
-use crate::told::{Told, text_of};
+use case_files::cases::told_cases;
+use case_files::rows::told_rows;
+use case_files::told::text_of;
+use case_files::{Case, Cases, Rows, Told};
 use std::alloc::{AllocError, Global};
 use std::io;
 use std::test::Fail;
