@@ -8,11 +8,15 @@ COMPLETION = crates/completions/stdout
 
 FIRST = ../../examples/first
 
-.PHONY: build run test bench install
+.PHONY: try build run test wrong starve calls bench install
 
-# Builds the proved program, and sees that it accepts a small project.
+# A first answer in minutes, by an unproved build.
+try:
+	@sh tools/try.sh
+
+# Proves the program and all that it stands on, as much side by side as the machine allows, and builds it.
 build:
-	@cd crates/cargo_deny && rt run cargo_deny -- --metadata-path $(FIRST)/metadata.json --config $(FIRST)/deny.toml check licenses >/dev/null
+	@sh tools/build.sh cargo_deny
 
 # Runs it in a project's folder, where it looks for an exceptions file. POLICY names another policy there. The metadata of
 # the examples tell of a folder /project, in whose place that folder is put.
@@ -23,6 +27,18 @@ run: build
 # The merge gate.
 test:
 	rt ci
+
+# Tries the wrong bodies of a crate that the gate leaves out: make wrong NAME=pack_core
+wrong:
+	@sh tools/wrong.sh $(NAME)
+
+# Runs a program of rows or cases while memory is wanting: make starve NAME=licence_rows
+starve:
+	@sh tools/starve.sh $(NAME)
+
+# Compares docs/CALLS.md with the public calls of the sources that take memory.
+calls:
+	@sh tools/calls.sh
 
 # Times the lower layers, beside plain Rust and xxhsum where these are installed.
 bench:
