@@ -132,6 +132,22 @@ fn sinks_of(alloc: Global, case: &Case<'_>, setting: Setting) -> Result<Sinks, U
     })
 }
 
+/// The folder that the run is started in.
+fn cwd_of<'c>(case: &Case<'c>) -> &'c str {
+    match case.entry("cwd") {
+        Some(entry) => entry.word.as_str(),
+        None => "/w",
+    }
+}
+
+/// The word for what tells licences from texts.
+fn identifier_of<'c>(case: &Case<'c>) -> &'c str {
+    match case.entry("identifier") {
+        Some(entry) => entry.word.as_str(),
+        None => "none",
+    }
+}
+
 /// The run, of which nothing is said: whoever calls this owes nothing of the run's contract.
 fn run_over(
     alloc: Global,
@@ -161,7 +177,7 @@ fn ended(
     mut tree: CountedTree,
     mut sinks: Sinks,
 ) -> Ending {
-    let cwd = case.word_or("cwd", "/w");
+    let cwd = cwd_of(case);
     let outcome = run_over(alloc, words, cwd, &mut tree, &mut sinks, known);
     Ending {
         outcome,
@@ -202,7 +218,8 @@ fn ending_of_words(
     setting: Setting,
     words: &[String],
 ) -> Result<Ending, Unread> {
-    let known = known_as(alloc, case.word_or("identifier", "none"))?;
+    let word = identifier_of(case);
+    let known = known_as(alloc, word)?;
     ending_with(alloc, case, setting, words, &known)
 }
 
