@@ -1,4 +1,6 @@
 //! Keys that are found by their names.
+ghost use Rattle.std.specs.Prelude.{◌≡◌};
+
 use deny_text::Span;
 use key_index::KeyIndex;
 use std::test::Fail;
@@ -7,7 +9,9 @@ use toml_subset::{Key, plain_string};
 const PLACE: Span = Span { start: 0, end: 1 };
 
 /// A key of this name.
-fn key(name: &str) -> Key<'_> {
+fn key(name: &str) -> Key<'_>
+    ensures { result.name.text ≡ name.now }
+{
     Key {
         name: plain_string(name),
         span: PLACE,
