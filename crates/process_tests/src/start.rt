@@ -33,21 +33,26 @@ fn told_verdict(verdict: &Verdict) -> &'static str {
     }
 }
 
-/// Appends the verdict on each crate.
+fn expression_of(checked: &CrateReport) -> &str {
+    match &checked.expression {
+        Some(expression) => expression.as_ref(),
+        None => "none",
+    }
+}
+
+/// Appends the expression of each crate, and the verdict on it.
 fn put_crates(told: &mut String, crates: &[CrateReport]) -> Result<(), AllocError> {
     for checked in crates {
         let id = checked.id.as_str();
+        let expression = expression_of(checked);
         let verdict = told_verdict(&checked.verdict);
-        write!(told, "{id}: {verdict}")?;
+        write!(told, "{id}: {expression} {verdict}")?;
     }
     Ok(())
 }
 
 /// Appends how the gate over a process ended.
-fn put_ended(
-    told: &mut String,
-    ended_at: &Result<Outcome, StartError>,
-) -> Result<(), AllocError> {
+fn put_ended(told: &mut String, ended_at: &Result<Outcome, StartError>) -> Result<(), AllocError> {
     match ended_at {
         Ok(outcome) => match &outcome.ended {
             Ended::Checked(report) => put_crates(told, report.crates.items()),
@@ -113,14 +118,14 @@ const ROWS: [Row; 5] = [
         folder: Some("/w"),
         policy: ALLOWS_MIT,
         status: 0,
-        told: "a 1.0.0: Accepted; licenses ok\n; ",
+        told: "a 1.0.0: MIT Accepted; licenses ok\n; ",
     },
     Row {
         words: WORDS,
         folder: Some("/w"),
         policy: ALLOWS_NOTHING,
         status: 4,
-        told: "a 1.0.0: Rejected; licenses FAILED\n; \
+        told: "a 1.0.0: MIT Rejected; licenses FAILED\n; \
 error[rejected]: failed to satisfy license requirements\n  \
 ::: /w/Cargo.toml:4:12: license expression retrieved via Cargo.toml `license`\n  \
 --> /w/Cargo.toml:4:12: rejected: license is not explicitly allowed\n",
