@@ -1,5 +1,5 @@
 //! Tests that no row of a file can be: of files that can't be read as rows, of generic code at types of the tests' own,
-//! and of values that are built by calls.
+//! of sinks over writers, and of values that are built by calls.
 #![tactic(auto)]
 
 #[cfg(test)]
@@ -10,5 +10,7 @@ mod keys;
 mod searches;
 #[cfg(test)]
 mod shapes;
+#[cfg(test)]
+mod sinks;
 #[cfg(test)]
 mod steps;
