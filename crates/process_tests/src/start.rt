@@ -78,11 +78,22 @@ fn told(
     Ok(told)
 }
 
+/// The gate over a process, of which nothing is said: whoever calls this owes nothing of the gate's contract.
+fn run_over(
+    alloc: Global,
+    process: Process,
+    tree: &mut MemTree,
+    out: &mut MemSink,
+    err: &mut MemSink,
+) -> Result<Outcome, StartError> {
+    gate_over(&(process, alloc), tree, out, err)
+}
+
 /// Runs the gate over a process; the code that the process ends with, and what it came to.
 fn watch(alloc: Global, process: Process, tree: &mut MemTree) -> Result<(ExitCode, String), Fail> {
     let mut out = MemSink::new(alloc, 1000, 1000)?;
     let mut err = MemSink::new(alloc, 1000, 1000)?;
-    let ended_at = gate_over(&(process, alloc), tree, &mut out, &mut err);
+    let ended_at = run_over(alloc, process, tree, &mut out, &mut err);
     let code = exit_code(&ended_at);
     told(alloc, &ended_at, &out, &err).map(|told| (code, told))
 }
