@@ -1,5 +1,16 @@
-//! Tests that no row of a file can be: of files that can't be read as rows, and of generic code at types of the tests' own.
+//! Tests that no row of a file can be: of files that can't be read as rows, of generic code at types of the tests' own,
+//! of sinks over writers, and of values that are built by calls.
 #![tactic(auto)]
 
 #[cfg(test)]
 mod files;
+#[cfg(test)]
+mod keys;
+#[cfg(test)]
+mod searches;
+#[cfg(test)]
+mod shapes;
+#[cfg(test)]
+mod sinks;
+#[cfg(test)]
+mod steps;
