@@ -53,13 +53,7 @@ fn differ(
     let mut name = String::new(alloc);
     put_name(&mut name, run)?;
     let what = name.as_str();
-    told.differ(
-        run.case.file,
-        entry.line,
-        what,
-        seen,
-        wanted_of(run, entry),
-    )
+    told.differ(run.case.file, entry.line, what, seen, wanted_of(run, entry))
 }
 
 fn compare_entry(

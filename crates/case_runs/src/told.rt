@@ -122,4 +122,3 @@ fn told_report(alloc: Global, report: &Report) -> Result<String, AllocError> {
     }
     Ok(told)
 }
-

@@ -6,8 +6,15 @@ use case_files::exit_code;
 use case_runs::compare_runs;
 use std::process::ExitCode;
 
-/// Files of cases: of what is found, of what is read of each crate.
-const FILES: [&str; 2] = ["found.txt", "gathered.txt"];
+/// Files of cases: of the first path and failures, of metadata, of policies, of what is found, and of what is read of each
+/// crate.
+const FILES: [&str; 5] = [
+    "gate.txt",
+    "metadata.txt",
+    "policies.txt",
+    "found.txt",
+    "gathered.txt",
+];
 
 fn main(rt: HostRuntime) -> ExitCode {
     let mut is_as_wanted = true;
