@@ -23,9 +23,9 @@ impl CountedSink {
         }
     }
 
-    /// What was written so far; nothing where it is no text.
+    /// What was written so far, or that it is no text.
     pub fn text(&self) -> &str {
-        str::from_utf8(&self.held).unwrap_or("no UTF-8")
+        str::from_utf8(&self.held).unwrap_or("what was written is no UTF-8")
     }
 
     /// How many bytes of a piece of this length it takes.
