@@ -6,16 +6,16 @@ root=$(pwd)
 work=$(mktemp -d)
 trap 'rm -rf "$work"' EXIT
 
-cd "$root/crates/hash_bench"
-rt run hash_bench -- bench | grep MiB/s
+cd "$root/crates/bench"
+rt run bench -- hash bench | grep MiB/s
+bench=$(pwd)/out/bench
 if command -v xxhsum > /dev/null; then
     # xxhsum tells millions of bytes a second.
     xxhsum -b1 -B67108864 2>&1 | sed -n 's/.*(\([0-9.]*\) MB\/s).*/\1/p' |
         awk '{ printf "xxhsum %d MiB/s\n", $1 * 1000000 / 1048576 }'
 fi
 
-cd "$root/crates/layer_bench"
-rt run layer_bench -- bench | grep -E '^[a-z-]+ [0-9]+$' > "$work/ours"
+"$bench" layers bench > "$work/ours"
 if command -v rustc > /dev/null; then
     rustc -O -o "$work/yardstick" "$root/bench/yardstick.rs"
     "$work/yardstick" > "$work/plain"
@@ -31,12 +31,8 @@ awk '
     { printf "%-20s %9d us\n", $1, $2 }
 ' "$work/plain" "$work/ours"
 
-cd "$root/crates/words_bench"
-rt run words_bench -- bench | grep ' us$'
-
-cd "$root/crates/metadata_bench"
-rt run metadata_bench -- bench | grep ' us$'
-metadata_bench=$(pwd)/out/metadata_bench
+"$bench" words bench
+"$bench" metadata bench
 
 # The least of five whole runs in seconds, and the memory at its highest in KiB.
 least() {
@@ -48,8 +44,8 @@ least() {
 if command -v python3 > /dev/null && [ -x /usr/bin/time ]; then
     cd "$work"
     for shape in full small; do
-        "$metadata_bench" $shape > metadata.json
-        ours=$(least "$metadata_bench" read)
+        "$bench" metadata $shape > metadata.json
+        ours=$(least "$bench" metadata read)
         plain=$(least python3 -c 'import json; json.load(open("metadata.json"))')
         bytes=$(wc -c < metadata.json)
         echo "$shape $bytes $ours $plain" | awk '{

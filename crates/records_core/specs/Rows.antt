@@ -4,6 +4,7 @@ use Rattle.semver.specs.Identifiers.{parts_of}
 use Rattle.records_core.specs.declared.package.NamedRow.{NamedRow}
 use Rattle.records_core.specs.declared.package.DescribedRow.{DescribedRow}
 use Rattle.records_core.specs.declared.package.ListedRow.{ListedRow}
+use Rattle.records_core.specs.declared.package.Copies.{Copies}
 use Rattle.records_core.specs.Packages.{Named, Described, Listed}
 
 abbrev pub named_of : NamedRow → Named
@@ -26,3 +27,16 @@ described_of row = record {
 
 abbrev pub listed_of : ListedRow → Listed
 listed_of row = record { authors = row.authors; features = row.features; publish = row.publish }
+
+-- the texts that a crate has of its rows
+abbrev pub copies_in : Named → Described → Copies
+copies_in named described = record {
+  name = named.name;
+  id = named.id;
+  manifest_path = named.manifest_path;
+  license = described.license;
+  license_file = described.license_file;
+  repository = described.repository;
+  description = described.description;
+  rust_version = described.rust_version;
+}

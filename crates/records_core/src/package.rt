@@ -5,7 +5,7 @@ ghost use Rattle.serde_json.specs.View.{view, items_view, members_view};
 ghost use Rattle.semver.specs.Identifiers.{parts_of};
 ghost use Rattle.graph_core.specs.Krate.{record_of};
 ghost use Rattle.records_core.specs.Packages as spec;
-ghost use Rattle.records_core.specs.Rows.{named_of, described_of, listed_of};
+ghost use Rattle.records_core.specs.Rows.{named_of, described_of, listed_of, copies_in};
 ghost use Rattle.records_core.specs.Told.{Tells};
 
 use crate::fault::{MetaError, MetaReason, Place, fault_at};
@@ -246,6 +246,47 @@ fn copied_path(alloc: Global, path: Option<&str>) -> Result<Option<PathBuf>, All
     }
 }
 
+/// The texts of a crate, copied out of its rows.
+#[derive(Drop)]
+struct Copies {
+    name: Text,
+    id: Text,
+    manifest_path: PathBuf,
+    license: Option<Text>,
+    license_file: Option<PathBuf>,
+    repository: Option<Text>,
+    description: Option<Text>,
+    rust_version: Option<Text>,
+}
+
+fn copies_of(
+    alloc: Global,
+    named: &NamedRow<'_>,
+    described: &DescribedRow<'_>,
+) -> Result<Copies, AllocError>
+    ensures { IfOk result (λ copies. copies
+        ≡ copies_in (named_of named.now) (described_of described.now)) }
+{
+    let name = Text::copy(alloc, named.name)?;
+    let id = Text::copy(alloc, named.id)?;
+    let manifest_path = PathBuf::copy(alloc, named.manifest_path)?;
+    let license = copied(alloc, described.license)?;
+    let license_file = copied_path(alloc, described.license_file)?;
+    let repository = copied(alloc, described.repository)?;
+    let description = copied(alloc, described.description)?;
+    let rust_version = copied(alloc, described.rust_version)?;
+    Ok(Copies {
+        name,
+        id,
+        manifest_path,
+        license,
+        license_file,
+        repository,
+        description,
+        rust_version,
+    })
+}
+
 fn krate_with(
     alloc: Global,
     named: NamedRow<'_>,
@@ -255,20 +296,21 @@ fn krate_with(
     ensures { IfOk result (λ krate. record_of krate
         ≡ spec.record_with (named_of named.entry) (described_of described.entry) (listed_of listed)) }
 {
+    let copies = copies_of(alloc, &named, &described)?;
     Ok(Krate {
-        name: Text::copy(alloc, named.name)?,
-        id: Text::copy(alloc, named.id)?,
+        name: copies.name,
+        id: copies.id,
         version: named.version,
         source: described.source,
         authors: listed.authors,
-        repository: copied(alloc, described.repository)?,
-        description: copied(alloc, described.description)?,
-        manifest_path: PathBuf::copy(alloc, named.manifest_path)?,
-        license: copied(alloc, described.license)?,
-        license_file: copied_path(alloc, described.license_file)?,
+        repository: copies.repository,
+        description: copies.description,
+        manifest_path: copies.manifest_path,
+        license: copies.license,
+        license_file: copies.license_file,
         features: listed.features,
         publish: listed.publish,
-        rust_version: copied(alloc, described.rust_version)?,
+        rust_version: copies.rust_version,
     })
 }
 
