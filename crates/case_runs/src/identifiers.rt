@@ -1,0 +1,121 @@
+//! What tells licences from texts in a case.
+ghost use Rattle.std.specs.Prelude.{◌≡◌, Some, IfOk, option_copied};
+ghost use Rattle.case_runs.specs.Said.{answer_of, is_within, match_with, name_in, score_in};
+
+use case_files::told::Unread;
+use catalog_core::{Identifier, LicenseStore, Match};
+use deny_text::Text;
+use std::alloc::{AllocError, Global};
+
+#[derive(Drop)]
+pub enum Known {
+    /// The licence of a stored text with the same words.
+    Stored(LicenseStore),
+    /// A text of one line, which is the name of a licence, is that one, at 80; of two at another score, which they
+    /// state; and two are the licence of Pixar, at 90.
+    Named,
+    /// Each text is the MIT licence, as surely as this, in hundredths; what is above 100 counts as 100.
+    Mit(u8),
+}
+
+fn name_in(text: &str) -> Option<&'static str>
+    ensures { option_copied result ≡ name_in text.now }
+{
+    if text == "MIT\n" {
+        Some("MIT")
+    } else if text == "ISC\n" {
+        Some("ISC")
+    } else if text == "MIT at 79\n" {
+        Some("MIT")
+    } else if text == "MIT at 49\n" {
+        Some("MIT")
+    } else if text == "Pixar\n" {
+        Some("Pixar")
+    } else if text == "\n\nModified Apache 2.0 License\n" {
+        Some("Pixar")
+    } else {
+        None
+    }
+}
+
+fn score_in(text: &str) -> u8
+    ensures { result ≡ score_in text.now }
+{
+    if text == "MIT at 79\n" {
+        79
+    } else if text == "MIT at 49\n" {
+        49
+    } else if text == "MIT\n" {
+        80
+    } else if text == "ISC\n" {
+        80
+    } else {
+        90
+    }
+}
+
+/// The match of a licence.
+fn match_of(alloc: Global, name: &str, score: u8) -> Result<Match, AllocError>
+    ensures { IfOk result (λ found. found ≡ record { name = Some name.now; score = score }) }
+{
+    let name = Text::copy(alloc, name)?;
+    Ok(Match {
+        name: Some(name),
+        score,
+    })
+}
+
+fn named(alloc: Global, text: &str) -> Result<Match, AllocError>
+    ensures { IfOk result (λ found. found ≡ match_with text.now (name_in text.now)) }
+{
+    match name_in(text) {
+        Some(name) => match_of(alloc, name, score_in(text)),
+        None => Ok(Match {
+            name: None,
+            score: 0,
+        }),
+    }
+}
+
+impl Identifier for Known {
+    ghost match_of = { answer_of };
+
+    ghost within_hundred = { is_within };
+
+    fn scan(&self, alloc: Global, text: &str) -> Result<Match, AllocError> {
+        match self {
+            Known::Stored(store) => store.scan(alloc, text),
+            Known::Named => named(alloc, text),
+            Known::Mit(score) => match_of(alloc, "MIT", (*score).min(100)),
+        }
+    }
+}
+
+fn built_in(alloc: Global) -> Result<Known, AllocError> {
+    let store = LicenseStore::from_cache(alloc)?;
+    Ok(Known::Stored(store))
+}
+
+fn mit_at(score: &str) -> Result<Known, Unread> {
+    match score.parse::<u8>() {
+        Ok(score) => Ok(Known::Mit(score)),
+        Err(_) => Err(Unread::Line("a score that is no number")),
+    }
+}
+
+/// What a word names: `none`, `built-in`, `names`, or `MIT at` and a number.
+pub fn known_as(alloc: Global, word: &str) -> Result<Known, Unread> {
+    if word == "none" {
+        return Ok(Known::Stored(LicenseStore::default(alloc)));
+    }
+    if word == "built-in" {
+        return Ok(built_in(alloc)?);
+    }
+    if word == "names" {
+        return Ok(Known::Named);
+    }
+    match word.strip_prefix("MIT at ") {
+        Some(score) => mit_at(score),
+        None => Err(Unread::Line("an identifier that is not known")),
+    }
+}
