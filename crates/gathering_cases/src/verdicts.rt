@@ -104,6 +104,19 @@ fn asked_twice<L: Ledger>(
     evaluator.evaluate(expression, krate, policy, &mut steps)
 }
 
+/// The same, with its steps counted in a ledger of its own.
+fn asked(
+    evaluator: &mut Evaluator,
+    expression: &Expression,
+    krate: &Krate,
+    policy: &ValidConfig,
+) -> bool
+    requires room { length (postfix expression.now.tree) ≤ evaluator.old.nodes }
+    requires exceptions { exception_names (policy_of policy.now) ≡ evaluator.old.names }
+{
+    asked_twice::<Brand>(evaluator, expression, krate, policy, Blank::new(1))
+}
+
 fn line_of(alloc: Global, accepts: bool, verdict: &Verdict) -> Result<String, AllocError> {
     let mut out = String::from_str(alloc, if accepts { "accepted:" } else { "rejected:" })?;
     put_certificate(&mut out, verdict)?;
@@ -128,8 +141,7 @@ fn evaluated(
     policy: &ValidConfig,
 ) -> Result<String, AllocError> {
     let mut evaluator = evaluator(alloc, expression, policy)?;
-    let accepts =
-        asked_twice::<Brand>(&mut evaluator, expression, krate, policy, Blank::new(1));
+    let accepts = asked(&mut evaluator, expression, krate, policy);
     answer_shown(alloc, &evaluator, expression, accepts)
 }
 
