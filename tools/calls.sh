@@ -5,7 +5,7 @@
 set -eu
 cd "$(dirname "$0")/.."
 listed() {
-    sed -n 's/^| `\([a-z_]*\)` | `\([A-Za-z_:]*\)` |.*/\1 \2/p' docs/CALLS.md | sort -u
+    sed -n 's/^| `\([a-z0-9_]*\)` | `\([A-Za-z0-9_:]*\)` |.*/\1 \2/p' docs/CALLS.md | sort -u
 }
 # A call takes memory where its signature names an allocator or an answer for want of memory. Programs and tests are left out.
 public() {
