@@ -13,9 +13,19 @@ pub trait Cases {
     fn told(&self, alloc: Global, case: &Case<'_>, key: &str) -> io::Result<Option<String>>;
 }
 
+/// Whether a key is one of these.
+pub fn is_among(key: &str, keys: &[&str]) -> bool {
+    for one in keys {
+        if *one == key {
+            return true;
+        }
+    }
+    false
+}
+
 /// Whether a key is for each program the same: the base, and a value that stands in texts by its name.
 pub fn is_shared(key: &str) -> bool {
-    key == "with" || key == "let"
+    is_among(key, &["with", "let"])
 }
 
 /// What an entry wants: the word behind its key, or else the text below it.

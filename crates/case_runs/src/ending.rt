@@ -4,6 +4,7 @@ use crate::lines::{lines_of, verdicts};
 use crate::sink::CountedSink;
 use crate::told::{told, told_policy, told_stats};
 use crate::tree::CountedTree;
+use case_files::cases::is_among;
 use case_files::tree::number;
 use deny_run::report::{Ended, Outcome, Report};
 use std::alloc::{AllocError, Global};
@@ -24,21 +25,11 @@ pub struct Ending {
     pub sinks: Sinks,
 }
 
-/// Whether a key is of every run.
-fn is_of_run(key: &str) -> bool {
-    matches!(
-        key,
-        "status" | "ended" | "out" | "err" | "load" | "faults" | "calls"
-    )
-}
-
-/// Whether a key is of a report.
-fn is_of_report(key: &str) -> bool {
-    matches!(
-        key,
-        "crates" | "verdicts" | "found" | "policy" | "notes" | "stats"
-    )
-}
+/// The keys of every run, and then those of a report.
+const WANTED: [&str; 13] = [
+    "status", "ended", "out", "err", "load", "faults", "calls", "crates", "verdicts", "found",
+    "policy", "notes", "stats",
+];
 
 /// The number of the file whose text is wanted, by a key as `text-1`.
 fn file_in(key: &str) -> Option<usize> {
@@ -49,7 +40,7 @@ fn file_in(key: &str) -> Option<usize> {
 
 /// Whether a key says what is wanted.
 pub fn is_wanted(key: &str) -> bool {
-    is_of_run(key) || is_of_report(key) || file_in(key).is_some()
+    is_among(key, &WANTED) || file_in(key).is_some()
 }
 
 /// The text of a file of a report.

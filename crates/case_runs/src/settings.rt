@@ -4,7 +4,7 @@ use crate::identifiers::{Known, known_as};
 use crate::sink::CountedSink;
 use crate::tree::CountedTree;
 use case_files::Case;
-use case_files::cases::wanted;
+use case_files::cases::{is_among, wanted};
 use case_files::told::Unread;
 use case_files::tree::{number, range_of, tree_of};
 use catalog_core::Table;
@@ -32,11 +32,24 @@ pub struct Setting {
     pub err: usize,
 }
 
+const GIVEN: [&str; 12] = [
+    "file",
+    "words",
+    "cwd",
+    "identifier",
+    "fail",
+    "room-out",
+    "room-err",
+    "piece-out",
+    "piece-err",
+    "faults-tree",
+    "faults-out",
+    "faults-err",
+];
+
 /// Whether a key says what is put in.
 pub fn is_given(key: &str) -> bool {
-    matches!(key, "file" | "words" | "cwd" | "identifier" | "fail")
-        || matches!(key, "room-out" | "piece-out" | "faults-out" | "faults-tree")
-        || matches!(key, "room-err" | "piece-err" | "faults-err")
+    is_among(key, &GIVEN)
 }
 
 const WORDS: &str = "cargo-deny --metadata-path m.json --config p.toml check licenses";
