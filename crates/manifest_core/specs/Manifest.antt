@@ -40,13 +40,15 @@ score_text score = decimal (score / 100) ++ codes "." ++ filled 10 2 (score % 10
 abbrev pub hash_pieces : ℕ → List Bit
 hash_pieces hash = plain (codes "hash = 0x") ∷ plain (hash_text hash) ∷ plain (codes ", ") ∷ []
 
+-- a score and a name
+abbrev pub named_pieces : Bit → Bit → List Bit
+named_pieces score name = plain (codes "score = ") ∷ score ∷ plain (codes ", license = \"") ∷ name ∷ plain (codes "\"") ∷ []
+
 -- what is told of a file; marked is why it gives no name
 abbrev pub told_pieces : Told → List Bit
 told_pieces (Joined hash) = hash_pieces hash
-told_pieces (Unknown hash score name) = hash_pieces hash
-    ++ plain (codes "score = ") ∷ plain (score_text score) ∷ plain (codes ", license = \"") ∷ marked name.now ∷ plain (codes "\"") ∷ []
-told_pieces (Low hash score name) = hash_pieces hash
-    ++ plain (codes "score = ") ∷ marked (score_text score) ∷ plain (codes ", license = \"") ∷ plain name.now ∷ plain (codes "\"") ∷ []
+told_pieces (Unknown hash score name) = hash_pieces hash ++ named_pieces (plain (score_text score)) (marked name.now)
+told_pieces (Low hash score name) = hash_pieces hash ++ named_pieces (marked (score_text score)) (plain name.now)
 told_pieces (Unnamed hash score) = hash_pieces hash ++ plain (codes "score = ") ∷ marked (score_text score) ∷ []
 told_pieces (Bad words) = plain (codes "err = \"") ∷ marked words.now ∷ plain (codes "\"") ∷ []
 

@@ -2,7 +2,9 @@
 ghost use Rattle.std.specs.Prelude.{◌≡◌, OnOk, IfOk, string_bytes};
 ghost use Rattle.manifest_core.specs.Manifest.{closing_pieces, expression_pieces, hash_pieces, line_pieces};
 ghost use Rattle.manifest_core.specs.Manifest.{listing_pieces, manifest_pieces, opening_pieces, score_text};
-ghost use Rattle.manifest_core.specs.Manifest.{told_pieces};
+ghost use Rattle.manifest_core.specs.Manifest.{named_pieces, told_pieces};
+ghost use Rattle.manifest_core.specs.Pieces.{bit_of};
+ghost use Rattle.manifest_core.specs.declared.manifest.Told.TheVariants.{Unknown, Low, Unnamed, Bad};
 ghost use Rattle.manifest_core.specs.Synthetic.{written_all};
 
 use crate::synthetic::{Piece, Synthetic};
@@ -114,36 +116,67 @@ impl Synthetic {
     {
         match told {
             Told::Joined { hash } => { self.write_hash(alloc, hash) }
-            Told::Unknown { hash, score, name } => {
-                self.write_hash(alloc, hash)?;
-                let score = score_of(alloc, score)?;
-                self.write(Piece::Plain("score = "))?;
-                self.write(Piece::Plain(score.as_str()))?;
-                self.write(Piece::Plain(", license = \""))?;
-                self.write(Piece::Marked(name))?;
-                self.write(Piece::Plain("\""))
-            }
-            Told::Low { hash, score, name } => {
-                self.write_hash(alloc, hash)?;
-                let score = score_of(alloc, score)?;
-                self.write(Piece::Plain("score = "))?;
-                self.write(Piece::Marked(score.as_str()))?;
-                self.write(Piece::Plain(", license = \""))?;
-                self.write(Piece::Plain(name))?;
-                self.write(Piece::Plain("\""))
-            }
-            Told::Unnamed { hash, score } => {
-                self.write_hash(alloc, hash)?;
-                let score = score_of(alloc, score)?;
-                self.write(Piece::Plain("score = "))?;
-                self.write(Piece::Marked(score.as_str()))
-            }
-            Told::Bad { words } => {
-                self.write(Piece::Plain("err = \""))?;
-                self.write(Piece::Marked(words))?;
-                self.write(Piece::Plain("\""))
-            }
+            Told::Unknown { hash, score, name } => self.write_unknown(alloc, hash, score, name),
+            Told::Low { hash, score, name } => self.write_low(alloc, hash, score, name),
+            Told::Unnamed { hash, score } => self.write_unnamed(alloc, hash, score),
+            Told::Bad { words } => self.write_bad(words),
         }
+    }
+
+    fn write_unknown(
+        &mut self,
+        alloc: Global,
+        hash: u32,
+        score: u32,
+        name: &str,
+    ) -> Result<(), AllocError>
+        ensures { OnOk result (self.new ≡ written_all self.old (told_pieces (Unknown hash score name.entry))) }
+    {
+        self.write_hash(alloc, hash)?;
+        let score = score_of(alloc, score)?;
+        self.write_named(Piece::Plain(score.as_str()), Piece::Marked(name))
+    }
+
+    fn write_low(
+        &mut self,
+        alloc: Global,
+        hash: u32,
+        score: u32,
+        name: &str,
+    ) -> Result<(), AllocError>
+        ensures { OnOk result (self.new ≡ written_all self.old (told_pieces (Low hash score name.entry))) }
+    {
+        self.write_hash(alloc, hash)?;
+        let score = score_of(alloc, score)?;
+        self.write_named(Piece::Marked(score.as_str()), Piece::Plain(name))
+    }
+
+    fn write_unnamed(&mut self, alloc: Global, hash: u32, score: u32) -> Result<(), AllocError>
+        ensures { OnOk result (self.new ≡ written_all self.old (told_pieces (Unnamed hash score))) }
+    {
+        self.write_hash(alloc, hash)?;
+        let score = score_of(alloc, score)?;
+        self.write(Piece::Plain("score = "))?;
+        self.write(Piece::Marked(score.as_str()))
+    }
+
+    fn write_bad(&mut self, words: &str) -> Result<(), AllocError>
+        ensures { OnOk result (self.new ≡ written_all self.old (told_pieces (Bad words.entry))) }
+    {
+        self.write(Piece::Plain("err = \""))?;
+        self.write(Piece::Marked(words))?;
+        self.write(Piece::Plain("\""))
+    }
+
+    /// The score and the name of a file.
+    fn write_named(&mut self, score: Piece<'_>, name: Piece<'_>) -> Result<(), AllocError>
+        ensures { OnOk result (self.new ≡ written_all self.old (named_pieces (bit_of score.entry) (bit_of name.entry))) }
+    {
+        self.write(Piece::Plain("score = "))?;
+        self.write(score)?;
+        self.write(Piece::Plain(", license = \""))?;
+        self.write(name)?;
+        self.write(Piece::Plain("\""))
     }
 
     fn write_hash(&mut self, alloc: Global, hash: u32) -> Result<(), AllocError>
