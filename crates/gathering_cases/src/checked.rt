@@ -171,12 +171,7 @@ fn verdict_of(alloc: Global, case: &Case<'_>, krate: &Krate) -> io::Result<Diag>
     }
 }
 
-fn pack_with(
-    alloc: Global,
-    case: &Case<'_>,
-    krate: &Krate,
-    gathered: &[Diag],
-) -> io::Result<Pack> {
+fn pack_with(alloc: Global, case: &Case<'_>, krate: &Krate, gathered: &[Diag]) -> io::Result<Pack> {
     let verdict = verdict_of(alloc, case, krate)?;
     Ok(pack_of(alloc, krate, gathered, verdict)?)
 }
@@ -302,9 +297,18 @@ pub struct Checked;
 impl Cases for Checked {
     fn is_given(&self, key: &str) -> bool {
         match key {
-            "table" | "place" | "source" | "expression" | "hits" | "verdict" | "note"
+            "table"
+            | "place"
+            | "source"
+            | "expression"
+            | "hits"
+            | "verdict"
+            | "note"
             | "gathered" => true,
-            "allow" | "exceptions" | "unused-allowed-license" | "unused-license-exception"
+            "allow"
+            | "exceptions"
+            | "unused-allowed-license"
+            | "unused-license-exception"
             | "crate" => true,
             _ => false,
         }
