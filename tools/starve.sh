@@ -1,6 +1,6 @@
 #!/bin/sh
-# Runs a program of rows or cases over its files with one allocation that fails, at twenty numbers that grow by half each time from
-# the first on, until a run makes fewer. Nothing but want of memory may be told: each run says what it came to.
+# Runs a program of rows or cases over its files with one allocation that fails, at twenty numbers from the first on, each about
+# twice the one before. Nothing but want of memory may be told: each run says what it came to. A run takes one to three minutes.
 # usage: tools/starve.sh NAME [FIRST]
 set -eu
 name=${1:?the name of a program}
