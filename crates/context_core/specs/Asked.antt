@@ -1,16 +1,17 @@
 -- What a request asks for, and the crates that it looks at.
-use Rattle.std.specs.Prelude.{◌≡◌, ◌↔◌, ℕ, ◌==◌, ◌||◌, Bool, List, ◌++◌, Option, Some, None, is_none, Result, Err, if◌then◌else◌}
+use Rattle.std.specs.Prelude.{◌≡◌, ◌↔◌, ◌⊎◌, ℕ, ◌==◌, ◌||◌, Bool, List, ◌++◌, Option, Some, None, is_none, Result, Err, if◌then◌else◌}
 use Rattle.std.specs.List.{filter_map, list_any}
 use Rattle.std.specs.Option.{option_to_list}
+use Rattle.tree_core.specs.Call.{Call}
 use Rattle.tree_core.specs.Content.{Content}
 use Rattle.request_core.specs.declared.context.KrateContext.{KrateContext}
 use Rattle.selection_core.specs.Choice.{Choice, Spec, spec_read}
 use Rattle.selection_core.specs.Listed.{Chosen}
 use Rattle.workspace_core.specs.declared.error.KratesError.{KratesError}
-use Rattle.workspace_core.specs.declared.error.KratesError.TheVariants.{NotCarried}
+use Rattle.workspace_core.specs.declared.error.KratesError.TheVariants.{Memory, NotCarried}
 use Rattle.workspace_core.specs.declared.error.What.{What}
 use Rattle.workspace_core.specs.declared.error.What.TheVariants.{MetadataPath, ExcludeSpec}
-use Rattle.workspace_core.specs.Krates.{Gathers}
+use Rattle.workspace_core.specs.Krates.{Gathers, GathersBy}
 
 -- ---- what is not carried
 
@@ -55,3 +56,15 @@ abbrev pub IsAnswer : KrateContext → List (List ℕ) → Content → ℕ → �
 IsAnswer context cfg_excludes content before after result =
     (path : List ℕ) → context.metadata_path ≡ Some path → uncarried context cfg_excludes ≡ None
     → Gathers (choice_asked context cfg_excludes) content before path before after result
+
+-- ---- the same by what a tree answered, whatever it tells of its content
+
+-- where a part is not carried, no call is made
+abbrev pub IsUnasked : KrateContext → List (List ℕ) → List Call → List Call → Type 0
+IsUnasked context cfg_excludes old new = (what : What) → uncarried context cfg_excludes ≡ Some what → new ≡ old
+
+-- else the file at its path is read, and the crates are gathered by what its answer lets hear; memory may be wanting before the read
+abbrev pub IsAnswerBy : KrateContext → List (List ℕ) → ℕ → ℕ → List Call → List Call → Result Chosen KratesError → Type 0
+IsAnswerBy context cfg_excludes before after old new result =
+    (path : List ℕ) → context.metadata_path ≡ Some path → uncarried context cfg_excludes ≡ None
+    → ((result ≡ Err Memory) × (new ≡ old)) ⊎ GathersBy (choice_asked context cfg_excludes) before after old new path result

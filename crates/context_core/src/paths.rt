@@ -1,10 +1,12 @@
 //! Where a request's policy and exceptions file are.
 ghost use Rattle.std.specs.Prelude.{◌≡◌, ◌≤◌, IfErr, IfOk};
 ghost use Rattle.std.specs.Option.{ForSome};
-ghost use Rattle.tree_core.specs.Hearing.{KeepsTree};
+ghost use Rattle.tree_core.specs.Hearing.{KeepsTree, MadeSome};
 ghost use Rattle.heard_core.specs.Cause.{ReadCounts};
 ghost use Rattle.search_core.specs.Search.{search_cause};
 ghost use Rattle.context_core.specs.Paths.{config_path_of, exceptions_path_of};
+ghost use Rattle.context_core.specs.Paths.{IsConfigPath, IsExceptionsPath};
+ghost use Rattle.context_core.specs.Paths.{ConfigPathUntil, ExceptionsPathUntil};
 
 use deny_text::PathBuf;
 use deny_text::path::join;
@@ -24,6 +26,10 @@ pub fn config_path_since<T: Tree>(
     requires { begun ≤ T.fault_count tree.old }
     ensures answer { ForSome (T.content tree.old) (λ c.
         IfOk result (λ path. path ≡ config_path_of context.now c)) }
+    ensures looked { IfOk result (IsConfigPath context.now (T.trace tree.old) (T.trace tree.new)) }
+    ensures given_up { IfErr result (ConfigPathUntil context.now (T.trace tree.old) (T.trace tree.new)) }
+    ensures made { MadeSome (T.content tree.old) (T.content tree.new) (T.fault_count tree.old)
+        (T.fault_count tree.new) (T.trace tree.old) (T.trace tree.new) }
     ensures kept { KeepsTree (T.content tree.old) (T.content tree.new)
         (T.fault_count tree.old) (T.fault_count tree.new) }
     ensures counts { IfErr result (λ error.
@@ -49,6 +55,10 @@ pub fn get_config_path<T: Tree>(
 ) -> Result<Option<PathBuf>, SearchError>
     ensures answer { ForSome (T.content tree.old) (λ c.
         IfOk result (λ path. path ≡ config_path_of context.now c)) }
+    ensures looked { IfOk result (IsConfigPath context.now (T.trace tree.old) (T.trace tree.new)) }
+    ensures given_up { IfErr result (ConfigPathUntil context.now (T.trace tree.old) (T.trace tree.new)) }
+    ensures made { MadeSome (T.content tree.old) (T.content tree.new) (T.fault_count tree.old)
+        (T.fault_count tree.new) (T.trace tree.old) (T.trace tree.new) }
     ensures kept { KeepsTree (T.content tree.old) (T.content tree.new)
         (T.fault_count tree.old) (T.fault_count tree.new) }
     ensures counts { IfErr result (λ error. ReadCounts (T.fault_count tree.old)
@@ -66,6 +76,10 @@ pub fn get_local_exceptions_path<T: Tree>(
 ) -> Result<Option<PathBuf>, SearchError>
     ensures answer { ForSome (T.content tree.old) (λ c.
         IfOk result (λ path. path ≡ exceptions_path_of context.now c)) }
+    ensures looked { IfOk result (IsExceptionsPath context.now (T.trace tree.old) (T.trace tree.new)) }
+    ensures given_up { IfErr result (ExceptionsPathUntil context.now (T.trace tree.old) (T.trace tree.new)) }
+    ensures made { MadeSome (T.content tree.old) (T.content tree.new) (T.fault_count tree.old)
+        (T.fault_count tree.new) (T.trace tree.old) (T.trace tree.new) }
     ensures kept { KeepsTree (T.content tree.old) (T.content tree.new)
         (T.fault_count tree.old) (T.fault_count tree.new) }
     ensures counts { IfErr result (λ error. ReadCounts (T.fault_count tree.old)

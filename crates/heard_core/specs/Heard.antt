@@ -1,7 +1,9 @@
 -- What is heard of a file as a text.
-use Rattle.std.specs.Prelude.{◌≡◌, ℕ, List, [], ◌∷◌, Option, Some, None, Result, Ok, Err, if◌then◌else◌}
+use Rattle.std.specs.Prelude.{◌≡◌, ℕ, List, [], ◌∷◌, ◌++◌, Option, Some, None, Result, Ok, Err, if◌then◌else◌}
 use Rattle.std.specs.Str.{is_utf8}
 use Rattle.std.specs.Str.Lossy.{utf8_valid_len}
+use Rattle.tree_core.specs.Call as call
+use Rattle.tree_core.specs.Call.{Answered, Call}
 use Rattle.tree_core.specs.Content.{Content, Node, file, folder}
 use Rattle.tree_core.specs.Hearing.{Kind, FailedRead, Hearing, Heard, read_failed, stands, heard}
 use Rattle.heard_core.specs.declared.fault.ReadFault.{ReadFault}
@@ -33,3 +35,25 @@ hearing_of content begun read _ = record { content = content; begun = begun; fai
 abbrev pub IsHeard : Content → ℕ → List ℕ → ℕ → ℕ → Result (List ℕ) ReadFault → Type 0
 IsHeard content begun path before after heard = (kind : Kind) →
     text_heard (hearing_of content begun (record { kind = kind; path = path; before = before; after = after }) heard) kind path ≡ heard
+
+-- ---- by what a tree answered, whatever it tells of its content
+
+-- What is heard by the answer of a read, where the tree's count of faults was the first number when the run began, and is the
+-- second behind the read. For want of memory nothing is heard, and a look or a listing answers no read.
+abbrev pub text_answered : ℕ → ℕ → Answered → Option (Result (List ℕ) ReadFault)
+text_answered begun after (call.bytes items) = Some (heard_of (Some (file items)))
+text_answered begun after (call.entries items) = None
+text_answered begun after (call.told answer) = None
+text_answered begun after call.absent = Some (Err Absent)
+text_answered begun after call.wrong_kind = Some (Err Folder)
+text_answered begun after call.failed = Some (Err (Failed begun after))
+text_answered begun after call.no_memory = None
+
+abbrev pub read_of : List ℕ → Answered → Call
+read_of path answer = record { asked = call.read; path = path; answer = answer }
+
+-- one call was made, the read of this path, and this is heard by its answer
+pub record IsRead (begun after : ℕ) (old new : List Call) (path : List ℕ) (heard : Result (List ℕ) ReadFault) : Type 0 where
+  pub answer : Answered
+  pub made : new ≡ old ++ read_of path answer ∷ []
+  pub hears : text_answered begun after answer ≡ Some heard

@@ -1,10 +1,11 @@
 //! Reading a file as a text.
-ghost use Rattle.std.specs.Prelude.{◌≡◌, ◌≤◌, Some, IfOk};
+ghost use Rattle.std.specs.Prelude.{◌≡◌, ◌≤◌, ◌++◌, [], ◌∷◌, Some, IfOk, OnErr};
 ghost use Rattle.std.specs.Option.{ForSome};
 ghost use Rattle.tree_core.specs.Content.{file};
-ghost use Rattle.tree_core.specs.Hearing.{KeepsTree};
+ghost use Rattle.tree_core.specs.Hearing.{KeepsTree, MadeSome};
 ghost use Rattle.heard_core.specs.Cause.{ReadCounts, heard_cause};
-ghost use Rattle.heard_core.specs.Heard.{IsHeard, heard_of};
+ghost use Rattle.heard_core.specs.Heard.{IsHeard, IsRead, heard_of, read_of};
+ghost use Rattle.tree_core.specs.Call.{no_memory};
 
 use crate::fault::ReadFault;
 use deny_text::{Bytes, Text};
@@ -36,6 +37,11 @@ pub fn load<T: Tree>(
     requires { before ≤ T.fault_count tree.old }
     ensures answer { ForSome (T.content tree.old) (λ c. IfOk result
         (IsHeard c before path.now (T.fault_count tree.old) (T.fault_count tree.new))) }
+    ensures read { IfOk result
+        (IsRead before (T.fault_count tree.new) (T.trace tree.old) (T.trace tree.new) path.now) }
+    ensures no_memory { OnErr result (T.trace tree.new ≡ T.trace tree.old ++ read_of path.now no_memory ∷ []) }
+    ensures made { MadeSome (T.content tree.old) (T.content tree.new) (T.fault_count tree.old)
+        (T.fault_count tree.new) (T.trace tree.old) (T.trace tree.new) }
     ensures kept { KeepsTree (T.content tree.old) (T.content tree.new)
         (T.fault_count tree.old) (T.fault_count tree.new) }
     ensures counts { IfOk result (λ heard.

@@ -1,3 +1,4 @@
+pub mod CallLemmas
 mod Examples
 pub mod FileKeyLemmas
 pub mod FoundLemmas

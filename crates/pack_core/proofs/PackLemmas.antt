@@ -35,7 +35,7 @@ use Rattle.pack_core.specs.declared.told.Told.{Told}
 use Rattle.pack_core.specs.View.{PackView, IsKept, counts_of, file_at, files_of, normal_heard, path_read, paths_of, paths_read, unlisted_of}
 use Rattle.pack_core.proofs.PathLemmas.{parts_of_same, same_itself, list_any-in_path_order, in_path_order-push}
 
-by_test : {G : Type 0} (b : Bool) → (b ≡ true → G) → (b ≡ false → G) → G
+pub by_test : {G : Type 0} (b : Bool) → (b ≡ true → G) → (b ≡ false → G) → G
 by_test true holds differs = holds refl
 by_test false holds differs = differs refl
 
@@ -210,9 +210,32 @@ map-push : {A B : Type 0} (f : A → B) (xs : List A) (y : A) → map f (xs ++ y
 map-push f [] y = refl
 map-push f (x ∷ xs) y = ap (λ l. f x ∷ l) (map-push f xs y)
 
-from_cond : (P : Heard → Type 0) (b : Bool) (x : Heard) (o : Option Heard) (heard : Heard) → (b ≡ true → P x) → (b ≡ false → o ≡ Some heard → P heard) → cond b (Some x) o ≡ Some heard → P heard
+pub from_cond : (P : Heard → Type 0) (b : Bool) (x : Heard) (o : Option Heard) (heard : Heard) → (b ≡ true → P x) → (b ≡ false → o ≡ Some heard → P heard) → cond b (Some x) o ≡ Some heard → P heard
 from_cond P true x o heard here else e = let same : x ≡ heard = cc in subst P same (here refl)
 from_cond P false x o heard here else e = else refl e
+
+pub stays-with_file : (pack : PackView) (path : List ℕ) (heard : Heard) → file_at pack.files path ≡ None
+    → (at : List ℕ) (found : Heard) → file_at pack.files at ≡ Some found → file_at (with_file pack path heard).files at ≡ Some found
+stays-with_file pack path heard none at found is =
+    file_at-insert pack.files path (normal_heard heard) at none
+    ∙ by_test (same_path at path)
+    (λ same. let gone : file_at pack.files at ≡ None = file_at-parts pack.files at path (parts_of_same at path same) ∙ none in cc)
+    (λ differs. ap (λ b. cond b (Some (normal_heard heard)) (file_at pack.files at)) differs ∙ is)
+
+pub records-with_file : (pack : PackView) (path : List ℕ) (heard : Heard) → file_at pack.files path ≡ None
+    → (ears : Ears) → Agrees ears (with_file pack path heard) → pack.reads ≡ records_by ears pack.folder (paths_read pack.reads)
+    → (with_file pack path heard).reads ≡ records_by ears pack.folder (paths_read (with_file pack path heard).reads)
+records-with_file pack path heard none ears agrees old =
+    let here : file_at (with_file pack path heard).files path ≡ Some (normal_heard heard) =
+    file_at-insert pack.files path (normal_heard heard) path none ∙ ap (λ b. cond b (Some (normal_heard heard)) (file_at pack.files path)) (same_itself path) in
+    let answer : answer_of heard ≡ answer_of (ears.file (components_of path)) =
+    sym (sym (answer_of-normal (ears.file (components_of path))) ∙ ap answer_of (agrees.files path (normal_heard heard) here) ∙ answer_of-normal heard) in
+    let one : record_of LicenseFile path heard ≡ file_record ears path =
+    ap (λ (a : ReadAnswer). let r : ReadRecord = record { path = path; kind = LicenseFile; answer = a } in r) answer in
+    ap (λ reads. reads ++ record_of LicenseFile path heard ∷ []) old
+    ∙ ap (λ read. records_by ears pack.folder (paths_read pack.reads) ++ read ∷ []) one
+    ∙ ap (λ rest. record_of Listing pack.folder ears.listing ∷ rest) (sym (map-push (file_record ears) (paths_read pack.reads) path))
+    ∙ ap (records_by ears pack.folder) (sym (paths_read-push pack.reads path heard))
 
 pub advances-with_file : (told : Option Content) (before after : ℕ) (pack : PackView) (path : List ℕ) (heard : Heard)
     → file_at pack.files path ≡ None → before ≤ after → CarriesCounts before after heard
@@ -221,11 +244,7 @@ pub advances-with_file : (told : Option Content) (before after : ℕ) (pack : Pa
 advances-with_file told before after pack path heard none later counts tells = record {
   folder = refl;
   listing = refl;
-  stays = λ at found is.
-      file_at-insert pack.files path (normal_heard heard) at none
-      ∙ by_test (same_path at path)
-      (λ same. let gone : file_at pack.files at ≡ None = file_at-parts pack.files at path (parts_of_same at path same) ∙ none in cc)
-      (λ differs. ap (λ b. cond b (Some (normal_heard heard)) (file_at pack.files at)) differs ∙ is);
+  stays = stays-with_file pack path heard none;
   heard = λ content is old. record {
     listing = old.listing;
     files = λ at found there.
@@ -241,17 +260,7 @@ advances-with_file told before after pack path heard none later counts tells = r
       (λ same. normal_twice heard) (λ differs was. old at found was)
       (sym (file_at-insert pack.files path (normal_heard heard) at none) ∙ is);
   rises = λ low old. rises_compose low before after pack.reads (record_of LicenseFile path heard ∷ []) old (one_rises LicenseFile before after path heard later counts);
-  records = λ ears agrees old.
-      let here : file_at (with_file pack path heard).files path ≡ Some (normal_heard heard) =
-      file_at-insert pack.files path (normal_heard heard) path none ∙ ap (λ b. cond b (Some (normal_heard heard)) (file_at pack.files path)) (same_itself path) in
-      let answer : answer_of heard ≡ answer_of (ears.file (components_of path)) =
-      sym (sym (answer_of-normal (ears.file (components_of path))) ∙ ap answer_of (agrees.files path (normal_heard heard) here) ∙ answer_of-normal heard) in
-      let one : record_of LicenseFile path heard ≡ file_record ears path =
-      ap (λ (a : ReadAnswer). let r : ReadRecord = record { path = path; kind = LicenseFile; answer = a } in r) answer in
-      ap (λ reads. reads ++ record_of LicenseFile path heard ∷ []) old
-      ∙ ap (λ read. records_by ears pack.folder (paths_read pack.reads) ++ read ∷ []) one
-      ∙ ap (λ rest. record_of Listing pack.folder ears.listing ∷ rest) (sym (map-push (file_record ears) (paths_read pack.reads) path))
-      ∙ ap (records_by ears pack.folder) (sym (paths_read-push pack.reads path heard));
+  records = records-with_file pack path heard none;
 }
 
 -- ---- steps compose

@@ -7,7 +7,8 @@ use Rattle.deny_text.specs.Path.{components_of}
 use Rattle.tree_core.specs.Content.{Content, resolve}
 use Rattle.tree_core.specs.declared.reads.ReadKind.TheVariants.{Listing, LicenseFile}
 use Rattle.tree_core.specs.declared.reads.ReadRecord.{ReadRecord}
-use Rattle.reads_core.specs.Heard.{Heard, failed, absent, wrong_kind, not_utf8, text, entries, heard}
+use Rattle.reads_core.specs.Heard.{Heard, failed, absent, wrong_kind, not_utf8, text, entries, heard, is_kind, is_read}
+use Rattle.reads_core.specs.Read.{Read, first_heard}
 use Rattle.pack_core.specs.NamedFile.{Named}
 
 -- what is heard of the listing of a crate's folder, and of the file at a path of some parts
@@ -20,6 +21,14 @@ abbrev pub ears_of : Content → List ℕ → List ReadRecord → Ears
 ears_of content folder reads = record {
   listing = heard content (resolve folder) reads Listing (components_of folder);
   file = λ parts. heard content (resolve folder) reads LicenseFile parts;
+}
+
+-- What the answers to a crate's reads let hear: that of the first listing; of a file, that of the first read at a path of these
+-- parts. Where none was read, nothing is there.
+abbrev pub ears_by : List Read → Ears
+ears_by reads = record {
+  listing = first_heard (λ read. is_kind Listing read.kind) reads;
+  file = λ parts. first_heard (is_read LicenseFile parts) reads;
 }
 
 -- a text whose normal form has the hash

@@ -1,3 +1,4 @@
+pub mod Calls
 pub mod Ears
 pub mod FileKey
 pub mod NamedFile

@@ -1,6 +1,6 @@
 //! The pack of a crate.
-ghost use Rattle.std.specs.Prelude.{◌≡◌, [], ◌∷◌, IfOk, true, false, is_some, None, Some, map, option_copied};
-ghost use Rattle.std.specs.Prelude.{if◌then◌else◌};
+ghost use Rattle.std.specs.Prelude.{◌≡◌, List, [], ◌∷◌, IfOk, OnErr, true, false, is_some, None, Some, map};
+ghost use Rattle.std.specs.Prelude.{if◌then◌else◌, option_copied};
 ghost use Rattle.deny_text.specs.Path.{components_of};
 ghost use Rattle.std.specs.List.{fold, list_any};
 ghost use Rattle.std.specs.Iterator.{YieldsFirstBy, item_count};
@@ -10,8 +10,10 @@ ghost use Rattle.tree_core.specs.Hearing.{KeepsTree};
 ghost use Rattle.tree_core.specs.declared.reads.ReadKind.TheVariants.{Listing};
 ghost use Rattle.reads_core.specs.Heard.{record_of};
 ghost use Rattle.reads_core.specs.Views.{heard_file, heard_folder};
+ghost use Rattle.reads_core.specs.Read.{Read, records_in};
+ghost use Rattle.pack_core.specs.Calls.{GoesBy, IsMadeBy, IsMadeOf, Starves, StarvesAmong, first_records};
 ghost use Rattle.pack_core.specs.Ears as spec;
-ghost use Rattle.pack_core.specs.Ears.{Ears, ears_of, looked_of, missing_from};
+ghost use Rattle.pack_core.specs.Ears.{Ears, ears_by, ears_of, looked_of, missing_from};
 ghost use Rattle.pack_core.specs.Pack.{in_path_order, same_path};
 ghost use Rattle.pack_core.specs.Steps.{Advances, Agrees, Begins, IsHeardIn, with_file, with_path};
 ghost use Rattle.pack_core.specs.Told.{told_of};
@@ -183,6 +185,12 @@ impl Pack {
             paths_read looked.pack.reads ≡ with_path (paths_read self.reads) path.now) }
         ensures told { IfOk result (λ looked.
             option_map told_of (file_at looked.pack.files path.now) ≡ Some looked.told) }
+        ensures goes { IfOk result (λ looked. GoesBy (T.content tree.old) (T.content tree.new) (T.fault_count tree.old)
+            (T.fault_count tree.new) (T.trace tree.old) (T.trace tree.new)
+            self looked.pack) }
+        ensures no_memory { OnErr result (Starves (T.content tree.old) (T.content tree.new) (T.fault_count tree.old)
+            (T.fault_count tree.new) (T.trace tree.old) (T.trace tree.new)
+            self (λ ears. with_path (paths_read self.reads) path.now)) }
     {
         let key = FileKey::of(alloc, path)?;
         match self.told(&key) {
@@ -211,6 +219,12 @@ impl Pack {
             → tried.holds ≡ spec.matches ears (F.named file.now)) }
         ensures absent { IfOk result (λ tried. (ears : Ears) → Agrees ears tried.pack
             → tried.absent ≡ spec.is_absent (ears.file (components_of (F.named file.now).path))) }
+        ensures goes { IfOk result (λ tried. GoesBy (T.content tree.old) (T.content tree.new) (T.fault_count tree.old)
+            (T.fault_count tree.new) (T.trace tree.old) (T.trace tree.new)
+            self tried.pack) }
+        ensures no_memory { OnErr result (Starves (T.content tree.old) (T.content tree.new) (T.fault_count tree.old)
+            (T.fault_count tree.new) (T.trace tree.old) (T.trace tree.new)
+            self (λ ears. with_path (paths_read self.reads) (F.named file.now).path)) }
     {
         let looked = self.look_up(alloc, tree, file.path())?;
         Ok(Matched {
@@ -239,6 +253,13 @@ impl Pack {
             → tried.holds ≡ spec.holds ears (map F.named files.now)) }
         ensures missing { IfOk result (λ tried. (ears : Ears) → Agrees ears tried.pack
             → tried.missing ≡ missing_from ears 0 (map F.named files.now)) }
+        // over any tree: the calls are those of the reads that went into the pack
+        ensures goes { IfOk result (λ tried. GoesBy (T.content tree.old) (T.content tree.new) (T.fault_count tree.old)
+            (T.fault_count tree.new) (T.trace tree.old) (T.trace tree.new)
+            self tried.pack) }
+        ensures no_memory { OnErr result (Starves (T.content tree.old) (T.content tree.new) (T.fault_count tree.old)
+            (T.fault_count tree.new) (T.trace tree.old) (T.trace tree.new)
+            self (λ ears. fold with_path (paths_read self.reads) (looked_of ears (map F.named files.now)))) }
     {
         let mut pack = self;
         'files: for (place, file) in files.iter().enumerate() {
@@ -272,6 +293,12 @@ impl Pack {
             Advances (T.content tree.old) (T.fault_count tree.old) (T.fault_count tree.new) self pack) }
         ensures paths { IfOk result (λ pack.
             paths_read pack.reads ≡ fold with_path (paths_read self.reads) paths.now) }
+        ensures goes { IfOk result (λ pack. GoesBy (T.content tree.old) (T.content tree.new) (T.fault_count tree.old)
+            (T.fault_count tree.new) (T.trace tree.old) (T.trace tree.new)
+            self pack) }
+        ensures no_memory { OnErr result (Starves (T.content tree.old) (T.content tree.new) (T.fault_count tree.old)
+            (T.fault_count tree.new) (T.trace tree.old) (T.trace tree.new)
+            self (λ ears. fold with_path (paths_read self.reads) paths.now)) }
     {
         let mut pack = self;
         'paths: for path in paths {
@@ -292,6 +319,13 @@ impl Pack {
             (T.fault_count tree.old) (T.fault_count tree.new) }
         ensures begins { IfOk result (λ pack. Begins (T.content tree.old) (T.fault_count tree.old)
             (T.fault_count tree.new) folder.now (option_copied license_file.entry) pack) }
+        // over any tree: the calls are those of the reads that the pack is made of
+        ensures made { IfOk result (λ pack. IsMadeBy (T.content tree.old) (T.content tree.new) (T.fault_count tree.old)
+            (T.fault_count tree.new) (T.trace tree.old) (T.trace tree.new)
+            folder.now pack) }
+        ensures no_memory { OnErr result (StarvesAmong (T.content tree.old) (T.content tree.new) (T.fault_count tree.old)
+            (T.fault_count tree.new) (T.trace tree.old) (T.trace tree.new)
+            folder.now (λ ears. first_records ears folder.now (option_copied license_file.entry))) }
     {
         let listing = list_folder(alloc, tree, folder)?;
         let names = found(alloc, &listing, license_file)?;
@@ -328,6 +362,9 @@ impl Pack {
         ensures sorted { paths_of self.files ≡ in_path_order (paths_read result) }
         ensures agrees { (content : Content) → IsHeardIn content self
             → Agrees (ears_of content self.folder result) self }
+        // over any tree: what the pack has is what the answers to the reads that it is made of let hear
+        ensures answered { (reads : List Read) → IsMadeOf reads self
+            → (records_in reads ≡ result) × Agrees (ears_by reads) self }
     {
         self.reads
     }

@@ -1,25 +1,26 @@
 -- The same where a call ends well, by its answer.
 use Rattle.std.proofs.Common.{◌≡◌, true, false, ℕ, List, [], ◌∷◌, ◌++◌, length, Option, Some, Ok, Err, Result}
-use Rattle.std.specs.Prelude.{is_some, OnOk}
+use Rattle.std.specs.Prelude.{is_some, OnErr, OnOk}
 use Rattle.std.specs.Option.{ForSome}
 use Rattle.std.specs.declared.alloc.AllocError.{AllocError}
 use Rattle.catalog_core.specs.Catalog.{CatalogLists, IsCatalog}
 use Rattle.diag_core.specs.File.{File, id_at}
 use Rattle.diag_core.specs.declared.diagnostic.Diagnostic.{Diagnostic}
 use Rattle.heard_core.specs.Cause.{ReadCounts, heard_cause}
-use Rattle.heard_core.specs.Heard.{IsHeard}
+use Rattle.heard_core.specs.Heard.{IsHeard, IsRead}
 use Rattle.heard_core.specs.declared.fault.ReadFault.{ReadFault}
 use Rattle.toml_subset.specs.Reading.{read_text}
+use Rattle.tree_core.specs.Call.{Call}
 use Rattle.tree_core.specs.Content.{Content}
 use Rattle.valid_policy.specs.declared.policy.ValidConfig.{ValidConfig}
 use Rattle.valid_policy.specs.declared.policy.ValidException.{ValidException}
 use Rattle.policy_core.specs.Exceptions.{itself_told, unread_told}
 use Rattle.policy_core.specs.ExceptionsText.{Answer, IsAnswered, ReadsBy, kept_of, told_of}
-use Rattle.policy_core.specs.Heard.{IsFileText, LoadState, LoadsExceptions, after_exceptions, fault_words, heard}
+use Rattle.policy_core.specs.Heard.{IsFileText, LoadState, LoadsExceptions, LoadsExceptionsBy, after_exceptions, fault_words, heard}
 use Rattle.policy_core.specs.Places.{PointInto, PolicyStands}
 use Rattle.policy_core.proofs.KeptLemmas.{exceptions_places}
 use Rattle.policy_core.proofs.PlaceLemmas.{exceptions_labels}
-use Rattle.policy_core.proofs.ExceptionLemmas.{text_taken, loads_itself, loads_text, loads_fault}
+use Rattle.policy_core.proofs.ExceptionLemmas.{text_taken, loads_itself, loads_text, loads_fault, reads_fault, reads_itself, reads_text}
 
 abbrev Done : Type 0
 Done = Result (Unit {0}) AllocError
@@ -68,3 +69,30 @@ pub places_of : (result : Done) (lists : CatalogLists) → IsCatalog lists → (
     → OnOk result (LoadsExceptions lists content before after path old new) → OnOk result (PolicyStands old.files old.policy → PolicyStands new.files new.policy)
 places_of (Ok done) lists laws content before after path old new loads = exceptions_places lists laws content before after path old new loads
 places_of (Err error) lists laws content before after path old new loads = tt
+
+-- ---- by the answer of the read
+
+pub itself_by : (result : Done) (lists : CatalogLists) (count : ℕ) (calls : List Call) (path : List ℕ) (policy : ValidConfig) (files : List File) (found further : List Diagnostic)
+    → is_some (id_at files path) ≡ true → OnOk result (further ≡ found ++ itself_told path ∷ [])
+    → OnOk result (LoadsExceptionsBy lists count count calls calls (Some path) (record { policy = policy; files = files; found = found }) (record { policy = policy; files = files; found = further }))
+itself_by (Ok done) lists count calls path policy files found further is tells = reads_itself lists count calls path policy files found further is tells
+itself_by (Err error) lists count calls path policy files found further is tells = tt
+
+pub text_by : (result : Done) (lists : CatalogLists) (before after begun : ℕ) (calls more : List Call) (path text : List ℕ) (old new : LoadState)
+    → OnOk result (new ≡ after_exceptions lists (heard path (Ok text)) old) → IsFileText text
+    → is_some (id_at old.files path) ≡ false → begun ≡ before → IsRead begun after calls more path (Ok text)
+    → OnOk result (LoadsExceptionsBy lists before after calls more (Some path) old new)
+text_by (Ok done) lists before after begun calls more path text old new loads is_text is same read = reads_text lists before after begun calls more path text old new is_text is same read loads
+text_by (Err error) lists before after begun calls more path text old new loads is_text is same read = tt
+
+pub fault_by : (result : Done) (lists : CatalogLists) (before after begun : ℕ) (calls more : List Call) (path : List ℕ) (fault : ReadFault) (policy : ValidConfig) (files : List File) (found further : List Diagnostic)
+    → OnOk result (further ≡ found ++ unread_told path (fault_words fault) ∷ [])
+    → is_some (id_at files path) ≡ false → begun ≡ before → IsRead begun after calls more path (Err fault)
+    → OnOk result (LoadsExceptionsBy lists before after calls more (Some path) (record { policy = policy; files = files; found = found }) (record { policy = policy; files = files; found = further }))
+fault_by (Ok done) lists before after begun calls more path fault policy files found further tells is same read = reads_fault lists before after begun calls more path fault policy files found further is same read tells
+fault_by (Err error) lists before after begun calls more path fault policy files found further tells is same read = tt
+
+-- what holds, holds of a refusal
+pub on_err : {X : Type 0} (result : Result X AllocError) (P : Type 0) → P → OnErr result P
+on_err (Ok value) P holds = tt
+on_err (Err error) P holds = holds

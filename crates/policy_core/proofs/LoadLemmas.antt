@@ -3,6 +3,7 @@ use Rattle.std.proofs.Common.{◌≡◌, ◌∙◌, refl, sym, ap, subst, ℕ, L
 use Rattle.catalog_core.specs.Catalog.{CatalogLists}
 use Rattle.diag_core.specs.File.{File}
 use Rattle.diag_core.specs.declared.diagnostic.Diagnostic.{Diagnostic}
+use Rattle.tree_core.specs.Call.{Call}
 use Rattle.tree_core.specs.Content.{Content}
 use Rattle.policy_config.specs.declared.config.Config.{Config}
 use Rattle.policy_config.specs.declared.root.RootConfig.{RootConfig}
@@ -12,9 +13,9 @@ use Rattle.valid_policy.specs.declared.policy.ValidConfig.{ValidConfig}
 use Rattle.valid_policy.specs.declared.policy.ValidException.{ValidException}
 use Rattle.policy_core.specs.Exceptions.{exceptions_kept, exceptions_told, with_exceptions}
 use Rattle.policy_core.specs.Findings.{targets_told, graph_keys_told, output_key_told}
-use Rattle.policy_core.specs.Heard.{LoadState, LoadsExceptions, read_of}
-use Rattle.policy_core.specs.Load.{LoadsPolicy}
-use Rattle.policy_core.specs.Policy.{licences_in}
+use Rattle.policy_core.specs.Heard.{ExceptionsHeard, LoadState, LoadsExceptions, LoadsExceptionsBy, MayReadOf, after_exceptions, read_of}
+use Rattle.policy_core.specs.Load.{Keeps, LoadsPolicy, LoadsPolicyBy, numbers_at}
+use Rattle.policy_core.specs.Policy.{licences_in, policy_found}
 
 -- further exceptions change nothing of what is put in order
 more_exceptions : (more : List ValidException) (written sorted : ValidConfig) → PutsPolicyInOrder written sorted
@@ -31,6 +32,40 @@ one_list : (first absence a c r e t g o : List Diagnostic) → ((((((first ++ ab
     ≡ first ++ (((((((absence ++ a) ++ c) ++ r) ++ e) ++ t) ++ g) ++ o)
 one_list first absence a c r e t g o = simp append_assoc refl
 
+-- what is kept of a policy, by what was heard of its exceptions file
+keeps_policy : (lists : CatalogLists) (hearing : ExceptionsHeard) (file : ℕ) (absence : List Diagnostic) (root : RootConfig)
+    (config : Config) (valid licenses : ValidConfig) (files more : List File) (found with_absence checked heard all : List Diagnostic)
+    → config ≡ licences_in root
+    → with_absence ≡ found ++ absence
+    → PutsPolicyInOrder (valid_part lists file config) valid → checked ≡ with_absence ++ validation_findings lists file config
+    → (let behind : LoadState = record { policy = licenses; files = more; found = heard } in behind) ≡ after_exceptions lists hearing (record { policy = valid; files = files; found = checked })
+    → all ≡ heard ++ targets_told file root ++ graph_keys_told file root ++ output_key_told file root
+    → Keeps (policy_found lists (numbers_at file files) absence (read_of hearing) root) hearing (record { files = files; found = found }) (record { files = more; found = all })
+    (record { licenses = licenses; graph = root.graph; output = root.output })
+keeps_policy lists hearing file absence root config valid licenses files more found with_absence checked heard all is_config absent puts checks loads settles =
+    let n = length files in
+    let kept = exceptions_kept lists n (read_of hearing) in
+    let tells = exceptions_told lists n (read_of hearing) in
+    let targets = targets_told file root in
+    let keys = graph_keys_told file root in
+    let key = output_key_told file root in
+    record {
+      licenses =
+          subst (λ (one : ValidConfig). PutsPolicyInOrder (with_exceptions kept (valid_part lists file (licences_in root))) one) (sym (ap (λ (s : LoadState). s.policy) loads))
+          (more_exceptions kept (valid_part lists file (licences_in root)) valid
+          (subst (λ (one : Config). PutsPolicyInOrder (valid_part lists file one) valid) is_config puts));
+      graph = refl;
+      output = refl;
+      files = ap (λ (s : LoadState). s.files) loads;
+      found =
+          settles
+          ∙ ap (λ ds. ((ds ++ targets) ++ keys) ++ key) (ap (λ (s : LoadState). s.found) loads)
+          ∙ ap (λ ds. (((ds ++ tells) ++ targets) ++ keys) ++ key) (checks ∙ ap (λ ds. ds ++ validation_findings lists file config) absent
+          ∙ ap (λ (one : Config). (found ++ absence) ++ validation_findings lists file one) is_config)
+          ∙ one_list found absence (address_findings file (licences_in root)) (clarification_findings lists file (licences_in root)) (removed_findings file (licences_in root))
+          tells targets keys key;
+    }
+
 pub loads_policy : (lists : CatalogLists) (told : Option Content) (before after file : ℕ) (absence : List Diagnostic) (root : RootConfig) (path : Option (List ℕ))
     (config : Config) (valid licenses : ValidConfig) (files more : List File) (found with_absence checked heard all : List Diagnostic)
     → config ≡ licences_in root
@@ -40,32 +75,30 @@ pub loads_policy : (lists : CatalogLists) (told : Option Content) (before after 
     → all ≡ heard ++ targets_told file root ++ graph_keys_told file root ++ output_key_told file root
     → LoadsPolicy lists told before after file absence root path (record { files = files; found = found }) (record { files = more; found = all })
     (record { licenses = licenses; graph = root.graph; output = root.output })
-loads_policy lists told before after file absence root path config valid licenses files more found with_absence checked heard all is_config absent puts checks loads settles =
-    let hearing = loads.hearing in
-    let n = length files in
-    let kept = exceptions_kept lists n (read_of hearing) in
-    let tells = exceptions_told lists n (read_of hearing) in
-    let targets = targets_told file root in
-    let keys = graph_keys_told file root in
-    let key = output_key_told file root in
-    record {
-      hearing = hearing;
-      is = loads.is;
-      text = loads.text;
-      keeps = record {
-        licenses =
-            subst (λ (one : ValidConfig). PutsPolicyInOrder (with_exceptions kept (valid_part lists file (licences_in root))) one) (sym (ap (λ (s : LoadState). s.policy) loads.loads))
-            (more_exceptions kept (valid_part lists file (licences_in root)) valid
-            (subst (λ (one : Config). PutsPolicyInOrder (valid_part lists file one) valid) is_config puts));
-        graph = refl;
-        output = refl;
-        files = ap (λ (s : LoadState). s.files) loads.loads;
-        found =
-            settles
-            ∙ ap (λ ds. ((ds ++ targets) ++ keys) ++ key) (ap (λ (s : LoadState). s.found) loads.loads)
-            ∙ ap (λ ds. (((ds ++ tells) ++ targets) ++ keys) ++ key) (checks ∙ ap (λ ds. ds ++ validation_findings lists file config) absent
-            ∙ ap (λ (one : Config). (found ++ absence) ++ validation_findings lists file one) is_config)
-            ∙ one_list found absence (address_findings file (licences_in root)) (clarification_findings lists file (licences_in root)) (removed_findings file (licences_in root))
-            tells targets keys key;
-      };
-    }
+loads_policy lists told before after file absence root path config valid licenses files more found with_absence checked heard all is_config absent puts checks loads settles = record {
+  hearing = loads.hearing;
+  is = loads.is;
+  text = loads.text;
+  keeps = keeps_policy lists loads.hearing file absence root config valid licenses files more found with_absence checked heard all is_config absent puts checks loads.loads settles;
+}
+
+-- the same by the answer of the exceptions file's read
+pub reads_policy : (lists : CatalogLists) (before after : ℕ) (calls others : List Call) (file : ℕ) (absence : List Diagnostic) (root : RootConfig) (path : Option (List ℕ))
+    (config : Config) (valid licenses : ValidConfig) (files more : List File) (found with_absence checked heard all : List Diagnostic)
+    → config ≡ licences_in root
+    → with_absence ≡ found ++ absence
+    → PutsPolicyInOrder (valid_part lists file config) valid → checked ≡ with_absence ++ validation_findings lists file config
+    → LoadsExceptionsBy lists before after calls others path (record { policy = valid; files = files; found = checked }) (record { policy = licenses; files = more; found = heard })
+    → all ≡ heard ++ targets_told file root ++ graph_keys_told file root ++ output_key_told file root
+    → LoadsPolicyBy lists before after calls others file absence root path (record { files = files; found = found }) (record { files = more; found = all })
+    (record { licenses = licenses; graph = root.graph; output = root.output })
+reads_policy lists before after calls others file absence root path config valid licenses files more found with_absence checked heard all is_config absent puts checks loads settles = record {
+  hearing = loads.hearing;
+  is = loads.is;
+  text = loads.text;
+  keeps = keeps_policy lists loads.hearing file absence root config valid licenses files more found with_absence checked heard all is_config absent puts checks loads.loads settles;
+}
+
+-- a further exceptions file may have been read where the files that are known are these
+pub may_read_of : (calls others : List Call) (files known : List File) (path : Option (List ℕ)) → known ≡ files → MayReadOf calls others known path → MayReadOf calls others files path
+may_read_of calls others files known path is may = subst (λ those. MayReadOf calls others those path) is may

@@ -1,17 +1,18 @@
 -- What is heard of an exceptions file, and what a call that loads it leaves.
-use Rattle.std.specs.Prelude.{◌≡◌, ℕ, ◌<◌, ◌^◌, true, List, [], ◌∷◌, ◌++◌, codes, length, Option, Some, None, Result, Ok, Err, ⊤}
+use Rattle.std.specs.Prelude.{◌≡◌, ◌⊎◌, ℕ, ◌<◌, ◌^◌, true, List, [], ◌∷◌, ◌++◌, codes, length, Option, Some, None, Result, Ok, Err, ⊤}
 use Rattle.std.specs.Option.{ForSome}
 use Rattle.std.specs.Str.{IsUtf8}
 use Rattle.catalog_core.specs.Catalog.{CatalogLists}
 use Rattle.diag_core.specs.File.{File, id_at}
 use Rattle.diag_core.specs.declared.diagnostic.Diagnostic.{Diagnostic}
 use Rattle.heard_core.specs.Cause.{ReadCounts, heard_cause}
-use Rattle.heard_core.specs.Heard.{IsHeard}
+use Rattle.heard_core.specs.Heard.{IsHeard, IsRead, read_of as call_of}
 use Rattle.heard_core.specs.declared.fault.ReadFault.{ReadFault}
 use Rattle.heard_core.specs.declared.fault.ReadFault.TheVariants.{Failed, Absent, Folder, NotUtf8}
 use Rattle.toml_subset.specs.Answer.{Read}
 use Rattle.toml_subset.specs.Data.{Toml}
 use Rattle.toml_subset.specs.Reading.{read_text}
+use Rattle.tree_core.specs.Call.{Answered, Call}
 use Rattle.tree_core.specs.Content.{Content}
 use Rattle.valid_policy.specs.declared.policy.ValidConfig.{ValidConfig}
 use Rattle.policy_core.specs.Exceptions.{ExceptionsRead, no_file, policy_itself, no_text, no_value, value, exceptions_kept, exceptions_told, with_exceptions}
@@ -93,5 +94,35 @@ after_exceptions lists hearing state = record {
 pub record LoadsExceptions (lists : CatalogLists) (told : Option Content) (before after : ℕ) (path : Option (List ℕ)) (old new : LoadState) : Type 0 where
   pub hearing : ExceptionsHeard
   pub is : IsHeardOf told before after old.files path hearing
+  pub text : IsTextHeard hearing
+  pub loads : new ≡ after_exceptions lists hearing old
+
+-- ---- the same by what a tree answered, whatever it tells of its content
+
+-- A file that is found by the path is the policy, and no call is made. Else one call is made, the read of the path, and its answer
+-- lets hear this.
+abbrev pub IsReadAt : ℕ → ℕ → List Call → List Call → Option ℕ → List ℕ → ExceptionsHeard → Type 0
+IsReadAt before after old new (Some policy) path hearing = (hearing ≡ the_policy path) × (new ≡ old)
+IsReadAt before after old new None path hearing =
+    (text : Result (List ℕ) ReadFault) × (hearing ≡ heard path text) × IsRead before after old new path text
+
+-- the same where there may be no path
+abbrev pub IsReadOf : ℕ → ℕ → List Call → List Call → List File → Option (List ℕ) → ExceptionsHeard → Type 0
+IsReadOf before after old new files None hearing = (hearing ≡ no_path) × (new ≡ old)
+IsReadOf before after old new files (Some path) hearing = IsReadAt before after old new (id_at files path) path hearing
+
+-- where memory was wanting, that call was made, whatever was answered, or none
+abbrev pub MayReadAt : List Call → List Call → Option ℕ → List ℕ → Type 0
+MayReadAt old new (Some policy) path = new ≡ old
+MayReadAt old new None path = (new ≡ old) ⊎ ((answer : Answered) × (new ≡ old ++ call_of path answer ∷ []))
+
+abbrev pub MayReadOf : List Call → List Call → List File → Option (List ℕ) → Type 0
+MayReadOf old new files None = new ≡ old
+MayReadOf old new files (Some path) = MayReadAt old new (id_at files path) path
+
+-- the exceptions file at a path was loaded, by the answer of its read, between two counts of faults
+pub record LoadsExceptionsBy (lists : CatalogLists) (before after : ℕ) (calls more : List Call) (path : Option (List ℕ)) (old new : LoadState) : Type 0 where
+  pub hearing : ExceptionsHeard
+  pub is : IsReadOf before after calls more old.files path hearing
   pub text : IsTextHeard hearing
   pub loads : new ≡ after_exceptions lists hearing old

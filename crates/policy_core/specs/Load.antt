@@ -3,10 +3,11 @@ use Rattle.std.specs.Prelude.{◌≡◌, ℕ, List, ◌++◌, length, Option}
 use Rattle.catalog_core.specs.Catalog.{CatalogLists}
 use Rattle.diag_core.specs.File.{File}
 use Rattle.diag_core.specs.declared.diagnostic.Diagnostic.{Diagnostic}
+use Rattle.tree_core.specs.Call.{Call}
 use Rattle.tree_core.specs.Content.{Content}
 use Rattle.policy_config.specs.declared.root.RootConfig.{RootConfig}
 use Rattle.validate_core.specs.Order.{PutsPolicyInOrder}
-use Rattle.policy_core.specs.Heard.{ExceptionsHeard, IsHeardOf, IsTextHeard, file_heard, read_of}
+use Rattle.policy_core.specs.Heard.{ExceptionsHeard, IsHeardOf, IsReadOf, IsTextHeard, file_heard, read_of}
 use Rattle.policy_core.specs.Policy.{FileNumbers, PolicyFound, policy_found}
 use Rattle.policy_core.specs.declared.load.LoadedPolicy.{LoadedPolicy}
 
@@ -33,5 +34,12 @@ numbers_at file files = record { policy = file; exceptions = length files }
 pub record LoadsPolicy (lists : CatalogLists) (told : Option Content) (before after : ℕ) (file : ℕ) (absence : List Diagnostic) (root : RootConfig) (exceptions_path : Option (List ℕ)) (old new : Surroundings) (loaded : LoadedPolicy) : Type 0 where
   pub hearing : ExceptionsHeard
   pub is : IsHeardOf told before after old.files exceptions_path hearing
+  pub text : IsTextHeard hearing
+  pub keeps : Keeps (policy_found lists (numbers_at file old.files) absence (read_of hearing) root) hearing old new loaded
+
+-- the same by the answer of the exceptions file's read, whatever the tree tells of its content
+pub record LoadsPolicyBy (lists : CatalogLists) (before after : ℕ) (calls more : List Call) (file : ℕ) (absence : List Diagnostic) (root : RootConfig) (exceptions_path : Option (List ℕ)) (old new : Surroundings) (loaded : LoadedPolicy) : Type 0 where
+  pub hearing : ExceptionsHeard
+  pub is : IsReadOf before after calls more old.files exceptions_path hearing
   pub text : IsTextHeard hearing
   pub keeps : Keeps (policy_found lists (numbers_at file old.files) absence (read_of hearing) root) hearing old new loaded

@@ -1,11 +1,11 @@
 //! The exceptions file.
-ghost use Rattle.std.specs.Prelude.{◌≡◌, ◌++◌, is_some, false, Ok, Some, OnOk};
+ghost use Rattle.std.specs.Prelude.{◌≡◌, ◌++◌, is_some, false, Ok, Some, OnErr, OnOk};
 ghost use Rattle.std.specs.Option.{ForSome};
 ghost use Rattle.diag_core.specs.File.{id_at};
-ghost use Rattle.tree_core.specs.Hearing.{KeepsTree};
+ghost use Rattle.tree_core.specs.Hearing.{KeepsTree, MadeSome};
 ghost use Rattle.policy_core.specs.ExceptionsText.{IsAnswered, kept_of, told_of};
 ghost use Rattle.policy_core.specs.Heard.{LoadState, LoadsExceptions, after_exceptions, heard as heard_at};
-ghost use Rattle.policy_core.specs.Heard.{IsFileText};
+ghost use Rattle.policy_core.specs.Heard.{IsFileText, LoadsExceptionsBy, MayReadOf};
 ghost use Rattle.policy_core.specs.Places.{PointInto, PolicyStands};
 
 use crate::exceptions_text::{NoExceptions, read_exceptions};
@@ -82,6 +82,14 @@ fn load_other<T: Tree, C: Catalog>(
         (T.fault_count tree.old) (T.fault_count tree.new) (Some path)
         (record { policy = cfg.old; files = files.old; found = diags.old })
         (record { policy = cfg.new; files = files.new; found = diags.new })) }
+    ensures read { OnOk result (LoadsExceptionsBy (C.lists catalog.now) (T.fault_count tree.old)
+        (T.fault_count tree.new) (T.trace tree.old) (T.trace tree.new) (Some path)
+        (record { policy = cfg.old; files = files.old; found = diags.old })
+        (record { policy = cfg.new; files = files.new; found = diags.new })) }
+    ensures no_memory { OnErr result
+        (MayReadOf (T.trace tree.old) (T.trace tree.new) files.old (Some path)) }
+    ensures made { MadeSome (T.content tree.old) (T.content tree.new) (T.fault_count tree.old)
+        (T.fault_count tree.new) (T.trace tree.old) (T.trace tree.new) }
     ensures kept { KeepsTree (T.content tree.old) (T.content tree.new)
         (T.fault_count tree.old) (T.fault_count tree.new) }
 {
@@ -114,6 +122,14 @@ pub fn load_exceptions<T: Tree, C: Catalog>(
         (record { policy = cfg.new; files = files.new; found = diags.new })) }
     ensures labels { OnOk result (PointInto files.old diags.old → PointInto files.new diags.new) }
     ensures places { OnOk result (PolicyStands files.old cfg.old → PolicyStands files.new cfg.new) }
+    ensures read { OnOk result (LoadsExceptionsBy (C.lists catalog.now) (T.fault_count tree.old)
+        (T.fault_count tree.new) (T.trace tree.old) (T.trace tree.new) (Some path)
+        (record { policy = cfg.old; files = files.old; found = diags.old })
+        (record { policy = cfg.new; files = files.new; found = diags.new })) }
+    ensures no_memory { OnErr result
+        (MayReadOf (T.trace tree.old) (T.trace tree.new) files.old (Some path)) }
+    ensures made { MadeSome (T.content tree.old) (T.content tree.new) (T.fault_count tree.old)
+        (T.fault_count tree.new) (T.trace tree.old) (T.trace tree.new) }
     ensures kept { KeepsTree (T.content tree.old) (T.content tree.new)
         (T.fault_count tree.old) (T.fault_count tree.new) }
 {

@@ -1,15 +1,15 @@
 //! Policies that were read, and have their shape.
-ghost use Rattle.std.specs.Prelude.{◌≡◌, ◌++◌, map, unwrap_or, IfOk, OnOk, codes};
+ghost use Rattle.std.specs.Prelude.{◌≡◌, ◌++◌, map, unwrap_or, IfOk, OnErr, OnOk, codes};
 ghost use Rattle.std.specs.Option.{ForSome, option_copied, option_to_list, option_and_then};
 ghost use Rattle.diag_core.specs.File.{id_at};
-ghost use Rattle.tree_core.specs.Hearing.{KeepsTree};
+ghost use Rattle.tree_core.specs.Hearing.{KeepsTree, MadeSome};
 ghost use Rattle.policy_config.specs.Config.{no_config};
 ghost use Rattle.validate_core.specs.Order.{PutsPolicyInOrder};
 ghost use Rattle.validate_core.specs.Valid.{valid_part, validation_findings};
 ghost use Rattle.policy_core.specs.Findings.{moved_told};
 ghost use Rattle.policy_core.specs.Findings.{targets_told, graph_keys_told, output_key_told};
-ghost use Rattle.policy_core.specs.Heard.{LoadsExceptions};
-ghost use Rattle.policy_core.specs.Load.{LoadsPolicy};
+ghost use Rattle.policy_core.specs.Heard.{LoadsExceptions, LoadsExceptionsBy, MayReadOf};
+ghost use Rattle.policy_core.specs.Load.{LoadsPolicy, LoadsPolicyBy};
 ghost use Rattle.policy_core.specs.Places.{IsPlacedIn, PointInto, PolicyStands};
 ghost use Rattle.policy_core.specs.Policy.{absence_told};
 
@@ -108,6 +108,14 @@ fn load_further<T: Tree, C: Catalog>(
         (T.fault_count tree.old) (T.fault_count tree.new) path
         (record { policy = cfg.old; files = files.old; found = diags.old })
         (record { policy = cfg.new; files = files.new; found = diags.new })) }
+    ensures read { OnOk result (LoadsExceptionsBy (C.lists catalog.now) (T.fault_count tree.old)
+        (T.fault_count tree.new) (T.trace tree.old) (T.trace tree.new) path
+        (record { policy = cfg.old; files = files.old; found = diags.old })
+        (record { policy = cfg.new; files = files.new; found = diags.new })) }
+    ensures no_memory { OnErr result
+        (MayReadOf (T.trace tree.old) (T.trace tree.new) files.old path) }
+    ensures made { MadeSome (T.content tree.old) (T.content tree.new) (T.fault_count tree.old)
+        (T.fault_count tree.new) (T.trace tree.old) (T.trace tree.new) }
     ensures kept { KeepsTree (T.content tree.old) (T.content tree.new)
         (T.fault_count tree.old) (T.fault_count tree.new) }
 {
@@ -176,6 +184,14 @@ pub fn load_policy<T: Tree, C: Catalog>(
         → PointInto files.old found.old → PointInto files.new found.new) }
     ensures places { IfOk result (λ loaded. IsPlacedIn files.old source.now.file_id root
         → PolicyStands files.new loaded.licenses) }
+    ensures read { IfOk result (LoadsPolicyBy (C.lists catalog.now) (T.fault_count tree.old)
+        (T.fault_count tree.new) (T.trace tree.old) (T.trace tree.new) source.now.file_id
+        (absence_told source.now.is_there (option_copied source.now.path)) root exceptions_path
+        (record { files = files.old; found = found.old }) (record { files = files.new; found = found.new })) }
+    ensures no_memory { OnErr result
+        (MayReadOf (T.trace tree.old) (T.trace tree.new) files.old exceptions_path) }
+    ensures made { MadeSome (T.content tree.old) (T.content tree.new) (T.fault_count tree.old)
+        (T.fault_count tree.new) (T.trace tree.old) (T.trace tree.new) }
     ensures kept { KeepsTree (T.content tree.old) (T.content tree.new)
         (T.fault_count tree.old) (T.fault_count tree.new) }
 {

@@ -1,4 +1,5 @@
 pub mod ApartLemmas
+pub mod CallLemmas
 mod Examples
 pub mod LookedLemmas
 pub mod NotesLemmas

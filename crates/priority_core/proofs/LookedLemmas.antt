@@ -29,7 +29,7 @@ use Rattle.priority_core.proofs.ApartLemmas.{AreApart, apart_in_order, apart_spe
 use Rattle.priority_core.proofs.SeenLemmas.{answer_is}
 
 -- what was found and then looked up was read in the order of the reads
-paths_looked : (ears : Ears) (license_file : Option (List ℕ)) (clarifications : List (List Named)) (listing : Heard) (begun last : List (List ℕ))
+pub paths_looked : (ears : Ears) (license_file : Option (List ℕ)) (clarifications : List (List Named)) (listing : Heard) (begun last : List (List ℕ))
     → ears.listing ≡ listing → begun ≡ fold with_path [] (found_of listing license_file)
     → last ≡ fold with_path begun (flat_map (looked_of ears) (tried_of ears clarifications)) → last ≡ reads_of ears license_file clarifications
 paths_looked ears license_file clarifications listing begun last same begins looks =

@@ -1,3 +1,4 @@
+pub mod Calls
 pub mod Clarification
 pub mod Priority
 pub mod Settled

@@ -1,16 +1,18 @@
 //! The licence of one crate.
-ghost use Rattle.std.specs.Prelude.{◌≡◌, ◌++◌, IfOk, OnOk, None, Some, [], map, option_map, option_and_then};
+ghost use Rattle.std.specs.Prelude.{◌≡◌, ◌++◌, IfOk, OnErr, OnOk, None, Some, [], map, option_map, option_and_then};
 ghost use Rattle.std.specs.List.{flat_map, fold};
 ghost use Rattle.std.specs.Option.{ForSome, option_to_list};
 ghost use Rattle.tree_core.specs.Hearing.{KeepsTree};
 ghost use Rattle.graph_core.specs.Krate.{record_of};
 ghost use Rattle.reads_core.specs.Rising.{RiseInOrder};
+ghost use Rattle.pack_core.specs.Calls.{GoesBy, IsMadeBy, Starves, StarvesAmong};
 ghost use Rattle.pack_core.specs.Ears.{Ears, ears_of, looked_of, tried_of};
 ghost use Rattle.pack_core.specs.Steps.{Advances, Agrees, with_path};
 ghost use Rattle.pack_core.specs.View.{paths_read};
+ghost use Rattle.priority_core.specs.Calls.{IsByReads};
 ghost use Rattle.priority_core.specs.Clarification.{behind, files_of, held_in};
 ghost use Rattle.priority_core.specs.Priority as spec;
-ghost use Rattle.priority_core.specs.Priority.{field_of, folder_of, holding};
+ghost use Rattle.priority_core.specs.Priority.{field_of, folder_of, holding, records_of, records_with};
 ghost use Rattle.priority_core.specs.Settled.{IsSettledBy, missing_of, scanner_with, settling_by, span_at};
 ghost use Rattle.priority_core.specs.Steps.{IsLooked, IsOrderedBy};
 
@@ -100,6 +102,14 @@ fn try_all<T: Tree>(
         → clarified.held ≡ option_map held_in (holding ears (map behind clarifications.now))) }
     ensures missing { IfOk result (λ clarified. (ears : Ears) → Agrees ears clarified.pack
         → clarified.missing ≡ missing_of ears (map behind clarifications.now)) }
+    // over any tree: the calls are those of the reads that went into the pack
+    ensures goes { IfOk result (λ clarified. GoesBy (T.content tree.old) (T.content tree.new) (T.fault_count tree.old)
+        (T.fault_count tree.new) (T.trace tree.old) (T.trace tree.new)
+        pack clarified.pack) }
+    ensures no_memory { OnErr result (Starves (T.content tree.old) (T.content tree.new) (T.fault_count tree.old)
+        (T.fault_count tree.new) (T.trace tree.old) (T.trace tree.new)
+        pack (λ ears. fold with_path (paths_read pack.reads)
+        (flat_map (looked_of ears) (tried_of ears (files_of (map behind clarifications.now)))))) }
 {
     let mut pack = pack;
     let mut missing = Spans::new(alloc);
@@ -135,6 +145,12 @@ fn look<T: Tree>(
     ensures looked { IfOk result (λ clarified.
         IsLooked (T.content tree.old) (T.fault_count tree.old) (T.fault_count tree.new) (record_of krate.now)
         (map behind clarifications.now) clarified.pack clarified.held clarified.missing) }
+    ensures made { IfOk result (λ clarified. IsMadeBy (T.content tree.old) (T.content tree.new) (T.fault_count tree.old)
+        (T.fault_count tree.new) (T.trace tree.old) (T.trace tree.new)
+        (folder_of (record_of krate.now)) clarified.pack) }
+    ensures no_memory { OnErr result (StarvesAmong (T.content tree.old) (T.content tree.new) (T.fault_count tree.old)
+        (T.fault_count tree.new) (T.trace tree.old) (T.trace tree.new)
+        (folder_of (record_of krate.now)) (records_with (map behind clarifications.now) (record_of krate.now))) }
 {
     let pack = Pack::read(alloc, tree, folder(krate), krate.license_file.as_ref())?;
     let clarified = try_all(alloc, tree, pack, clarifications)?;
@@ -173,6 +189,14 @@ fn settle_by_files<T: Tree, I: Identifier, C: Catalog>(
     ensures some { IfOk result (λ settled. (ears : Ears)
         × IsOrderedBy (scanner_with C.lists I.match_of scan.now) (map behind clarifications.now)
         (record_of krate.now) ears settled) }
+    ensures answered { let krate = record_of krate.now in IfOk result (λ settled.
+        IsByReads (T.content tree.old) (T.content tree.new) (T.fault_count tree.old)
+        (T.fault_count tree.new) (T.trace tree.old) (T.trace tree.new)
+        (folder_of krate) settled.reads (λ ears. IsOrderedBy (scanner_with C.lists I.match_of scan.now)
+        (map behind clarifications.now) krate ears settled)) }
+    ensures no_memory { OnErr result (StarvesAmong (T.content tree.old) (T.content tree.new) (T.fault_count tree.old)
+        (T.fault_count tree.new) (T.trace tree.old) (T.trace tree.new)
+        (folder_of (record_of krate.now)) (records_with (map behind clarifications.now) (record_of krate.now))) }
 {
     let clarified = look(alloc, tree, krate, clarifications)?;
     let by = settle_by_cases(alloc, scan, clarified.held, field, &clarified.pack)?;
@@ -213,6 +237,16 @@ pub fn settle_licence<T: Tree, I: Identifier, C: Catalog>(
     ensures some { IfOk result (λ settled. (ears : Ears)
         × IsSettledBy (scanner_with C.lists I.match_of scan.now) (map behind clarifications.now)
         (record_of krate.now) ears settled) }
+    // over any tree, by the answers to the crate's own reads, which are all the calls
+    ensures answered { let krate = record_of krate.now in IfOk result (λ settled.
+        IsByReads (T.content tree.old) (T.content tree.new) (T.fault_count tree.old)
+        (T.fault_count tree.new) (T.trace tree.old) (T.trace tree.new)
+        (folder_of krate) settled.reads (λ ears. IsSettledBy (scanner_with C.lists I.match_of scan.now)
+        (map behind clarifications.now) krate ears settled)) }
+    ensures no_memory { OnErr result (StarvesAmong (T.content tree.old) (T.content tree.new) (T.fault_count tree.old)
+        (T.fault_count tree.new) (T.trace tree.old) (T.trace tree.new)
+        (folder_of (record_of krate.now)) (records_of (scanner_with C.lists I.match_of scan.now)
+        (map behind clarifications.now) (record_of krate.now))) }
 {
     if !is_nothing(clarifications) {
         return settle_by_files(alloc, tree, scan, krate, clarifications, field);

@@ -1,3 +1,5 @@
+mod AnsweredLemmas
 mod Examples
+pub mod ReadLemmas
 pub mod RisingLemmas
 pub mod ToldLemmas

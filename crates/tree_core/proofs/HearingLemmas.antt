@@ -1,12 +1,12 @@
 -- What is heard where one read failed, and where no count rose.
-use Rattle.std.proofs.Common.{◌≡◌, ℕ, ◌+◌, ◌^◌, ◌<◌, ◌≤◌, ◌⊎◌, ◌&&◌, Bool, true, List, [], ◌∷◌, cond, Some, None, refl, ap, sym, subst, ◌∙◌, inl, inr, arith}
+use Rattle.std.proofs.Common.{◌≡◌, ℕ, ◌≤◌, ◌&&◌, true, List, [], ◌∷◌, cond, Some, None, refl, ap, ◌∙◌, inl, inr, arith}
 use Rattle.std.specs.Cmp.{eq_by_cmp_equiv}
 use Rattle.std.specs.Option.{option_map_or}
 use Rattle.std.specs.Ordering.{eq_by_cmp}
 use Rattle.deny_text.specs.Path.{path_order, path_order_total}
 use Rattle.tree_core.specs.Content.{Content, node_at}
 use Rattle.tree_core.specs.Faults.{Rose}
-use Rattle.tree_core.specs.Hearing.{Kind, policy, metadata, is_kind, is_read, FailedRead, Hearing, read_failed, stands, heard, RiseBetween}
+use Rattle.tree_core.specs.Hearing.{Kind, policy, metadata, is_kind, is_read, FailedRead, read_failed, stands, heard, RiseBetween}
 
 is_kind-same : (kind : Kind) → is_kind kind kind ≡ true
 is_kind-same policy = refl

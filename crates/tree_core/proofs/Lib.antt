@@ -3,6 +3,7 @@ pub mod GainedLemmas
 pub mod HearingLemmas
 pub mod JoinLemmas
 pub mod ListingLemmas
+pub mod MadeLemmas
 pub mod NameOrderLemmas
 pub mod PlaceLemmas
 pub mod PutLemmas

@@ -1,10 +1,13 @@
 -- What is heard of a tree in a call: what it holds, but for the reads that failed.
-use Rattle.std.specs.Prelude.{◌≡◌, ℕ, ◌≤◌, Bool, true, false, ◌&&◌, List, [], ◌∷◌, Option, find}
-use Rattle.std.specs.Option.{option_map_or}
+use Rattle.std.specs.Prelude.{◌≡◌, ℕ, ◌≤◌, Bool, true, false, ◌&&◌, List, [], ◌∷◌, ◌++◌, Option, find}
+use Rattle.std.specs.List.{All}
+use Rattle.std.specs.Option.{ForSome, option_map_or}
 use Rattle.std.specs.Ordering.{eq_by_cmp}
 use Rattle.deny_text.specs.Path.{path_order}
+use Rattle.tree_core.specs.Call.{Call}
 use Rattle.tree_core.specs.Content.{Content, Node, node_at}
 use Rattle.tree_core.specs.Faults.{Rose}
+use Rattle.tree_core.specs.Trace.{Says, faults_after}
 
 -- what is read, and what for
 pub data Kind : Type 0 where
@@ -64,3 +67,16 @@ pub record IsHearing (told : Content) (before after : ℕ) (hearing : Hearing) :
 pub record KeepsTree (old new : Option Content) (before after : ℕ) : Type 0 where
   pub content : new ≡ old
   pub later : before ≤ after
+
+-- These calls, and no other, were made on a tree: they stand at the end of its trace; its count of faults rose by those that
+-- failed; what it tells of its content is as before; and where it tells it, each call says what is so.
+pub record Made (told tells : Option Content) (before after : ℕ) (old new calls : List Call) : Type 0 where
+  pub content : tells ≡ told
+  pub counts : after ≡ faults_after before calls
+  pub traced : new ≡ old ++ calls
+  pub says : ForSome told (λ content. All (Says content) calls)
+
+-- some calls were made on a tree, whichever they were
+pub record MadeSome (told tells : Option Content) (before after : ℕ) (old new : List Call) : Type 0 where
+  pub calls : List Call
+  pub made : Made told tells before after old new calls

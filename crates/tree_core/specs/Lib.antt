@@ -1,10 +1,13 @@
 pub mod Answer
+pub mod Call
 pub mod Content
 pub mod Faults
 pub mod Found
 pub mod Hearing
+pub mod Readable
 pub mod Script
 pub mod SinkState
 pub mod Stored
 pub mod SystemNames
+pub mod Trace
 pub mod TreeState

@@ -1,5 +1,5 @@
 -- The names that a system tells of a folder.
-use Rattle.std.specs.Prelude.{◌≡◌, ℕ, ◌==◌, Bool, true, false, List, map, codes, if◌then◌else◌, Option}
+use Rattle.std.specs.Prelude.{ℕ, ◌==◌, Bool, true, false, List, map, codes, if◌then◌else◌, Option}
 use Rattle.std.specs.List.{filter, slice_split}
 use Rattle.std.specs.List.Sorted.{IsPermutation}
 use Rattle.std.specs.Io.KnownBytes.{Consumes}

@@ -1,16 +1,19 @@
 -- A tree in memory.
-use Rattle.std.specs.Prelude.{◌≡◌, ℕ, ◌+◌, ◌-◌, ◌<◌, ◌==◌, Bool, List, [], ◌∷◌, map, Option, Some, None, length, take, if◌then◌else◌, refl}
+use Rattle.std.specs.Prelude.{◌≡◌, ℕ, ◌+◌, ◌-◌, ◌<◌, ◌==◌, Bool, List, [], ◌∷◌, ◌++◌, map, Option, Some, None, length, take, if◌then◌else◌, refl}
 use Rattle.std.specs.Coded.{Coded, code_by, coded×, coded_ℕ, coded_list, coded_option}
 use Rattle.std.specs.List.{list_any}
 use Rattle.std.specs.FinMap as map
 use Rattle.tree_core.specs.Content.{Content, Place, Node, file, folder}
+use Rattle.tree_core.specs.Call.{Call, call_code}
 use Rattle.tree_core.specs.Faults.{counted}
 
--- what it holds, how often it failed, and which of its calls will fail, counted from 1 at the next (0 is a call gone by)
+-- what it holds, how often it failed, which of its calls will fail, counted from 1 at the next (0 is a call gone by), and
+-- the calls so far
 pub record TreeState : Type 0 where
   pub content : Content
   pub faults : ℕ
   pub failing : List ℕ
+  pub calls : List Call
 
 abbrev pub bytes_of : Node → Option (List ℕ)
 bytes_of (file bytes) = Some bytes
@@ -31,8 +34,9 @@ node_code = code_by (Option (List ℕ)) (coded_option (coded_list coded_ℕ)) by
 -- a state is stored as the pairs of its fields
 abbrev pub state_code : Coded TreeState
 state_code =
-    code_by (Content × (ℕ × List ℕ)) (coded× (map.code (coded_list (coded_list coded_ℕ)) node_code) (coded× coded_ℕ (coded_list coded_ℕ)))
-    (λ s. (s.content, (s.faults, s.failing))) (λ p. record { content = p.0; faults = p.1.0; failing = p.1.1 }) (λ _. refl)
+    code_by (Content × (ℕ × (List ℕ × List Call)))
+    (coded× (map.code (coded_list (coded_list coded_ℕ)) node_code) (coded× coded_ℕ (coded× (coded_list coded_ℕ) (coded_list call_code))))
+    (λ s. (s.content, (s.faults, (s.failing, s.calls)))) (λ p. record { content = p.0; faults = p.1.0; failing = p.1.1.0; calls = p.1.1.1 }) (λ _. refl)
 
 -- the root folder alone
 abbrev pub root_alone : Content
@@ -42,13 +46,32 @@ root_alone = map.from_entries (([], folder) ∷ [])
 abbrev pub fails_next : TreeState → Bool
 fails_next state = list_any (λ n. n == 1) state.failing
 
--- what a call leaves: the same content, a call less to wait for each that will fail, and a failure counted
-abbrev pub after_call : TreeState → TreeState
-after_call state = record {
+-- what the beginning of a call leaves: the same content, a call less to wait for each that will fail, and a failure counted
+abbrev pub begun : TreeState → TreeState
+begun state = record {
   content = state.content;
   faults = if fails_next state then counted state.faults else state.faults;
   failing = map (λ n. n - 1) state.failing;
+  calls = state.calls;
 }
+
+-- what a call leaves: what its beginning leaves, and the call at the end of the trace
+abbrev pub after_call : TreeState → Call → TreeState
+after_call state call = record {
+  content = state.content;
+  faults = if fails_next state then counted state.faults else state.faults;
+  failing = map (λ n. n - 1) state.failing;
+  calls = state.calls ++ call ∷ [];
+}
+
+-- the real files: how often a call failed, and the calls so far
+pub record FolderState : Type 0 where
+  pub faults : ℕ
+  pub calls : List Call
+
+abbrev pub folder_code : Coded FolderState
+folder_code =
+    code_by (ℕ × List Call) (coded× coded_ℕ (coded_list call_code)) (λ s. (s.faults, s.calls)) (λ p. record { faults = p.0; calls = p.1 }) (λ _. refl)
 
 -- the first names of a place, or all of them
 abbrev pub IsFront : Place → Place → Type 0

@@ -1,20 +1,25 @@
 //! The real files.
-ghost use Rattle.std.specs.Prelude.{◌≡◌, ◌≢◌, ℕ, ◌↔◌, ◌≤◌, ◌++◌, [], ◌∷◌, Err, None, IfOk, IfErr, OnOk};
-ghost use Rattle.std.specs.Prelude.{IsSorted, vec_len};
+ghost use Rattle.std.specs.Prelude.{◌≡◌, ◌≢◌, ℕ, ◌↔◌, ◌≤◌, ◌⊎◌, ◌++◌, [], ◌∷◌, Ok, Err, None, Some};
+ghost use Rattle.std.specs.Prelude.{IfOk, IfErr, OnOk, IsSorted, true, false, vec_len};
+ghost use Rattle.std.specs.Option.{ForSome};
 ghost use Rattle.std.specs.List.{filter};
 ghost use Rattle.std.specs.declared.io.ErrorKind.{ErrorKind};
 ghost use Rattle.std.specs.Io.{ReadsAtMost};
 ghost use Rattle.std.specs.Io.KnownBytes.{Consumes, IsAtEnd, ReadConsumes};
+ghost use Rattle.std.specs.Fs.{IsDir, IsSymlink, file_type};
 ghost use Rattle.std.specs.IoError.{error_kind};
 ghost use Rattle.std.specs.Ordering.{nat_cmp};
 ghost use Rattle.std.specs.Cmp.Lexicographic.{slice_cmp};
 ghost use Rattle.tree_core.specs.Answer.{FailsOrLacksMemory, IsInNameOrder};
 ghost use Rattle.tree_core.specs.Faults.{HasCause, count_after};
+ghost use Rattle.tree_core.specs.Trace.{read_call, list_call, file_call, exists_call};
+ghost use Rattle.tree_core.specs.Readable.{IsRead};
 ghost use Rattle.tree_core.specs.SystemNames.{TellsNames, names_entry, names_of, names_told};
 
+use crate::trace::Trace;
 use crate::tree::{Entries, Entry, Tree, TreeError};
 use deny_text::path::join;
-use deny_text::{Bytes, Text};
+use deny_text::{Bytes, PathBuf, Text};
 use std::alloc::{AllocError, Global};
 use std::fs::{File, Metadata};
 use std::io;
@@ -28,31 +33,57 @@ const LIMIT: usize = 67_108_864;
 /// How many bytes one read asks for.
 const PIECE: usize = 65_536;
 
-/// The real files, reached through the runtime that it keeps and seen as the count of faults. Links are
-/// followed.
+/// The real files, reached through the runtime that it keeps and seen as the count of faults and the calls.
+/// Links are followed. What is neither a file nor a folder, as a pipe, is read only where its path is among
+/// those that were named at the making.
 #[derive(Drop)]
 pub struct FolderTree<R> {
     rt: R,
+    named: Vec<PathBuf>,
     failed: u64,
+    trace: Trace,
 }
 
 impl<R> Model for FolderTree<R> {
-    ghost Value = { ℕ };
+    ghost use Rattle.tree_core.specs.TreeState.{FolderState, folder_code};
 
-    ghost view = { λ t. t.failed };
+    ghost Value = { FolderState };
+
+    ghost coded = { folder_code };
+
+    ghost view = { λ t. record { faults = t.failed; calls = t.trace.calls } };
 }
 
 impl<R: Files + AllocGlobal + Drop> FolderTree<R> {
+    /// No path is named.
     pub fn new(rt: R) -> FolderTree<R>
-        ensures { result ≡ 0 }
+        ensures { result ≡ record { faults = 0; calls = [] } }
     {
-        FolderTree { rt, failed: 0 }
+        let named = Vec::new(rt.alloc());
+        FolderTree::with_named(rt, named)
+    }
+
+    /// The paths at which a pipe or a device is read too.
+    pub fn with_named(rt: R, named: Vec<PathBuf>) -> FolderTree<R>
+        ensures { result ≡ record { faults = 0; calls = [] } }
+    {
+        FolderTree {
+            rt,
+            named,
+            failed: 0,
+            trace: Trace::new(),
+        }
+    }
+
+    /// Whether a path is one of those that were named.
+    fn is_named(&self, path: &str) -> bool {
+        self.named.iter().any(|named| named.as_path() == path)
     }
 
     /// Counts a failure.
     fn count<T>(&mut self, answer: &Result<T, TreeError>)
-        ensures count { self.new ≡ count_after self.old answer.now }
-        ensures cause { HasCause self.old self.new answer.now }
+        ensures count { self.new ≡ record self.old { faults = count_after self.old.faults answer.now } }
+        ensures cause { HasCause self.old.faults self.new.faults answer.now }
     {
         if matches!(answer, Err(TreeError::Failed)) {
             self.failed = self.failed.saturating_add(1);
@@ -63,44 +94,54 @@ impl<R: Files + AllocGlobal + Drop> FolderTree<R> {
 impl<R: Files + AllocGlobal + Drop> Tree for FolderTree<R> {
     ghost content = { λ _. None };
 
-    ghost fault_count = { λ faults. faults };
+    ghost fault_count = { λ t. t.faults };
+
+    ghost trace = { λ t. t.calls };
 
     fn read(&mut self, alloc: Global, path: &str) -> Result<Bytes, TreeError>
-        ensures cause { HasCause self.old self.new result }
-        ensures counts { self.new ≡ count_after self.old result }
+        ensures cause { HasCause self.old.faults self.new.faults result }
+        ensures counts { self.new.faults ≡ count_after self.old.faults result }
+        ensures traced { self.new.calls ≡ self.old.calls ++ read_call path.now result ∷ [] }
     {
-        let answer = read_file(&self.rt, alloc, path);
+        let answer = read_file(&self.rt, alloc, path, self.is_named(path));
         self.count(&answer);
+        self.trace = self.trace.read(path.as_bytes(), &answer);
         answer
     }
 
     fn list(&mut self, alloc: Global, path: &str) -> Result<Entries, TreeError>
         ensures ordered { IfOk result IsInNameOrder }
-        ensures cause { HasCause self.old self.new result }
-        ensures counts { self.new ≡ count_after self.old result }
+        ensures cause { HasCause self.old.faults self.new.faults result }
+        ensures counts { self.new.faults ≡ count_after self.old.faults result }
+        ensures traced { self.new.calls ≡ self.old.calls ++ list_call path.now result ∷ [] }
     {
         let answer = list_folder(&self.rt, alloc, path);
         self.count(&answer);
+        self.trace = self.trace.list(path.as_bytes(), &answer);
         answer
     }
 
     fn is_file(&mut self, _alloc: Global, path: &str) -> Result<bool, TreeError>
         ensures refusal { FailsOrLacksMemory result }
-        ensures cause { HasCause self.old self.new result }
-        ensures counts { self.new ≡ count_after self.old result }
+        ensures cause { HasCause self.old.faults self.new.faults result }
+        ensures counts { self.new.faults ≡ count_after self.old.faults result }
+        ensures traced { self.new.calls ≡ self.old.calls ++ file_call path.now result ∷ [] }
     {
         let answer = is_real_file(&self.rt, path);
         self.count(&answer);
+        self.trace = self.trace.is_file(path.as_bytes(), &answer);
         answer
     }
 
     fn exists(&mut self, _alloc: Global, path: &str) -> Result<bool, TreeError>
         ensures refusal { FailsOrLacksMemory result }
-        ensures cause { HasCause self.old self.new result }
-        ensures counts { self.new ≡ count_after self.old result }
+        ensures cause { HasCause self.old.faults self.new.faults result }
+        ensures counts { self.new.faults ≡ count_after self.old.faults result }
+        ensures traced { self.new.calls ≡ self.old.calls ++ exists_call path.now result ∷ [] }
     {
         let answer = is_there(&self.rt, path);
         self.count(&answer);
+        self.trace = self.trace.exists(path.as_bytes(), &answer);
         answer
     }
 
@@ -127,6 +168,7 @@ fn refusal(error: &io::Error) -> TreeError
 
 /// The same where what was looked for has to be there.
 fn failure(error: &io::Error) -> TreeError
+    ensures memory { (result ≡ TreeError.Memory) ↔ (error_kind error.now ≡ ErrorKind.OutOfMemory) }
     ensures no_absent { result ≢ TreeError.Absent }
     ensures no_kind { result ≢ TreeError.WrongKind }
 {
@@ -137,12 +179,16 @@ fn failure(error: &io::Error) -> TreeError
     }
 }
 
-/// What stands at a path, if anything does.
-fn look<R: Files>(rt: &R, path: &str) -> Result<Option<Metadata>, TreeError>
-    ensures no_absent { IfErr result (λ e. e ≢ TreeError.Absent) }
-    ensures no_kind { IfErr result (λ e. e ≢ TreeError.WrongKind) }
+/// What stands at a path, by what the system answered. Nothing does only where it said so.
+fn looked(answer: io::Result<Metadata>) -> Result<Option<Metadata>, TreeError>
+    ensures there { IfOk answer (λ found. result ≡ Ok (Some found)) }
+    ensures absent { IfErr answer (λ error. (result ≡ Ok None) ↔ (error_kind error ≡ ErrorKind.NotFound)) }
+    ensures memory { IfErr answer
+        (λ error. (result ≡ Err TreeError.Memory) ↔ (error_kind error ≡ ErrorKind.OutOfMemory)) }
+    ensures no_absent { IfErr result (λ error. error ≢ TreeError.Absent) }
+    ensures no_kind { IfErr result (λ error. error ≢ TreeError.WrongKind) }
 {
-    match rt.metadata(path) {
+    match answer {
         Ok(found) => Ok(Some(found)),
         Err(error) => {
             if error.kind() == ErrorKind::NotFound {
@@ -151,6 +197,14 @@ fn look<R: Files>(rt: &R, path: &str) -> Result<Option<Metadata>, TreeError>
             Err(failure(&error))
         }
     }
+}
+
+/// What stands at a path, if anything does.
+fn look<R: Files>(rt: &R, path: &str) -> Result<Option<Metadata>, TreeError>
+    ensures no_absent { IfErr result (λ error. error ≢ TreeError.Absent) }
+    ensures no_kind { IfErr result (λ error. error ≢ TreeError.WrongKind) }
+{
+    looked(rt.metadata(path))
 }
 
 fn is_real_file<R: Files>(rt: &R, path: &str) -> Result<bool, TreeError>
@@ -173,20 +227,59 @@ fn is_there<R: Files>(rt: &R, path: &str) -> Result<bool, TreeError>
     }
 }
 
-fn read_file<R: Files>(rt: &R, alloc: Global, path: &str) -> Result<Bytes, TreeError> {
-    let Some(found) = look(rt, path)? else {
+/// Whether what stands at a path is read: a file whose length is lawful, and what is neither a file nor a
+/// folder only where its path was named for it.
+fn readable(found: &Option<Metadata>, is_named: bool) -> Result<(), TreeError>
+    ensures absent { (result ≡ Err TreeError.Absent) ↔ (found.now ≡ None) }
+    ensures folder { ForSome found.now (λ there. (result ≡ Err TreeError.WrongKind) ↔ IsDir (file_type there)) }
+    ensures read { OnOk result (ForSome found.now (λ there. IsRead there is_named)) }
+    ensures fails { result ≡ Err TreeError.Failed → ForSome found.now (λ there. ¬ (IsRead there is_named)) }
+    ensures no_memory { result ≢ Err TreeError.Memory }
+{
+    let Some(there) = found else {
         return Err(TreeError::Absent);
     };
-    if found.is_dir() {
+    if there.is_dir() {
         return Err(TreeError::WrongKind);
     }
-    if found.is_file() && found.len() > LIMIT as u64 {
-        return Err(TreeError::Failed);
-    }
-    let mut file = match File::open(rt, path) {
-        Ok(file) => file,
-        Err(error) => return Err(refusal(&error)),
+    let is_read = if there.is_file() {
+        there.len() <= LIMIT as u64
+    } else {
+        is_named
     };
+    if is_read {
+        Ok(())
+    } else {
+        Err(TreeError::Failed)
+    }
+}
+
+/// What was opened, or why it could not be.
+fn opened<F>(answer: io::Result<F>) -> Result<F, TreeError>
+    ensures opened { IfOk answer (λ file. result ≡ Ok file) }
+    ensures absent { IfErr answer
+        (λ error. (result ≡ Err TreeError.Absent) ↔ (error_kind error ≡ ErrorKind.NotFound)) }
+    ensures memory { IfErr answer
+        (λ error. (result ≡ Err TreeError.Memory) ↔ (error_kind error ≡ ErrorKind.OutOfMemory)) }
+    ensures no_kind { result ≢ Err TreeError.WrongKind }
+    ensures refused { IfErr answer (λ error. (file : F) → result ≢ Ok file) }
+{
+    match answer {
+        Ok(file) => Ok(file),
+        Err(error) => Err(refusal(&error)),
+    }
+}
+
+/// The bytes of what stands at a path.
+fn read_file<R: Files>(
+    rt: &R,
+    alloc: Global,
+    path: &str,
+    is_named: bool,
+) -> Result<Bytes, TreeError> {
+    let found = look(rt, path)?;
+    readable(&found, is_named)?;
+    let mut file = opened(File::open(rt, path))?;
     let bytes = read_to_limit(&mut file, alloc, LIMIT)?;
     Ok(Bytes::from(bytes))
 }
@@ -235,21 +328,27 @@ fn read_piece<F: Read>(file: &mut F, piece: &mut [u8]) -> io::Result<usize>
     Err(io::Error::from(ErrorKind::TimedOut))
 }
 
+/// Whether what stands at a path is listed: a folder.
+fn listable(found: &Option<Metadata>) -> Result<(), TreeError>
+    ensures absent { (result ≡ Err TreeError.Absent) ↔ (found.now ≡ None) }
+    ensures folder { ForSome found.now (λ there. (result ≡ Ok tt) ↔ IsDir (file_type there)) }
+    ensures refusal { IfErr result (λ error. (error ≡ TreeError.Absent) ⊎ (error ≡ TreeError.WrongKind)) }
+{
+    match found {
+        None => Err(TreeError::Absent),
+        Some(there) if there.is_dir() => Ok(()),
+        Some(_) => Err(TreeError::WrongKind),
+    }
+}
+
 fn list_folder<R: Files>(rt: &R, alloc: Global, path: &str) -> Result<Entries, TreeError>
     ensures { IfOk result IsInNameOrder }
 {
-    let Some(found) = look(rt, path)? else {
-        return Err(TreeError::Absent);
-    };
-    if !found.is_dir() {
-        return Err(TreeError::WrongKind);
-    }
+    let found = look(rt, path)?;
+    listable(&found)?;
     // With a slash behind it a path leads through a link at its end.
     let through = join(alloc, path, "")?;
-    let mut folder = match rt.open_dir(through.as_path()) {
-        Ok(folder) => folder,
-        Err(error) => return Err(refusal(&error)),
-    };
+    let mut folder = opened(rt.open_dir(through.as_path()))?;
     list_opened(rt, alloc, path, &mut folder)
 }
 
@@ -285,6 +384,23 @@ fn entries_named<R: Files>(
     Ok(entries)
 }
 
+/// What is said of an entry where a look found nothing: a link leads nowhere, and is no file; every other entry
+/// has to be there.
+fn dangling(answer: io::Result<Metadata>) -> Result<bool, TreeError>
+    ensures link { IfOk answer (λ found. (result ≡ Ok false) ↔ IsSymlink (file_type found)) }
+    ensures no_file { result ≢ Ok true }
+    ensures there { IfErr answer (λ error. result ≢ Ok false) }
+    ensures memory { (result ≡ Err TreeError.Memory)
+        → IfErr answer (λ error. error_kind error ≡ ErrorKind.OutOfMemory) }
+    ensures refusal { FailsOrLacksMemory result }
+{
+    match answer {
+        Ok(found) if found.is_symlink() => Ok(false),
+        Ok(_) => Err(TreeError::Failed),
+        Err(error) => Err(failure(&error)),
+    }
+}
+
 /// Whether an entry is a file. A link to nothing is none; every other entry has to be there.
 fn is_file_entry<R: Files>(
     rt: &R,
@@ -296,11 +412,7 @@ fn is_file_entry<R: Files>(
     if let Some(found) = look(rt, place.as_path())? {
         return Ok(found.is_file());
     }
-    match rt.symlink_metadata(place.as_path()) {
-        Ok(link) if link.is_symlink() => Ok(false),
-        Ok(_) => Err(TreeError::Failed),
-        Err(error) => Err(failure(&error)),
-    }
+    dangling(rt.symlink_metadata(place.as_path()))
 }
 
 /// The names that the system tells of a folder, in byte order.

@@ -10,6 +10,7 @@ mod place;
 pub mod reads;
 pub mod sink;
 pub mod std_sink;
+pub mod trace;
 pub mod tree;
 
 pub use folder_tree::FolderTree;
@@ -19,4 +20,5 @@ pub use nodes::PutError;
 pub use reads::{ReadAnswer, ReadKind, ReadRecord, Reads};
 pub use sink::{Sink, SinkFailed, write_all};
 pub use std_sink::StdSink;
+pub use trace::Trace;
 pub use tree::{Entries, Entry, Tree, TreeError};

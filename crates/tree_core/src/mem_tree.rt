@@ -5,12 +5,14 @@ ghost use Rattle.std.specs.FinMap.{get};
 ghost use Rattle.tree_core.specs.Content.{Content, IsRooted, entries_in, file, node_at, resolve};
 ghost use Rattle.tree_core.specs.Answer.{ReadAnswers, ListAnswers, FileAnswers, ExistsAnswers};
 ghost use Rattle.tree_core.specs.Answer.{FailsOrLacksMemory, IsInNameOrder, listed};
-ghost use Rattle.tree_core.specs.Faults.{HasCause};
+ghost use Rattle.tree_core.specs.Faults.{HasCause, count_after};
 ghost use Rattle.tree_core.specs.Found.{found_node};
-ghost use Rattle.tree_core.specs.TreeState.{root_alone, fails_next, after_call, Clashes, Puts};
+ghost use Rattle.tree_core.specs.Trace.{read_call, list_call, file_call, exists_call};
+ghost use Rattle.tree_core.specs.TreeState.{root_alone, fails_next, begun, after_call, Clashes, Puts};
 
 use crate::nodes::{Found, Nodes, PutError, Stored, entries_at, find, put_at};
 use crate::place::Place;
+use crate::trace::Trace;
 use crate::tree::{Entries, Tree, TreeError};
 use deny_text::Bytes;
 use std::alloc::{AllocError, Global};
@@ -24,6 +26,7 @@ pub struct MemTree {
     nodes: Nodes,
     waits: Vec<u64>,
     failed: u64,
+    trace: Trace,
 }
 
 impl Model for MemTree {
@@ -40,6 +43,7 @@ impl Model for MemTree {
       content = content_of t.nodes.entries;
       faults = t.failed;
       failing = t.waits.items;
+      calls = t.trace.calls;
     } };
 
     ghost invariant = { λ t. IsSound t.nodes.entries };
@@ -52,12 +56,14 @@ impl MemTree {
         ensures rooted { IsRooted result.content }
         ensures no_faults { result.faults ≡ 0 }
         ensures no_failing { result.failing ≡ [] }
+        ensures no_calls { result.calls ≡ [] }
     {
         MemTree {
             alloc,
             nodes: BTreeMap::new(alloc),
             waits: Vec::new(alloc),
             failed: 0,
+            trace: Trace::new(),
         }
     }
 
@@ -82,6 +88,7 @@ impl MemTree {
         ensures rooted { IsRooted self.new.content }
         ensures same_faults { self.new.faults ≡ self.old.faults }
         ensures same_failing { self.new.failing ≡ self.old.failing }
+        ensures same_calls { self.new.calls ≡ self.old.calls }
     {
         let place = Place::resolve(self.alloc, path)?;
         let copy = Vec::from_slice(self.alloc, bytes)?;
@@ -93,7 +100,7 @@ impl MemTree {
     fn start_call(&mut self) -> Result<(), TreeError>
         ensures cause { HasCause self.old.faults self.new.faults result }
         ensures answer { result ≡ (if fails_next self.old then Err TreeError.Failed else Ok tt) }
-        ensures after { self.new ≡ after_call self.old }
+        ensures after { self.new ≡ begun self.old }
     {
         let fails = self.waits.contains(&1);
         'waits: for wait in self.waits.iter_mut() {
@@ -129,18 +136,14 @@ impl MemTree {
     {
         entries_at(&self.nodes, alloc, folder)
     }
-}
 
-impl Tree for MemTree {
-    ghost content = { λ t. Some t.content };
-
-    ghost fault_count = { λ t. t.faults };
-
-    fn read(&mut self, alloc: Global, path: &str) -> Result<Bytes, TreeError>
+    /// What `read` answers.
+    fn answer_read(&mut self, alloc: Global, path: &str) -> Result<Bytes, TreeError>
         ensures answer { ReadAnswers (node_at self.old.content path.now) result }
         ensures cause { HasCause self.old.faults self.new.faults result }
+        ensures counts { self.new.faults ≡ count_after self.old.faults result }
         ensures fails { (result ≡ Err TreeError.Failed) ↔ IsTrue (fails_next self.old) }
-        ensures after { self.new ≡ after_call self.old }
+        ensures after { self.new ≡ begun self.old }
     {
         self.start_call()?;
         match self.look(alloc, path)? {
@@ -153,12 +156,14 @@ impl Tree for MemTree {
         }
     }
 
-    fn list(&mut self, alloc: Global, path: &str) -> Result<Entries, TreeError>
+    /// What `list` answers.
+    fn answer_list(&mut self, alloc: Global, path: &str) -> Result<Entries, TreeError>
         ensures answer { ListAnswers self.old.content path.now result }
         ensures ordered { IfOk result IsInNameOrder }
         ensures cause { HasCause self.old.faults self.new.faults result }
+        ensures counts { self.new.faults ≡ count_after self.old.faults result }
         ensures fails { (result ≡ Err TreeError.Failed) ↔ IsTrue (fails_next self.old) }
-        ensures after { self.new ≡ after_call self.old }
+        ensures after { self.new ≡ begun self.old }
     {
         self.start_call()?;
         let place = Place::resolve(alloc, path)?;
@@ -172,12 +177,14 @@ impl Tree for MemTree {
         }
     }
 
-    fn is_file(&mut self, alloc: Global, path: &str) -> Result<bool, TreeError>
+    /// What `is_file` answers.
+    fn answer_is_file(&mut self, alloc: Global, path: &str) -> Result<bool, TreeError>
         ensures answer { FileAnswers (node_at self.old.content path.now) result }
         ensures refusal { FailsOrLacksMemory result }
         ensures cause { HasCause self.old.faults self.new.faults result }
+        ensures counts { self.new.faults ≡ count_after self.old.faults result }
         ensures fails { (result ≡ Err TreeError.Failed) ↔ IsTrue (fails_next self.old) }
-        ensures after { self.new ≡ after_call self.old }
+        ensures after { self.new ≡ begun self.old }
     {
         self.start_call()?;
         match self.look(alloc, path)? {
@@ -186,18 +193,83 @@ impl Tree for MemTree {
         }
     }
 
-    fn exists(&mut self, alloc: Global, path: &str) -> Result<bool, TreeError>
+    /// What `exists` answers.
+    fn answer_exists(&mut self, alloc: Global, path: &str) -> Result<bool, TreeError>
         ensures answer { ExistsAnswers (node_at self.old.content path.now) result }
         ensures refusal { FailsOrLacksMemory result }
         ensures cause { HasCause self.old.faults self.new.faults result }
+        ensures counts { self.new.faults ≡ count_after self.old.faults result }
         ensures fails { (result ≡ Err TreeError.Failed) ↔ IsTrue (fails_next self.old) }
-        ensures after { self.new ≡ after_call self.old }
+        ensures after { self.new ≡ begun self.old }
     {
         self.start_call()?;
         match self.look(alloc, path)? {
             Found::Nothing => Ok(false),
             Found::File(_) | Found::Folder => Ok(true),
         }
+    }
+}
+
+impl Tree for MemTree {
+    ghost content = { λ t. Some t.content };
+
+    ghost fault_count = { λ t. t.faults };
+
+    ghost trace = { λ t. t.calls };
+
+    fn read(&mut self, alloc: Global, path: &str) -> Result<Bytes, TreeError>
+        ensures answer { ReadAnswers (node_at self.old.content path.now) result }
+        ensures cause { HasCause self.old.faults self.new.faults result }
+        ensures counts { self.new.faults ≡ count_after self.old.faults result }
+        ensures traced { self.new.calls ≡ self.old.calls ++ read_call path.now result ∷ [] }
+        ensures fails { (result ≡ Err TreeError.Failed) ↔ IsTrue (fails_next self.old) }
+        ensures after { self.new ≡ after_call self.old (read_call path.now result) }
+    {
+        let answer = self.answer_read(alloc, path);
+        self.trace = self.trace.read(path.as_bytes(), &answer);
+        answer
+    }
+
+    fn list(&mut self, alloc: Global, path: &str) -> Result<Entries, TreeError>
+        ensures answer { ListAnswers self.old.content path.now result }
+        ensures ordered { IfOk result IsInNameOrder }
+        ensures cause { HasCause self.old.faults self.new.faults result }
+        ensures counts { self.new.faults ≡ count_after self.old.faults result }
+        ensures traced { self.new.calls ≡ self.old.calls ++ list_call path.now result ∷ [] }
+        ensures fails { (result ≡ Err TreeError.Failed) ↔ IsTrue (fails_next self.old) }
+        ensures after { self.new ≡ after_call self.old (list_call path.now result) }
+    {
+        let answer = self.answer_list(alloc, path);
+        self.trace = self.trace.list(path.as_bytes(), &answer);
+        answer
+    }
+
+    fn is_file(&mut self, alloc: Global, path: &str) -> Result<bool, TreeError>
+        ensures answer { FileAnswers (node_at self.old.content path.now) result }
+        ensures refusal { FailsOrLacksMemory result }
+        ensures cause { HasCause self.old.faults self.new.faults result }
+        ensures counts { self.new.faults ≡ count_after self.old.faults result }
+        ensures traced { self.new.calls ≡ self.old.calls ++ file_call path.now result ∷ [] }
+        ensures fails { (result ≡ Err TreeError.Failed) ↔ IsTrue (fails_next self.old) }
+        ensures after { self.new ≡ after_call self.old (file_call path.now result) }
+    {
+        let answer = self.answer_is_file(alloc, path);
+        self.trace = self.trace.is_file(path.as_bytes(), &answer);
+        answer
+    }
+
+    fn exists(&mut self, alloc: Global, path: &str) -> Result<bool, TreeError>
+        ensures answer { ExistsAnswers (node_at self.old.content path.now) result }
+        ensures refusal { FailsOrLacksMemory result }
+        ensures cause { HasCause self.old.faults self.new.faults result }
+        ensures counts { self.new.faults ≡ count_after self.old.faults result }
+        ensures traced { self.new.calls ≡ self.old.calls ++ exists_call path.now result ∷ [] }
+        ensures fails { (result ≡ Err TreeError.Failed) ↔ IsTrue (fails_next self.old) }
+        ensures after { self.new ≡ after_call self.old (exists_call path.now result) }
+    {
+        let answer = self.answer_exists(alloc, path);
+        self.trace = self.trace.exists(path.as_bytes(), &answer);
+        answer
     }
 
     fn faults(&self) -> u64 {

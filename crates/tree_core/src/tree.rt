@@ -1,10 +1,12 @@
 //! A tree of files, and what its calls answer.
-ghost use Rattle.std.specs.Prelude.{◌≡◌, ℕ, Option, IfOk};
+ghost use Rattle.std.specs.Prelude.{◌≡◌, ℕ, List, Option, IfOk, ◌++◌, [], ◌∷◌};
 ghost use Rattle.std.specs.Option.{ForSome};
 ghost use Rattle.tree_core.specs.Content.{Content, node_at};
 ghost use Rattle.tree_core.specs.Answer.{ReadAnswers, ListAnswers, FileAnswers, ExistsAnswers};
 ghost use Rattle.tree_core.specs.Answer.{FailsOrLacksMemory, IsInNameOrder};
-ghost use Rattle.tree_core.specs.Faults.{HasCause};
+ghost use Rattle.tree_core.specs.Call.{Call};
+ghost use Rattle.tree_core.specs.Faults.{HasCause, count_after};
+ghost use Rattle.tree_core.specs.Trace.{read_call, list_call, file_call, exists_call};
 
 use deny_text::{Bytes, ListOf, Text};
 use std::alloc::{AllocError, Global};
@@ -54,32 +56,43 @@ pub trait Tree {
     /// How often a call has failed.
     ghost fault_count: { Self → ℕ };
 
+    /// The calls so far, in order, each with what it answered.
+    ghost trace: { Self → List Call };
+
     /// The bytes of a file.
     fn read(&mut self, alloc: Global, path: &str) -> Result<Bytes, TreeError>
         ensures answer { ForSome (content self.old) (λ c. ReadAnswers (node_at c path.now) result) }
         ensures same { content self.new ≡ content self.old }
-        ensures cause { HasCause (fault_count self.old) (fault_count self.new) result };
+        ensures counts { fault_count self.new ≡ count_after (fault_count self.old) result }
+        ensures cause { HasCause (fault_count self.old) (fault_count self.new) result }
+        ensures traced { trace self.new ≡ trace self.old ++ read_call path.now result ∷ [] };
 
     /// What stands right in a folder.
     fn list(&mut self, alloc: Global, path: &str) -> Result<Entries, TreeError>
         ensures answer { ForSome (content self.old) (λ c. ListAnswers c path.now result) }
         ensures ordered { IfOk result IsInNameOrder }
         ensures same { content self.new ≡ content self.old }
-        ensures cause { HasCause (fault_count self.old) (fault_count self.new) result };
+        ensures counts { fault_count self.new ≡ count_after (fault_count self.old) result }
+        ensures cause { HasCause (fault_count self.old) (fault_count self.new) result }
+        ensures traced { trace self.new ≡ trace self.old ++ list_call path.now result ∷ [] };
 
     /// Whether a file stands at the path.
     fn is_file(&mut self, alloc: Global, path: &str) -> Result<bool, TreeError>
         ensures answer { ForSome (content self.old) (λ c. FileAnswers (node_at c path.now) result) }
         ensures refusal { FailsOrLacksMemory result }
         ensures same { content self.new ≡ content self.old }
-        ensures cause { HasCause (fault_count self.old) (fault_count self.new) result };
+        ensures counts { fault_count self.new ≡ count_after (fault_count self.old) result }
+        ensures cause { HasCause (fault_count self.old) (fault_count self.new) result }
+        ensures traced { trace self.new ≡ trace self.old ++ file_call path.now result ∷ [] };
 
     /// Whether a file or a folder stands at the path.
     fn exists(&mut self, alloc: Global, path: &str) -> Result<bool, TreeError>
         ensures answer { ForSome (content self.old) (λ c. ExistsAnswers (node_at c path.now) result) }
         ensures refusal { FailsOrLacksMemory result }
         ensures same { content self.new ≡ content self.old }
-        ensures cause { HasCause (fault_count self.old) (fault_count self.new) result };
+        ensures counts { fault_count self.new ≡ count_after (fault_count self.old) result }
+        ensures cause { HasCause (fault_count self.old) (fault_count self.new) result }
+        ensures traced { trace self.new ≡ trace self.old ++ exists_call path.now result ∷ [] };
 
     /// How often a call has failed; it stops at the last number.
     fn faults(&self) -> u64

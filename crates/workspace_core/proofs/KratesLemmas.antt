@@ -1,5 +1,7 @@
 -- The crates from what was heard of the metadata's file, by what each step answers.
 use Rattle.std.proofs.Common.{◌≡◌, ◌∙◌, sym, ap, subst, ℕ, List, Option, Some, None, Result, Ok, Err, IfErr}
+use Rattle.tree_core.specs.Call.{Call}
+use Rattle.heard_core.specs.Heard.{IsRead}
 use Rattle.graph_core.specs.Metadata.{Graph}
 use Rattle.records_core.specs.declared.fault.MetaError.{MetaError}
 use Rattle.records_core.specs.declared.fault.MetaError.TheVariants as records
@@ -15,7 +17,7 @@ use Rattle.heard_core.specs.declared.fault.ReadFault.TheVariants.{Failed, Absent
 use Rattle.workspace_core.specs.declared.error.KratesError.{KratesError}
 use Rattle.workspace_core.specs.declared.error.KratesError.TheVariants.{Memory, NotCarried, MetadataRead, MetadataSyntax, MetadataShape, NoRoots}
 use Rattle.heard_core.specs.Cause.{heard_cause, ReadCounts}
-use Rattle.workspace_core.specs.Krates.{krates_cause, error_of_build, error_of_records, graph_in, graph_told, sparse_dir, AreFrom, TellsGraph}
+use Rattle.workspace_core.specs.Krates.{krates_cause, error_of_build, error_of_records, graph_in, graph_told, sparse_dir, AreFrom, GathersBy, TellsGraph}
 
 -- ---- what is told
 
@@ -92,3 +94,15 @@ krates_counts choice begun before after heard (Err (MetadataRead (NotUtf8 at))) 
 krates_counts choice begun before after heard (Err MetadataSyntax) counts from = tt
 krates_counts choice begun before after heard (Err (MetadataShape fault)) counts from = tt
 krates_counts choice begun before after heard (Err (NoRoots base excluded unpublished)) counts from = tt
+
+-- ---- by the answer of the read
+
+pub gathered_by : (choice : Choice) (begun after : ℕ) (old new : List Call) (path : List ℕ) (heard : Result (List ℕ) ReadFault) (result : Result Chosen KratesError)
+    → IsRead begun after old new path heard → AreFrom choice heard result → GathersBy choice begun after old new path result
+gathered_by choice begun after old new path heard (Ok chosen) read from = record { heard = heard; read = read; from = from }
+gathered_by choice begun after old new path heard (Err Memory) read from = (read.answer, read.made)
+gathered_by choice begun after old new path heard (Err (NotCarried what)) read from = record { heard = heard; read = read; from = from }
+gathered_by choice begun after old new path heard (Err (MetadataRead fault)) read from = record { heard = heard; read = read; from = from }
+gathered_by choice begun after old new path heard (Err MetadataSyntax) read from = record { heard = heard; read = read; from = from }
+gathered_by choice begun after old new path heard (Err (MetadataShape fault)) read from = record { heard = heard; read = read; from = from }
+gathered_by choice begun after old new path heard (Err (NoRoots base excluded unpublished)) read from = record { heard = heard; read = read; from = from }

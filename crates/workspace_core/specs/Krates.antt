@@ -1,5 +1,6 @@
 -- The crates that metadata tells of, from what was heard of its file.
-use Rattle.std.specs.Prelude.{◌≡◌, ℕ, List, codes, Option, Some, None, Result, Ok, Err}
+use Rattle.std.specs.Prelude.{◌≡◌, ℕ, List, [], ◌∷◌, ◌++◌, codes, Option, Some, None, Result, Ok, Err}
+use Rattle.tree_core.specs.Call.{Answered, Call}
 use Rattle.tree_core.specs.Content.{Content}
 use Rattle.graph_core.specs.Metadata.{Graph}
 use Rattle.records_core.specs.declared.fault.MetaError.{MetaError}
@@ -16,7 +17,7 @@ use Rattle.heard_core.specs.declared.fault.ReadFault.TheVariants.{Failed}
 use Rattle.workspace_core.specs.declared.error.KratesError.{KratesError}
 use Rattle.workspace_core.specs.declared.error.KratesError.TheVariants.{Memory, NotCarried, MetadataRead, MetadataSyntax, MetadataShape, NoRoots}
 use Rattle.heard_core.specs.Cause.{Cause, no_memory, told, failed_read, heard_cause, ReadCounts}
-use Rattle.heard_core.specs.Heard.{IsHeard}
+use Rattle.heard_core.specs.Heard.{IsHeard, IsRead, read_of}
 
 -- why a refusal comes
 abbrev pub krates_cause : KratesError → Cause
@@ -98,3 +99,16 @@ pub record AreHeard (choice : Choice) (content : Content) (begun : ℕ) (path : 
 abbrev pub Gathers : Choice → Content → ℕ → List ℕ → ℕ → ℕ → Result Chosen KratesError → Type 0
 Gathers choice content begun path before after (Err Memory) = Unit {0}
 Gathers choice content begun path before after result = AreHeard choice content begun path before after result
+
+-- ---- the same by what a tree answered, whatever it tells of its content
+
+-- one call was made, the read of the path; what its answer lets hear, and the crates from it
+pub record AreRead (choice : Choice) (begun after : ℕ) (old new : List Call) (path : List ℕ) (result : Result Chosen KratesError) : Type 0 where
+  pub heard : Result (List ℕ) ReadFault
+  pub read : IsRead begun after old new path heard
+  pub from : AreFrom choice heard result
+
+-- the same, unless memory was refused: then the read was made too, whatever was answered
+abbrev pub GathersBy : Choice → ℕ → ℕ → List Call → List Call → List ℕ → Result Chosen KratesError → Type 0
+GathersBy choice begun after old new path (Err Memory) = (answer : Answered) × (new ≡ old ++ read_of path answer ∷ [])
+GathersBy choice begun after old new path result = AreRead choice begun after old new path result

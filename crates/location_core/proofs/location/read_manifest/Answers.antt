@@ -1,11 +1,14 @@
-use Rattle.std.proofs.Common.{ap, subst, ◌∙◌, ◌≡◌, [], ℕ, List}
+use Rattle.std.proofs.Common.{ap, subst, ◌∙◌, ◌≡◌, ◌⊎◌, [], ◌∷◌, ◌++◌, ℕ, List, OnErr}
 use Rattle.std.proofs.lemmas.Result.{IfOk-weaker}
 use Rattle.deny_text.specs.Path.{components_of}
+use Rattle.tree_core.specs.Call as call
 use Rattle.tree_core.specs.Content.{Place, resolve}
 use Rattle.tree_core.specs.declared.reads.ReadKind.TheVariants.{LicenseFile, Manifest}
+use Rattle.reads_core.specs.Answered.{IsRead, call_of}
 use Rattle.reads_core.specs.Heard.{place_of, there_heard}
 use Rattle.reads_core.specs.Told.{IsHeardOf}
 use Rattle.reads_core.specs.Views.{heard_file}
+use Rattle.location_core.proofs.CallLemmas.{join_nothing}
 use Rattle.location_core.proofs.HeardLemmas.{by_root}
 use Rattle.location_core.proofs.location.read_manifest.Goals as goal
 
@@ -16,3 +19,15 @@ returns-clause-told g c = λ content is.
     IfOk-weaker c.read_file.result _ _
     (λ heard told. subst (λ (place : Place). IsHeardOf (there_heard LicenseFile content place) (heard_file heard)) same told)
     (c.read_file.ensures.told content is)
+
+pub returns-clause-read : goal.returns-clause-read
+returns-clause-read g c =
+    IfOk-weaker c.read_file.result _ _
+    (λ heard read. subst (λ (path : List ℕ). IsRead (g.T.Tree.fault_count c.args.tree.now) (g.T.Tree.fault_count c.read_file.new.tree) (g.T.Tree.trace c.args.tree.now) (g.T.Tree.trace c.read_file.new.tree) path (heard_file heard))
+    (join_nothing c.as_path.result.now ∙ c.as_path.ensures) read)
+    c.read_file.ensures.read
+
+pub returns-clause-no_memory : goal.returns-clause-no_memory
+returns-clause-no_memory g c =
+    subst (λ (path : List ℕ). OnErr c.read_file.result ((g.T.Tree.trace c.read_file.new.tree ≡ g.T.Tree.trace c.args.tree.now) ⊎ (g.T.Tree.trace c.read_file.new.tree ≡ g.T.Tree.trace c.args.tree.now ++ call_of call.read path call.no_memory ∷ [])))
+    (join_nothing c.as_path.result.now ∙ c.as_path.ensures) c.read_file.ensures.no_memory

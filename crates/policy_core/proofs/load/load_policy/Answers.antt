@@ -2,10 +2,12 @@ use Rattle.std.proofs.Common.{◌∙◌, ap, subst}
 use Rattle.std.specs.Prelude.{unwrap_or}
 use Rattle.std.specs.Option.{option_copied}
 use Rattle.policy_config.specs.Config.{no_config}
-use Rattle.policy_core.specs.Heard.{LoadsExceptions}
+use Rattle.policy_core.specs.Heard.{LoadsExceptions, LoadsExceptionsBy}
 use Rattle.policy_core.specs.Policy.{absence_told}
 use Rattle.policy_core.proofs.KeptLemmas.{load_places}
-use Rattle.policy_core.proofs.LoadLemmas.{loads_policy}
+use Rattle.policy_core.proofs.LoadLemmas.{loads_policy, may_read_of, reads_policy}
+use Rattle.policy_core.proofs.AnswerLemmas.{on_err}
+use Rattle.policy_core.proofs.ExceptionLemmas.{may_of, unread_of}
 use Rattle.policy_core.proofs.PlaceLemmas.{load_labels}
 use Rattle.policy_core.proofs.load.load_policy.Goals as goal
 
@@ -44,3 +46,43 @@ returns-clause-places g c =
     (absence_told c.args.source.now.is_there (option_copied c.args.source.now.path)) c.args.root c.args.exceptions_path
     (record { files = c.args.files.now; found = c.args.found.now }) (record { files = c.load_further.new.files; found = c.tell_settings.new.found })
     (record { licenses = c.load_further.new.cfg; graph = c.args.root.graph; output = c.args.root.output }) (returns-clause-loads g c)
+
+pub returns-clause-read : goal.returns-clause-read
+returns-clause-read g c =
+    let lists = g.C.Catalog.lists c.args.catalog.now in
+    let before = g.T.Tree.fault_count c.args.tree.now in
+    let after = g.T.Tree.fault_count c.load_further.new.tree in
+    let calls = g.T.Tree.trace c.args.tree.now in
+    let others = g.T.Tree.trace c.load_further.new.tree in
+    let source = c.args.source.now in
+    let licenses = c.load_further.new.cfg in
+    let files = c.load_further.new.files in
+    let heard = c.load_further.new.diags in
+    reads_policy lists before after calls others source.file_id (absence_told source.is_there (option_copied source.path)) c.args.root c.args.exceptions_path
+    c.licences_or_default-config.result c.in_ok-licenses.licenses licenses c.args.files.now files c.args.found.now c.tell_absence.new.found c.validated.new.found
+    heard c.tell_settings.new.found
+    (c.licences_or_default-config.ensures ∙ ap (λ licenses. unwrap_or licenses no_config) c.take.ensures.value)
+    c.in_ok-tell_absence.ensures c.in_ok-licenses.ensures.valid c.in_ok-licenses.ensures.told
+    (subst
+    (λ known. LoadsExceptionsBy lists before after calls others c.args.exceptions_path (record { policy = c.in_ok-licenses.licenses; files = known; found = c.validated.new.found })
+    (record { policy = licenses; files = files; found = heard })) c.in_ok-licenses.ensures.files c.in_ok-load_further.ensures.read)
+    c.in_ok-tell_settings.ensures
+
+pub returns-in_err-tell_absence-clause-no_memory : goal.returns-in_err-tell_absence-clause-no_memory
+returns-in_err-tell_absence-clause-no_memory g c =
+    on_err c.from_residual.result _ (unread_of (g.T.Tree.trace c.args.tree.now) c.args.files.now c.args.exceptions_path)
+
+pub returns-in_err-licenses-clause-no_memory : goal.returns-in_err-licenses-clause-no_memory
+returns-in_err-licenses-clause-no_memory g c =
+    on_err c.from_residual-in_err-licenses.result _ (unread_of (g.T.Tree.trace c.args.tree.now) c.args.files.now c.args.exceptions_path)
+
+pub returns-in_err-load_further-clause-no_memory : goal.returns-in_err-load_further-clause-no_memory
+returns-in_err-load_further-clause-no_memory g c =
+    on_err c.from_residual-in_err-load_further.result _
+    (may_read_of _ _ _ _ c.args.exceptions_path c.in_ok-licenses.ensures.files c.in_err-load_further.ensures.no_memory)
+
+pub returns-in_err-tell_settings-clause-no_memory : goal.returns-in_err-tell_settings-clause-no_memory
+returns-in_err-tell_settings-clause-no_memory g c =
+    on_err c.from_residual-in_err-tell_settings.result _
+    (may_read_of _ _ _ _ c.args.exceptions_path c.in_ok-licenses.ensures.files
+    (may_of _ _ _ _ _ c.args.exceptions_path c.in_ok-load_further.ensures.read.hearing c.in_ok-load_further.ensures.read.is))

@@ -1,7 +1,11 @@
-use Rattle.std.proofs.Common.{◌≡◌, subst, map, option_copied, rules}
+use Rattle.std.proofs.Common.{◌≡◌, ◌∙◌, List, ℕ, Option, subst, map, option_copied, rules}
 use Rattle.graph_core.specs.Krate.{record_of}
+use Rattle.pack_core.specs.Calls.{IsMadeBy}
 use Rattle.pack_core.specs.Steps.{Advances, Begins}
+use Rattle.pack_core.proofs.CallLemmas.{made_then}
 use Rattle.priority_core.specs.Clarification.{behind}
+use Rattle.priority_core.specs.Priority.{folder_of}
+use Rattle.priority_core.proofs.CallLemmas.{on_err, starves_beginning, starves_looking}
 use Rattle.priority_core.proofs.LookedLemmas.{looked}
 use Rattle.priority_core.proofs.settle.look.Goals as goal
 
@@ -22,3 +26,33 @@ returns-clause-looked g c =
     c.in_ok-clarified.ensures.paths
     c.in_ok-clarified.ensures.held
     c.in_ok-clarified.ensures.missing
+
+pub returns-clause-made : goal.returns-clause-made
+returns-clause-made g c =
+    made_then (folder_of (record_of c.args.krate.now)) c.in_ok-pack.pack c.in_ok-clarified.clarified.pack (c.in_ok-pack.ensures.begins.folder_is ∙ c.folder.ensures)
+    (subst (λ (folder : List ℕ). IsMadeBy (g.T.Tree.content c.args.tree.now) (g.T.Tree.content c.read.new.tree) (g.T.Tree.fault_count c.args.tree.now) (g.T.Tree.fault_count c.read.new.tree)
+    (g.T.Tree.trace c.args.tree.now) (g.T.Tree.trace c.read.new.tree) folder c.in_ok-pack.pack) c.folder.ensures c.in_ok-pack.ensures.made)
+    c.in_ok-clarified.ensures.goes
+
+pub returns-in_err-pack-clause-no_memory : goal.returns-in_err-pack-clause-no_memory
+returns-in_err-pack-clause-no_memory g c =
+    let krate = record_of c.args.krate.now in
+    let file_is : option_copied c.as_ref.result ≡ krate.license_file = search rules in
+    on_err c.from_residual.result _
+    (starves_beginning krate (map behind c.args.clarifications.now) c.folder.result.now (option_copied c.as_ref.result) c.folder.ensures file_is c.in_err-pack.ensures.no_memory)
+
+pub returns-in_err-clarified-clause-no_memory : goal.returns-in_err-clarified-clause-no_memory
+returns-in_err-clarified-clause-no_memory g c =
+    let told = g.T.Tree.content c.args.tree.now in
+    let first = g.T.Tree.fault_count c.args.tree.now in
+    let middle = g.T.Tree.fault_count c.read.new.tree in
+    let krate = record_of c.args.krate.now in
+    let file_is : option_copied c.as_ref.result ≡ krate.license_file = search rules in
+    let begun = c.in_ok-pack.pack in
+    on_err c.from_residual-in_err-clarified.result _
+    (starves_looking krate (map behind c.args.clarifications.now) begun
+    (subst (λ folder. Begins told first middle folder krate.license_file begun) c.folder.ensures
+    (subst (λ file. Begins told first middle c.folder.result.now file begun) file_is c.in_ok-pack.ensures.begins))
+    (subst (λ (folder : List ℕ). IsMadeBy (g.T.Tree.content c.args.tree.now) (g.T.Tree.content c.read.new.tree) (g.T.Tree.fault_count c.args.tree.now) (g.T.Tree.fault_count c.read.new.tree)
+    (g.T.Tree.trace c.args.tree.now) (g.T.Tree.trace c.read.new.tree) folder c.in_ok-pack.pack) c.folder.ensures c.in_ok-pack.ensures.made)
+    c.in_err-clarified.ensures.no_memory)

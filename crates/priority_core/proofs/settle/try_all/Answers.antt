@@ -1,4 +1,4 @@
-use Rattle.std.proofs.Common.{◌≡◌, ◌≤◌, ◌+◌, ◌∷◌, ◌++◌, List, true, false, Some, map, drop, sym, ap, subst, ◌∙◌, arith, rules}
+use Rattle.std.proofs.Common.{◌≡◌, ◌≤◌, ◌+◌, ◌∷◌, ◌++◌, List, true, false, Some, map, drop, refl, sym, ap, subst, ◌∙◌, arith, rules}
 use Rattle.std.specs.Prelude.{option_and_then, option_map}
 use Rattle.std.proofs.lemmas.List.{at_drop_more}
 use Rattle.std.specs.List.{fold}
@@ -7,11 +7,13 @@ use Rattle.deny_text.specs.declared.span.Span.{Span}
 use Rattle.pack_core.specs.Ears.{holds, looked_of, missing_from}
 use Rattle.pack_core.specs.Steps.{Advances, with_path}
 use Rattle.pack_core.specs.View.{paths_read}
-use Rattle.pack_core.proofs.PackLemmas.{advances_then, agrees_earlier}
+use Rattle.pack_core.proofs.CallLemmas.{goes_itself, goes_then}
+use Rattle.pack_core.proofs.PackLemmas.{advances_itself, advances_then, agrees_earlier}
 use Rattle.priority_core.specs.declared.clarification.Held.{Held}
 use Rattle.priority_core.specs.Clarification.{PlacedFile, behind, held_in}
 use Rattle.priority_core.specs.Priority.{holding}
 use Rattle.priority_core.specs.Settled.{missing_of, span_at}
+use Rattle.priority_core.proofs.CallLemmas.{on_err, starves_tried, starves_trying}
 use Rattle.priority_core.proofs.TriedLemmas.{held_here, held_on, looks, looks_last, looks_on, missing_last, missing_on}
 use Rattle.priority_core.proofs.settle.try_all.Goals as goal
 
@@ -34,6 +36,7 @@ all-preserved g c =
       kept = record { content = c.tries.ensures.kept.content ∙ so_far.kept.content; later = omega arith };
       goes = advances_then (g.T.Tree.content c.args.tree.now) first middle last c.args.pack c.all.pack new so_far.goes
           (subst (λ told. Advances told middle last c.all.pack new) so_far.kept.content c.in_ok-tried.ensures.advances);
+      goes_by = goes_then c.args.pack c.all.pack new so_far.goes_by c.in_ok-tried.ensures.goes;
       looks_rest = λ ears agrees.
           so_far.looks_rest ears (agrees_earlier _ _ _ _ _ ears c.in_ok-tried.ensures.advances agrees)
           ∙ at_drop_more (λ all. looks ears (paths_read c.all.pack.reads) (map behind all)) c.args.clarifications.now place item c.all-test.true
@@ -113,3 +116,60 @@ returns-then-tried-clause-missing g c = λ ears agrees.
     ∙ ap (λ one. so_long ++ missing_of ears (map behind (one ∷ rest))) (sym c.clarification-item.is)
     ∙ missing_last ears so_long (behind item) (map behind rest) c.in_ok-tried.tried.holds
     (c.in_ok-tried.ensures.holds ears agrees ∙ ap (holds ears) files_are) passed)
+
+pub returns-then-tried-clause-goes : goal.returns-then-tried-clause-goes
+returns-then-tried-clause-goes g c = goes_then c.args.pack c.all.pack c.in_ok-tried.tried.pack c.all.invariant.goes_by c.in_ok-tried.ensures.goes
+
+pub returns-in_err-tried-clause-no_memory : goal.returns-in_err-tried-clause-no_memory
+returns-in_err-tried-clause-no_memory g c =
+    let place = c.all.clarification-index in
+    let item = c.clarification-item.result in
+    let rest = drop (place + 1) c.args.clarifications.now in
+    let files_are = ap (map (λ (file : PlacedFile). file.named)) c.files.ensures in
+    on_err c.from_residual.result _
+    (starves_trying c.args.pack c.all.pack (map behind c.args.clarifications.now) (map behind rest) (behind item) (map (λ (file : PlacedFile). file.named) c.files.result.now) files_are
+    c.all.invariant.goes_by c.in_err-tried.ensures.no_memory
+    (λ ears agrees.
+    c.all.invariant.looks_rest ears agrees
+    ∙ at_drop_more (λ all. looks ears (paths_read c.all.pack.reads) (map behind all)) c.args.clarifications.now place item c.all-test.true
+    ∙ ap (λ one. looks ears (paths_read c.all.pack.reads) (map behind (one ∷ rest))) (sym c.clarification-item.is)))
+
+pub returns-in_err-push_missing-clause-no_memory : goal.returns-in_err-push_missing-clause-no_memory
+returns-in_err-push_missing-clause-no_memory g c =
+    let place = c.all.clarification-index in
+    let item = c.clarification-item.result in
+    let rest = drop (place + 1) c.args.clarifications.now in
+    let files_are = ap (map (λ (file : PlacedFile). file.named)) c.files.ensures in
+    on_err c.from_residual-in_err-push_missing.result _
+    (starves_tried c.args.pack c.all.pack (map behind c.args.clarifications.now) (map behind rest) (behind item) (map (λ (file : PlacedFile). file.named) c.files.result.now) c.in_ok-tried.tried.pack files_are
+    c.all.invariant.goes_by c.in_ok-tried.ensures.goes c.in_ok-tried.ensures.paths
+    (λ ears agrees.
+    c.all.invariant.looks_rest ears agrees
+    ∙ at_drop_more (λ all. looks ears (paths_read c.all.pack.reads) (map behind all)) c.args.clarifications.now place item c.all-test.true
+    ∙ ap (λ one. looks ears (paths_read c.all.pack.reads) (map behind (one ∷ rest))) (sym c.clarification-item.is)))
+
+pub returns-in_err-held-clause-no_memory : goal.returns-in_err-held-clause-no_memory
+returns-in_err-held-clause-no_memory g c =
+    let place = c.all.clarification-index in
+    let item = c.clarification-item.result in
+    let rest = drop (place + 1) c.args.clarifications.now in
+    let files_are = ap (map (λ (file : PlacedFile). file.named)) c.files.ensures in
+    on_err c.from_residual-in_err-held.result _
+    (starves_tried c.args.pack c.all.pack (map behind c.args.clarifications.now) (map behind rest) (behind item) (map (λ (file : PlacedFile). file.named) c.files.result.now) c.in_ok-tried.tried.pack files_are
+    c.all.invariant.goes_by c.in_ok-tried.ensures.goes c.in_ok-tried.ensures.paths
+    (λ ears agrees.
+    c.all.invariant.looks_rest ears agrees
+    ∙ at_drop_more (λ all. looks ears (paths_read c.all.pack.reads) (map behind all)) c.args.clarifications.now place item c.all-test.true
+    ∙ ap (λ one. looks ears (paths_read c.all.pack.reads) (map behind (one ∷ rest))) (sym c.clarification-item.is)))
+
+pub all-init : goal.all-init
+all-init g c =
+    let count = g.T.Tree.fault_count c.args.tree.now in
+    record {
+      kept = record { content = refl; later = omega arith };
+      goes = advances_itself (g.T.Tree.content c.args.tree.now) count count c.args.pack (omega arith);
+      goes_by = goes_itself (g.T.Tree.content c.args.tree.now) count (g.T.Tree.trace c.args.tree.now) c.args.pack;
+      looks_rest = λ ears agrees. refl;
+      held_rest = λ ears agrees. refl;
+      missing_rest = λ ears agrees. ap (λ (front : List Span). front ++ missing_of ears (map behind c.args.clarifications.now)) (sym c.new-missing.ensures);
+    }

@@ -1,9 +1,10 @@
 -- what is found in the folders is found in those that are left
-use Rattle.std.proofs.Common.{◌≡◌, ◌≤◌, length}
+use Rattle.std.proofs.Common.{◌≡◌, ◌≤◌, ℕ, List, ◌++◌, length}
 use Rattle.std.specs.List.{flat_map}
 use Rattle.std.specs.Option.{ForSome, option_copied}
 use Rattle.deny_text.specs.Path.{ancestors_from}
-use Rattle.tree_core.specs.Hearing.{KeepsTree}
+use Rattle.tree_core.specs.Hearing.{KeepsTree, MadeSome}
+use Rattle.search_core.specs.Looked.{misses}
 use Rattle.search_core.specs.Search.{names_of, paths_in, candidates, first_existing}
 use Rattle.search_core.proofs.search.find_upwards.Given as goal
 
@@ -14,6 +15,9 @@ invariant-folders g l =
     × ForSome (g.T.Tree.content l.initial.tree) (λ c.
     first_existing c (candidates l.sought l.manifest_path)
     ≡ first_existing c (flat_map (paths_in (names_of l.sought)) (ancestors_from (option_copied l.folder))))
+    × ((before : List (List ℕ)) × ((candidates l.sought l.manifest_path ≡ before ++ flat_map (paths_in (names_of l.sought)) (ancestors_from (option_copied l.folder)))
+    × (g.T.Tree.trace l.tree ≡ g.T.Tree.trace l.initial.tree ++ misses before)))
+    × MadeSome (g.T.Tree.content l.initial.tree) (g.T.Tree.content l.tree) (g.T.Tree.fault_count l.initial.tree) (g.T.Tree.fault_count l.tree) (g.T.Tree.trace l.initial.tree) (g.T.Tree.trace l.tree)
 
 abbrev pub decreases-folders : goal.decreases-folders
 decreases-folders g l = length (ancestors_from (option_copied l.folder))

@@ -1,4 +1,4 @@
-use Rattle.std.proofs.Common.{◌≡◌, ◌++◌}
+use Rattle.std.proofs.Common.{◌≡◌}
 use Rattle.tree_core.specs.SystemNames.{names_of}
 use Rattle.tree_core.proofs.folder_tree.entries_named.Given as goal
 

@@ -1,5 +1,5 @@
-use Rattle.std.proofs.Common.{◌≡◌, List, ℕ, map, ap, ◌∙◌, rules, tests}
-use Rattle.std.specs.List.{filter, slice_split}
+use Rattle.std.proofs.Common.{ap, ◌∙◌, rules, tests}
+use Rattle.std.specs.List.{filter}
 use Rattle.std.proofs.lemmas.Iterator.Consumers.{YieldsList-at, YieldsList-end}
 use Rattle.std.proofs.lemmas.Iterator.Splits.{YieldsList-from_slice_split}
 use Rattle.tree_core.specs.SystemNames.{names_entry}

@@ -1,4 +1,4 @@
-use Rattle.std.proofs.Common.{◌≡◌, List, ℕ, map}
+use Rattle.std.proofs.Common.{◌≡◌, map}
 use Rattle.std.specs.List.{filter}
 use Rattle.tree_core.specs.SystemNames.{names_entry}
 use Rattle.tree_core.proofs.folder_tree.split_names.Given as goal

@@ -16,3 +16,6 @@ returns-clause-agrees c = λ content heard.
 pub returns-clause-sorted : goal.returns-clause-sorted
 returns-clause-sorted c =
     ap (λ (p : PackView). paths_of p.files) (sym c.self.view_is) ∙ c.self.invariant.paths
+
+pub returns-clause-answered : goal.returns-clause-answered
+returns-clause-answered c = λ reads is. (sym is.records ∙ ap (λ (p : PackView). p.reads) (sym c.self.view_is), is.agrees)

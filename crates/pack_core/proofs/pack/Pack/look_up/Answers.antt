@@ -7,10 +7,12 @@ use Rattle.tree_core.specs.declared.reads.ReadKind.TheVariants.{LicenseFile}
 use Rattle.reads_core.specs.Heard.{place_of, there_heard}
 use Rattle.reads_core.specs.Told.{IsHeardOf}
 use Rattle.reads_core.specs.Views.{heard_file}
+use Rattle.pack_core.specs.Calls.{GoesBy}
 use Rattle.pack_core.specs.Steps.{Advances, with_file, with_path}
 use Rattle.pack_core.specs.Told.{told_of}
 use Rattle.pack_core.specs.View.{PackView, file_at, paths_read}
 use Rattle.pack_core.specs.declared.told.Told.{Told}
+use Rattle.pack_core.proofs.CallLemmas.{goes_itself, goes_read, on_err, starves_before, starves_for, starves_read, starves_unread}
 use Rattle.pack_core.proofs.PackLemmas.{none_told, advances-with_file, both_ok, paths_read-push, there-with_file}
 use Rattle.pack_core.proofs.pack.Pack.look_up.Goals as goal
 
@@ -52,3 +54,34 @@ returns-in_ok-heard-in-None-clause-told g c =
     ∙ ap (option_map told_of) (there-with_file pack key (heard_file c.in_ok-heard-in-None.heard) (none_told (file_at pack.files key) c.in-None.ensures.told))
     ∙ ap (λ (is : Told). Some is) (sym told))
     c.with_file.ensures.pack c.with_file.ensures.told
+
+pub returns-in_ok-heard-in-None-clause-goes : goal.returns-in_ok-heard-in-None-clause-goes
+returns-in_ok-heard-in-None-clause-goes g c =
+    IfOk-weaker c.with_file.result _ _
+    (λ looked is. subst (GoesBy _ _ _ _ _ _ c.args.self) (sym is)
+    (goes_read c.args.self c.in_ok-key.key (heard_file c.in_ok-heard-in-None.heard) c.as_path.result.now c.as_path-in-None.result.now c.in-None.ensures.told c.in-None.ensures.read
+    (c.as_path.ensures ∙ ap (λ (p : PackView). p.folder) c.self.view_is) (c.as_path-in-None.ensures ∙ sym c.in_ok-key.ensures)
+    c.in_ok-heard-in-None.ensures.read c.read_file.ensures.made))
+    c.with_file.ensures.pack
+
+pub returns-in_ok-heard-in-None-clause-no_memory : goal.returns-in_ok-heard-in-None-clause-no_memory
+returns-in_ok-heard-in-None-clause-no_memory g c =
+    on_err c.with_file.result _
+    (starves_for c.args.self c.in_ok-key.key c.args.path.now c.in_ok-key.ensures
+    (starves_read c.args.self c.in_ok-key.key (heard_file c.in_ok-heard-in-None.heard) c.as_path.result.now c.as_path-in-None.result.now c.in-None.ensures.told c.in-None.ensures.read
+    (c.as_path.ensures ∙ ap (λ (p : PackView). p.folder) c.self.view_is) (c.as_path-in-None.ensures ∙ sym c.in_ok-key.ensures)
+    c.in_ok-heard-in-None.ensures.read c.read_file.ensures.made))
+
+pub returns-in_err-heard-in-None-clause-no_memory : goal.returns-in_err-heard-in-None-clause-no_memory
+returns-in_err-heard-in-None-clause-no_memory g c =
+    on_err c.from_residual-in_err-heard-in-None.result _
+    (starves_for c.args.self c.in_ok-key.key c.args.path.now c.in_ok-key.ensures
+    (starves_unread c.args.self c.in_ok-key.key c.as_path.result.now c.as_path-in-None.result.now c.in-None.ensures.read
+    (c.as_path.ensures ∙ ap (λ (p : PackView). p.folder) c.self.view_is) (c.as_path-in-None.ensures ∙ sym c.in_ok-key.ensures)
+    c.in_err-heard-in-None.ensures.no_memory c.read_file.ensures.made))
+
+pub returns-in_err-key-clause-no_memory : goal.returns-in_err-key-clause-no_memory
+returns-in_err-key-clause-no_memory g c = on_err c.from_residual.result _ (starves_before _ _ _ c.args.self c.args.path.now)
+
+pub returns-in-Some-clause-goes : goal.returns-in-Some-clause-goes
+returns-in-Some-clause-goes g c = goes_itself _ _ _ c.args.self

@@ -1,9 +1,10 @@
-use Rattle.std.proofs.Common.{◌≡◌, ◌≤◌, true, false, cond, Some, None, ◌∷◌, map, drop, ap, sym, subst, ◌∙◌, ◌+◌, rules, arith}
+use Rattle.std.proofs.Common.{◌≡◌, ◌≤◌, true, false, cond, Some, None, [], ◌∷◌, map, drop, ap, sym, subst, ◌∙◌, ◌+◌, rules, arith}
 use Rattle.std.specs.List.{fold}
 use Rattle.std.proofs.lemmas.List.{at_drop_more}
-use Rattle.pack_core.specs.Ears.{holds, looked_of, missing_from}
+use Rattle.pack_core.specs.Ears.{holds, looked_of, matches, missing_from}
 use Rattle.pack_core.specs.Steps.{Advances, with_path}
 use Rattle.pack_core.specs.View.{paths_read}
+use Rattle.pack_core.proofs.CallLemmas.{goes_then, on_err, starves_looks}
 use Rattle.pack_core.proofs.PackLemmas.{advances_then, agrees_earlier, holds_on, holds_not, looks_on, looks_not, missing_here, missing_on}
 use Rattle.pack_core.proofs.pack.Pack.tries.Goals as goal
 
@@ -70,6 +71,7 @@ files-preserved g c =
       kept = record { content = c.matches.ensures.kept.content ∙ so_far.kept.content; later = omega arith };
       goes = advances_then (g.T.Tree.content c.args.tree.now) first middle last c.args.self c.files.pack new so_far.goes
           (subst (λ told. Advances told middle last c.files.pack new) so_far.kept.content c.in_ok-tried.ensures.advances);
+      goes_by = goes_then c.args.self c.files.pack new so_far.goes_by c.in_ok-tried.ensures.goes;
       holds_rest = λ ears agrees.
           so_far.holds_rest ears (agrees_earlier _ _ _ _ _ ears c.in_ok-tried.ensures.advances agrees)
           ∙ at_drop_more (λ files. holds ears (map named_of files)) c.args.files.now place item c.files-test.true
@@ -87,3 +89,19 @@ files-preserved g c =
           ∙ ap (λ one. missing_from ears place (map named_of (one ∷ rest))) (sym c.index-files-place.is)
           ∙ missing_on ears place (named_of item) (map named_of rest) c.in_ok-tried.tried.holds (c.in_ok-tried.ensures.holds ears agrees) passed;
     }
+
+pub returns-then-not-tried-clause-goes : goal.returns-then-not-tried-clause-goes
+returns-then-not-tried-clause-goes g c = goes_then c.args.self c.files.pack c.in_ok-tried.tried.pack c.files.invariant.goes_by c.in_ok-tried.ensures.goes
+
+pub returns-in_err-tried-clause-no_memory : goal.returns-in_err-tried-clause-no_memory
+returns-in_err-tried-clause-no_memory g c =
+    let named_of = g.F.NamedFile.named in
+    let place = c.files.place in
+    let item = c.index-files-place.result in
+    let rest = drop (place + 1) c.args.files.now in
+    on_err c.from_residual.result _ (starves_looks c.args.self c.files.pack (named_of item).path (λ ears. fold with_path (paths_read c.args.self.reads) (looked_of ears (map named_of c.args.files.now)))
+    c.files.invariant.goes_by c.in_err-tried.ensures.no_memory (λ ears. cond (matches ears (named_of item)) (looked_of ears (map named_of rest)) [])
+    (λ ears agrees.
+    c.files.invariant.looks_rest ears agrees
+    ∙ at_drop_more (λ files. fold with_path (paths_read c.files.pack.reads) (looked_of ears (map named_of files))) c.args.files.now place item c.files-test.true
+    ∙ ap (λ one. fold with_path (paths_read c.files.pack.reads) (looked_of ears (map named_of (one ∷ rest)))) (sym c.index-files-place.is)))

@@ -2,6 +2,7 @@
 use Rattle.std.proofs.Common.{◌≡◌, map, drop}
 use Rattle.std.specs.List.{fold}
 use Rattle.tree_core.specs.Hearing.{KeepsTree}
+use Rattle.pack_core.specs.Calls.{GoesBy}
 use Rattle.pack_core.specs.Ears.{Ears, holds, looked_of, missing_from}
 use Rattle.pack_core.specs.Steps.{Advances, Agrees, with_path}
 use Rattle.pack_core.specs.View.{paths_read}
@@ -14,6 +15,7 @@ invariant-files g l =
     record {
       kept : KeepsTree (g.T.Tree.content l.fn.tree) (g.T.Tree.content l.tree) (g.T.Tree.fault_count l.fn.tree) (g.T.Tree.fault_count l.tree);
       goes : Advances (g.T.Tree.content l.fn.tree) (g.T.Tree.fault_count l.fn.tree) (g.T.Tree.fault_count l.tree) l.fn.self l.pack;
+      goes_by : GoesBy (g.T.Tree.content l.fn.tree) (g.T.Tree.content l.tree) (g.T.Tree.fault_count l.fn.tree) (g.T.Tree.fault_count l.tree) (g.T.Tree.trace l.fn.tree) (g.T.Tree.trace l.tree) l.fn.self l.pack;
       holds_rest : (ears : Ears) → Agrees ears l.pack → holds ears named ≡ holds ears rest;
       looks_rest : (ears : Ears) → Agrees ears l.pack → fold with_path (paths_read l.fn.self.reads) (looked_of ears named) ≡ fold with_path (paths_read l.pack.reads) (looked_of ears rest);
       missing_rest : (ears : Ears) → Agrees ears l.pack → missing_from ears 0 named ≡ missing_from ears l.place rest;

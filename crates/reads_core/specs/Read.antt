@@ -1,0 +1,104 @@
+-- Reads of a crate's files, each with the answer of its call.
+use Rattle.std.specs.Prelude.{◌≡◌, ℕ, Bool, List, [], ◌∷◌, ◌++◌, map, Option, Some, None, unwrap_or, if◌then◌else◌}
+use Rattle.deny_text.specs.Path.{join_of}
+use Rattle.tree_core.specs.Call as call
+use Rattle.tree_core.specs.Call.{Asked, Answered, Call}
+use Rattle.tree_core.specs.Content.{Content}
+use Rattle.tree_core.specs.Hearing.{Made}
+use Rattle.tree_core.specs.Trace.{fault_behind, faults_after}
+use Rattle.tree_core.specs.declared.reads.ReadAnswer.{ReadAnswer}
+use Rattle.tree_core.specs.declared.reads.ReadKind.{ReadKind}
+use Rattle.tree_core.specs.declared.reads.ReadKind.TheVariants.{Manifest, Listing, LicenseFile}
+use Rattle.tree_core.specs.declared.reads.ReadRecord.{ReadRecord}
+use Rattle.reads_core.specs.Answered.{call_of, file_answered, folder_answered}
+use Rattle.reads_core.specs.Heard.{Heard, absent, answer_of, counts_in}
+use Rattle.reads_core.specs.Rising.{RiseInOrder}
+
+-- a record of a read, and what the tree answered to its call
+pub record Read : Type 0 where
+  pub recorded : ReadRecord
+  pub answer : Answered
+
+abbrev pub records_in : List Read → List ReadRecord
+records_in reads = map (λ read. read.recorded) reads
+
+-- ---- their calls
+
+-- what is asked: a folder is listed, a manifest and a licence file are read
+abbrev pub asked_for : ReadKind → Asked
+asked_for Manifest = call.read
+asked_for Listing = call.list
+asked_for LicenseFile = call.read
+
+-- the path as it is given to the tree: a licence file's is joined to the crate's folder, any other is its own
+abbrev pub given_path : List ℕ → ReadKind → List ℕ → List ℕ
+given_path folder Manifest path = path
+given_path folder Listing path = path
+given_path folder LicenseFile path = join_of folder path
+
+-- the call that is made for a record, with its answer
+abbrev pub call_for : List ℕ → ReadRecord → Answered → Call
+call_for folder read answer = call_of (asked_for read.kind) (given_path folder read.kind read.path) answer
+
+-- the calls of the reads of a crate in this folder
+abbrev pub calls_in : List ℕ → List Read → List Call
+calls_in folder reads = map (λ read. call_for folder read.recorded read.answer) reads
+
+-- the call of this record, where there is one, found no memory
+abbrev pub call_lost : List ℕ → Option ReadRecord → List Call
+call_lost folder None = []
+call_lost folder (Some read) = call_for folder read call.no_memory ∷ []
+
+-- ---- what they let hear
+
+-- what the answer of a read of this kind lets hear, between these counts of faults
+abbrev pub kind_answered : ReadKind → ℕ → ℕ → Answered → Option Heard
+kind_answered Manifest before after answer = file_answered before after answer
+kind_answered Listing before after answer = folder_answered before after answer
+kind_answered LicenseFile before after answer = file_answered before after answer
+
+-- the counts that a record carries, where its read failed
+abbrev pub counts_carried : ReadAnswer → ℕ × ℕ
+counts_carried answer = unwrap_or (counts_in answer) (0, 0)
+
+-- What a read lets hear: what its answer does, between the counts that its record carries. An answer by which nothing is
+-- heard stands for a read that was not made.
+abbrev pub read_heard : Read → Heard
+read_heard read =
+    unwrap_or (kind_answered read.recorded.kind (counts_carried read.recorded.answer).0 (counts_carried read.recorded.answer).1 read.answer) absent
+
+-- what the first read of those that are asked for lets hear; where there is none, nothing is there
+abbrev pub first_heard : (ReadRecord → Bool) → List Read → Heard
+first_heard is_asked [] = absent
+first_heard is_asked (read ∷ reads) = if is_asked read.recorded then read_heard read else first_heard is_asked reads
+
+-- ---- their records
+
+-- The record of a read tells what its answer lets hear; where the call failed, with the tree's count of faults before it and
+-- the one behind it.
+pub record IsRecorded (before : ℕ) (read : Read) : Type 0 where
+  pub heard : Heard
+  pub hears : kind_answered read.recorded.kind before (fault_behind before read.answer) read.answer ≡ Some heard
+  pub tells : read.recorded.answer ≡ answer_of heard
+
+-- the records tell what the answers let hear, one after the other from this count of faults on
+abbrev pub AreReads : ℕ → List Read → Type 0
+AreReads before [] = Unit {0}
+AreReads before (read ∷ reads) = IsRecorded before read × AreReads (fault_behind before read.answer) reads
+
+-- reads whose records tell what their answers let hear rise one after the other, up to the count behind their calls
+abbrev pub ReadsRise : Type 0
+ReadsRise = (folder : List ℕ) (before : ℕ) (reads : List Read) → AreReads before reads → RiseInOrder before (records_in reads) (faults_after before (calls_in folder reads))
+
+-- ---- over a tree
+
+-- These reads were made for a crate in this folder: their calls were made, and no other, and their records tell what the
+-- answers let hear.
+pub record MadeReads (told tells : Option Content) (before after : ℕ) (old new : List Call) (folder : List ℕ) (reads : List Read) : Type 0 where
+  pub made : Made told tells before after old new (calls_in folder reads)
+  pub are : AreReads before reads
+
+-- These reads were made, and then memory was wanting: perhaps in one more call, that of this record.
+pub record LackedMemory (told tells : Option Content) (before after : ℕ) (old new : List Call) (folder : List ℕ) (reads : List Read) (lost : Option ReadRecord) : Type 0 where
+  pub made : Made told tells before after old new (calls_in folder reads ++ call_lost folder lost)
+  pub are : AreReads before reads

@@ -1,0 +1,54 @@
+-- The looks of a search, by what a tree answered, whatever it tells of its content.
+use Rattle.std.specs.Prelude.{◌≡◌, ℕ, ◌⊎◌, Bool, true, false, List, [], ◌∷◌, ◌++◌, map, Option, Some, None, Result, Ok, Err}
+use Rattle.tree_core.specs.Call as call
+use Rattle.tree_core.specs.Call.{Answered, Call}
+use Rattle.search_core.specs.declared.search.SearchError.{SearchError}
+use Rattle.search_core.specs.declared.search.SearchError.TheVariants.{Failed, Memory}
+
+abbrev pub look_of : List ℕ → Answered → Call
+look_of path answer = record { asked = call.exists; path = path; answer = answer }
+
+-- looks that were told that nothing stands there
+abbrev pub misses : List (List ℕ) → List Call
+misses paths = map (λ path. look_of path (call.told false)) paths
+
+-- one path was looked at last: there something stands
+pub record IsHit (paths : List (List ℕ)) (old new : List Call) (found : List ℕ) : Type 0 where
+  pub before : List (List ℕ)
+  pub rest : List (List ℕ)
+  pub parts : paths ≡ before ++ found ∷ rest
+  pub made : new ≡ old ++ misses before ++ look_of found (call.told true) ∷ []
+
+-- What a search of paths in order found: at all of them nothing stands, or at the first ones, and then something; none behind it
+-- was looked at.
+abbrev pub Looked : List (List ℕ) → List Call → List Call → Option (List ℕ) → Type 0
+Looked paths old new None = new ≡ old ++ misses paths
+Looked paths old new (Some found) = IsHit paths old new found
+
+-- ---- a search that was given up
+
+-- how the call of a look was answered that ended a search
+abbrev pub lost : SearchError → Answered
+lost (Failed before after) = call.failed
+lost Memory = call.no_memory
+
+-- one path was looked at last, behind those at which nothing stands, and this was answered
+pub record IsLast (paths : List (List ℕ)) (old new : List Call) (answer : Answered) : Type 0 where
+  pub before : List (List ℕ)
+  pub last : List ℕ
+  pub rest : List (List ℕ)
+  pub parts : paths ≡ before ++ last ∷ rest
+  pub made : new ≡ old ++ misses before ++ look_of last answer ∷ []
+
+-- the first of the paths were looked at, or none of them, and at these nothing stands
+pub record IsFront (paths : List (List ℕ)) (old new : List Call) : Type 0 where
+  pub before : List (List ℕ)
+  pub rest : List (List ℕ)
+  pub parts : paths ≡ before ++ rest
+  pub made : new ≡ old ++ misses before
+
+-- A search of paths in order was given up: at the look that failed, or at the one that memory was wanting for, or, for want of
+-- memory too, between two looks.
+abbrev pub LookedUntil : List (List ℕ) → List Call → List Call → SearchError → Type 0
+LookedUntil paths old new (Failed before after) = IsLast paths old new call.failed
+LookedUntil paths old new Memory = IsFront paths old new ⊎ IsLast paths old new call.no_memory
