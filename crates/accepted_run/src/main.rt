@@ -1,4 +1,4 @@
-//! The gate over real files, with a crate that is accepted, a policy of forty names and metadata of 20 KB.
+//! The gate over real files, with a crate that is accepted, a policy of forty names, and metadata of 20 KB that comes through a pipe.
 #![tactic(auto)]
 
 use deny_gate::{exit_code, gate};

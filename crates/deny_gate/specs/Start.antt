@@ -20,14 +20,22 @@ start_line Memory = codes "error: out of memory\n"
 start_line Words = codes "error: the words could not be read\n"
 start_line Folder = codes "error: the working folder could not be read\n"
 
--- the outcome is that of a run over some words and some folder, with the catalogue and the licence texts that are built in
-pub record IsRun (told : Option Content) (counts : FaultCounts) (old new : Written) (outcome : Outcome) : Type 0 where
+-- the outcome is that of a run over these words and this folder, with the catalogue and the licence texts that are built in
+pub record IsRun (words : List (List ℕ)) (folder : List ℕ) (told : Option Content) (counts : FaultCounts) (old new : Written) (outcome : Outcome) : Type 0 where
   pub given : Given
   pub lists : given.lists ≡ table_lists
   pub match_of : given.match_of ≡ match_of built_in
+  pub words_given : given.words ≡ words
+  pub folder_given : given.cwd ≡ folder
   pub headline : ForSome told (λ content. Headline given content counts outcome)
   pub written : Writes given told counts old new (answer_of outcome.ended)
   pub status : outcome.status ≡ exit_status (answer_of outcome.ended)
+
+-- the outcome is that of a run over some words and some folder
+pub record RunsOverSome (told : Option Content) (counts : FaultCounts) (old new : Written) (outcome : Outcome) : Type 0 where
+  pub words : List (List ℕ)
+  pub folder : List ℕ
+  pub ran : IsRun words folder told counts old new outcome
 
 -- the number that the process ends with
 abbrev pub ending_of : Result Outcome StartError → ℕ

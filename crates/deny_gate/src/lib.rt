@@ -1,7 +1,8 @@
 //! The gate over the words, the files and the streams that a process is given.
 #![tactic(auto)]
 
-ghost use Rattle.std.specs.Prelude.{◌≡◌, ◌≤◌, IfOk, IfErr, OnErr};
+ghost use Rattle.std.specs.Prelude.{◌≡◌, ◌≤◌, IfOk, IfErr, OnOk, OnErr};
+ghost use Rattle.std.specs.Path.{path_buf_bytes};
 ghost use Rattle.std.specs.Process.{exit_status};
 ghost use Rattle.catalog_core.specs.BuiltIn.{built_in};
 ghost use Rattle.tree_core.specs.Hearing.{KeepsTree};
@@ -9,17 +10,19 @@ ghost use Rattle.tree_core.specs.Script.{LineWritten};
 ghost use Rattle.deny_run.specs.Run.{answer_of};
 ghost use Rattle.deny_run.specs.Run as run;
 ghost use Rattle.deny_run.specs.Script.{between};
-ghost use Rattle.deny_gate.specs.Start.{IsRun, ending_of, start_line};
+ghost use Rattle.deny_run.specs.Words.{texts};
+ghost use Rattle.deny_gate.specs.Start.{IsRun, RunsOverSome, ending_of, start_line};
 
 use deny_run::report::Outcome;
 use deny_run::run::run;
+use deny_text::PathBuf;
+use deny_text::path::join;
 use spdx_core::{LicenseStore, Table};
 use std::alloc::{AllocError, Global};
 use std::env::Env;
 use std::io::ErrorKind;
-use std::path::PathBuf;
 use std::process::ExitCode;
-use std::{env, io};
+use std::{env, io, path};
 use tree_core::{FolderTree, Sink, StdSink, Tree, write_all};
 
 /// Why the gate could not begin.
@@ -59,7 +62,7 @@ impl From<AllocError> for StartError {
 #[derive(Drop)]
 struct Start {
     words: Vec<String>,
-    folder: PathBuf,
+    folder: path::PathBuf,
     store: LicenseStore,
 }
 
@@ -81,7 +84,7 @@ fn words_of<V: Env + AllocGlobal>(env: &V) -> Result<Vec<String>, StartError> {
     Ok(words)
 }
 
-fn folder_of<V: Env + AllocGlobal>(env: &V) -> Result<PathBuf, StartError> {
+fn folder_of<V: Env + AllocGlobal>(env: &V) -> Result<path::PathBuf, StartError> {
     match env::current_dir(env) {
         Ok(folder) => Ok(folder),
         Err(error) => Err(start_error(&error, StartError::Folder)),
@@ -122,7 +125,7 @@ fn run_started<T: Tree, O: Sink, E: Sink>(
     requires { start.now.store ≡ built_in }
     ensures kept { KeepsTree (T.content tree.old) (T.content tree.new)
         (T.fault_count tree.old) (T.fault_count tree.new) }
-    ensures ran { IsRun (T.content tree.old)
+    ensures ran { IsRun (texts start.now.words.items) (path_buf_bytes start.now.folder) (T.content tree.old)
         (between
         (record { tree = T.fault_count tree.old; out = O.fault_count out.old; err = E.fault_count err.old })
         (record { tree = T.fault_count tree.new; out = O.fault_count out.new; err = E.fault_count err.new }))
@@ -142,6 +145,23 @@ fn run_started<T: Tree, O: Sink, E: Sink>(
     )
 }
 
+/// The start of a process. Where the environment does not tell it, one line on `err` says so.
+fn started<V: Env + AllocGlobal, E: Sink>(env: &V, err: &mut E) -> Result<Start, StartError>
+    ensures store { IfOk result (λ start. start.store ≡ built_in) }
+    ensures line { IfErr result (λ error. LineWritten (E.written err.old) (E.written err.new)
+        (E.fault_count err.old) (E.fault_count err.new) (start_line error)) }
+    ensures silent { OnOk result ((E.written err.new ≡ E.written err.old)
+        × (E.fault_count err.new ≡ E.fault_count err.old)) }
+{
+    match start_of(env) {
+        Ok(start) => Ok(start),
+        Err(error) => {
+            write_line(err, &error);
+            Err(error)
+        }
+    }
+}
+
 /// Runs the gate over the words of an environment, in its working folder, with the built-in catalogue and
 /// licence texts. Where the environment does not tell them, one line on `err` says so.
 pub fn gate_over<V: Env + AllocGlobal, T: Tree, O: Sink, E: Sink>(
@@ -159,18 +179,52 @@ pub fn gate_over<V: Env + AllocGlobal, T: Tree, O: Sink, E: Sink>(
     ensures silent { OnErr result (O.written out.new ≡ O.written out.old) }
 
     // Where it ran, it did what a run over some words and some folder does.
-    ensures ran { IfOk result (IsRun (T.content tree.old)
+    ensures ran { IfOk result (RunsOverSome (T.content tree.old)
         (between
         (record { tree = T.fault_count tree.old; out = O.fault_count out.old; err = E.fault_count err.old })
         (record { tree = T.fault_count tree.new; out = O.fault_count out.new; err = E.fault_count err.new }))
         (record { out = O.written out.old; err = E.written err.old })
         (record { out = O.written out.new; err = E.written err.new })) }
 {
-    match start_of(env) {
-        Ok(start) => Ok(run_started(env.alloc(), &start, tree, out, err)),
-        Err(error) => {
-            write_line(err, &error);
-            Err(error)
+    let start = started(env, err)?;
+    Ok(run_started(env.alloc(), &start, tree, out, err))
+}
+
+/// The path of a word, and the path of what stands behind its first `=`, as an option's value may.
+fn push_paths(
+    named: &mut Vec<PathBuf>,
+    alloc: Global,
+    folder: &str,
+    word: &str,
+) -> Result<(), AllocError> {
+    named.push(join(alloc, folder, word)?)?;
+    if let Some((_, value)) = word.split_once('=') {
+        named.push(join(alloc, folder, value)?)?;
+    }
+    Ok(())
+}
+
+/// The paths that the words name. A pipe or a device is read at these alone.
+fn named_paths(alloc: Global, words: &[String], folder: &str) -> Result<Vec<PathBuf>, AllocError> {
+    let mut named = Vec::new(alloc);
+    'words: for word in words {
+        push_paths(&mut named, alloc, folder, word.as_str())?;
+    }
+    Ok(named)
+}
+
+/// The real files, of which those that the words name may be pipes or devices. Where memory is wanting, one
+/// line on `err` says so.
+fn files_of<'r, E: Sink>(
+    rt: &'r HostRuntime,
+    start: &Start,
+    err: &mut E,
+) -> Result<FolderTree<&'r HostRuntime>, StartError> {
+    match named_paths(rt.alloc(), &start.words, start.folder.as_str()) {
+        Ok(named) => Ok(FolderTree::with_named(rt, named)),
+        Err(_) => {
+            write_line(err, &StartError::Memory);
+            Err(StartError::Memory)
         }
     }
 }
@@ -181,8 +235,9 @@ pub fn gate(rt: HostRuntime) -> Result<Outcome, StartError>
 {
     let mut out = StdSink::new(rt.stdout());
     let mut err = StdSink::new(rt.stderr());
-    let mut tree = FolderTree::new(&rt);
-    gate_over(&rt, &mut tree, &mut out, &mut err)
+    let start = started(&rt, &mut err)?;
+    let mut tree = files_of(&rt, &start, &mut err)?;
+    Ok(run_started(rt.alloc(), &start, &mut tree, &mut out, &mut err))
 }
 
 /// What the process ends with: the status of the run, or 1 where the gate could not begin.

@@ -28,8 +28,8 @@ pub struct CrateReport {
     pub verdict: Verdict,
 }
 
-/// How many findings there are of each severity.
-#[derive(Clone, Copy, Debug, PartialEq, Eq)]
+/// How many findings there are of each severity; by default none.
+#[derive(Clone, Copy, Debug, Default, PartialEq, Eq)]
 pub struct Stats {
     pub errors: u64,
     pub warnings: u64,
@@ -37,8 +37,8 @@ pub struct Stats {
     pub helps: u64,
 }
 
-/// The statistics of each check that ran.
-#[derive(Clone, Copy, Debug, PartialEq, Eq)]
+/// The statistics of each check that ran; by default none did.
+#[derive(Clone, Copy, Debug, Default, PartialEq, Eq)]
 pub struct AllStats {
     pub advisories: Option<Stats>,
     pub bans: Option<Stats>,

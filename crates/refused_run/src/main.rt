@@ -1,4 +1,4 @@
-//! The gate over real files, with a policy that is of another form.
+//! The gate over files that would be accepted, and a word more that is no UTF-8.
 #![tactic(auto)]
 
 use deny_gate::{exit_code, gate};
