@@ -1,16 +1,26 @@
 //! Compares the cases of a file with what they come to.
 use crate::case::{Block, Case, Entry, blocks_of, word_of};
+use crate::shown::Shown;
 use crate::told::{Told, bytes_of, show, text_of};
 use std::alloc::{AllocError, Global};
 use std::io;
+
+/// Whether a case was answered under a key.
+#[derive(Clone, Copy, Debug, PartialEq, Eq)]
+pub enum Answered {
+    Yes,
+    NoSuchKey,
+    /// What is put in can't be: a file that can't be put, or a word that is none of the key's.
+    CantBeTried,
+}
 
 /// What a program makes of cases.
 pub trait Cases {
     /// Whether a key says what is put in. Each other key says what is wanted.
     fn is_given(&self, key: &str) -> bool;
 
-    /// What a case comes to under a key; none where there is no such key.
-    fn told(&self, alloc: Global, case: &Case<'_>, key: &str) -> io::Result<Option<String>>;
+    /// Puts what a case comes to under a key. A case that can't be tried is told by its line.
+    fn told(&self, alloc: Global, case: &Case<'_>, key: &str, out: &mut Shown) -> Answered;
 }
 
 /// Whether a key is one of these.
@@ -90,24 +100,23 @@ pub fn case_of<'c>(
     }
 }
 
-/// Compares what was seen under a key with what is wanted.
-pub fn compare(
+/// Asks for what an entry wants, and compares it.
+fn try_entry<C: Cases>(
+    alloc: Global,
     told: &mut Told,
     case: &Case<'_>,
     entry: &Entry,
-    seen: &io::Result<Option<String>>,
+    cases: &C,
 ) -> Result<(), AllocError> {
-    match seen {
-        Ok(Some(seen)) if seen.as_str() == wanted(entry) => Ok(()),
-        Ok(Some(seen)) => told.differ(
-            case.file,
-            entry.line,
-            case.name,
-            seen.as_str(),
-            wanted(entry),
-        ),
-        Ok(None) => told.tell(case.file, entry.line, "a key that is not known"),
-        Err(_) => told.tell(case.file, entry.line, "a case that can't be tried"),
+    let mut out = Shown::new(alloc);
+    match cases.told(alloc, case, entry.key.as_str(), &mut out) {
+        Answered::Yes => {
+            let seen = out.into_text()?;
+            let wanted = wanted(entry);
+            told.compare(case.file, entry.line, case.name, seen.as_str(), wanted)
+        }
+        Answered::NoSuchKey => told.tell(case.file, entry.line, "a key that is not known"),
+        Answered::CantBeTried => told.tell(case.file, entry.line, "a case that can't be tried"),
     }
 }
 
@@ -123,8 +132,7 @@ fn compare_entry<C: Cases>(
     if is_shared(key) || cases.is_given(key) {
         return Ok(false);
     }
-    let seen = cases.told(alloc, case, key);
-    compare(told, case, entry, &seen)?;
+    try_entry(alloc, told, case, entry, cases)?;
     Ok(true)
 }
 
@@ -173,6 +181,27 @@ pub fn number_of(blocks: &[Block]) -> u64 {
     number
 }
 
+/// How many lines an entry wants; one where it wants the empty text.
+fn lines_in(entry: &Entry) -> u64 {
+    let mut lines: u64 = 0;
+    for _ in wanted(entry).lines() {
+        lines = lines.saturating_add(1);
+    }
+    lines.max(1)
+}
+
+/// How many lines are wanted by some entries.
+fn lines_wanted<C: Cases>(entries: &[Entry], cases: &C) -> u64 {
+    let mut lines: u64 = 0;
+    for entry in entries {
+        let key = entry.key.as_str();
+        if !is_shared(key) && !cases.is_given(key) {
+            lines = lines.saturating_add(lines_in(entry));
+        }
+    }
+    lines
+}
+
 /// What is told of the cases of a text.
 pub fn told_cases<C: Cases>(
     alloc: Global,
@@ -182,10 +211,15 @@ pub fn told_cases<C: Cases>(
 ) -> Result<Told, AllocError> {
     let mut told = Told::new(alloc);
     let blocks = blocks_of(alloc, &mut told, file, text)?;
+    let mut lines: u64 = 0;
     for block in blocks.iter() {
         take(alloc, &mut told, file, &blocks, block, cases)?;
+        if !block.is_base {
+            lines = lines.saturating_add(lines_wanted(&block.entries, cases));
+        }
     }
     told.count(file, number_of(&blocks), "cases")?;
+    told.count(file, lines, "lines wanted")?;
     Ok(told)
 }
 

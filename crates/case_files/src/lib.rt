@@ -4,11 +4,15 @@
 pub mod case;
 pub mod cases;
 pub mod escapes;
+pub mod names;
 pub mod rows;
+pub mod shown;
 pub mod told;
 pub mod tree;
 
 pub use case::{Case, Entry};
-pub use cases::{Cases, compare_cases};
+pub use cases::{Answered, Cases, compare_cases};
+pub use names::Named;
 pub use rows::{Rows, compare_rows};
+pub use shown::Shown;
 pub use told::{Told, exit_code};

@@ -1,14 +1,15 @@
 //! Files of rows. A line `[NAME]` begins a group, and each line behind it is a row: a text, ` => `, and what it comes to, or
 //! ` =>` at the end of the line where that is nothing. Lines that are empty or begin with `#` are not read.
 use crate::escapes::unescaped;
+use crate::shown::Shown;
 use crate::told::{Told, Unread, bytes_of, show, text_of};
 use std::alloc::{AllocError, Global};
 use std::io;
 
 /// What a program makes of rows.
 pub trait Rows {
-    /// What a text comes to in a group; none where there is no such group.
-    fn answer(&self, alloc: Global, group: &str, text: &str) -> Result<Option<String>, AllocError>;
+    /// Puts what a text comes to in a group, and returns whether there is such a group.
+    fn answer(&self, alloc: Global, group: &str, text: &str, out: &mut Shown) -> bool;
 }
 
 /// A text, and what is wanted of it.
@@ -61,18 +62,18 @@ fn count(told: &mut Told, group: &Group) -> Result<(), AllocError> {
     told.count(group.name.as_str(), group.rows, "rows")
 }
 
-/// Compares what was seen of a row with what is wanted.
-fn compare(
-    told: &mut Told,
-    line: Line<'_>,
+/// What a row comes to; none where there is no such group.
+fn seen<R: Rows>(
+    alloc: Global,
     group: &str,
-    wanted: &str,
-    seen: Option<&str>,
-) -> Result<(), AllocError> {
-    match seen {
-        None => told.tell(line.file, line.number, "no such group"),
-        Some(seen) if seen == wanted => Ok(()),
-        Some(seen) => told.differ(line.file, line.number, group, seen, wanted),
+    text: &str,
+    rows: &R,
+) -> Result<Option<String>, AllocError> {
+    let mut out = Shown::new(alloc);
+    if rows.answer(alloc, group, text, &mut out) {
+        Ok(Some(out.into_text()?))
+    } else {
+        Ok(None)
     }
 }
 
@@ -85,11 +86,13 @@ fn try_row<R: Rows>(
     row: &Row,
     rows: &R,
 ) -> Result<(), AllocError> {
-    let seen = rows.answer(alloc, group, row.text.as_str())?;
-    let wanted = row.wanted.as_str();
+    let seen = seen(alloc, group, row.text.as_str(), rows)?;
     match &seen {
-        Some(seen) => compare(told, line, group, wanted, Some(seen.as_str())),
-        None => compare(told, line, group, wanted, None),
+        Some(seen) => {
+            let wanted = row.wanted.as_str();
+            told.compare(line.file, line.number, group, seen.as_str(), wanted)
+        }
+        None => told.tell(line.file, line.number, "no such group"),
     }
 }
 

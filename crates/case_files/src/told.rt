@@ -1,4 +1,8 @@
 //! What a program tells of a file: how many rows or cases it has, and what differs in them.
+ghost use Rattle.std.specs.Prelude.{◌≡◌, ◌↔◌, ◌+◌, ◌-◌, ◌^◌, min, IsTrue, IfOk, IfNone, OnOk, IsOkAnd, bytes_eq, if◌then◌else◌};
+ghost use Rattle.std.specs.Process.{exit_status};
+ghost use Rattle.tree_core.specs.Faults.{counted};
+
 use std::alloc::{AllocError, Global};
 use std::process::ExitCode;
 use std::rt::Runtime;
@@ -23,43 +27,70 @@ impl From<AllocError> for Unread {
 pub struct Told {
     pub counts: String,
     pub differences: String,
+    /// How often something was told of a line.
+    pub times: u64,
 }
 
 impl Told {
-    pub fn new(alloc: Global) -> Told {
+    pub fn new(alloc: Global) -> Told
+        ensures { result.times ≡ 0 }
+    {
         Told {
             counts: String::new(alloc),
             differences: String::new(alloc),
+            times: 0,
         }
     }
 
     /// Tells how many rows or cases something has.
-    pub fn count(&mut self, name: &str, number: u64, of: &str) -> Result<(), AllocError> {
+    pub fn count(&mut self, name: &str, number: u64, of: &str) -> Result<(), AllocError>
+        ensures { self.new.times ≡ self.old.times }
+    {
         write!(self.counts, "{name}: {number} {of}\n")
     }
 
     /// Tells something of a line, which is counted from 1.
-    pub fn tell(&mut self, file: &str, line: u64, what: &str) -> Result<(), AllocError> {
+    pub fn tell(&mut self, file: &str, line: u64, what: &str) -> Result<(), AllocError>
+        ensures { self.new.times ≡ counted self.old.times }
+    {
+        self.times = self.times.saturating_add(1);
         write!(self.differences, "{file}:{line}: {what}\n")
     }
 
     /// Tells that a line can't be read.
-    pub fn tell_unread(&mut self, file: &str, line: u64, why: Unread) -> Result<(), AllocError> {
+    pub fn tell_unread(&mut self, file: &str, line: u64, why: Unread) -> Result<(), AllocError>
+        ensures { OnOk result (self.new.times ≡ counted self.old.times) }
+    {
         match why {
             Unread::Memory => Err(AllocError),
             Unread::Line(what) => self.tell(file, line, what),
         }
     }
 
-    /// Tells that something of a line is not as it is wanted.
-    pub fn differ(
+    /// Tells what was told elsewhere, so often.
+    pub fn tell_all(&mut self, differences: &str, times: u64) -> Result<(), AllocError>
+        ensures { self.new.times ≡ min (self.old.times + times) (2 ^ 64 - 1) }
+    {
+        self.times = self.times.saturating_add(times);
+        self.differences.push_str(differences)
+    }
+
+    /// Tells where what was seen of something is not what is wanted.
+    pub fn compare(
         &mut self,
         file: &str,
         line: u64,
         what: &str,
         seen: &str,
         wanted: &str,
-    ) -> Result<(), AllocError> {
+    ) -> Result<(), AllocError>
+        ensures { self.new.times ≡
+            (if bytes_eq seen.now wanted.now then self.old.times else counted self.old.times) }
+    {
+        if seen == wanted {
+            return Ok(());
+        }
+        self.times = self.times.saturating_add(1);
         write!(
             self.differences,
             "{file}:{line}: {what}\n  is  {seen:?}\n  not {wanted:?}\n"
@@ -83,7 +114,9 @@ pub fn text_of<'b>(
     told: &mut Told,
     file: &str,
     bytes: &'b [u8],
-) -> Result<Option<&'b str>, AllocError> {
+) -> Result<Option<&'b str>, AllocError>
+    ensures { IfOk result (λ text. IfNone text (told.new.times ≡ counted told.old.times)) }
+{
     match str::from_utf8(bytes) {
         Ok(text) => Ok(Some(text)),
         Err(error) => {
@@ -104,19 +137,31 @@ fn print(rt: &HostRuntime, told: &Told) -> io::Result<()> {
     eprint!(rt; "{}", told.differences.as_str())
 }
 
-/// Prints what is told of a file, and returns whether all of it is as wanted.
-pub fn show(rt: &HostRuntime, file: &str, told: &io::Result<Told>) -> bool {
+/// Whether all of a file is as wanted: it was read, and nothing was told of a line.
+pub fn is_as_wanted(told: &io::Result<Told>) -> bool
+    ensures { IsTrue result ↔ IsOkAnd told.now (λ all. all.times ≡ 0) }
+{
     match told {
-        Ok(told) => print(rt, told).is_ok() && told.differences.is_empty(),
-        Err(error) => {
-            let _ = eprintln!(rt; "{file}: {error}");
-            false
-        }
+        Ok(told) => told.times == 0,
+        Err(_) => false,
     }
 }
 
+/// Prints what is told of a file, and returns whether all of it is as wanted and could be printed.
+pub fn show(rt: &HostRuntime, file: &str, told: &io::Result<Told>) -> bool
+    ensures { IsTrue result → IsOkAnd told.now (λ all. all.times ≡ 0) }
+{
+    let is_printed = match told {
+        Ok(told) => print(rt, told).is_ok(),
+        Err(error) => eprintln!(rt; "{file}: {error}").is_ok(),
+    };
+    is_printed && is_as_wanted(told)
+}
+
 /// What a program ends with: 0 where all is as wanted, else 1.
-pub fn exit_code(all_is_as_wanted: bool) -> ExitCode {
+pub fn exit_code(all_is_as_wanted: bool) -> ExitCode
+    ensures { exit_status result ≡ (if all_is_as_wanted then 0 else 1) }
+{
     if all_is_as_wanted {
         ExitCode::from(0)
     } else {

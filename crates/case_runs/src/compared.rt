@@ -1,242 +1,184 @@
 //! Compares the runs of the cases of a file with what is wanted of them.
-use crate::ending::{Ending, is_wanted, seen};
-use crate::settings::{Failing, Setting, ending_of, is_given, settings_of};
+ghost use Rattle.std.specs.Prelude.{◌≡◌};
+ghost use Rattle.tree_core.specs.Faults.{counted};
+
+use crate::seen::{is_seen, put_seen};
+use crate::settings::{Ending, Setting, calls_of, ending_of, rooms_of};
+use case_files::Shown;
 use case_files::case::{Block, Case, Entry, blocks_of};
 use case_files::cases::{case_of, is_shared, number_of, wanted};
 use case_files::told::{Told, bytes_of, show, text_of};
 use std::alloc::{AllocError, Global};
 use std::io;
 
-/// A case and the line that it begins in, and one of its runs.
-#[derive(Clone, Copy)]
-struct Run<'c> {
-    case: Case<'c>,
-    line: u64,
-    setting: Setting,
+/// What is told of the cases of a file, and how many runs and answers were compared.
+#[derive(Drop)]
+struct Comparison<'f> {
+    alloc: Global,
+    file: &'f str,
+    told: Shown,
+    /// How often something was told.
+    times: u64,
+    runs: u64,
+    answers: u64,
 }
 
-/// The name of a case, and what of its run is not the same in all runs of it.
-fn put_name(name: &mut String, run: &Run<'_>) -> Result<(), AllocError> {
-    name.push_str(run.case.name)?;
-    if let Failing::One(call) = run.setting.failing {
-        write!(name, ", call {call} fails")?;
+/// Whether a key says what is put in. Each other key says what is wanted.
+fn is_given(key: &str) -> bool {
+    match key {
+        "file" | "words" | "cwd" | "identifier" | "fail" | "room-out" | "room-err" => true,
+        "piece-out" | "piece-err" | "faults-tree" | "faults-out" | "faults-err" => true,
+        _ => is_shared(key),
     }
-    if run.case.word("room-out") == "below" {
-        write!(name, ", out takes {}", run.setting.out)?;
+}
+
+/// Whether an entry is the first of its key, of the case or else of its base.
+fn is_first(case: &Case<'_>, entry: &Entry) -> bool {
+    match case.entry(entry.key.as_str()) {
+        Some(first) => first.line == entry.line,
+        None => false,
     }
-    if run.case.word("room-err") == "below" {
-        write!(name, ", err takes {}", run.setting.err)?;
+}
+
+/// Whether an entry may stand so: only files and values stand several times, and only files have a word and a text.
+fn is_right(case: &Case<'_>, entry: &Entry) -> bool {
+    let is_one = entry.word.as_str().is_empty() || entry.text.is_empty();
+    match entry.key.as_str() {
+        "file" => true,
+        "let" => is_one,
+        _ => is_one && is_first(case, entry),
     }
-    Ok(())
 }
 
 /// What an entry wants of a run: of a text that is cut as much as there is room for.
-fn wanted_of<'e>(run: &Run<'_>, entry: &'e Entry) -> &'e str {
+fn wanted_of<'e>(setting: &Setting<'_>, entry: &'e Entry) -> &'e str {
     let whole = wanted(entry);
-    let key = entry.key.as_str();
-    if key == "out" && run.case.word("room-out") == "below" {
-        return whole.get(..run.setting.out).unwrap_or(whole);
-    }
-    if key == "err" && run.case.word("room-err") == "below" {
-        return whole.get(..run.setting.err).unwrap_or(whole);
-    }
-    whole
+    let room = match entry.key.as_str() {
+        "out" if setting.case.word("room-out") == "below" => setting.out,
+        "err" if setting.case.word("room-err") == "below" => setting.err,
+        _ => whole.len(),
+    };
+    whole.get(..room).unwrap_or(whole)
 }
 
-fn differ(
-    alloc: Global,
-    told: &mut Told,
-    run: &Run<'_>,
-    entry: &Entry,
-    seen: &str,
-) -> Result<(), AllocError> {
-    let mut name = String::new(alloc);
-    put_name(&mut name, run)?;
-    let what = name.as_str();
-    told.differ(run.case.file, entry.line, what, seen, wanted_of(run, entry))
-}
-
-fn compare_entry(
-    alloc: Global,
-    told: &mut Told,
-    run: &Run<'_>,
-    entry: &Entry,
-    ending: &Ending,
-) -> Result<(), AllocError> {
-    let seen = seen(alloc, ending, entry.key.as_str())?;
-    if seen.as_str() == wanted_of(run, entry) {
-        return Ok(());
+impl Comparison<'_> {
+    fn tell(&mut self, line: u64, what: &str)
+        ensures { self.new.times ≡ counted self.old.times }
+    {
+        self.times = self.times.saturating_add(1);
+        write!(self.told, "{}:{line}: {what}\n", self.file);
     }
-    differ(alloc, told, run, entry, seen.as_str())
-}
 
-/// Compares what some entries want, but for keys that others have.
-fn compare_entries(
-    alloc: Global,
-    told: &mut Told,
-    run: &Run<'_>,
-    entries: &[Entry],
-    but_for: &[Entry],
-    ending: &Ending,
-) -> Result<(), AllocError> {
-    for entry in entries {
-        let key = entry.key.as_str();
-        if is_wanted(key) && !has_key(but_for, key) {
-            compare_entry(alloc, told, run, entry, ending)?;
+    fn compare(&mut self, setting: &Setting<'_>, entry: &Entry, seen: &str) {
+        self.answers = self.answers.saturating_add(1);
+        let wanted = wanted_of(setting, entry);
+        if seen == wanted {
+            return;
+        }
+        let Setting { call, out, err, .. } = *setting;
+        self.tell(entry.line, setting.case.name);
+        write!(self.told, "  at  fail {call}, out {out}, err {err}\n");
+        write!(self.told, "  is  {seen:?}\n  not {wanted:?}\n");
+    }
+
+    /// Compares what some entries want, but for those of a base whose key the case has itself.
+    fn compare_entries(&mut self, setting: &Setting<'_>, entries: &[Entry], ending: &Ending) {
+        for entry in entries {
+            let key = entry.key.as_str();
+            if is_seen(key) && is_first(&setting.case, entry) {
+                let mut seen = Shown::new(self.alloc);
+                put_seen(self.alloc, &mut seen, ending, key);
+                match seen.into_text() {
+                    Ok(seen) => self.compare(setting, entry, seen.as_str()),
+                    Err(_) => self.told.want_memory(),
+                }
+            }
         }
     }
-    Ok(())
-}
 
-fn has_key(entries: &[Entry], key: &str) -> bool {
-    for entry in entries {
-        if entry.key.as_str() == key {
-            return true;
-        }
+    /// Compares a run, and is none where it can't be tried.
+    fn compare_run(&mut self, setting: &Setting<'_>) -> Option<()> {
+        let ending = ending_of(self.alloc, setting)?;
+        self.runs = self.runs.saturating_add(1);
+        self.compare_entries(setting, setting.case.base, &ending);
+        self.compare_entries(setting, setting.case.own, &ending);
+        Some(())
     }
-    false
-}
 
-fn compare_ending(
-    alloc: Global,
-    told: &mut Told,
-    run: &Run<'_>,
-    ending: &Ending,
-) -> Result<(), AllocError> {
-    let Case { base, own, .. } = run.case;
-    compare_entries(alloc, told, run, base, own, ending)?;
-    compare_entries(alloc, told, run, own, &[], ending)
-}
-
-fn compare_run(alloc: Global, told: &mut Told, run: &Run<'_>) -> Result<(), AllocError> {
-    match ending_of(alloc, &run.case, run.setting) {
-        Ok(ending) => compare_ending(alloc, told, run, &ending),
-        Err(why) => told.tell_unread(run.case.file, run.line, why),
-    }
-}
-
-/// Compares the runs of a case, and returns how many there are.
-fn compare_settings(
-    alloc: Global,
-    told: &mut Told,
-    case: &Case<'_>,
-    line: u64,
-    settings: &[Setting],
-) -> Result<u64, AllocError> {
-    if settings.is_empty() {
-        told.tell(case.file, line, "a case without a run")?;
-    }
-    for setting in settings {
-        let run = Run {
+    /// Compares the runs of a case, and is none where one can't be tried.
+    fn compare_all(&mut self, case: &Case<'_>) -> Option<()> {
+        let outs = rooms_of(case, "room-out", "out")?;
+        let errs = rooms_of(case, "room-err", "err")?;
+        let mut setting = Setting {
             case: *case,
-            line,
-            setting: *setting,
+            call: 0,
+            out: outs.1.saturating_sub(1),
+            err: errs.1.saturating_sub(1),
         };
-        compare_run(alloc, told, &run)?;
+        let calls = calls_of(self.alloc, &setting)?;
+        for call in calls.0..=calls.1 {
+            for out in outs.0..outs.1 {
+                for err in errs.0..errs.1 {
+                    setting = Setting {
+                        case: *case,
+                        call,
+                        out,
+                        err,
+                    };
+                    self.compare_run(&setting)?;
+                }
+            }
+        }
+        Some(())
     }
-    Ok(settings.len() as u64)
-}
 
-fn compare_runs_of(
-    alloc: Global,
-    told: &mut Told,
-    case: &Case<'_>,
-    line: u64,
-) -> Result<u64, AllocError> {
-    match settings_of(alloc, case) {
-        Ok(settings) => compare_settings(alloc, told, case, line, &settings),
-        Err(why) => {
-            told.tell_unread(case.file, line, why)?;
-            Ok(0)
+    /// Compares a case. Of a base the entries alone are looked at.
+    fn take(&mut self, case: &Case<'_>, block: &Block) {
+        for entry in case.own {
+            let key = entry.key.as_str();
+            if !is_given(key) && !is_seen(key) {
+                self.tell(entry.line, "a key that is not known");
+            }
+            if !is_right(case, entry) {
+                self.tell(entry.line, "a key or its value stands twice");
+            }
+        }
+        if block.is_base {
+            return;
+        }
+        let before = self.answers;
+        if self.compare_all(case).is_none() || self.answers == before {
+            self.tell(block.line, "a case that can't be tried, or wants nothing");
         }
     }
-}
 
-/// What is wrong with an entry by itself, where nothing is put in twice but files and values.
-fn fault_of(case: &Case<'_>, entry: &Entry) -> Option<&'static str> {
-    let key = entry.key.as_str();
-    if !is_shared(key) && !is_given(key) && !is_wanted(key) {
-        return Some("a key that is not known");
-    }
-    if !entry.word.as_str().is_empty() && !entry.text.is_empty() && key != "file" {
-        return Some("a word and a text under one key");
-    }
-    match case.entry(key) {
-        Some(first) if first.line != entry.line && key != "file" && key != "let" => {
-            Some("a second entry of this key")
-        }
-        _ => None,
-    }
-}
-
-/// Tells what is wrong with single entries of a case, and returns how many want something.
-fn check_entries(told: &mut Told, case: &Case<'_>) -> Result<u64, AllocError> {
-    let mut number: u64 = 0;
-    for entry in case.own {
-        if let Some(fault) = fault_of(case, entry) {
-            told.tell(case.file, entry.line, fault)?;
-        }
-        if is_wanted(entry.key.as_str()) {
-            number = number.saturating_add(1);
-        }
-    }
-    Ok(number)
-}
-
-fn wants(entries: &[Entry]) -> bool {
-    for entry in entries {
-        if is_wanted(entry.key.as_str()) {
-            return true;
-        }
-    }
-    false
-}
-
-fn compare_case(
-    alloc: Global,
-    told: &mut Told,
-    case: &Case<'_>,
-    line: u64,
-) -> Result<u64, AllocError> {
-    let number = check_entries(told, case)?;
-    if number == 0 && !wants(case.base) {
-        told.tell(case.file, line, "a case that wants nothing")?;
-        return Ok(0);
-    }
-    compare_runs_of(alloc, told, case, line)
-}
-
-/// Compares a case, and returns how many runs it has. Of a base the entries alone are looked at.
-fn take(
-    alloc: Global,
-    told: &mut Told,
-    file: &str,
-    blocks: &[Block],
-    block: &Block,
-) -> Result<u64, AllocError> {
-    match case_of(file, blocks, block) {
-        Err(what) => {
-            told.tell(file, block.line, what)?;
-            Ok(0)
-        }
-        Ok(case) if block.is_base => {
-            check_entries(told, &case)?;
-            Ok(0)
-        }
-        Ok(case) => compare_case(alloc, told, &case, block.line),
+    /// Counts the cases and the runs, and tells what is to be told.
+    fn tell_all(self, told: &mut Told, cases: u64) -> Result<(), AllocError> {
+        told.count(self.file, cases, "cases")?;
+        told.count(self.file, self.runs, "runs")?;
+        let text = self.told.into_text()?;
+        told.tell_all(text.as_str(), self.times)
     }
 }
 
 fn told_text(alloc: Global, file: &str, text: &str) -> Result<Told, AllocError> {
     let mut told = Told::new(alloc);
     let blocks = blocks_of(alloc, &mut told, file, text)?;
-    let mut runs: u64 = 0;
+    let mut comparison = Comparison {
+        alloc,
+        file,
+        told: Shown::new(alloc),
+        times: 0,
+        runs: 0,
+        answers: 0,
+    };
     for block in blocks.iter() {
-        let some = take(alloc, &mut told, file, &blocks, block)?;
-        runs = runs.saturating_add(some);
+        match case_of(file, &blocks, block) {
+            Err(what) => comparison.tell(block.line, what),
+            Ok(case) => comparison.take(&case, block),
+        }
     }
-    told.count(file, number_of(&blocks), "cases")?;
-    told.count(file, runs, "runs")?;
+    comparison.tell_all(&mut told, number_of(&blocks))?;
     Ok(told)
 }
 

@@ -1,7 +1,8 @@
 //! What tells licences from texts in a case.
-ghost use Rattle.std.specs.Prelude.{◌≡◌, Some, IfOk, option_copied};
-ghost use Rattle.case_runs.specs.Said.{answer_of, is_within, match_with, name_in, score_in};
+ghost use Rattle.std.specs.Prelude.{◌≡◌, Some, IfOk};
+ghost use Rattle.case_runs.specs.Said.{answer_of, is_within};
 
+use case_files::Named;
 use case_files::told::Unread;
 use catalog_core::{Identifier, LicenseStore, Match};
 use deny_text::Text;
@@ -11,47 +12,10 @@ use std::alloc::{AllocError, Global};
 pub enum Known {
     /// The licence of a stored text with the same words.
     Stored(LicenseStore),
-    /// A text of one line, which is the name of a licence, is that one, at 80; of two at another score, which they
-    /// state; and two are the licence of Pixar, at 90.
+    /// A text of one line that is the name of a licence is that one.
     Named,
     /// Each text is the MIT licence, as surely as this, in hundredths; what is above 100 counts as 100.
     Mit(u8),
-}
-
-fn name_in(text: &str) -> Option<&'static str>
-    ensures { option_copied result ≡ name_in text.now }
-{
-    if text == "MIT\n" {
-        Some("MIT")
-    } else if text == "ISC\n" {
-        Some("ISC")
-    } else if text == "MIT at 79\n" {
-        Some("MIT")
-    } else if text == "MIT at 49\n" {
-        Some("MIT")
-    } else if text == "Pixar\n" {
-        Some("Pixar")
-    } else if text == "\n\nModified Apache 2.0 License\n" {
-        Some("Pixar")
-    } else {
-        None
-    }
-}
-
-fn score_in(text: &str) -> u8
-    ensures { result ≡ score_in text.now }
-{
-    if text == "MIT at 79\n" {
-        79
-    } else if text == "MIT at 49\n" {
-        49
-    } else if text == "MIT\n" {
-        80
-    } else if text == "ISC\n" {
-        80
-    } else {
-        90
-    }
 }
 
 /// The match of a licence.
@@ -65,18 +29,6 @@ fn match_of(alloc: Global, name: &str, score: u8) -> Result<Match, AllocError>
     })
 }
 
-fn named(alloc: Global, text: &str) -> Result<Match, AllocError>
-    ensures { IfOk result (λ found. found ≡ match_with text.now (name_in text.now)) }
-{
-    match name_in(text) {
-        Some(name) => match_of(alloc, name, score_in(text)),
-        None => Ok(Match {
-            name: None,
-            score: 0,
-        }),
-    }
-}
-
 impl Identifier for Known {
     ghost match_of = { answer_of };
 
@@ -85,7 +37,7 @@ impl Identifier for Known {
     fn scan(&self, alloc: Global, text: &str) -> Result<Match, AllocError> {
         match self {
             Known::Stored(store) => store.scan(alloc, text),
-            Known::Named => named(alloc, text),
+            Known::Named => Named.scan(alloc, text),
             Known::Mit(score) => match_of(alloc, "MIT", (*score).min(100)),
         }
     }

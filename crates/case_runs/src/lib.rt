@@ -1,14 +1,10 @@
 //! Cases of the whole run of the gate, which stand in files: what a run is over, and what it comes to.
 #![tactic(auto)]
 
-pub mod compared;
-pub mod ending;
-mod findings;
+mod compared;
+mod counted;
 mod identifiers;
-mod lines;
-pub mod settings;
-mod sink;
-mod told;
-mod tree;
+mod seen;
+mod settings;
 
 pub use compared::compare_runs;

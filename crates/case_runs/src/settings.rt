@@ -1,11 +1,8 @@
-//! The runs of a case: which calls of its tree fail, and how much its sinks take.
-use crate::ending::{Ending, Sinks};
+//! The runs of a case: which calls of its tree fail, how much its sinks take, and how each run ends.
+use crate::counted::{CountedSink, CountedTree};
 use crate::identifiers::{Known, known_as};
-use crate::sink::CountedSink;
-use crate::tree::CountedTree;
 use case_files::Case;
-use case_files::cases::{is_among, wanted};
-use case_files::told::Unread;
+use case_files::cases::wanted;
 use case_files::tree::{number, range_of, tree_of};
 use catalog_core::Table;
 use deny_run::report::Outcome;
@@ -13,318 +10,149 @@ use deny_run::run::run;
 use std::alloc::{AllocError, Global};
 use tree_core::MemTree;
 
-/// Which calls of the tree fail.
-#[derive(Clone, Copy)]
-pub enum Failing {
-    Nothing,
-    /// This one, counted from 1.
-    One(u64),
-    /// Those that the case names.
-    Named,
-}
-
 /// One run of a case.
 #[derive(Clone, Copy)]
-pub struct Setting {
-    pub failing: Failing,
+pub struct Setting<'c> {
+    pub case: Case<'c>,
+    /// The call of the tree that fails, counted from 1; at 0 none does but those that the case names.
+    pub call: u64,
     /// How many bytes `out` takes in all.
     pub out: usize,
     pub err: usize,
 }
 
-const GIVEN: [&str; 12] = [
-    "file",
-    "words",
-    "cwd",
-    "identifier",
-    "fail",
-    "room-out",
-    "room-err",
-    "piece-out",
-    "piece-err",
-    "faults-tree",
-    "faults-out",
-    "faults-err",
-];
-
-/// Whether a key says what is put in.
-pub fn is_given(key: &str) -> bool {
-    is_among(key, &GIVEN)
+/// What a run came to, what it was over, and what it has written to.
+#[derive(Drop)]
+pub struct Ending {
+    pub outcome: Outcome,
+    pub tree: CountedTree,
+    pub out: CountedSink,
+    pub err: CountedSink,
 }
 
 const WORDS: &str = "cargo-deny --metadata-path m.json --config p.toml check licenses";
 
-fn words_in(alloc: Global, text: &str) -> Result<Vec<String>, AllocError> {
-    let mut words = Vec::new(alloc);
-    for word in text.split_whitespace() {
-        words.push(String::from_str(alloc, word)?)?;
-    }
-    Ok(words)
-}
-
-fn words_by_line(alloc: Global, text: &str) -> Result<Vec<String>, AllocError> {
-    let mut words = Vec::new(alloc);
-    for word in text.lines() {
-        words.push(String::from_str(alloc, word)?)?;
-    }
-    Ok(words)
-}
-
+/// The words: those behind the key, or one of each line below it.
 fn words_of(alloc: Global, case: &Case<'_>) -> Result<Vec<String>, AllocError> {
-    match case.entry("words") {
-        None => words_in(alloc, WORDS),
-        Some(entry) if entry.text.is_empty() => words_in(alloc, entry.word.as_str()),
-        Some(entry) => words_by_line(alloc, wanted(entry)),
+    let (text, between) = match case.entry("words") {
+        None => (WORDS, ' '),
+        Some(entry) if entry.text.is_empty() => (entry.word.as_str(), ' '),
+        Some(entry) => (wanted(entry), '\n'),
+    };
+    let mut words = Vec::new(alloc);
+    for word in text.split_terminator(between) {
+        words.push(String::from_str(alloc, word)?)?;
+    }
+    Ok(words)
+}
+
+/// What stands behind a key, or else this.
+fn word_or<'c>(case: &Case<'c>, key: &str, or: &'static str) -> &'c str {
+    match case.entry(key) {
+        Some(entry) => entry.word.as_str(),
+        None => or,
     }
 }
 
-fn fail_call(tree: &mut MemTree, call: u64) -> Result<(), Unread> {
-    if call == 0 {
-        return Err(Unread::Line("a call that is not counted from 1"));
+/// The number behind a key, or else this; none where there is another word.
+fn number_or(case: &Case<'_>, key: &str, or: u64) -> Option<u64> {
+    match case.entry(key) {
+        None => Some(or),
+        Some(entry) => number(entry.word.as_str()),
     }
-    Ok(tree.fail_call(call)?)
 }
 
-fn fail_named(tree: &mut MemTree, calls: &str) -> Result<(), Unread> {
-    for call in calls.split_whitespace() {
+/// Lets calls of a tree fail, which stand with blanks between.
+fn fail_calls(tree: &mut MemTree, calls: &str) -> Option<()> {
+    for call in calls.split(' ') {
         match number(call) {
-            Some(call) => fail_call(tree, call)?,
-            None => return Err(Unread::Line("a call that is no number")),
+            Some(call) if call > 0 => tree.fail_call(call).ok()?,
+            _ => return None,
         }
     }
-    Ok(())
+    Some(())
 }
 
-fn fail_calls(tree: &mut MemTree, case: &Case<'_>, failing: Failing) -> Result<(), Unread> {
-    match failing {
-        Failing::Nothing => Ok(()),
-        Failing::One(call) => fail_call(tree, call),
-        Failing::Named => fail_named(tree, case.word("fail")),
+fn tree_with(alloc: Global, setting: &Setting<'_>, failed: u64) -> Option<CountedTree> {
+    let mut tree = tree_of(alloc, &setting.case).ok()?;
+    let calls = setting.case.word("fail");
+    if setting.call > 0 {
+        tree.fail_call(setting.call).ok()?;
+    } else if calls.contains(' ') {
+        fail_calls(&mut tree, calls)?;
     }
-}
-
-/// The number behind a key, or else this.
-fn number_or(case: &Case<'_>, key: &str, or: u64) -> Result<u64, Unread> {
-    match case.entry(key) {
-        None => Ok(or),
-        Some(entry) => match number(entry.word.as_str()) {
-            Some(number) => Ok(number),
-            None => Err(Unread::Line("a number that is none")),
-        },
-    }
-}
-
-fn files_of(alloc: Global, case: &Case<'_>) -> Result<MemTree, Unread> {
-    match tree_of(alloc, case) {
-        Ok(tree) => Ok(tree),
-        Err(_) => Err(Unread::Line("a file that can't be put")),
-    }
-}
-
-fn tree_with(
-    alloc: Global,
-    case: &Case<'_>,
-    failing: Failing,
-    faults: u64,
-) -> Result<CountedTree, Unread> {
-    let mut tree = files_of(alloc, case)?;
-    match fail_calls(&mut tree, case, failing) {
-        Ok(()) => Ok(CountedTree::new(tree, faults)),
-        Err(why) => Err(why),
-    }
-}
-
-fn sinks_of(alloc: Global, case: &Case<'_>, setting: Setting) -> Result<Sinks, Unread> {
-    let piece_out = number_or(case, "piece-out", 4)? as usize;
-    let piece_err = number_or(case, "piece-err", 1000)? as usize;
-    let faults_out = number_or(case, "faults-out", 0)?;
-    let faults_err = number_or(case, "faults-err", 0)?;
-    Ok(Sinks {
-        out: CountedSink::new(alloc, setting.out, piece_out, faults_out),
-        err: CountedSink::new(alloc, setting.err, piece_err, faults_err),
-    })
-}
-
-/// The folder that the run is started in.
-fn cwd_of<'c>(case: &Case<'c>) -> &'c str {
-    match case.entry("cwd") {
-        Some(entry) => entry.word.as_str(),
-        None => "/w",
-    }
-}
-
-/// The word for what tells licences from texts.
-fn identifier_of<'c>(case: &Case<'c>) -> &'c str {
-    match case.entry("identifier") {
-        Some(entry) => entry.word.as_str(),
-        None => "none",
-    }
+    Some(CountedTree::new(alloc, tree, failed))
 }
 
 /// The run, of which nothing is said: whoever calls this owes nothing of the run's contract.
-fn run_over(
+fn outcome_of(
     alloc: Global,
     words: &[String],
     cwd: &str,
     tree: &mut CountedTree,
-    sinks: &mut Sinks,
+    out: &mut CountedSink,
+    err: &mut CountedSink,
     known: &Known,
 ) -> Outcome {
-    run(
-        alloc,
-        words,
-        cwd,
-        tree,
-        &mut sinks.out,
-        &mut sinks.err,
-        &Table,
-        known,
-    )
-}
-
-fn ended(
-    alloc: Global,
-    case: &Case<'_>,
-    words: &[String],
-    known: &Known,
-    mut tree: CountedTree,
-    mut sinks: Sinks,
-) -> Ending {
-    let cwd = cwd_of(case);
-    let outcome = run_over(alloc, words, cwd, &mut tree, &mut sinks, known);
-    Ending {
-        outcome,
-        tree,
-        sinks,
-    }
-}
-
-fn ending_over(
-    alloc: Global,
-    case: &Case<'_>,
-    setting: Setting,
-    words: &[String],
-    known: &Known,
-    tree: CountedTree,
-) -> Result<Ending, Unread> {
-    match sinks_of(alloc, case, setting) {
-        Ok(sinks) => Ok(ended(alloc, case, words, known, tree, sinks)),
-        Err(why) => Err(why),
-    }
+    run(alloc, words, cwd, tree, out, err, &Table, known)
 }
 
 fn ending_with(
     alloc: Global,
-    case: &Case<'_>,
-    setting: Setting,
+    setting: &Setting<'_>,
     words: &[String],
     known: &Known,
-) -> Result<Ending, Unread> {
-    let faults = number_or(case, "faults-tree", 0)?;
-    let tree = tree_with(alloc, case, setting.failing, faults)?;
-    ending_over(alloc, case, setting, words, known, tree)
-}
-
-fn ending_of_words(
-    alloc: Global,
-    case: &Case<'_>,
-    setting: Setting,
-    words: &[String],
-) -> Result<Ending, Unread> {
-    let word = identifier_of(case);
-    let known = known_as(alloc, word)?;
-    ending_with(alloc, case, setting, words, &known)
-}
-
-/// How a run of the case ends.
-pub fn ending_of(alloc: Global, case: &Case<'_>, setting: Setting) -> Result<Ending, Unread> {
-    let words = words_of(alloc, case)?;
-    ending_of_words(alloc, case, setting, &words)
-}
-
-/// The rooms of a sink that are tried, from the first to the one before the last; below the text that is wanted.
-fn rooms_of(case: &Case<'_>, key: &str, text: &str) -> Result<(usize, usize), Unread> {
-    if case.word(key) == "below" {
-        let length = case.entry(text).map_or(0, |entry| wanted(entry).len());
-        return Ok((0, length));
-    }
-    let room = number_or(case, key, 4000)? as usize;
-    Ok((room, room.saturating_add(1)))
-}
-
-/// How many calls of the tree the case's run makes.
-fn calls_of(alloc: Global, case: &Case<'_>, out: usize, err: usize) -> Result<u64, Unread> {
-    let setting = Setting {
-        failing: Failing::Nothing,
+) -> Option<Ending> {
+    let case = &setting.case;
+    let piece_out = number_or(case, "piece-out", 4)? as usize;
+    let piece_err = number_or(case, "piece-err", 1000)? as usize;
+    let faults_out = number_or(case, "faults-out", 0)?;
+    let faults_err = number_or(case, "faults-err", 0)?;
+    let faults_tree = number_or(case, "faults-tree", 0)?;
+    let mut tree = tree_with(alloc, setting, faults_tree)?;
+    let mut out = CountedSink::new(alloc, setting.out, piece_out, faults_out);
+    let mut err = CountedSink::new(alloc, setting.err, piece_err, faults_err);
+    let cwd = word_or(case, "cwd", "/w");
+    let outcome = outcome_of(alloc, words, cwd, &mut tree, &mut out, &mut err, known);
+    Some(Ending {
+        outcome,
+        tree,
         out,
         err,
-    };
-    let ending = ending_of(alloc, case, setting)?;
-    Ok(ending.tree.calls())
+    })
 }
 
-fn each_of(alloc: Global, first: u64, last: u64) -> Result<Vec<Failing>, AllocError> {
-    let mut all = Vec::new(alloc);
-    for call in first..=last {
-        all.push(Failing::One(call))?;
-    }
-    Ok(all)
+/// How a run of the case ends; none where it can't be tried.
+pub fn ending_of(alloc: Global, setting: &Setting<'_>) -> Option<Ending> {
+    let words = words_of(alloc, &setting.case).ok()?;
+    let identifier = word_or(&setting.case, "identifier", "none");
+    let known = known_as(alloc, identifier).ok()?;
+    ending_with(alloc, setting, &words, &known)
 }
 
-fn only(alloc: Global, failing: Failing) -> Result<Vec<Failing>, AllocError> {
-    let mut all = Vec::new(alloc);
-    all.push(failing)?;
-    Ok(all)
+/// The rooms of a sink, from the first to the one before the last; they may be those below the text that is wanted.
+pub fn rooms_of(case: &Case<'_>, key: &str, text: &str) -> Option<(usize, usize)> {
+    if case.word(key) == "below" {
+        let length = case.entry(text).map_or(0, |entry| wanted(entry).len());
+        return Some((0, length));
+    }
+    let room = number_or(case, key, 4000)? as usize;
+    Some((room, room.saturating_add(1)))
 }
 
-/// The failing calls that are tried; the sinks have this much room.
-fn failings_of(
-    alloc: Global,
-    case: &Case<'_>,
-    out: usize,
-    err: usize,
-) -> Result<Vec<Failing>, Unread> {
-    let word = case.word("fail");
-    if word.is_empty() {
-        return Ok(only(alloc, Failing::Nothing)?);
-    }
-    if word == "each" {
-        let calls = calls_of(alloc, case, out, err)?;
-        return Ok(each_of(alloc, 1, calls)?);
-    }
-    match range_of(word) {
-        Some((first, last)) => Ok(each_of(alloc, first, last)?),
-        None => Ok(only(alloc, Failing::Named)?),
-    }
-}
-
-fn settings_over(
-    alloc: Global,
-    failings: &[Failing],
-    outs: (usize, usize),
-    errs: (usize, usize),
-) -> Result<Vec<Setting>, AllocError> {
-    let mut settings = Vec::new(alloc);
-    for failing in failings {
-        for out in outs.0..outs.1 {
-            for err in errs.0..errs.1 {
-                settings.push(Setting {
-                    failing: *failing,
-                    out,
-                    err,
-                })?;
-            }
+/// The calls that fail alone in a run each, from the first to the last; `each` is of all that this run makes, in which none fails.
+pub fn calls_of(alloc: Global, whole: &Setting<'_>) -> Option<(u64, u64)> {
+    match whole.case.word("fail") {
+        "" => Some((0, 0)),
+        "each" => {
+            let ending = ending_of(alloc, whole)?;
+            Some((1, ending.tree.calls))
         }
+        // Several calls fail in one run.
+        word if word.contains(' ') => Some((0, 0)),
+        word => match range_of(word) {
+            Some((first, last)) if first > 0 => Some((first, last)),
+            _ => None,
+        },
     }
-    Ok(settings)
-}
-
-/// The runs of a case.
-pub fn settings_of(alloc: Global, case: &Case<'_>) -> Result<Vec<Setting>, Unread> {
-    let outs = rooms_of(case, "room-out", "out")?;
-    let errs = rooms_of(case, "room-err", "err")?;
-    let most_out = outs.1.saturating_sub(1);
-    let most_err = errs.1.saturating_sub(1);
-    let failings = failings_of(alloc, case, most_out, most_err)?;
-    Ok(settings_over(alloc, &failings, outs, errs)?)
 }

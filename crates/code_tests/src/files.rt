@@ -1,22 +1,21 @@
 //! What is told of files that can't be read, and of rows and cases that differ.
 use case_files::cases::told_cases;
 use case_files::rows::told_rows;
-use case_files::told::text_of;
-use case_files::{Case, Cases, Rows, Told};
+use case_files::told::{show, text_of};
+use case_files::{
+    Answered, Case, Cases, Rows, Shown, Told, compare_cases, compare_rows, exit_code,
+};
 use std::alloc::{AllocError, Global};
-use std::io;
+use std::rt::Runtime;
 use std::test::Fail;
 
 /// The group `same` answers each text by itself, and the key `said` by the word behind `say`.
 struct Same;
 
 impl Rows for Same {
-    fn answer(&self, alloc: Global, group: &str, text: &str) -> Result<Option<String>, AllocError> {
-        if group == "same" {
-            Ok(Some(String::from_str(alloc, text)?))
-        } else {
-            Ok(None)
-        }
+    fn answer(&self, _: Global, group: &str, text: &str, out: &mut Shown) -> bool {
+        out.put(text);
+        group == "same"
     }
 }
 
@@ -25,12 +24,12 @@ impl Cases for Same {
         key == "say"
     }
 
-    fn told(&self, alloc: Global, case: &Case<'_>, key: &str) -> io::Result<Option<String>> {
-        if key == "said" {
-            Ok(Some(String::from_str(alloc, case.word("say"))?))
-        } else {
-            Ok(None)
+    fn told(&self, _: Global, case: &Case<'_>, key: &str, out: &mut Shown) -> Answered {
+        if key != "said" {
+            return Answered::NoSuchKey;
         }
+        out.put(case.word("say"));
+        Answered::Yes
     }
 }
 
@@ -87,73 +86,92 @@ const ROWS: [(&str, &str, &str); 11] = [
 
 /// The same of files of cases.
 const CASES: [(&str, &str, &str); 12] = [
-    ("case a\n  say x\n  said x\n", "f: 1 cases\n", ""),
+    (
+        "case a\n  say x\n  said x\n",
+        "f: 1 cases\nf: 1 lines wanted\n",
+        "",
+    ),
     (
         "base b\n  say x\ncase a\n  with b\n  said\n:x\n",
-        "f: 1 cases\n",
+        "f: 1 cases\nf: 1 lines wanted\n",
         "",
     ),
     (
         "case a\n  say x\n  said y\n",
-        "f: 1 cases\n",
+        "f: 1 cases\nf: 1 lines wanted\n",
         "f:3: a\n  is  \"x\"\n  not \"y\"\n",
     ),
     (
         "case a\n  said\n=00 zz\n  seen y\n",
-        "f: 1 cases\n",
+        "f: 1 cases\nf: 2 lines wanted\n",
         "f:3: a byte that is no number\nf:2: a\n  is  \"\"\n  not \"\\0\"\nf:4: a key that is not known\n",
     ),
     (
         "case a\n  say x\n",
-        "f: 1 cases\n",
+        "f: 1 cases\nf: 0 lines wanted\n",
         "f:1: a case that wants nothing\n",
     ),
     (
         "case\n  said x\n",
-        "f: 1 cases\n",
+        "f: 1 cases\nf: 1 lines wanted\n",
         "f:1: a case without a name\n",
     ),
     (
         "case a\n  said\ncase a\n  said\n",
-        "f: 2 cases\n",
+        "f: 2 cases\nf: 2 lines wanted\n",
         "f:3: a second case of this name\n",
     ),
     (
         "case a\n  with b\n  said x\n",
-        "f: 1 cases\n",
+        "f: 1 cases\nf: 1 lines wanted\n",
         "f:1: a base that is not there\n",
     ),
     (
         "case a\n  said\n*x y\n",
-        "f: 1 cases\n",
+        "f: 1 cases\nf: 1 lines wanted\n",
         "f:3: a count that is no number\n",
     ),
     (
         "case a\n|x\n  said\n",
-        "f: 1 cases\n",
+        "f: 1 cases\nf: 1 lines wanted\n",
         "f:2: a line before the first key\n",
     ),
     (
         "  said\ncase a\n  said\n",
-        "f: 1 cases\n",
+        "f: 1 cases\nf: 1 lines wanted\n",
         "f:1: a line before the first case\n",
     ),
     (
         "case a\n  said\nx\n",
-        "f: 1 cases\n",
+        "f: 1 cases\nf: 1 lines wanted\n",
         "f:3: a line of no known kind\n",
     ),
 ];
 
-fn is_told(told: &Told, counts: &str, differences: &str) -> bool {
-    told.counts.as_str() == counts && told.differences.as_str() == differences
+/// Whether counts and differences are told, and whether a program ends with 1 exactly where something differs.
+fn is_told(
+    rt: &HostRuntime,
+    told: Told,
+    counts: &str,
+    differences: &str,
+) -> Result<bool, AllocError> {
+    let is_so = told.counts.as_str() == counts && told.differences.as_str() == differences;
+    let code = exit_code(show(rt, "f", &Ok(told)));
+    let status = format!(in rt.alloc(); "{code:?}")?;
+    let wanted = if differences.is_empty() {
+        "ExitCode(unix_exit_status(0))"
+    } else {
+        "ExitCode(unix_exit_status(1))"
+    };
+    Ok(is_so && status.as_str() == wanted)
 }
 
 #[test]
 fn rows_are_told(rt: HostRuntime) -> Result<(), Fail> {
     for (text, counts, differences) in ROWS.iter() {
         let told = told_rows(rt.alloc(), "f", text, &Same)?;
-        assert!(rt; is_told(&told, counts, differences), "{text}");
+        let is_told = is_told(&rt, told, counts, differences)?;
+        assert!(rt; is_told, "{text}");
     }
     Ok(())
 }
@@ -162,7 +180,8 @@ fn rows_are_told(rt: HostRuntime) -> Result<(), Fail> {
 fn cases_are_told(rt: HostRuntime) -> Result<(), Fail> {
     for (text, counts, differences) in CASES.iter() {
         let told = told_cases(rt.alloc(), "f", text, &Same)?;
-        assert!(rt; is_told(&told, counts, differences), "{text}");
+        let is_told = is_told(&rt, told, counts, differences)?;
+        assert!(rt; is_told, "{text}");
     }
     Ok(())
 }
@@ -171,6 +190,13 @@ fn cases_are_told(rt: HostRuntime) -> Result<(), Fail> {
 fn a_file_that_is_no_text_is_told(rt: HostRuntime) -> Result<(), Fail> {
     let mut told = Told::new(rt.alloc());
     assert!(rt; text_of(&mut told, "f", b"[same]\na\xff")?.is_none());
-    assert!(rt; is_told(&told, "", "f:2: the file is no UTF-8\n"));
+    assert!(rt; is_told(&rt, told, "", "f:2: the file is no UTF-8\n")?);
+    Ok(())
+}
+
+#[test]
+fn a_file_that_is_not_there_is_not_as_wanted(rt: HostRuntime) -> Result<(), Fail> {
+    assert!(rt; !compare_rows(&rt, "no-such-file.txt", &Same));
+    assert!(rt; !compare_cases(&rt, "no-such-file.txt", &Same));
     Ok(())
 }

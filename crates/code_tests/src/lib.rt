@@ -23,4 +23,6 @@ mod start;
 #[cfg(test)]
 mod steps;
 #[cfg(test)]
+mod system;
+#[cfg(test)]
 mod verdicts;

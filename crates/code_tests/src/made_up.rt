@@ -12,7 +12,7 @@ pub struct Process {
 }
 
 /// Copies bytes to the start of a buffer; none where they are longer.
-fn fill(bytes: &[u8], buf: &mut [u8]) -> Option<usize>
+pub fn fill(bytes: &[u8], buf: &mut [u8]) -> Option<usize>
     ensures { IfSome result (λ count. count ≤ length buf.new) }
 {
     if buf.len() < bytes.len() {

@@ -1,77 +1,121 @@
-//! Crates of metadata, gathered over the policy, the table and the tree of a case.
-use crate::clarified::policy;
-use crate::crates::table;
-use crate::gathered::{found_of, lines_of};
-use crate::given::{text, tree, unread};
-use crate::says::Says;
-use case_files::Case;
-use diag_core::Files;
-use gather_core::{Gatherer, Summary};
-use graph_core::Metadata;
+//! Crates of metadata, gathered over the policy, the table and the tree of a case; and the files of a crate in the folder `/w`: what
+//! is read and listed, where fields stand, its pack, and the names that are joined.
+use crate::given::{OF_FEED, World, first_word, policy_of, world_of};
+use case_files::tree::text_of;
+use case_files::{Case, Entry, Named, Shown};
+use deny_text::{PathBuf, Span, Text};
+use diag_core::{Diag, Files, Label, LabelStyle};
+use expression_core::{joined, scan_pack};
+use gather_core::{Gatherer, KrateLicense, LicenseExprSource, LicenseInfo, Summary};
+use location_core::{Located, locate};
+use pack_core::Pack;
+use priority_core::FileRef;
+use reads_core::{FolderHeard, list_folder, listing_record, read_file};
 use records_core::records;
 use selection_core::{ExcludeSpecs, Krates, Selection};
 use spdx_core::Table;
-use std::alloc::{AllocError, Global};
-use std::io;
-use tree_core::MemTree;
+use std::alloc::Global;
+use tree_core::{MemTree, ReadRecord};
 use valid_policy::ValidConfig;
 
-/// What crates are gathered over.
-#[derive(Drop)]
-struct World {
-    policy: ValidConfig,
-    tree: MemTree,
-    files: Files,
-    threshold: i64,
-}
-
-/// What of a gathering is asked for.
-#[derive(Clone, Copy)]
-pub enum Asked {
-    /// The licence of each crate.
-    Licences,
-    /// The findings and places of each crate.
-    Found,
-    /// The text of the second file of the table.
-    SecondFile,
-}
-
-fn built(alloc: Global, metadata: Metadata) -> io::Result<Krates> {
+/// The crates of the metadata of a case.
+fn krates(alloc: Global, case: &Case<'_>) -> Option<Krates> {
+    let text = text_of(alloc, case, case.entry("metadata")?).ok()?;
+    let metadata = records(alloc, str::from_utf8(&text).ok()?, "index").ok()?;
     let selection = Selection {
         workspace: true,
         exclude: ExcludeSpecs::new(alloc),
         exclude_dev: false,
         exclude_unpublished: false,
     };
-    match Krates::build(alloc, metadata, &selection) {
-        Ok(krates) => Ok(krates),
-        Err(_) => Err(unread()),
+    Krates::build(alloc, metadata, &selection).ok()
+}
+
+/// Puts texts, each behind a mark.
+fn put_texts(out: &mut Shown, mark: &str, texts: &[Text]) {
+    for text in texts {
+        write!(out, "{mark}{text}");
     }
 }
 
-fn krates_in(alloc: Global, metadata: &str) -> io::Result<Krates> {
-    match records(alloc, metadata, "index") {
-        Ok(metadata) => built(alloc, metadata),
-        Err(_) => Err(unread()),
+fn put_info(out: &mut Shown, info: &LicenseInfo) {
+    let LicenseInfo::SpdxExpression { expr, nfo } = info else {
+        return out.put("unlicensed");
+    };
+    out.put(expr.as_ref());
+    match &nfo.source {
+        LicenseExprSource::Metadata(None) => out.put(" by the field"),
+        LicenseExprSource::Metadata(Some(_)) => out.put(" by the field at a place"),
+        LicenseExprSource::UserOverride => out.put(" by the policy"),
+        LicenseExprSource::LicenseFiles(paths) => {
+            out.put(" by files");
+            put_texts(out, " ", paths.items());
+        }
     }
 }
 
-/// The crates of the metadata of a case.
-fn krates(alloc: Global, case: &Case<'_>) -> io::Result<Krates> {
-    let metadata = text(alloc, case, "metadata")?;
-    krates_in(alloc, metadata.as_str())
+/// Each read, behind a `;`.
+pub fn put_reads(out: &mut Shown, reads: &[ReadRecord]) {
+    for read in reads {
+        write!(out, "; {:?} {} {:?}", read.kind, read.path, read.answer);
+    }
 }
 
-fn world_of(alloc: Global, case: &Case<'_>) -> io::Result<World> {
-    let policy = policy(alloc, case)?;
-    let tree = tree(alloc, case)?;
-    let files = table(alloc, case)?;
-    Ok(World {
-        policy,
-        tree,
-        files,
-        threshold: case.word("threshold").parse::<i64>().unwrap_or(80),
-    })
+/// A line for each crate, behind its id where there is more than one: its expression and where it comes from; each note behind
+/// a `#`; each read.
+fn put_licences(out: &mut Shown, licences: &[KrateLicense<'_>]) {
+    for license in licences {
+        if licences.len() > 1 {
+            write!(out, "{}: ", license.krate.id);
+        }
+        put_info(out, &license.lic_info);
+        put_texts(out, " # ", license.notes.items());
+        put_reads(out, license.reads.items());
+        out.put("\n");
+    }
+}
+
+/// The place of a label, with lines and columns from 0, what it cuts out, and its text, with a mark where its style is primary.
+fn put_label(out: &mut Shown, files: &Files, label: &Label) {
+    let name = files.name(label.file_id).unwrap_or("no file");
+    if let Ok(at) = files.location(label.file_id, label.range.start) {
+        write!(out, " {name}:{}:{}", at.line, at.column);
+    }
+    let source = files.source(label.file_id).unwrap_or("");
+    let cut = source.get(label.range.start..label.range.end);
+    write!(out, " `{}`", cut.unwrap_or("no place"));
+    if !label.message.as_str().is_empty() {
+        write!(out, " {}", label.message);
+    }
+    if label.style == LabelStyle::Primary {
+        out.put(" !");
+    }
+}
+
+/// Each finding in a line: its code and its labels.
+pub fn put_findings(out: &mut Shown, files: &Files, findings: &[Diag]) {
+    for finding in findings {
+        match finding.code {
+            Some(code) => write!(out, "{code}"),
+            None => out.put("no code"),
+        }
+        for label in finding.diag.labels.items() {
+            put_label(out, files, label);
+        }
+        out.put("\n");
+    }
+}
+
+/// The file and the offset of an expression whose text stands there.
+fn put_place(out: &mut Shown, files: &Files, info: &LicenseInfo) {
+    if let LicenseInfo::SpdxExpression { expr, nfo } = info {
+        let source = files.source(nfo.file_id).unwrap_or("");
+        let there = source.get(nfo.offset..).unwrap_or("");
+        if there.starts_with(expr.as_ref()) {
+            let name = files.name(nfo.file_id).unwrap_or("no file");
+            write!(out, "> {name} {}\n", nfo.offset);
+        }
+    }
 }
 
 /// What is gathered, of which nothing is said: whoever calls this owes nothing of its contract.
@@ -79,52 +123,149 @@ fn gathered<'k>(
     alloc: Global,
     krates: &'k Krates,
     world: &mut World,
-) -> Result<Summary<'k>, AllocError> {
-    let gatherer: Gatherer<'_, Says> = Gatherer::default();
+    policy: &ValidConfig,
+    threshold: i64,
+) -> Option<Summary<'k>> {
+    let gatherer: Gatherer<'_, Named> = Gatherer::default();
     let gatherer = gatherer
-        .with_store(&Says)
-        .with_confidence_threshold(world.threshold);
-    gatherer.gather(
-        alloc,
-        krates,
-        &mut world.files,
-        &world.policy,
-        &mut world.tree,
-        &Table,
-    )
+        .with_store(&Named)
+        .with_confidence_threshold(threshold);
+    let files = &mut world.files;
+    gatherer
+        .gather(alloc, krates, files, policy, &mut world.tree, &Table)
+        .ok()
 }
 
-/// What is asked for of what was gathered.
-fn shown_of(
-    alloc: Global,
-    files: &Files,
-    summary: &Summary<'_>,
-    asked: Asked,
-) -> Result<String, AllocError> {
-    match asked {
-        Asked::Licences => lines_of(alloc, summary),
-        Asked::Found => found_of(alloc, files, summary),
-        Asked::SecondFile => String::from_str(alloc, files.source(1).unwrap_or("no file")),
+/// The licence of each crate of a case, what is found of each, or the text of the second file of the table.
+pub fn put(alloc: Global, case: &Case<'_>, key: &str, out: &mut Shown) -> Option<()> {
+    let krates = krates(alloc, case)?;
+    let policy = policy_of(alloc, case)?;
+    let mut world = world_of(alloc, case)?;
+    let threshold = case.word("threshold").parse::<i64>().unwrap_or(80);
+    let summary = gathered(alloc, &krates, &mut world, &policy, threshold)?;
+    match key {
+        "gathered" => put_licences(out, summary.nfos.items()),
+        "found" => {
+            for license in summary.nfos.items() {
+                put_findings(out, &world.files, license.diags.items());
+                put_place(out, &world.files, &license.lic_info);
+            }
+        }
+        _ => out.put(world.files.source(1).unwrap_or("no file")),
+    }
+    Some(())
+}
+
+/// What the record of a listing answers, and the entries of the folder.
+fn put_folder(out: &mut Shown, path: &str, heard: &FolderHeard, record: &ReadRecord) {
+    write!(out, "{path}: {:?}\n", record.answer);
+    if let Ok(entries) = heard {
+        for entry in entries.items() {
+            let kind = if entry.is_file { "file" } else { "folder" };
+            write!(out, "  {} {kind}\n", entry.name);
+        }
     }
 }
 
-fn shown_in(
-    alloc: Global,
-    krates: &Krates,
-    world: &mut World,
-    asked: Asked,
-) -> Result<String, AllocError> {
-    let summary = gathered(alloc, krates, world)?;
-    shown_of(alloc, &world.files, &summary, asked)
+/// Where a field stands, the read of its manifest, and how many files the table has then.
+fn put_located(out: &mut Shown, located: &Located, files: &Files) {
+    match &located.location {
+        Some(at) => write!(out, "{}:{}..{}", at.file, at.span.start, at.span.end),
+        None => out.put("nowhere"),
+    }
+    if let Some(read) = &located.read {
+        write!(out, "; {} {:?}", read.path, read.answer);
+    }
+    let count = (0..4).filter(|id| files.name(*id).is_ok()).count();
+    write!(out, "; {count} files\n");
 }
 
-fn shown_with(alloc: Global, case: &Case<'_>, krates: &Krates, asked: Asked) -> io::Result<String> {
+/// Reads, lists or looks for what an entry names.
+fn put_entry(alloc: Global, out: &mut Shown, world: &mut World, entry: &Entry) -> Option<()> {
+    let path = entry.word.as_str();
+    let tree = &mut world.tree;
+    match entry.key.as_str() {
+        "read" => {
+            let heard = read_file(alloc, tree, "/w", path).ok()?;
+            match &heard {
+                Ok(text) => write!(out, "{path}: {:?}\n", text.as_str()),
+                Err(error) => write!(out, "{path}: {error:?}\n"),
+            }
+        }
+        "list" => {
+            let heard = list_folder(alloc, tree, path).ok()?;
+            let record = listing_record(alloc, path, &heard).ok()?;
+            put_folder(out, path, &heard, &record);
+        }
+        "locate" => {
+            let (path, field) = first_word(path);
+            let path = PathBuf::copy(alloc, path).ok()?;
+            let located = locate(alloc, tree, &mut world.files, &path, field).ok()?;
+            put_located(out, &located, &world.files);
+        }
+        _ => {}
+    }
+    Some(())
+}
+
+/// What is heard of each file by the key `read` and of each folder by the key `list`, and where each field by the key `locate` stands.
+pub fn put_each(alloc: Global, case: &Case<'_>, out: &mut Shown) -> Option<()> {
     let mut world = world_of(alloc, case)?;
-    Ok(shown_in(alloc, krates, &mut world, asked)?)
+    for entry in case.own {
+        put_entry(alloc, out, &mut world, entry)?;
+    }
+    Some(())
 }
 
-/// What is gathered of the crates of a case.
-pub fn shown(alloc: Global, case: &Case<'_>, asked: Asked) -> io::Result<String> {
-    let krates = krates(alloc, case)?;
-    shown_with(alloc, case, &krates, asked)
+/// The pack of the crate, with the `license-file` that the case has, of which nothing is said.
+fn pack(alloc: Global, tree: &mut MemTree, case: &Case<'_>) -> Option<Pack> {
+    match case.entry("license-file") {
+        Some(entry) => {
+            let path = PathBuf::copy(alloc, entry.word.as_str()).ok()?;
+            Pack::read(alloc, tree, "/w", Some(&path)).ok()
+        }
+        None => Pack::read(alloc, tree, "/w", None).ok(),
+    }
+}
+
+/// The files of the clarification, by the key `clarified`.
+fn paths(alloc: Global, entries: &[Entry]) -> Option<Vec<PathBuf>> {
+    let mut paths = Vec::new(alloc);
+    for entry in entries {
+        if entry.key.as_str() == "clarified" {
+            let path = PathBuf::copy(alloc, entry.word.as_str()).ok()?;
+            paths.push(path).ok()?;
+        }
+    }
+    Some(paths)
+}
+
+/// Whether a clarification, whose files have the hash of one LF, holds by the crate's pack, and each read.
+pub fn put_tried(alloc: Global, case: &Case<'_>, out: &mut Shown) -> Option<()> {
+    let paths = paths(alloc, case.own)?;
+    let span = Span { start: 0, end: 0 };
+    let mut files = Vec::new(alloc);
+    for path in paths.iter() {
+        files.push(FileRef::new(path, OF_FEED, span)).ok()?;
+    }
+    let mut world = world_of(alloc, case)?;
+    let pack = pack(alloc, &mut world.tree, case)?;
+    let tried = pack.tries(alloc, &mut world.tree, &files).ok()?;
+    out.put(if tried.holds { "holds" } else { "differs" });
+    put_reads(out, tried.pack.into_reads().items());
+    Some(())
+}
+
+/// The expression that the names of the crate's files are joined to.
+pub fn put_joined(alloc: Global, case: &Case<'_>, out: &mut Shown) -> Option<()> {
+    let mut world = world_of(alloc, case)?;
+    let pack = pack(alloc, &mut world.tree, case)?;
+    let threshold = case.word("threshold").parse::<u8>().unwrap_or(80);
+    let files = scan_pack(alloc, Some(&Named), threshold, &pack, &Table).ok()?;
+    let joined = joined(alloc, files.items(), &Table).ok()?;
+    match &joined {
+        Some(read) => out.put(read.as_ref()),
+        None => out.put("none"),
+    }
+    Some(())
 }

@@ -1,59 +1,93 @@
 //! Compares rows and cases of `data/` with what is gathered, judged and found of crates.
 #![tactic(auto)]
 
-mod answers;
-mod checked;
-mod clarified;
-mod crates;
-mod gathered;
 mod gathering;
 mod given;
-mod hits;
-mod located;
-mod packs;
+mod judged;
 mod pointed;
-mod policies;
-mod printed;
-mod reads;
-mod says;
-mod synthetic;
 mod texts;
-mod verdicts;
 
-use answers::CrateCases;
-use case_files::{compare_cases, compare_rows, exit_code};
-use checked::Checked;
+use case_files::{Answered, Case, Cases, Rows, Shown, compare_cases, compare_rows, exit_code};
+use std::alloc::Global;
 use std::process::ExitCode;
-use texts::TextRows;
-use verdicts::Verdicts;
 
-/// Whether what is gathered and found of crates is as wanted.
-fn is_gathered_as_wanted(rt: &HostRuntime) -> bool {
-    let mut is_as_wanted = compare_rows(rt, "texts.txt", &TextRows);
-    for file in [
-        "gathered.txt",
-        "found.txt",
-        "packs.txt",
-        "located.txt",
-        "pointed.txt",
-        "manifests.txt",
-    ] {
-        is_as_wanted = compare_cases(rt, file, &CrateCases) & is_as_wanted;
+/// Rows of texts.
+struct TextRows;
+
+impl Rows for TextRows {
+    fn answer(&self, alloc: Global, group: &str, text: &str, out: &mut Shown) -> bool {
+        let tried = match group {
+            "terms of a field" => texts::put_terms(alloc, text, out),
+            "value of a manifest" => texts::put_value(text, out),
+            "places by slashes" => texts::put_place(text, out),
+            "verdict" => judged::put_verdict(alloc, text, out),
+            "passed over" => judged::put_passed_over(alloc, text, out),
+            _ => return false,
+        };
+        if tried.is_none() {
+            out.put("a row that can't be tried");
+        }
+        true
     }
-    is_as_wanted
 }
 
-/// Whether what is judged of crates, and told of them, is as wanted.
-fn is_judged_as_wanted(rt: &HostRuntime) -> bool {
-    let mut is_as_wanted = compare_rows(rt, "verdicts.txt", &Verdicts);
-    for file in ["told_verdicts.txt", "told_policies.txt", "told_crates.txt"] {
-        is_as_wanted = compare_cases(rt, file, &Checked) & is_as_wanted;
+/// Cases of crates, with the keys by which they are given something.
+#[derive(Clone, Copy)]
+struct CrateCases {
+    given: &'static str,
+}
+
+/// What is gathered and found of crates.
+const FOUND: CrateCases = CrateCases {
+    given: "file fail table metadata threshold clarify license-file clarified read list locate name \
+        field settles unlisted scanned joined-names missing plain marked package files-expr open-list \
+        line close-list",
+};
+
+/// What is told of them, and of policies.
+const TOLD: CrateCases = CrateCases {
+    given: "table place source expression hits verdict note gathered allow exceptions crate \
+        unused-allowed-license unused-license-exception",
+};
+
+impl Cases for CrateCases {
+    fn is_given(&self, key: &str) -> bool {
+        self.given.split_whitespace().any(|given| given == key)
+    }
+
+    fn told(&self, alloc: Global, case: &Case<'_>, key: &str, out: &mut Shown) -> Answered {
+        let tried = match key {
+            "gathered" | "found" | "second-file" => gathering::put(alloc, case, key, out),
+            "points" | "messages" | "first-file" => pointed::put(alloc, case, key, out),
+            "missing-file" => pointed::put_missing(alloc, case, out),
+            "text" | "spans" | "cuts" => texts::put_written(alloc, case, key, out),
+            "heard" | "located" => gathering::put_each(alloc, case, out),
+            "pack" => gathering::put_tried(alloc, case, out),
+            "joined" => gathering::put_joined(alloc, case, out),
+            "human" | "json" | "about" => judged::put_told(alloc, case, key, out),
+            _ => return Answered::NoSuchKey,
+        };
+        match tried {
+            Some(()) => Answered::Yes,
+            None => Answered::CantBeTried,
+        }
+    }
+}
+
+fn compare(rt: &HostRuntime, files: &str, cases: &CrateCases) -> bool {
+    let mut is_as_wanted = true;
+    for file in files.split_whitespace() {
+        is_as_wanted = compare_cases(rt, file, cases) & is_as_wanted;
     }
     is_as_wanted
 }
 
 fn main(rt: HostRuntime) -> ExitCode {
-    let is_gathered = is_gathered_as_wanted(&rt);
-    let is_judged = is_judged_as_wanted(&rt);
-    exit_code(is_gathered && is_judged)
+    let texts = compare_rows(&rt, "texts.txt", &TextRows);
+    let found = "gathered.txt found.txt packs.txt located.txt pointed.txt manifests.txt";
+    let found = compare(&rt, found, &FOUND);
+    let verdicts = compare_rows(&rt, "verdicts.txt", &TextRows);
+    let told = "told_verdicts.txt told_policies.txt told_crates.txt";
+    let told = compare(&rt, told, &TOLD);
+    exit_code(texts & found & verdicts & told)
 }

@@ -2,34 +2,18 @@
 ghost use Rattle.std.specs.Prelude.{◌≡◌, [], unwrap_or};
 ghost use Rattle.graph_core.specs.Krate.{record_of};
 
-use crate::crates::{krate, table};
-use crate::given::{FileTold, file_told, first_word, tree, unread};
-use crate::printed::findings_shown;
-use case_files::cases::wanted as value;
-use case_files::tree::range_of;
-use case_files::{Case, Entry};
-use deny_text::{ListOf, PathBuf, Span, Text};
-use diag_core::{Coord, Diag, Files};
+use crate::gathering::put_findings;
+use crate::given::{World, file_told, first_word, krate, span, table, value, world_of};
+use case_files::{Case, Entry, Shown};
+use deny_text::{ListOf, PathBuf, Text};
+use diag_core::{Coord, Diag};
 use expression_core::{Name, Scanned, ScannedFile};
 use finding_core::{Case as Unsettled, Points, SeenFiles, Settles, find, missing_file, read_field};
 use graph_core::Krate;
 use location_core::locate;
 use reads_core::BadRead;
 use spdx_core::Table;
-use std::alloc::{AllocError, Global};
-use std::io;
-use tree_core::MemTree;
-
-/// What is asked for of what is found.
-#[derive(Clone, Copy)]
-pub enum Asked {
-    /// The places that the findings point at.
-    Places,
-    /// Their levels and messages.
-    Messages,
-    /// The text of the first file of the table.
-    FirstFile,
-}
+use std::alloc::Global;
 
 fn bad_read(word: &str) -> Option<BadRead> {
     match word {
@@ -43,10 +27,17 @@ fn bad_read(word: &str) -> Option<BadRead> {
     }
 }
 
-fn scanned_with(told: FileTold<'_>, name: Name) -> Scanned {
-    let hash = told.hash;
-    let score = told.score;
-    match told.how {
+fn scanned(alloc: Global, words: &str) -> Option<Scanned> {
+    let (how, hash, score, name) = file_told(words);
+    if let Some(error) = bad_read(how) {
+        return Some(Scanned::Bad(error));
+    }
+    let name = Name {
+        name: Text::copy(alloc, name).ok()?,
+        renamed: false,
+    };
+    Some(match how {
+        "unnamed" => Scanned::Unnamed { hash, score },
         "low" => Scanned::Low { hash, score, name },
         "unknown" => Scanned::Unknown { hash, score, name },
         _ => Scanned::Joined {
@@ -54,51 +45,21 @@ fn scanned_with(told: FileTold<'_>, name: Name) -> Scanned {
             name,
             deprecated: false,
         },
-    }
-}
-
-fn scanned_of(alloc: Global, told: FileTold<'_>) -> Result<Scanned, AllocError> {
-    if let Some(error) = bad_read(told.how) {
-        return Ok(Scanned::Bad(error));
-    }
-    if told.how == "unnamed" {
-        return Ok(Scanned::Unnamed {
-            hash: told.hash,
-            score: told.score,
-        });
-    }
-    let name = Text::copy(alloc, told.name)?;
-    let name = Name {
-        name,
-        renamed: false,
-    };
-    Ok(scanned_with(told, name))
-}
-
-fn scanned_file(alloc: Global, words: &str) -> Result<ScannedFile, AllocError> {
-    let (path, rest) = first_word(words);
-    let path = PathBuf::copy(alloc, path)?;
-    let scanned = scanned_of(alloc, file_told(rest))?;
-    Ok(ScannedFile { path, scanned })
+    })
 }
 
 /// What comes of the crate's licence files, by the key `scanned`.
-fn scanned_files(alloc: Global, entries: &[Entry]) -> Result<ListOf<ScannedFile>, AllocError> {
+fn scanned_files(alloc: Global, entries: &[Entry]) -> Option<ListOf<ScannedFile>> {
     let mut files = ListOf::new(alloc);
     for entry in entries {
         if entry.key.as_str() == "scanned" {
-            let file = scanned_file(alloc, entry.word.as_str())?;
-            files.push(file)?;
+            let (path, rest) = first_word(entry.word.as_str());
+            let path = PathBuf::copy(alloc, path).ok()?;
+            let scanned = scanned(alloc, rest)?;
+            files.push(ScannedFile { path, scanned }).ok()?;
         }
     }
-    Ok(files)
-}
-
-fn value_of<'c>(case: &Case<'c>, key: &str) -> Option<&'c str> {
-    match case.entry(key) {
-        Some(entry) => Some(value(entry)),
-        None => None,
-    }
+    Some(files)
 }
 
 /// What settles the licence: the field, or else the files or why they were not listed, with what is joined.
@@ -112,7 +73,7 @@ fn settles<'a>(case: &Case<'a>, files: &'a [ScannedFile]) -> Settles<'a> {
     };
     Settles::Files {
         seen,
-        joined: value_of(case, "joined-names"),
+        joined: value(case, "joined-names"),
     }
 }
 
@@ -127,16 +88,12 @@ fn field_of(krate: &Krate) -> &str
 }
 
 /// What is found, of which nothing is said.
-fn found(
-    alloc: Global,
-    tree: &mut MemTree,
-    files: &mut Files,
-    krate: &Krate,
-    settles: Settles<'_>,
-) -> Result<Points, AllocError> {
+fn found(alloc: Global, world: &mut World, krate: &Krate, settles: Settles<'_>) -> Option<Points> {
     let field = field_of(krate);
-    let read = read_field(alloc, field, &Table)?;
-    let located = locate(alloc, tree, files, &krate.manifest_path, field)?;
+    let read = read_field(alloc, field, &Table).ok()?;
+    let files = &mut world.files;
+    let path = &krate.manifest_path;
+    let located = locate(alloc, &mut world.tree, files, path, field).ok()?;
     let case = Unsettled {
         krate,
         folder: "/w",
@@ -144,85 +101,64 @@ fn found(
         faults: read.faults.items(),
         settles,
     };
-    find(alloc, files, &case)
-}
-
-/// The level and the message of a finding.
-fn put_message(lines: &mut String, finding: &Diag) -> Result<(), AllocError> {
-    let message = &finding.diag.message;
-    let severity = finding.diag.severity;
-    write!(lines, "{severity:?}")?;
-    if !message.as_str().is_empty() {
-        write!(lines, " {message}")?;
-    }
-    lines.push('\n')
+    find(alloc, &mut world.files, &case).ok()
 }
 
 /// The level and the message of each finding.
-fn messages_of(alloc: Global, findings: &[Diag]) -> Result<String, AllocError> {
-    let mut lines = String::new(alloc);
+fn put_messages(out: &mut Shown, findings: &[Diag]) {
     for finding in findings {
-        put_message(&mut lines, finding)?;
-    }
-    Ok(lines)
-}
-
-fn shown_of(
-    alloc: Global,
-    files: &Files,
-    points: &Points,
-    asked: Asked,
-) -> Result<String, AllocError> {
-    match asked {
-        Asked::Places => findings_shown(alloc, files, points.findings.items()),
-        Asked::Messages => messages_of(alloc, points.findings.items()),
-        Asked::FirstFile => String::from_str(alloc, files.source(0).unwrap_or("no file")),
+        write!(out, "{:?}", finding.diag.severity);
+        if !finding.diag.message.as_str().is_empty() {
+            write!(out, " {}", finding.diag.message);
+        }
+        out.put("\n");
     }
 }
 
-fn shown_over(
+/// The crate `a`, or of another name, with the field that the case has.
+fn krate_of(alloc: Global, case: &Case<'_>) -> Option<Krate> {
+    let mut krate = krate(alloc, "a", value(case, "name").unwrap_or("a"))?;
+    if let Some(field) = value(case, "field") {
+        krate.license = Some(Text::copy(alloc, field).ok()?);
+    }
+    Some(krate)
+}
+
+fn put_points(
     alloc: Global,
-    tree: &mut MemTree,
+    world: &mut World,
     krate: &Krate,
     settles: Settles<'_>,
-    asked: Asked,
-) -> Result<String, AllocError> {
-    let mut files = Files::new(alloc);
-    let points = found(alloc, tree, &mut files, krate, settles)?;
-    shown_of(alloc, &files, &points, asked)
+    key: &str,
+    out: &mut Shown,
+) -> Option<()> {
+    let points = found(alloc, world, krate, settles)?;
+    match key {
+        "points" => put_findings(out, &world.files, points.findings.items()),
+        "messages" => put_messages(out, points.findings.items()),
+        _ => out.put(world.files.source(0).unwrap_or("no file")),
+    }
+    Some(())
 }
 
-fn shown_with(alloc: Global, case: &Case<'_>, krate: &Krate, asked: Asked) -> io::Result<String> {
-    let mut tree = tree(alloc, case)?;
+fn put_of(alloc: Global, case: &Case<'_>, krate: &Krate, key: &str, out: &mut Shown) -> Option<()> {
+    let mut world = world_of(alloc, case)?;
     let scanned = scanned_files(alloc, case.own)?;
     let settles = settles(case, scanned.items());
-    Ok(shown_over(alloc, &mut tree, krate, settles, asked)?)
+    put_points(alloc, &mut world, krate, settles, key, out)
 }
 
-/// What is found of the crate `a`, or of another name, with the field that the case has.
-pub fn shown(alloc: Global, case: &Case<'_>, asked: Asked) -> io::Result<String> {
-    let name = value_of(case, "name").unwrap_or("a");
-    let krate = krate(alloc, "a", name, value_of(case, "field"))?;
-    shown_with(alloc, case, &krate, asked)
+/// The places that the findings of a case point at, their levels and messages, or the text of the first file of the table.
+pub fn put(alloc: Global, case: &Case<'_>, key: &str, out: &mut Shown) -> Option<()> {
+    let krate = krate_of(alloc, case)?;
+    put_of(alloc, case, &krate, key, out)
 }
 
-fn missing_in(alloc: Global, files: &Files, span: Span) -> Result<String, AllocError> {
-    let finding = missing_file(alloc, Coord { file: 0, span })?;
-    findings_shown(alloc, files, &[finding])
-}
-
-/// What is told of a file of a clarification that is not there, whose path stands at these bytes of the first
-/// file of the table.
-pub fn missing_shown(alloc: Global, case: &Case<'_>) -> io::Result<String> {
+/// What is told of a file of a clarification that is not there, whose path stands at these bytes of the first file of the table.
+pub fn put_missing(alloc: Global, case: &Case<'_>, out: &mut Shown) -> Option<()> {
     let files = table(alloc, case)?;
-    match range_of(case.word("missing")) {
-        Some((start, end)) => {
-            let span = Span {
-                start: start as usize,
-                end: end as usize,
-            };
-            Ok(missing_in(alloc, &files, span)?)
-        }
-        None => Err(unread()),
-    }
+    let span = span(case.word("missing"), "..");
+    let finding = missing_file(alloc, Coord { file: 0, span }).ok()?;
+    put_findings(out, &files, &[finding]);
+    Some(())
 }

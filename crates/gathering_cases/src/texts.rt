@@ -1,60 +1,87 @@
-//! Fields, the values that manifests give them, and places in expressions with slashes.
-use crate::given::first_word;
-use case_files::Rows;
-use deny_text::Span;
+//! Fields, their places in manifests and in expressions with slashes, and texts that are written in place of a manifest.
+use crate::given::{file_told, first_word, placed_text};
+use case_files::{Case, Entry, Shown};
 use expression_core::field;
-use manifest_core::{correct_span, license_span};
-use spdx_core::{Expression, Table};
+use manifest_core::{Piece, Synthetic, Told, correct_span, license_span};
+use spdx_core::Table;
 use std::alloc::{AllocError, Global};
 
-/// Groups of texts.
-pub struct TextRows;
-
-fn count_of(read: &Option<Expression>) -> usize {
-    match read {
-        Some(read) => read.requirements().len(),
-        None => 0,
-    }
-}
-
 /// How many terms the expression of a field has; none, where it is no expression.
-fn terms_shown(alloc: Global, text: &str) -> Result<String, AllocError> {
-    let read = field(alloc, text, &Table)?;
-    let count = count_of(&read);
-    format!(in alloc; "{count}")
+pub fn put_terms(alloc: Global, text: &str, out: &mut Shown) -> Option<()> {
+    let read = field(alloc, text, &Table).ok()?;
+    match &read {
+        Some(read) => write!(out, "{}", read.requirements().len()),
+        None => out.put("0"),
+    }
+    Some(())
 }
 
 /// Where the first value of a field stands in a manifest.
-fn value_shown(alloc: Global, text: &str) -> Result<String, AllocError> {
+pub fn put_value(text: &str, out: &mut Shown) -> Option<()> {
     match license_span(text) {
-        Some(span) => format!(in alloc; "{} {}", span.start, span.end),
-        None => String::from_str(alloc, "none"),
+        Some(span) => write!(out, "{} {}", span.start, span.end),
+        None => out.put("none"),
     }
-}
-
-fn number(word: &str) -> usize {
-    word.parse::<usize>().unwrap_or(0)
+    Some(())
 }
 
 /// A place, a text with slashes, and where the place leads back to.
-fn slashes_shown(alloc: Global, words: &str) -> Result<String, AllocError> {
-    let (start, rest) = first_word(words);
-    let (end, text) = first_word(rest);
-    let mut span = Span {
-        start: number(start),
-        end: number(end),
-    };
+pub fn put_place(words: &str, out: &mut Shown) -> Option<()> {
+    let (mut span, text) = placed_text(words);
     correct_span(text, &mut span);
-    format!(in alloc; "{} {}", span.start, span.end)
+    write!(out, "{} {}", span.start, span.end);
+    Some(())
 }
 
-impl Rows for TextRows {
-    fn answer(&self, alloc: Global, group: &str, text: &str) -> Result<Option<String>, AllocError> {
-        match group {
-            "terms of a field" => Ok(Some(terms_shown(alloc, text)?)),
-            "value of a manifest" => Ok(Some(value_shown(alloc, text)?)),
-            "places by slashes" => Ok(Some(slashes_shown(alloc, text)?)),
-            _ => Ok(None),
+fn told_of(words: &str) -> Told<'_> {
+    let (how, hash, score, name) = file_told(words);
+    let score = score as u32;
+    match how {
+        "joined" => Told::Joined { hash },
+        "unknown" => Told::Unknown { hash, score, name },
+        "low" => Told::Low { hash, score, name },
+        "unnamed" => Told::Unnamed { hash, score },
+        _ => Told::Bad { words },
+    }
+}
+
+/// Writes what an entry names.
+fn write_entry(alloc: Global, text: &mut Synthetic, entry: &Entry) -> Result<(), AllocError> {
+    let words = entry.word.as_str();
+    let (first, rest) = first_word(words);
+    let piece = str::from_utf8(&entry.text).unwrap_or("no UTF-8");
+    match entry.key.as_str() {
+        "plain" => text.write(Piece::Plain(piece)),
+        "marked" => text.write(Piece::Marked(piece)),
+        "package" => {
+            let (version, field) = first_word(rest);
+            text.write_manifest(first, version, field)
+        }
+        "files-expr" => text.write_expression(words),
+        "open-list" => text.open_list(),
+        "line" => text.write_line(alloc, first, told_of(rest)),
+        "close-list" => text.close_list(),
+        _ => Ok(()),
+    }
+}
+
+/// The text that the entries of a case write, the places that were kept in it, or what these cut out.
+pub fn put_written(alloc: Global, case: &Case<'_>, key: &str, out: &mut Shown) -> Option<()> {
+    let mut text = Synthetic::new(alloc);
+    for entry in case.own {
+        write_entry(alloc, &mut text, entry).ok()?;
+    }
+    if key == "text" {
+        out.put(text.into_text().as_str());
+        return Some(());
+    }
+    for span in text.spans() {
+        if key == "spans" {
+            write!(out, "{}..{}\n", span.start, span.end);
+        } else {
+            let cut = text.text().get(span.start..span.end);
+            write!(out, "`{}`\n", cut.unwrap_or("no place"));
         }
     }
+    Some(())
 }

@@ -1,103 +1,137 @@
-//! Texts as expressions.
-use spdx_core::*;
+//! Texts as expressions, and the certificates of their verdicts.
+use crate::terms::{pair_of, put_fault, put_span};
+use case_files::Shown;
+use certificate_core::{Hit, Hits, Places, Verdict, certificate};
+use spdx_core::{ExprError, ExprNode, Expression, ParseMode, Table};
 use std::alloc::{AllocError, Global};
 
-/// The flags of the mode that a group is read in.
-pub fn mode_of(group: &str) -> Option<ParseMode> {
-    let with = |imprecise: bool, slash: bool| ParseMode {
-        allow_deprecated: false,
-        allow_imprecise_license_names: imprecise,
-        allow_postfix_plus_on_gpl: false,
-        allow_slash_as_or_operator: slash,
+/// What is made of an expression; behind a bar stands what was found of its terms.
+pub fn put(alloc: Global, out: &mut Shown, group: &str, text: &str) {
+    let (text, hits) = pair_of(text);
+    match read(alloc, group, text) {
+        Ok(read) => {
+            if put_read(alloc, out, group, &read, hits).is_err() {
+                out.want_memory();
+            }
+        }
+        Err(error) => put_fault(out, &error),
+    }
+}
+
+fn read(alloc: Global, group: &str, text: &str) -> Result<Expression, ExprError> {
+    let mode = match group {
+        "size" => return Expression::parse(alloc, text, &Table),
+        "strict" => ParseMode::STRICT,
+        "lax" => ParseMode::LAX,
+        _ => ParseMode {
+            allow_deprecated: false,
+            allow_imprecise_license_names: group == "imprecise",
+            allow_postfix_plus_on_gpl: false,
+            allow_slash_as_or_operator: group != "imprecise",
+        },
     };
+    Expression::parse_mode(alloc, text, mode, &Table)
+}
+
+fn put_read(
+    alloc: Global,
+    out: &mut Shown,
+    group: &str,
+    read: &Expression,
+    hits: &str,
+) -> Result<(), AllocError> {
     match group {
-        "strict" => Some(ParseMode::STRICT),
-        "with the slash" => Some(with(false, true)),
-        "lax" => Some(ParseMode::LAX),
-        "imprecise" => Some(with(true, false)),
-        _ => None,
-    }
-}
-
-/// The reason and the place of a fault.
-pub fn fault_shown(alloc: Global, error: &ExprError) -> Result<String, AllocError> {
-    match error {
-        ExprError::Parse(fault) => {
-            let reason = fault.reason;
-            let start = fault.span.start;
-            let end = fault.span.end;
-            format!(in alloc; "{reason} {start} {end}")
+        "size" => put_size(out, read),
+        "certificate" => {
+            let hits = hits_of(alloc, hits)?;
+            let verdict = certificate(alloc, read, &hits)?;
+            put_verdict(out, &verdict);
         }
-        ExprError::Memory => Err(AllocError),
-    }
-}
-
-fn put_terms(out: &mut String, terms: &[ExpressionReq]) -> Result<(), AllocError> {
-    for term in terms {
-        let req = &term.req;
-        let start = term.span.start;
-        let end = term.span.end;
-        write!(out, "{req} {start} {end}; ")?;
-    }
-    Ok(())
-}
-
-fn put_nodes(out: &mut String, nodes: &[ExprNode]) -> Result<(), AllocError> {
-    for node in nodes {
-        match node {
-            ExprNode::Term(place) => write!(out, "{place}")?,
-            ExprNode::And => out.push('&')?,
-            ExprNode::Or => out.push('|')?,
+        _ => {
+            let copy = read.copy(alloc)?;
+            put_expression(out, &copy);
         }
     }
     Ok(())
 }
 
-fn expression_shown(alloc: Global, read: &Expression) -> Result<String, AllocError> {
-    let mut out = String::new(alloc);
-    put_terms(&mut out, read.requirements())?;
-    put_nodes(&mut out, read.nodes())?;
-    Ok(out)
-}
-
-fn copy_shown(alloc: Global, read: &Expression) -> Result<String, AllocError> {
-    let copy = read.copy(alloc)?;
-    expression_shown(alloc, &copy)
-}
-
-/// The terms of a text with their places, and its nodes, as a copy has them; or its fault.
-pub fn shown(alloc: Global, text: &str, mode: ParseMode) -> Result<String, AllocError> {
-    match Expression::parse_mode(alloc, text, mode, &Table) {
-        Ok(read) => copy_shown(alloc, &read),
-        Err(error) => fault_shown(alloc, &error),
-    }
-}
-
-/// What a licensee's text prints in a mode, or its fault.
-pub fn licensee_in(alloc: Global, text: &str, mode: ParseMode) -> Result<String, AllocError> {
-    match Licensee::parse_mode(alloc, text, mode, &Table) {
-        Ok(licensee) => format!(in alloc; "{licensee}"),
-        Err(error) => fault_shown(alloc, &error),
-    }
-}
-
-fn size_of(alloc: Global, read: &Expression) -> Result<String, AllocError> {
+/// How many terms and nodes there are, and where the last term stands.
+fn put_size(out: &mut Shown, read: &Expression) {
     let terms = read.requirements().len();
     let nodes = read.nodes().len();
-    match read.requirements().last() {
-        Some(last) => {
-            let start = last.span.start;
-            let end = last.span.end;
-            format!(in alloc; "{terms} {nodes} {start} {end}")
-        }
-        None => String::from_str(alloc, "no term"),
+    write!(out, "{terms} {nodes}");
+    if let Some(last) = read.requirements().last() {
+        put_span(out, last.span);
     }
 }
 
-/// How many terms and nodes a text has, and where the last term stands; or its fault.
-pub fn size_shown(alloc: Global, text: &str) -> Result<String, AllocError> {
-    match Expression::parse(alloc, text, &Table) {
-        Ok(read) => size_of(alloc, &read),
-        Err(error) => fault_shown(alloc, &error),
+/// The terms with their places, and the nodes.
+fn put_expression(out: &mut Shown, read: &Expression) {
+    for term in read.requirements() {
+        let req = &term.req;
+        write!(out, "{req}");
+        put_span(out, term.span);
+        out.put("; ");
+    }
+    for node in read.nodes() {
+        match node {
+            ExprNode::Term(place) => write!(out, "{place}"),
+            ExprNode::And => out.put("&"),
+            ExprNode::Or => out.put("|"),
+        }
+    }
+}
+
+/// What was found of a term: the place of an allowed licence, two places for an exception, or nothing.
+fn hit_of(word: &str) -> Option<Hit> {
+    match word.split_once('/') {
+        Some((exception, entry)) => Some(Hit::Exception {
+            exception: exception.parse::<usize>().ok()?,
+            entry: entry.parse::<usize>().ok()?,
+        }),
+        None => Some(Hit::Allowed(word.parse::<usize>().ok()?)),
+    }
+}
+
+fn hits_of(alloc: Global, words: &str) -> Result<Vec<Option<Hit>>, AllocError> {
+    let mut hits = Vec::new(alloc);
+    for word in words.split_whitespace() {
+        hits.push(hit_of(word))?;
+    }
+    Ok(hits)
+}
+
+fn put_places(out: &mut Shown, places: &Places) {
+    for place in places.items() {
+        write!(out, " {place}");
+    }
+    out.put(";");
+}
+
+fn put_hits(out: &mut Shown, hits: &Hits) {
+    for hit in hits.items() {
+        match hit {
+            Hit::Allowed(entry) => write!(out, " allowed {entry}"),
+            Hit::Exception { exception, entry } => write!(out, " exception {exception} {entry}"),
+        }
+    }
+    out.put(";");
+}
+
+/// A verdict with its certificate.
+fn put_verdict(out: &mut Shown, verdict: &Verdict) {
+    match verdict {
+        Verdict::Skipped => out.put("skipped"),
+        Verdict::Unlicensed => out.put("unlicensed"),
+        Verdict::Accepted { choice, hits } => {
+            out.put("accepted");
+            put_places(out, choice);
+            put_hits(out, hits);
+        }
+        Verdict::Rejected { least, blocks } => {
+            out.put("rejected");
+            put_places(out, least);
+            put_places(out, blocks);
+        }
     }
 }

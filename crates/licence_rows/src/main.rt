@@ -2,61 +2,68 @@
 //! and certificates.
 #![tactic(auto)]
 
-mod certificates;
 mod expressions;
-mod names;
 mod terms;
 mod texts;
 
-use case_files::{Rows, compare_rows, exit_code};
-use std::alloc::{AllocError, Global};
+use case_files::{Rows, Shown, compare_rows, exit_code};
+use catalog_core::{Catalog, Table};
+use std::alloc::Global;
 use std::process::ExitCode;
 use std::rt::Runtime;
 use texts::Files;
 
-/// The groups of licensees and terms.
-fn of_terms(alloc: Global, group: &str, text: &str) -> Result<Option<String>, AllocError> {
-    let seen = match group {
-        "licensee" => terms::licensee_in_lax_mode(alloc, text),
-        "named licensee" => terms::licensee_shown(alloc, text),
-        "printed" => terms::printed(alloc, text),
-        "satisfies" => terms::satisfies_both_ways(alloc, text),
-        "order" => terms::order_shown(alloc, text),
-        "certificate" => certificates::shown(alloc, text),
-        "size" => expressions::size_shown(alloc, text),
-        _ => return Ok(None),
-    };
-    Ok(Some(seen?))
-}
-
 impl Rows for Files {
-    fn answer(&self, alloc: Global, group: &str, text: &str) -> Result<Option<String>, AllocError> {
-        let seen = match group {
-            "license name" => names::license_shown(alloc, text),
-            "exception name" => names::exception_shown(alloc, text),
-            "beginning" => names::beginning_shown(alloc, text),
-            "built-in texts" => texts::built_in(alloc, self, text),
-            "stored texts" => texts::stored(alloc, self, text),
-            "no texts" => texts::without_texts(alloc, self, text),
-            _ => match expressions::mode_of(group) {
-                Some(mode) => expressions::shown(alloc, text, mode),
-                None => return of_terms(alloc, group, text),
-            },
-        };
-        Ok(Some(seen?))
+    fn answer(&self, alloc: Global, group: &str, text: &str, out: &mut Shown) -> bool {
+        match group {
+            "license name" => put_license(out, text),
+            "exception name" => out.put(if Table.exception(text) { "yes" } else { "no" }),
+            "beginning" => put_beginning(out, text),
+            "built-in texts" | "stored texts" | "no texts" => {
+                if texts::put_found(alloc, out, self, group, text).is_err() {
+                    out.want_memory();
+                }
+            }
+            "strict" | "with the slash" | "lax" | "imprecise" | "size" | "certificate" => {
+                expressions::put(alloc, out, group, text)
+            }
+            _ => return terms::put(alloc, out, group, text),
+        }
+        true
     }
 }
 
-fn compare(rt: &HostRuntime) -> bool {
-    match texts::read(rt) {
-        Ok(files) => compare_rows(rt, "licences.txt", &files),
-        Err(error) => {
-            let _ = eprintln!(rt; "{error}");
-            false
+/// What the catalogue knows of a licence name.
+fn put_license(out: &mut Shown, name: &str) {
+    let Some(entry) = Table.license(name) else {
+        return out.put("none");
+    };
+    let family = entry.family;
+    let rank = entry.rank;
+    write!(out, "family {family}, rank {rank}");
+    out.put(if entry.later { ", later" } else { "" });
+    out.put(if entry.deprecated { ", deprecated" } else { "" });
+    out.put(if entry.gnu { ", gnu" } else { "" });
+}
+
+/// What a text begins with as an imprecise text: the length and the licence.
+fn put_beginning(out: &mut Shown, text: &str) {
+    match Table.imprecise(text) {
+        Some(found) => {
+            let len = found.len;
+            let name = found.name;
+            write!(out, "{len} {name}");
         }
+        None => out.put("none"),
     }
 }
 
 fn main(rt: HostRuntime) -> ExitCode {
-    exit_code(compare(&rt))
+    match texts::read(&rt) {
+        Ok(files) => exit_code(compare_rows(&rt, "licences.txt", &files)),
+        Err(error) => {
+            let _ = eprintln!(rt; "{error}");
+            exit_code(false)
+        }
+    }
 }

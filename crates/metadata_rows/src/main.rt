@@ -2,65 +2,87 @@
 //! for requests, and what a search over a tree finds.
 #![tactic(auto)]
 
-mod faults;
-mod given;
 mod graphs;
-mod requests;
-mod searches;
-mod selections;
-mod source_order;
+mod records;
 mod sources;
-mod specs;
-mod told_records;
+mod trees;
 
-use case_files::{Rows, compare_cases, compare_rows, exit_code};
-use requests::Requests;
-use selections::Graphs;
-use std::alloc::{AllocError, Global};
+use case_files::cases::{is_among, wanted};
+use case_files::{Answered, Case, Cases, Rows, Shown, compare_cases, compare_rows, exit_code};
+use std::alloc::Global;
 use std::process::ExitCode;
-use told_records::Records;
 
-/// Groups of short texts.
-struct ShortTexts;
+/// The folder in which cargo keeps crates of the sparse index of crates.io.
+const SPARSE_DIR: &str = "index.crates.io-1949cf8c6b5b557f";
 
-impl Rows for ShortTexts {
-    fn answer(&self, alloc: Global, group: &str, text: &str) -> Result<Option<String>, AllocError> {
-        let answer = match group {
-            "faults of the root"
-            | "faults of packages"
-            | "faults of nodes"
-            | "floats and the root come first"
-            | "packages in their order"
-            | "what resolve holds in its order"
-            | "numbers"
-            | "no JSON" => faults::told(alloc, text),
-            "registries"
-            | "paths of git repositories"
-            | "queries of git repositories"
-            | "folders of crates.io"
-            | "addresses up to the limit"
-            | "printed sources"
-            | "kinds of sources"
-            | "exact addresses"
-            | "beginnings of addresses"
-            | "sources of advisories" => sources::told(alloc, group, text),
-            "normal addresses" => sources::normal(alloc, text),
-            "specs" => specs::told(alloc, text),
-            "searches" => searches::told(alloc, text),
-            "searches in which looks fail" => searches::told_failing(alloc, text),
-            _ => return Ok(None),
-        };
-        Ok(Some(answer?))
+/// The rows or cases of a file.
+#[derive(Clone, Copy)]
+struct Texts {
+    file: &'static str,
+}
+
+impl Rows for Texts {
+    fn answer(&self, alloc: Global, group: &str, text: &str, out: &mut Shown) -> bool {
+        match self.file {
+            "faults.txt" => records::put_fault(alloc, out, text),
+            "specs.txt" => graphs::put_spec(alloc, out, text),
+            "searches.txt" => trees::put_searches(alloc, out, text),
+            _ => sources::put(alloc, out, group, text),
+        }
+        true
+    }
+}
+
+/// The word behind a key, or the lines below it.
+fn given<'c>(case: &Case<'c>, key: &str) -> &'c str {
+    match case.entry(key) {
+        Some(entry) => wanted(entry),
+        None => "",
+    }
+}
+
+impl Cases for Texts {
+    fn is_given(&self, key: &str) -> bool {
+        match self.file {
+            "records.txt" => is_among(key, &["metadata", "sources"]),
+            "graphs.txt" => is_among(key, &["graph", "members", "root", "exclude"]),
+            _ => is_among(
+                key,
+                &[
+                    "file",
+                    "metadata",
+                    "exclude",
+                    "policy-exclude",
+                    "set",
+                    "fail",
+                ],
+            ),
+        }
+    }
+
+    fn told(&self, alloc: Global, case: &Case<'_>, key: &str, out: &mut Shown) -> Answered {
+        match key {
+            "records" => records::put_records(alloc, out, given(case, "metadata"), true),
+            "order" => sources::put_order(alloc, out, given(case, "sources")),
+            "gathered" => return trees::put_gathered(alloc, out, case),
+            "no-setting" | "exclude-dev" | "workspace" | "exclude-unpublished" | "selected" => {
+                graphs::put_graph(alloc, out, case, key)
+            }
+            _ => return Answered::NoSuchKey,
+        }
+        Answered::Yes
     }
 }
 
 fn main(rt: HostRuntime) -> ExitCode {
-    let faults = compare_rows(&rt, "faults.txt", &ShortTexts);
-    let sources = compare_rows(&rt, "sources.txt", &ShortTexts);
-    let specs = compare_rows(&rt, "specs.txt", &ShortTexts);
-    let searches = compare_rows(&rt, "searches.txt", &ShortTexts);
-    let records = compare_cases(&rt, "records.txt", &Records);
-    let graphs = compare_cases(&rt, "graphs.txt", &Graphs);
-    let requests = compare_cases(&rt, "requests.txt", &Requests);
-    exit_code(faults && sources && specs && searches && records && graphs && requests)
+    let mut is_as_wanted = true;
+    for file in ["faults.txt", "sources.txt", "specs.txt", "searches.txt"] {
+        let is_one = compare_rows(&rt, file, &Texts { file });
+        is_as_wanted = is_as_wanted & is_one;
+    }
+    for file in ["records.txt", "graphs.txt", "requests.txt"] {
+        let is_one = compare_cases(&rt, file, &Texts { file });
+        is_as_wanted = is_as_wanted & is_one;
+    }
+    exit_code(is_as_wanted)
 }

@@ -1,13 +1,13 @@
-//! Sources, the addresses that they match, and the normal form of git addresses.
+//! Sources, how they compare, the addresses that they match, and the normal form of git addresses.
+use crate::SPARSE_DIR;
+use case_files::Shown;
 use source_core::{Source, SourceError, matches_address, normalize_git_url};
-use std::alloc::{AllocError, Global};
+use std::alloc::Global;
+use std::cmp::Ordering;
 use url::Url;
 
-/// The folder in which cargo keeps crates of the sparse index of crates.io.
-pub const SPARSE_DIR: &str = "index.crates.io-1949cf8c6b5b557f";
-
 /// The source that metadata has, with the path of the crate's manifest behind ` at `; or `crates.io`, or `crates.io, sparse`.
-pub fn source_of(alloc: Global, text: &str) -> Result<Source, SourceError> {
+fn source_of(alloc: Global, text: &str) -> Result<Source, SourceError> {
     match text {
         "crates.io" => Ok(Source::crates_io(false)),
         "crates.io, sparse" => Ok(Source::crates_io(true)),
@@ -20,95 +20,100 @@ pub fn source_of(alloc: Global, text: &str) -> Result<Source, SourceError> {
     }
 }
 
-/// All that a source holds.
-fn told_whole(alloc: Global, source: &Source) -> Result<String, AllocError> {
+/// Puts all that a source holds.
+fn put_whole(out: &mut Shown, source: &Source) {
     match source {
-        Source::CratesIo(is_sparse) => format!(in alloc; "CratesIo({is_sparse})"),
+        Source::CratesIo(is_sparse) => write!(out, "CratesIo({is_sparse})"),
         Source::Git {
             spec,
             url,
             spec_value,
-        } => format!(in alloc; "{spec:?} {spec_value:?} {url}"),
-        Source::Registry(url) => format!(in alloc; "Registry {url}"),
-        Source::Sparse(url) => format!(in alloc; "Sparse {url}"),
+        } => write!(out, "{spec:?} {spec_value:?} {url}"),
+        Source::Registry(url) => write!(out, "Registry {url}"),
+        Source::Sparse(url) => write!(out, "Sparse {url}"),
     }
 }
 
-fn word_if(answer: bool, word: &'static str) -> &'static str {
-    if answer { word } else { "" }
+/// Puts which kinds a source is of, and what it names in a git repository.
+fn put_kinds(out: &mut Shown, source: &Source) {
+    for (is_so, kind) in [
+        (source.is_crates_io(), "crates.io "),
+        (source.is_registry(), "registry "),
+        (source.is_git(), "git "),
+    ] {
+        out.put(if is_so { kind } else { "" });
+    }
+    write!(out, "{:?}", source.git_spec());
 }
 
-/// Which kinds a source is of, and what it names in a git repository.
-fn told_kinds(alloc: Global, source: &Source) -> Result<String, AllocError> {
-    let crates_io = word_if(source.is_crates_io(), "crates.io ");
-    let registry = word_if(source.is_registry(), "registry ");
-    let git = word_if(source.is_git(), "git ");
-    let spec = source.git_spec();
-    format!(in alloc; "{crates_io}{registry}{git}{spec:?}")
-}
-
-fn told_match(
-    alloc: Global,
-    source: &Source,
-    address: &str,
-    exact: bool,
-) -> Result<String, AllocError> {
+fn put_match(alloc: Global, out: &mut Shown, source: &Source, address: &str, exact: bool) {
     let address = Url::parse(alloc, address);
     match &address {
-        Ok(address) => {
-            let is_match = matches_address(source, address, exact);
-            format!(in alloc; "{is_match}")
-        }
-        Err(error) => format!(in alloc; "{error:?}"),
+        Ok(address) => write!(out, "{}", matches_address(source, address, exact)),
+        Err(error) => write!(out, "{error:?}"),
     }
 }
 
-/// Whether an advisory for a source is one for another, or for `none`.
-fn told_advised(alloc: Global, source: &Source, other: &str) -> Result<String, AllocError> {
-    let other = source_of(alloc, other);
-    let is_advised = match &other {
-        Ok(other) => source.matches_rustsec(Some(other)),
-        Err(_) => source.matches_rustsec(None),
-    };
-    format!(in alloc; "{is_advised}")
+/// Puts the normal form of a git repository's address, and what its query names.
+fn put_normal(alloc: Global, out: &mut Shown, text: &str) {
+    match Url::parse(alloc, text) {
+        Ok(mut url) => match normalize_git_url(alloc, &mut url) {
+            Ok((spec, value)) => write!(out, "{spec:?} {value:?} {}", url.as_str()),
+            Err(_) => out.want_memory(),
+        },
+        Err(error) => write!(out, "{error:?}"),
+    }
 }
 
-fn told_source(
-    alloc: Global,
-    group: &str,
-    source: &Source,
-    other: &str,
-) -> Result<String, AllocError> {
+fn put_source(alloc: Global, out: &mut Shown, group: &str, source: &Source, other: &str) {
     match group {
-        "printed sources" => format!(in alloc; "{source}"),
-        "kinds of sources" => told_kinds(alloc, source),
-        "exact addresses" => told_match(alloc, source, other, true),
-        "beginnings of addresses" => told_match(alloc, source, other, false),
-        "sources of advisories" => told_advised(alloc, source, other),
-        _ => told_whole(alloc, source),
+        "printed sources" => write!(out, "{source}"),
+        "kinds of sources" => put_kinds(out, source),
+        "exact addresses" => put_match(alloc, out, source, other, true),
+        "beginnings of addresses" => put_match(alloc, out, source, other, false),
+        // An advisory for a source is one for another, or for `none`.
+        "sources of advisories" => {
+            let other = source_of(alloc, other);
+            write!(out, "{}", source.matches_rustsec(other.as_ref().ok()));
+        }
+        _ => put_whole(out, source),
     }
 }
 
-/// What a group tells of a source and of what stands behind the bar, or why there is no source.
-pub fn told(alloc: Global, group: &str, text: &str) -> Result<String, AllocError> {
+/// Puts what a group tells of a source and of what stands behind the bar, or why there is no source.
+pub fn put(alloc: Global, out: &mut Shown, group: &str, text: &str) {
+    if group == "normal addresses" {
+        return put_normal(alloc, out, text);
+    }
     let (text, other) = text.split_once(" | ").unwrap_or((text, ""));
     let source = source_of(alloc, text);
     match &source {
-        Ok(source) => told_source(alloc, group, source, other),
-        Err(error) => format!(in alloc; "{error:?}"),
+        Ok(source) => put_source(alloc, out, group, source, other),
+        Err(error) => write!(out, "{error:?}"),
     }
 }
 
-fn told_normal(alloc: Global, url: &mut Url) -> Result<String, AllocError> {
-    let (spec, value) = normalize_git_url(alloc, url)?;
-    let url = url.as_str();
-    format!(in alloc; "{spec:?} {value:?} {url}")
+/// Puts the sign between two sources; a question mark where the order and equality differ.
+fn put_sign(alloc: Global, out: &mut Shown, one: &str, other: &str) {
+    let one = source_of(alloc, one);
+    let other = source_of(alloc, other);
+    match (&one, &other) {
+        (Ok(one), Ok(other)) => out.put(match (one.cmp(other), one == other) {
+            (Ordering::Less, false) => "<",
+            (Ordering::Equal, true) => "=",
+            (Ordering::Greater, false) => ">",
+            _ => "?",
+        }),
+        _ => out.put("no source"),
+    }
 }
 
-/// The normal form of a git repository's address, and what its query names.
-pub fn normal(alloc: Global, text: &str) -> Result<String, AllocError> {
-    match Url::parse(alloc, text) {
-        Ok(mut url) => told_normal(alloc, &mut url),
-        Err(error) => format!(in alloc; "{error:?}"),
+/// Puts for the source of each line a line with the signs between it and each of them.
+pub fn put_order(alloc: Global, out: &mut Shown, text: &str) {
+    for one in text.lines() {
+        for other in text.lines() {
+            put_sign(alloc, out, one, other);
+        }
+        out.put("\n");
     }
 }

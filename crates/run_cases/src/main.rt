@@ -6,14 +6,15 @@ use case_files::exit_code;
 use case_runs::compare_runs;
 use std::process::ExitCode;
 
-/// Files of cases: of the first path and failures, of metadata, of policies, of what is found, and of what is read of each
-/// crate.
-const FILES: [&str; 5] = [
+/// Files of cases: of the first path and failures, of metadata, of policies, of what is found, of what is read of each
+/// crate, and of the calls of the tree.
+const FILES: [&str; 6] = [
     "gate.txt",
     "metadata.txt",
     "policies.txt",
     "found.txt",
     "gathered.txt",
+    "calls.txt",
 ];
 
 fn main(rt: HostRuntime) -> ExitCode {

@@ -1,19 +1,16 @@
 //! Codes and levels of findings, what overrides make of them, and keys that are no longer wanted.
-use crate::paths::{bool_shown, pair_of};
-use crate::places;
-use case_files::Rows;
-use deny_text::{Span, Text};
+use crate::calls::number_in;
+use crate::paths::{pair_of, put_option};
+use case_files::Shown;
+use deny_text::{PathBuf, Span, Text};
 use diag_core::{
-    Check, CodeMap, Deprecated, DeprecationReason, Diag, Diagnostic, DiagnosticCode,
-    DiagnosticOverrides, ErrorSink, LevelFilter, LevelPair, LevelPairs, Pack, Severity,
-    log_level_to_severity,
+    AddError, Check, CodeMap, Deprecated, DeprecationReason, Diag, Diagnostic, DiagnosticCode,
+    DiagnosticOverrides, ErrorSink, FileId, Files, LevelFilter, LevelPair, LevelPairs, Pack,
+    Severity, log_level_to_severity,
 };
 use request_core::FromWord;
 use std::alloc::{AllocError, Global};
 use tree_core::TreeError;
-
-/// The rows of findings.
-pub struct Findings;
 
 pub fn severity_named(name: &str) -> Severity {
     match name {
@@ -25,70 +22,24 @@ pub fn severity_named(name: &str) -> Severity {
     }
 }
 
-fn code_at(place: &str) -> Option<DiagnosticCode> {
-    let place = place.parse::<usize>().ok()?;
-    let mut codes = DiagnosticCode::iter();
-    for _ in 1..place {
-        let _ = codes.next();
-    }
-    codes.next()
+fn code_named(name: &str) -> Option<DiagnosticCode> {
+    DiagnosticCode::from_str(name).ok()
 }
 
-/// The name of a code by its place, counted from 1, and what it says.
-fn code_shown(alloc: Global, place: &str) -> Result<String, AllocError> {
-    match code_at(place) {
-        Some(code) => {
-            let name = code.as_str();
-            let description = code.description();
-            format!(in alloc; "{name}: {description}")
-        }
-        None => String::from_str(alloc, "none"),
-    }
-}
-
-/// The place of the code of that name.
-fn place_shown(alloc: Global, name: &str) -> Result<String, AllocError> {
-    let mut place: u64 = 0;
-    let named = DiagnosticCode::from_str(name).ok();
+/// Puts the place of the code of that name, counted from 1, or else the code at that place and what it says.
+fn put_code(out: &mut Shown, text: &str) {
+    let named = code_named(text);
+    let mut place: usize = 0;
     for code in DiagnosticCode::iter() {
         place = place.saturating_add(1);
         if named == Some(code) {
-            return format!(in alloc; "{place}");
+            return write!(out, "{place}");
+        }
+        if place == number_in(text) {
+            return write!(out, "{code}: {}", code.description());
         }
     }
-    String::from_str(alloc, "none")
-}
-
-fn qualified(alloc: Global, name: &str) -> Result<String, AllocError> {
-    match DiagnosticCode::from_str(name) {
-        Ok(code) => {
-            let text = code.qualified_str(alloc)?;
-            String::from_str(alloc, text.as_str())
-        }
-        Err(_) => String::from_str(alloc, "none"),
-    }
-}
-
-fn is_code_before(text: &str) -> bool {
-    let (one, other) = pair_of(text);
-    let other = DiagnosticCode::from_str(other).ok();
-    match DiagnosticCode::from_str(one).ok() {
-        Some(one) => other.is_some_and(|other| one < other),
-        None => false,
-    }
-}
-
-fn is_milder(text: &str) -> bool {
-    let (one, other) = pair_of(text);
-    severity_named(one) < severity_named(other)
-}
-
-/// The least level that is printed.
-fn least_shown(alloc: Global, name: &str) -> Result<String, AllocError> {
-    match LevelFilter::from_word(name) {
-        Some(level) => format!(in alloc; "{:?}", log_level_to_severity(level)),
-        None => String::from_str(alloc, "no level"),
-    }
+    out.put("none");
 }
 
 fn reason_named(name: &str) -> DeprecationReason {
@@ -105,11 +56,6 @@ fn reason_named(name: &str) -> DeprecationReason {
     }
 }
 
-fn reason_shown(alloc: Global, name: &str) -> Result<String, AllocError> {
-    let reason = reason_named(name);
-    format!(in alloc; "{reason}")
-}
-
 fn deprecated(alloc: Global, name: &str) -> Result<Diagnostic, AllocError> {
     let deprecated = Deprecated {
         key: Span { start: 2, end: 5 },
@@ -119,141 +65,175 @@ fn deprecated(alloc: Global, name: &str) -> Result<Diagnostic, AllocError> {
     deprecated.into_diagnostic(alloc)
 }
 
-fn deprecated_level(alloc: Global, name: &str) -> Result<String, AllocError> {
-    let finding = deprecated(alloc, name)?;
-    format!(in alloc; "{:?}", finding.severity)
-}
-
-fn deprecated_code(alloc: Global, name: &str) -> Result<String, AllocError> {
-    let finding = deprecated(alloc, name)?;
-    match &finding.code {
-        Some(code) => String::from_str(alloc, code.as_str()),
-        None => String::from_str(alloc, "none"),
+/// What words override: `CODE=LEVEL`, or `LEVEL>LEVEL`.
+fn overrides_of(alloc: Global, words: &str) -> Result<DiagnosticOverrides, AllocError> {
+    let mut codes = CodeMap::new(alloc);
+    let mut levels = LevelPairs::new(alloc);
+    for word in words.split(' ') {
+        if let Some((name, level)) = word.split_once('=') {
+            let _ = codes.insert(Text::copy(alloc, name)?, severity_named(level))?;
+        } else if let Some((input, output)) = word.split_once('>') {
+            let (input, output) = (severity_named(input), severity_named(output));
+            levels.push(LevelPair { input, output })?;
+        }
     }
-}
-
-fn put_code(alloc: Global, codes: &mut CodeMap, name: &str, level: &str) -> Result<(), AllocError> {
-    let name = Text::copy(alloc, name)?;
-    let _ = codes.insert(name, severity_named(level))?;
-    Ok(())
-}
-
-/// Adds what a word overrides: `CODE=LEVEL`, or `LEVEL>LEVEL`.
-fn put_override(
-    alloc: Global,
-    overrides: &mut DiagnosticOverrides,
-    word: &str,
-) -> Result<(), AllocError> {
-    if let Some((name, level)) = word.split_once('=') {
-        return put_code(alloc, &mut overrides.code_overrides, name, level);
-    }
-    let (input, output) = word.split_once('>').unwrap_or((word, ""));
-    overrides.level_overrides.push(LevelPair {
-        input: severity_named(input),
-        output: severity_named(output),
+    Ok(DiagnosticOverrides {
+        code_overrides: codes,
+        level_overrides: levels,
     })
 }
 
-fn overrides_of(alloc: Global, words: &str) -> Result<DiagnosticOverrides, AllocError> {
-    let mut overrides = DiagnosticOverrides {
-        code_overrides: CodeMap::new(alloc),
-        level_overrides: LevelPairs::new(alloc),
-    };
-    for word in words.split(' ') {
-        put_override(alloc, &mut overrides, word)?;
-    }
-    Ok(overrides)
-}
-
-/// The level of a code's finding by overrides, which stand before a bar.
-fn overridden(alloc: Global, text: &str) -> Result<String, AllocError> {
-    let (words, finding) = pair_of(text);
-    let (name, level) = finding.split_once(' ').unwrap_or((finding, ""));
-    let overrides = overrides_of(alloc, words)?;
-    let level = overrides.get(name, severity_named(level));
-    format!(in alloc; "{level:?}")
-}
-
-/// A finding `CODE LEVEL`, or `LEVEL` without a code.
-fn finding_of(alloc: Global, text: &str) -> Result<Diag, AllocError> {
-    match text.split_once(' ') {
-        Some((name, level)) => {
-            let finding = Diagnostic::new(alloc, severity_named(level)).with_code(name)?;
-            Diag::new(finding, None)
-        }
-        None => Diag::new(Diagnostic::new(alloc, severity_named(text)), None),
-    }
-}
-
-fn pack_of(alloc: Global, findings: &str) -> Result<Pack, AllocError> {
+/// A sink with overrides, and the findings that were pushed to it: each `CODE LEVEL`, or `LEVEL` without a code.
+fn sink_of(alloc: Global, words: &str, findings: &str) -> Result<ErrorSink, AllocError> {
     let mut pack = Pack::new(alloc, Check::Licenses);
     for text in findings.split(", ") {
-        let finding = finding_of(alloc, text)?;
-        pack.push(finding)?;
+        let (name, level) = text.split_once(' ').unwrap_or(("", text));
+        let mut finding = Diagnostic::new(alloc, severity_named(level));
+        if !name.is_empty() {
+            finding = finding.with_code(name)?;
+        }
+        pack.push(Diag::new(finding, None)?)?;
     }
-    Ok(pack)
-}
-
-fn sink_of(alloc: Global, text: &str) -> Result<ErrorSink, AllocError> {
-    let (words, findings) = pair_of(text);
     let mut sink = ErrorSink::new(alloc, Some(overrides_of(alloc, words)?));
-    sink.push(pack_of(alloc, findings)?)?;
+    sink.push(pack)?;
     Ok(sink)
 }
 
-fn put_levels(out: &mut String, pack: &Pack) -> Result<(), AllocError> {
-    for finding in pack.iter() {
-        write!(out, " {:?}", finding.diag.severity)?;
+/// Puts how many packs there are, and each finding's level.
+fn put_levels(out: &mut Shown, packs: &[Pack]) {
+    write!(out, "{}:", packs.len());
+    for pack in packs {
+        for finding in pack.iter() {
+            write!(out, " {:?}", finding.diag.severity);
+        }
     }
-    Ok(())
 }
 
-/// The levels of findings that were pushed with overrides: how many packs there are, and each finding's.
-fn pushed(alloc: Global, text: &str) -> Result<String, AllocError> {
-    let sink = sink_of(alloc, text)?;
-    let mut out = String::new(alloc);
-    write!(out, "{}:", sink.packs.items().len())?;
-    for pack in sink.packs.items() {
-        put_levels(&mut out, pack)?;
-    }
-    Ok(out)
-}
-
-fn tree_error(alloc: Global, name: &str) -> Result<String, AllocError> {
-    let error = match name {
+fn tree_error_named(name: &str) -> TreeError {
+    match name {
         "Absent" => TreeError::Absent,
         "WrongKind" => TreeError::WrongKind,
         "Failed" => TreeError::Failed,
         _ => TreeError::Memory,
-    };
-    format!(in alloc; "{error}")
+    }
 }
 
-/// What a text comes to; none where there is no such group.
-fn shown(alloc: Global, group: &str, text: &str) -> Option<Result<String, AllocError>> {
-    Some(match group {
-        "codes in their order" => code_shown(alloc, text),
-        "place of a code" => place_shown(alloc, text),
-        "qualified code" => qualified(alloc, text),
-        "code before another" => bool_shown(alloc, is_code_before(text)),
-        "level milder than another" => bool_shown(alloc, is_milder(text)),
-        "least level" => least_shown(alloc, text),
-        "why a key is deprecated" => reason_shown(alloc, text),
-        "level of a deprecated key" => deprecated_level(alloc, text),
-        "code of a deprecated key" => deprecated_code(alloc, text),
-        "overridden" => overridden(alloc, text),
-        "overridden in packs" => pushed(alloc, text),
-        "failures of a tree" => tree_error(alloc, text),
-        _ => return places::shown(alloc, group, text),
-    })
-}
-
-impl Rows for Findings {
-    fn answer(&self, alloc: Global, group: &str, text: &str) -> Result<Option<String>, AllocError> {
-        match shown(alloc, group, text) {
-            Some(Ok(text)) => Ok(Some(text)),
-            Some(Err(error)) => Err(error),
-            None => Ok(None),
+/// The file with a text, or with the one behind `, then `, which it is given later; none of the text `no file`.
+fn files_of(alloc: Global, text: &str) -> Result<Files, AllocError> {
+    let (first, second) = text.split_once(", then ").unwrap_or((text, ""));
+    let mut files = Files::new(alloc);
+    if text != "no file" {
+        files.add_unnamed(Text::copy(alloc, "named")?, Text::copy(alloc, first)?)?;
+        if !second.is_empty() {
+            files.update(0, Text::copy(alloc, second)?)?;
         }
     }
+    Ok(files)
+}
+
+/// Puts what a file says of the byte or the line of that number.
+fn put_place(out: &mut Shown, group: &str, files: &Files, number: usize) {
+    match group {
+        "line and column" => match files.location(0, number) {
+            Ok(place) => write!(out, "{}:{}", place.line, place.column),
+            Err(error) => write!(out, "{error:?}"),
+        },
+        _ => match files.line_range(0, number) {
+            Ok(span) => write!(out, "{}..{}", span.start, span.end),
+            Err(error) => write!(out, "{error:?}"),
+        },
+    }
+}
+
+/// Adds the file of a word `PATH=SOURCE`, or of a path that is its own source; one of `name:NAME=SOURCE` no path finds.
+fn add(alloc: Global, files: &mut Files, word: &str) -> Result<FileId, AddError> {
+    let (path, source) = word.split_once('=').unwrap_or((word, word));
+    let source = Text::copy(alloc, source)?;
+    match path.strip_prefix("name:") {
+        Some(name) => Ok(files.add_unnamed(Text::copy(alloc, name)?, source)?),
+        None => files.add(PathBuf::copy(alloc, path)?, source),
+    }
+}
+
+/// Adds the files of some words, puts what was not added, and returns them.
+fn added(out: &mut Shown, alloc: Global, words: &str) -> Files {
+    let mut files = Files::new(alloc);
+    for word in words.split(' ') {
+        match &add(alloc, &mut files, word) {
+            Ok(_) => (),
+            Err(AddError::PathTaken(path, source)) => write!(out, "taken: {path} {source}"),
+            Err(AddError::Memory) => out.want_memory(),
+        }
+    }
+    files
+}
+
+/// Puts what files by number and by path come to in a group, and returns whether there is such a group.
+fn put_of_files(
+    out: &mut Shown,
+    alloc: Global,
+    group: &str,
+    text: &str,
+) -> Result<bool, AllocError> {
+    let (number, source) = text.split_once(" in").unwrap_or(("1", text));
+    let (words, path) = pair_of(text);
+    match group {
+        "last of some files" => {
+            let _ = added(out, alloc, words);
+        }
+        "file by its path" => {
+            let files = added(out, alloc, words);
+            put_option(out, files.source_by_path(path));
+        }
+        "line and column" | "bytes of a line" | "second line of it" => {
+            put_place(
+                out,
+                group,
+                &files_of(alloc, source.trim_start())?,
+                number_in(number),
+            )
+        }
+        "file that was updated" => {
+            let files = files_of(alloc, text)?;
+            let source = files.source(0).unwrap_or("no source");
+            write!(out, "{}: {source}", files.name(0).unwrap_or("no name"));
+        }
+        _ => return Ok(false),
+    }
+    Ok(true)
+}
+
+/// Puts what a text comes to in a group, and returns whether there is such a group.
+pub fn put(out: &mut Shown, alloc: Global, group: &str, text: &str) -> Result<bool, AllocError> {
+    let (one, other) = pair_of(text);
+    match group {
+        "codes in their order" | "place of a code" => put_code(out, text),
+        "qualified code" => match code_named(text) {
+            Some(code) => write!(out, "{}", code.qualified_str(alloc)?),
+            None => out.put("none"),
+        },
+        "code before another" => write!(out, "{}", code_named(one) < code_named(other)),
+        "level milder than another" => {
+            write!(out, "{}", severity_named(one) < severity_named(other))
+        }
+        "least level" => match LevelFilter::from_word(text) {
+            Some(level) => write!(out, "{:?}", log_level_to_severity(level)),
+            None => out.put("no level"),
+        },
+        "why a key is deprecated" => write!(out, "{}", reason_named(text)),
+        "level of a deprecated key" => write!(out, "{:?}", deprecated(alloc, text)?.severity),
+        "code of a deprecated key" => match &deprecated(alloc, text)?.code {
+            Some(code) => write!(out, "{code}"),
+            None => out.put("none"),
+        },
+        "overridden" => {
+            let (name, level) = other.split_once(' ').unwrap_or((other, ""));
+            let level = overrides_of(alloc, one)?.get(name, severity_named(level));
+            write!(out, "{level:?}");
+        }
+        "overridden in packs" => put_levels(out, sink_of(alloc, one, other)?.packs.items()),
+        "failures of a tree" => write!(out, "{}", tree_error_named(text)),
+        _ => return put_of_files(out, alloc, group, text),
+    }
+    Ok(true)
 }

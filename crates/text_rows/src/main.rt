@@ -4,29 +4,61 @@
 
 mod calls;
 mod findings;
-mod folders;
 mod paths;
-mod places;
 mod printing;
-mod requests;
-mod sinks;
 mod trees;
 mod words;
 
-use case_files::{compare_cases, compare_rows, exit_code};
-use findings::Findings;
-use paths::Paths;
+use case_files::{Answered, Case, Cases, Rows, Shown, compare_cases, compare_rows, exit_code};
 use printing::Printing;
+use std::alloc::Global;
 use std::process::ExitCode;
 use trees::Trees;
-use words::Words;
+
+/// What rows are about.
+enum Subject {
+    Paths,
+    Findings,
+    Words,
+}
+
+impl Rows for Subject {
+    fn answer(&self, alloc: Global, group: &str, text: &str, out: &mut Shown) -> bool {
+        let put = match self {
+            Subject::Paths => paths::put(out, alloc, group, text),
+            Subject::Findings => findings::put(out, alloc, group, text),
+            Subject::Words => words::put(out, alloc, group, text),
+        };
+        if put.is_err() {
+            out.want_memory();
+        }
+        put.unwrap_or(true)
+    }
+}
+
+/// The texts that words are answered with.
+struct Help;
+
+impl Cases for Help {
+    fn is_given(&self, key: &str) -> bool {
+        key == "words"
+    }
+
+    fn told(&self, alloc: Global, case: &Case<'_>, key: &str, out: &mut Shown) -> Answered {
+        if Subject::Words.answer(alloc, key, case.word("words"), out) {
+            Answered::Yes
+        } else {
+            Answered::NoSuchKey
+        }
+    }
+}
 
 fn main(rt: HostRuntime) -> ExitCode {
-    let paths = compare_rows(&rt, "paths.txt", &Paths);
+    let paths = compare_rows(&rt, "paths.txt", &Subject::Paths);
     let trees = compare_cases(&rt, "trees.txt", &Trees { rt: &rt });
-    let findings = compare_rows(&rt, "findings.txt", &Findings);
+    let findings = compare_rows(&rt, "findings.txt", &Subject::Findings);
     let printing = compare_cases(&rt, "printing.txt", &Printing);
-    let words = compare_rows(&rt, "words.txt", &Words);
-    let help = compare_cases(&rt, "help.txt", &Words);
+    let words = compare_rows(&rt, "words.txt", &Subject::Words);
+    let help = compare_cases(&rt, "help.txt", &Help);
     exit_code(paths && trees && findings && printing && words && help)
 }

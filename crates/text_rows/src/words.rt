@@ -1,33 +1,27 @@
 //! The words of a command line, what they are answered with, and the names that options list.
-use crate::requests::put_request;
-use case_files::{Case, Cases, Rows};
+use crate::calls::{Made, letters_of};
+use case_files::Shown;
+use deny_text::{PathBuf, Texts};
 use diag_core::LevelFilter;
 use print_core::{Color, Format};
 use request_core::options::{OptionRow, Values, check_rows, list_rows, main_rows};
 use request_core::read::{Given, read};
-use request_core::{ArgsError, CodeOrLevel, FromWord, Layout, OutputFormat, WhichCheck, list};
+use request_core::{
+    ArgsError, CodeOrLevel, CodeOrLevels, FromWord, KrateContext, Layout, OutputFormat, Request,
+    Subcommand, WhichCheck, check, list,
+};
 use std::alloc::{AllocError, Global};
-use std::io;
 
-/// The rows and cases of words, which stand with a blank between; `''` has no letter.
-pub struct Words;
-
-fn put_words(alloc: Global, words: &mut Vec<String>, text: &str) -> Result<(), AllocError> {
-    if text.is_empty() {
-        return Ok(());
-    }
-    for word in text.split(' ') {
-        let word = if word == "''" { "" } else { word };
-        words.push(String::from_str(alloc, word)?)?;
-    }
-    Ok(())
-}
-
-/// The words of a text, behind the program's name.
-fn words_of(alloc: Global, text: &str) -> Result<Vec<String>, AllocError> {
+/// The words of a text, which stand with a blank between, behind the program's name.
+fn words_of(alloc: Global, name: &str, text: &str) -> Result<Vec<String>, AllocError> {
     let mut words = Vec::new(alloc);
-    words.push(String::from_str(alloc, "cargo-deny")?)?;
-    put_words(alloc, &mut words, text)?;
+    for part in [name, text] {
+        for word in part.split(' ') {
+            if !part.is_empty() {
+                words.push(String::from_str(alloc, letters_of(word))?)?;
+            }
+        }
+    }
     Ok(words)
 }
 
@@ -36,74 +30,123 @@ fn given(alloc: Global, words: &[String]) -> Result<Given, AllocError> {
     read(alloc, words, "/w")
 }
 
-fn put_given(out: &mut String, given: &Given) -> Result<(), AllocError> {
-    match given {
+/// Puts what words are answered with, or the text of it.
+fn put_given(out: &mut Shown, alloc: Global, name: &str, text: &str, is_text: bool) -> Made {
+    match &given(alloc, &words_of(alloc, name, text)?)? {
         Given::Asked(request) => put_request(out, request),
-        Given::Shown(shown) => out.push_str(if shown.as_str() == "cargo-deny 0.20.2\n" {
-            "version"
-        } else {
-            "help"
-        }),
-        Given::Usage(_) => out.push_str("usage"),
+        Given::Shown(text) | Given::Usage(text) if is_text => out.put(text.as_str()),
+        Given::Shown(text) if text.as_str() == "cargo-deny 0.20.2\n" => out.put("version"),
+        Given::Shown(_) => out.put("help"),
+        Given::Usage(_) => out.put("usage"),
+    }
+    Ok(())
+}
+
+fn put_path(out: &mut Shown, name: &str, path: &Option<PathBuf>) {
+    if let Some(path) = path {
+        write!(out, " {name}({path})");
     }
 }
 
-fn answer(alloc: Global, words: &[String]) -> Result<String, AllocError> {
-    let given = given(alloc, words)?;
-    let mut out = String::new(alloc);
-    put_given(&mut out, &given)?;
-    Ok(out)
-}
-
-fn words_answered(alloc: Global, text: &str) -> Result<String, AllocError> {
-    let words = words_of(alloc, text)?;
-    answer(alloc, words.as_slice())
-}
-
-fn bare_words_answered(alloc: Global, text: &str) -> Result<String, AllocError> {
-    let mut words = Vec::new(alloc);
-    put_words(alloc, &mut words, text)?;
-    answer(alloc, words.as_slice())
-}
-
-/// The text that words are answered with; none of a request.
-fn text_shown(alloc: Global, text: &str) -> Result<String, AllocError> {
-    let words = words_of(alloc, text)?;
-    match &given(alloc, words.as_slice())? {
-        Given::Asked(_) => Ok(String::new(alloc)),
-        Given::Shown(text) | Given::Usage(text) => String::from_str(alloc, text.as_str()),
+fn put_texts(out: &mut Shown, name: &str, texts: &Texts) {
+    for text in texts.items() {
+        write!(out, " {name}({text})");
     }
 }
 
-fn listing_shown(
-    alloc: Global,
-    parsed: &Result<list::Args, ArgsError>,
-) -> Result<String, AllocError> {
+fn put_codes(out: &mut Shown, name: &str, codes: &CodeOrLevels) {
+    for code in codes.items() {
+        write!(out, " {name}({code:?})");
+    }
+}
+
+fn put_flag(out: &mut Shown, name: &str, is_set: bool) {
+    if is_set {
+        write!(out, " {name}");
+    }
+}
+
+fn put_check(out: &mut Shown, args: &check::Args) {
+    out.put(" check");
+    put_path(out, "graph", &args.graph);
+    put_flag(out, "hide", args.hide_inclusion_graph);
+    put_flag(out, "audit", args.audit_compatible_output);
+    put_flag(out, "stats", args.show_stats);
+    put_codes(out, "warn", &args.lint_levels.warn);
+    put_codes(out, "allow", &args.lint_levels.allow);
+    put_codes(out, "deny", &args.lint_levels.deny);
+    if let Some(depth) = args.feature_depth {
+        write!(out, " depth({depth})");
+    }
+    for which in args.which.items() {
+        write!(out, " {which:?}");
+    }
+}
+
+fn put_context(out: &mut Shown, context: &KrateContext) {
+    put_path(out, "metadata", &context.metadata_path);
+    put_path(out, "config", &context.config_path);
+    put_texts(out, "exclude", &context.exclude);
+    put_texts(out, "target", &context.targets);
+    put_texts(out, "feature", &context.features);
+    put_flag(out, "workspace", context.workspace);
+    put_flag(out, "no-default-features", context.no_default_features);
+    put_flag(out, "all-features", context.all_features);
+    put_flag(out, "frozen", context.frozen);
+    put_flag(out, "locked", context.locked);
+    put_flag(out, "offline", context.offline);
+    put_flag(out, "exclude-dev", context.exclude_dev);
+    put_flag(out, "exclude-unpublished", context.exclude_unpublished);
+}
+
+/// Puts level, format, colour and manifest of a request, and then what it has beside the defaults.
+fn put_request(out: &mut Shown, request: &Request) {
+    let (log, context) = (&request.log_ctx, &request.krate_ctx);
+    write!(out, "{:?} {:?}", log.log_level, log.format);
+    write!(out, " {:?} {}", log.color, context.manifest_path);
+    put_path(out, "given", &request.manifest_path);
+    put_context(out, context);
+    match &request.command {
+        Subcommand::Check(args) => put_check(out, args),
+        Subcommand::List(_) => out.put(" list"),
+        Subcommand::Sample(size) => write!(out, " sample {size}"),
+    }
+}
+
+fn put_list(out: &mut Shown, parsed: &Result<list::Args, ArgsError>) {
     match parsed {
-        Ok(args) => {
-            let (threshold, format, layout) = (args.threshold, args.format, args.layout);
-            format!(in alloc; "{threshold} {format:?} {layout:?}")
-        }
-        Err(ArgsError::BadValue { option, value }) => format!(in alloc; "{option}: {value}"),
-        Err(_) => String::from_str(alloc, "refused"),
+        Ok(args) => write!(
+            out,
+            "{} {:?} {:?}",
+            args.threshold, args.format, args.layout
+        ),
+        Err(ArgsError::BadValue { option, value }) => write!(out, "{option}: {value}"),
+        Err(_) => out.put("refused"),
     }
 }
 
-fn listing(alloc: Global, words: &[String]) -> Result<String, AllocError> {
+fn put_listing(out: &mut Shown, alloc: Global, words: &[String]) -> Made {
     match list::Args::cmd(alloc)?.try_get_matches_from(words) {
-        Ok(matches) => listing_shown(alloc, &list::Args::parse(alloc, &matches)),
-        Err(_) => String::from_str(alloc, "not taken"),
+        Ok(matches) => put_list(out, &list::Args::parse(alloc, &matches)),
+        Err(_) => out.put("not taken"),
+    }
+    Ok(())
+}
+
+/// Puts how many names an option lists, and how many of them are read as a value.
+fn put_names<T: FromWord + Drop>(out: &mut Shown, rows: &[OptionRow], option: &str) {
+    for row in rows {
+        if row.name == option
+            && let Values::Names(names) = row.values
+        {
+            let read = count_read::<T>(names);
+            write!(out, "{read} of {}", names.len());
+        }
     }
 }
 
-fn listing_asked(alloc: Global, text: &str) -> Result<String, AllocError> {
-    let words = words_of(alloc, text)?;
-    listing(alloc, words.as_slice())
-}
-
-/// How many of the names are read as a value.
-fn count_read<T: FromWord + Drop>(names: &[&str]) -> u64 {
-    let mut count: u64 = 0;
+fn count_read<T: FromWord + Drop>(names: &[&str]) -> usize {
+    let mut count: usize = 0;
     for name in names {
         if T::from_word(name).is_some() {
             count = count.saturating_add(1);
@@ -112,59 +155,27 @@ fn count_read<T: FromWord + Drop>(names: &[&str]) -> u64 {
     count
 }
 
-/// How many names an option lists, and how many of them are read.
-fn names_read<T: FromWord + Drop>(
-    alloc: Global,
-    rows: &[OptionRow],
-    option: &str,
-) -> Result<String, AllocError> {
-    match rows.iter().find(|row| row.name == option) {
-        Some(row) => match row.values {
-            Values::Names(names) => {
-                let all = names.len();
-                let read = count_read::<T>(names);
-                format!(in alloc; "{read} of {all}")
-            }
-            _ => String::from_str(alloc, "no names"),
-        },
-        None => String::from_str(alloc, "no such option"),
-    }
-}
-
-fn option_shown(alloc: Global, option: &str) -> Result<String, AllocError> {
+fn put_option(out: &mut Shown, option: &str) {
     match option {
-        "log-level" => names_read::<LevelFilter>(alloc, main_rows(), option),
-        "format" => names_read::<Format>(alloc, main_rows(), option),
-        "color" => names_read::<Color>(alloc, main_rows(), option),
-        "check warn" => names_read::<CodeOrLevel>(alloc, check_rows(), "warn"),
-        "check WHICH" => names_read::<WhichCheck>(alloc, check_rows(), "WHICH"),
-        "list format" => names_read::<OutputFormat>(alloc, list_rows(), "format"),
-        _ => names_read::<Layout>(alloc, list_rows(), "layout"),
+        "log-level" => put_names::<LevelFilter>(out, main_rows(), option),
+        "format" => put_names::<Format>(out, main_rows(), option),
+        "color" => put_names::<Color>(out, main_rows(), option),
+        "check warn" => put_names::<CodeOrLevel>(out, check_rows(), "warn"),
+        "check WHICH" => put_names::<WhichCheck>(out, check_rows(), "WHICH"),
+        "list format" => put_names::<OutputFormat>(out, list_rows(), "format"),
+        _ => put_names::<Layout>(out, list_rows(), "layout"),
     }
 }
 
-impl Rows for Words {
-    fn answer(&self, alloc: Global, group: &str, text: &str) -> Result<Option<String>, AllocError> {
-        let answer = match group {
-            "words" => words_answered(alloc, text)?,
-            "words without the program's name" => bare_words_answered(alloc, text)?,
-            "words behind list" => listing_asked(alloc, text)?,
-            "names of an option that are read" => option_shown(alloc, text)?,
-            _ => return Ok(None),
-        };
-        Ok(Some(answer))
+/// Puts what a text comes to in a group, and returns whether there is such a group.
+pub fn put(out: &mut Shown, alloc: Global, group: &str, text: &str) -> Result<bool, AllocError> {
+    match group {
+        "words" => put_given(out, alloc, "cargo-deny", text, false)?,
+        "words without the program's name" => put_given(out, alloc, "", text, false)?,
+        "words behind list" => put_listing(out, alloc, &words_of(alloc, "cargo-deny", text)?)?,
+        "names of an option that are read" => put_option(out, text),
+        "text" => put_given(out, alloc, "cargo-deny", text, true)?,
+        _ => return Ok(false),
     }
-}
-
-impl Cases for Words {
-    fn is_given(&self, key: &str) -> bool {
-        key == "words"
-    }
-
-    fn told(&self, alloc: Global, case: &Case<'_>, key: &str) -> io::Result<Option<String>> {
-        match key {
-            "text" => Ok(Some(text_shown(alloc, case.word("words"))?)),
-            _ => Ok(None),
-        }
-    }
+    Ok(true)
 }

@@ -1,205 +1,117 @@
 //! Values of TOML and faults as rows show them: each value with its place behind an `@`.
-
-use deny_text::Span;
-use std::alloc::{AllocError, Global};
-use toml_shapes::{DeserError, ShapeError};
+use case_files::Shown;
+use deny_text::{Span, Texts};
+use std::alloc::Global;
+use toml_shapes::DeserError;
 use toml_subset::{Key, Str, SyntaxError, TomlError};
-use toml_value::{Entries, Value, ValueInner, Values};
+use toml_value::{Entries, Value, ValueInner};
 
-/// A part of a value that is still to be written.
-#[derive(Drop)]
-enum Piece<'de> {
-    Value(Value<'de>),
-    Key(Key<'de>),
-    /// A comma, but behind an opening bracket.
-    Comma,
-    Closing(char, Span),
-}
+/// How deep the values of most rows are put.
+pub const DEPTH: u32 = 50;
 
-/// A value with all that stands in it; strings and keys that were written with escapes have a `!`.
-pub fn value_shown(alloc: Global, root: Value<'_>) -> Result<String, AllocError> {
-    let mut out = String::new(alloc);
-    let mut left = Vec::new(alloc);
-    leave(&mut left, Piece::Value(root))?;
-    for _ in 0..2000u32 {
-        if let Some(piece) = left.pop() {
-            put_piece(alloc, &mut out, &mut left, piece)?;
-        }
-    }
-    Ok(out)
-}
-
-fn leave<'de>(left: &mut Vec<Piece<'de>>, piece: Piece<'de>) -> Result<(), AllocError> {
-    left.push(piece)?;
-    Ok(())
-}
-
-fn put_piece<'de>(
-    alloc: Global,
-    out: &mut String,
-    left: &mut Vec<Piece<'de>>,
-    piece: Piece<'de>,
-) -> Result<(), AllocError> {
-    match piece {
-        Piece::Value(value) => put_value(alloc, out, left, value),
-        Piece::Key(key) => put_key(out, &key),
-        Piece::Comma => put_comma(out),
-        Piece::Closing(bracket, span) => put_closing(out, bracket, span),
-    }
-}
-
-/// Writes a scalar, or an opening bracket; what stands behind that is left.
-fn put_value<'de>(
-    alloc: Global,
-    out: &mut String,
-    left: &mut Vec<Piece<'de>>,
-    value: Value<'de>,
-) -> Result<(), AllocError> {
-    let span = value.span();
-    let mut value = value;
-    match value.take() {
-        ValueInner::Array(values) => open_array(out, left, values, span),
-        ValueInner::Table(entries) => open_table(alloc, out, left, entries, span),
-        scalar => put_scalar(out, &scalar, span),
-    }
-}
-
-fn open_array<'de>(
-    out: &mut String,
-    left: &mut Vec<Piece<'de>>,
-    values: Values<'de>,
-    span: Span,
-) -> Result<(), AllocError> {
-    out.push('[')?;
-    leave(left, Piece::Closing(']', span))?;
-    let mut items = values.into_items();
-    items.reverse();
-    for item in items {
-        leave_item(left, item)?;
-    }
-    Ok(())
-}
-
-fn leave_item<'de>(left: &mut Vec<Piece<'de>>, item: Value<'de>) -> Result<(), AllocError> {
-    leave(left, Piece::Value(item))?;
-    leave(left, Piece::Comma)
-}
-
-fn open_table<'de>(
-    alloc: Global,
-    out: &mut String,
-    left: &mut Vec<Piece<'de>>,
-    entries: Entries<'de>,
-    span: Span,
-) -> Result<(), AllocError> {
-    out.push('{')?;
-    leave(left, Piece::Closing('}', span))?;
-    let mut entries = entries;
-    let names = entries.names(alloc)?;
-    for name in names.items().iter().rev() {
-        if let Some((key, value)) = entries.remove(name.as_str()) {
-            leave_entry(left, key, value)?;
-        }
-    }
-    Ok(())
-}
-
-fn leave_entry<'de>(
-    left: &mut Vec<Piece<'de>>,
-    key: Key<'de>,
-    value: Value<'de>,
-) -> Result<(), AllocError> {
-    leave(left, Piece::Value(value))?;
-    leave(left, Piece::Key(key))?;
-    leave(left, Piece::Comma)
-}
-
-fn put_comma(out: &mut String) -> Result<(), AllocError> {
-    if out.as_str().ends_with('[') || out.as_str().ends_with('{') {
-        Ok(())
-    } else {
-        out.push_str(", ")
-    }
-}
-
-fn put_closing(out: &mut String, bracket: char, span: Span) -> Result<(), AllocError> {
-    out.push(bracket)?;
-    put_place(out, span)
-}
-
-fn put_scalar(out: &mut String, scalar: &ValueInner<'_>, span: Span) -> Result<(), AllocError> {
-    match scalar {
-        ValueInner::String(string) => put_string(out, string)?,
-        ValueInner::Integer(number) => write!(out, "{number}")?,
-        ValueInner::Decimal(number) => write!(out, "{number}/100")?,
-        ValueInner::Boolean(value) => write!(out, "{value}")?,
-        ValueInner::Array(_) | ValueInner::Table(_) => {}
-    }
-    put_place(out, span)
-}
-
-fn escape_mark(string: &Str<'_>) -> &'static str {
-    if string.has_escapes() { "!" } else { "" }
-}
-
-/// Writes a string between quotes.
-pub fn put_string(out: &mut String, string: &Str<'_>) -> Result<(), AllocError> {
-    let mark = escape_mark(string);
-    let text = string.as_str();
-    write!(out, "{mark}'{text}'")
-}
-
-/// Writes a key with its place.
-pub fn put_key(out: &mut String, key: &Key<'_>) -> Result<(), AllocError> {
-    let mark = escape_mark(&key.name);
-    let name = key.name.as_str();
-    let Span { start, end } = key.span;
-    write!(out, "{mark}{name}@{start}..{end}: ")
-}
-
-/// Writes a place behind an `@`.
-pub fn put_place(out: &mut String, span: Span) -> Result<(), AllocError> {
+pub fn put_span(out: &mut Shown, before: &str, span: Span) {
     let Span { start, end } = span;
-    write!(out, "@{start}..{end}")
+    write!(out, "{before}{start}..{end}");
 }
 
-/// The reason and the place of a fault.
-pub fn fault_shown(alloc: Global, fault: &SyntaxError) -> Result<String, AllocError> {
+pub fn put_fault(out: &mut Shown, fault: &SyntaxError) {
     let reason = fault.reason;
-    let Span { start, end } = fault.span;
-    format!(in alloc; "{reason:?} {start}..{end}")
+    write!(out, "{reason:?}");
+    put_span(out, " ", fault.span);
 }
 
-/// The same of an error of a text.
-pub fn error_shown(alloc: Global, error: &TomlError) -> Result<String, AllocError> {
+pub fn put_error(out: &mut Shown, error: &TomlError) {
     match error {
-        TomlError::Syntax(fault) => fault_shown(alloc, fault),
-        TomlError::Memory => Err(AllocError),
+        TomlError::Syntax(fault) => put_fault(out, fault),
+        TomlError::Memory => out.want_memory(),
     }
 }
 
 /// The faults of a shape in order, each behind its place.
-pub fn shape_shown(alloc: Global, error: &DeserError) -> Result<String, AllocError> {
+pub fn put_faults(out: &mut Shown, error: &DeserError) {
     match error {
-        DeserError::Faults(errors) => faults_shown(alloc, errors.items()),
-        DeserError::Memory => Err(AllocError),
+        DeserError::Faults(errors) => {
+            let mut between = "";
+            for error in errors.items() {
+                put_span(out, between, error.span);
+                write!(out, " {error}");
+                between = "; ";
+            }
+        }
+        DeserError::Memory => out.want_memory(),
     }
 }
 
-fn faults_shown(alloc: Global, errors: &[ShapeError]) -> Result<String, AllocError> {
-    let mut out = String::new(alloc);
-    for error in errors {
-        let Span { start, end } = error.span;
-        let between = if out.is_empty() { "" } else { "; " };
-        write!(out, "{between}{start}..{end} {error}")?;
+/// A string between these, behind a mark where it was written with escapes.
+pub fn put_string(out: &mut Shown, string: &Str<'_>, quote: &str) {
+    if string.has_escapes() {
+        out.put("!");
     }
-    Ok(out)
+    out.put(quote);
+    out.put(string.as_str());
+    out.put(quote);
 }
 
-/// What was read as it is shown, or the faults of the shape.
-pub fn answer_shown(alloc: Global, read: Result<String, DeserError>) -> Result<String, AllocError> {
-    match read {
-        Ok(shown) => Ok(shown),
-        Err(error) => shape_shown(alloc, &error),
+pub fn put_key(out: &mut Shown, key: &Key<'_>) {
+    put_string(out, &key.name, "");
+    put_span(out, "@", key.span);
+    out.put(": ");
+}
+
+/// A scalar, or which other kind a value is of.
+pub fn put_inner(out: &mut Shown, inner: &ValueInner<'_>) {
+    match inner {
+        ValueInner::String(string) => put_string(out, string, "'"),
+        ValueInner::Integer(number) => write!(out, "{number}"),
+        ValueInner::Decimal(number) => write!(out, "{number}/100"),
+        ValueInner::Boolean(value) => write!(out, "{value}"),
+        ValueInner::Array(_) => out.put("an array"),
+        ValueInner::Table(_) => out.put("a table"),
+    }
+}
+
+/// A value with what stands in it down to a depth, and with its place.
+pub fn put_value(alloc: Global, out: &mut Shown, depth: u32, value: &mut Value<'_>) {
+    let span = value.span();
+    if depth == 0 {
+        return put_span(out, "@", span);
+    }
+    let mut is_behind = false;
+    match value.take() {
+        ValueInner::Array(values) => {
+            out.put("[");
+            for mut item in values.into_items() {
+                out.put(if is_behind { ", " } else { "" });
+                put_value(alloc, out, depth - 1, &mut item);
+                is_behind = true;
+            }
+            out.put("]");
+        }
+        ValueInner::Table(mut entries) => {
+            out.put("{");
+            let names = names_of(alloc, out, &entries);
+            for name in names.items() {
+                if let Some((key, mut value)) = entries.remove(name.as_str()) {
+                    out.put(if is_behind { ", " } else { "" });
+                    put_key(out, &key);
+                    put_value(alloc, out, depth - 1, &mut value);
+                    is_behind = true;
+                }
+            }
+            out.put("}");
+        }
+        inner => put_inner(out, &inner),
+    }
+    put_span(out, "@", span);
+}
+
+/// The names of the keys of a table, in order.
+pub fn names_of(alloc: Global, out: &mut Shown, table: &Entries<'_>) -> Texts {
+    match table.names(alloc) {
+        Ok(names) => names,
+        Err(_) => {
+            out.want_memory();
+            Texts::new(alloc)
+        }
     }
 }

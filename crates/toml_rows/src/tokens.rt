@@ -1,157 +1,138 @@
-//! Numbers, strings, keys, and the places behind blanks, comments and commas.
+//! What stands at a place of a text: numbers, strings, keys, values, blanks, comments and commas.
 ghost use Rattle.std.specs.Prelude.{◌≤◌, length};
 
-use crate::printed::{error_shown, fault_shown, put_key, put_place, put_string};
-use case_files::Rows;
-use std::alloc::{AllocError, Global};
-use toml_frames::{Next, Scalar, behind_entry, behind_item, entry_place, item_place, read_scalar};
+use crate::printed::{DEPTH, put_error, put_fault, put_key, put_span, put_string, put_value};
+use case_files::Shown;
+use deny_text::Span;
+use std::alloc::Global;
+use std::fmt;
+use toml_frames::{Scalar, behind_entry, behind_item, entry_place, item_place, read_scalar};
 use toml_subset::{
-    Keys, Number, SyntaxError, TomlError, after_blanks, after_comment, after_white, char_end,
+    Keys, Number, Str, SyntaxError, TomlError, after_blanks, after_comment, after_white, char_end,
     classify, line_end, next_line, read_keys, read_left, read_number, read_string, space_from,
 };
+use toml_value::{Value, read_value};
 
-pub struct TokenRows;
-
-impl Rows for TokenRows {
-    fn answer(&self, alloc: Global, group: &str, text: &str) -> Result<Option<String>, AllocError> {
-        let seen = match group {
-            "numbers" => number_shown(alloc, text)?,
-            "numbers in a text" => number_at(alloc, text)?,
-            "strings" => string_shown(alloc, text)?,
-            "keys" => keys_shown(alloc, read_keys(alloc, text, 0))?,
-            "keys before a value" => keys_shown(alloc, read_left(alloc, text, 0))?,
-            "scalars" => scalar_shown(alloc, text)?,
-            "behind the opening of an array"
-            | "behind an item"
-            | "behind the opening of an inline table"
-            | "behind an entry" => next_at(alloc, group, text)?,
-            _ => return scanned(alloc, group, text),
-        };
-        Ok(Some(seen))
-    }
-}
-
-/// A text and the place behind its bar, or its start where that is none.
+/// A text and the place behind its bar; the whole text and its start where no place stands there.
 fn placed(text: &str) -> (&str, usize)
     ensures { result.1 ≤ length result.0.now }
 {
-    let (text, place) = text.split_once(" | ").unwrap_or((text, ""));
+    let (front, place) = text.split_once(" | ").unwrap_or((text, ""));
     match place.parse::<usize>() {
-        Ok(place) if place <= text.len() => (text, place),
+        Ok(place) if place <= front.len() => (front, place),
         _ => (text, 0),
     }
 }
 
-fn number_shown(alloc: Global, text: &str) -> Result<String, AllocError> {
-    let class = classify(text.as_bytes());
-    format!(in alloc; "{class:?}")
-}
-
-fn number_at(alloc: Global, text: &str) -> Result<String, AllocError> {
+/// Puts what a group reads at a place, and returns whether there is such a group.
+pub fn put(alloc: Global, out: &mut Shown, group: &str, text: &str) -> bool {
     let (text, place) = placed(text);
-    match read_number(text, place) {
-        Ok((number, end)) => format!(in alloc; "{number:?} to {end}"),
-        Err(fault) => fault_shown(alloc, &fault),
-    }
-}
-
-fn string_shown(alloc: Global, text: &str) -> Result<String, AllocError> {
-    match read_string(alloc, text, 0) {
-        Ok((string, span, _)) => {
-            let mut out = String::new(alloc);
-            put_string(&mut out, &string)?;
-            put_place(&mut out, span)?;
-            Ok(out)
+    match group {
+        "numbers" => put_seen(out, Ok(classify(text.as_bytes()))),
+        "numbers in a text" => put_number(out, read_number(text, place)),
+        "keys" => put_keys(out, &read_keys(alloc, text, place)),
+        "keys before a value" => put_keys(out, &read_left(alloc, text, place)),
+        "strings" => put_first_string(out, &read_string(alloc, text, place)),
+        "scalars" => put_scalar(out, &read_scalar(alloc, text, place)),
+        "values" | "values with faults" | "deep values" => {
+            put_first(alloc, out, group, read_value(alloc, text, 0, place))
         }
-        Err(error) => error_shown(alloc, &error),
+        "behind the opening of an array" => put_seen(out, item_place(text, place)),
+        "behind an item" => put_seen(out, behind_item(text, place)),
+        "behind the opening of an inline table" => put_seen(out, Ok(entry_place(text, place))),
+        "behind an entry" => put_seen(out, behind_entry(text, place)),
+        _ => return put_scanned(out, group, text, place),
+    }
+    true
+}
+
+/// The place that a scanner comes to from a place. Returns whether there is such a scanner.
+fn put_scanned(out: &mut Shown, group: &str, text: &str, place: usize) -> bool
+    requires { place ≤ length text.now }
+{
+    let bytes = text.as_bytes();
+    let found = match group {
+        "behind blanks" => Some(after_blanks(bytes, place)),
+        "behind a comment" => Some(after_comment(bytes, place)),
+        "behind a line end" => line_end(bytes, place),
+        "the next line" => next_line(bytes, place),
+        "behind blanks, line ends and comments" => Some(space_from(bytes, place).end),
+        "behind blanks and line ends" => Some(after_white(bytes, place)),
+        "behind a character" if place < text.len() => Some(char_end(text, place)),
+        _ => return false,
+    };
+    write!(out, "{found:?}");
+    true
+}
+
+fn put_seen<T: fmt::Debug + Drop>(out: &mut Shown, seen: Result<T, SyntaxError>) {
+    match seen {
+        Ok(seen) => write!(out, "{seen:?}"),
+        Err(fault) => put_fault(out, &fault),
     }
 }
 
-/// The parts of a key, and the place that reading ended at.
-fn keys_shown(
-    alloc: Global,
-    read: Result<(Keys<'_>, usize), TomlError>,
-) -> Result<String, AllocError> {
+fn put_number(out: &mut Shown, read: Result<(Number, usize), SyntaxError>) {
+    match read {
+        Ok((number, end)) => write!(out, "{number:?} to {end}"),
+        Err(fault) => put_fault(out, &fault),
+    }
+}
+
+fn put_keys(out: &mut Shown, read: &Result<(Keys<'_>, usize), TomlError>) {
     match read {
         Ok((keys, end)) => {
-            let mut out = String::new(alloc);
             for key in keys.items() {
-                put_key(&mut out, key)?;
+                put_key(out, key);
             }
-            write!(out, "to {end}")?;
-            Ok(out)
+            write!(out, "to {end}");
         }
-        Err(error) => error_shown(alloc, &error),
+        Err(error) => put_error(out, error),
     }
 }
 
-fn put_scalar(out: &mut String, scalar: &Scalar<'_>) -> Result<(), AllocError> {
-    match scalar {
-        Scalar::String(string) => put_string(out, string),
-        Scalar::Number(Number::Integer(number)) => write!(out, "{number}"),
-        Scalar::Number(Number::Decimal(number)) => write!(out, "{number}/100"),
-        Scalar::Boolean(value) => write!(out, "{value}"),
+type ReadString<'de> = Result<(Str<'de>, Span, usize), TomlError>;
+
+/// A string, and its place.
+fn put_first_string(out: &mut Shown, read: &ReadString<'_>) {
+    match read {
+        Ok((string, span, _)) => {
+            put_string(out, string, "'");
+            put_span(out, "@", *span);
+        }
+        Err(error) => put_error(out, error),
     }
 }
 
-fn scalar_shown(alloc: Global, text: &str) -> Result<String, AllocError> {
-    match read_scalar(alloc, text, 0) {
+type ReadScalar<'de> = Result<(Scalar<'de>, Span, usize), TomlError>;
+
+/// A scalar, its place, and the place behind it.
+fn put_scalar(out: &mut Shown, read: &ReadScalar<'_>) {
+    match read {
         Ok((scalar, span, next)) => {
-            let mut out = String::new(alloc);
-            put_scalar(&mut out, &scalar)?;
-            put_place(&mut out, span)?;
-            write!(out, " to {next}")?;
-            Ok(out)
+            match scalar {
+                Scalar::String(string) => put_string(out, string, "'"),
+                Scalar::Number(Number::Integer(number)) => write!(out, "{number}"),
+                Scalar::Number(Number::Decimal(number)) => write!(out, "{number}/100"),
+                Scalar::Boolean(value) => write!(out, "{value}"),
+            }
+            put_span(out, "@", *span);
+            write!(out, " to {next}");
         }
-        Err(error) => error_shown(alloc, &error),
+        Err(error) => put_error(out, error),
     }
 }
 
-/// Where an array or an inline table goes on behind a place.
-fn next_of(group: &str, text: &str) -> Result<Next, SyntaxError> {
-    let (text, place) = placed(text);
-    match group {
-        "behind the opening of an array" => item_place(text, place),
-        "behind an item" => behind_item(text, place),
-        "behind an entry" => behind_entry(text, place),
-        _ => Ok(entry_place(text, place)),
-    }
-}
+type ReadValue<'de> = Result<(Value<'de>, usize), TomlError>;
 
-fn next_at(alloc: Global, group: &str, text: &str) -> Result<String, AllocError> {
-    match next_of(group, text) {
-        Ok(next) => format!(in alloc; "{next:?}"),
-        Err(fault) => fault_shown(alloc, &fault),
-    }
-}
-
-fn behind_character(text: &str, place: usize) -> Option<usize> {
-    if place < text.len() {
-        Some(char_end(text, place))
-    } else {
-        None
-    }
-}
-
-/// The place that a scanner comes to from a place; nothing where there is no such scanner.
-fn scan(group: &str, text: &str) -> Option<Option<usize>> {
-    let (text, place) = placed(text);
-    let bytes = text.as_bytes();
-    match group {
-        "behind blanks" => Some(Some(after_blanks(bytes, place))),
-        "behind a comment" => Some(Some(after_comment(bytes, place))),
-        "behind a line end" => Some(line_end(bytes, place)),
-        "the next line" => Some(next_line(bytes, place)),
-        "behind blanks, line ends and comments" => Some(Some(space_from(bytes, place).end)),
-        "behind blanks and line ends" => Some(Some(after_white(bytes, place))),
-        "behind a character" => Some(behind_character(text, place)),
-        _ => None,
-    }
-}
-
-fn scanned(alloc: Global, group: &str, text: &str) -> Result<Option<String>, AllocError> {
-    match scan(group, text) {
-        Some(place) => Ok(Some(format!(in alloc; "{place:?}")?)),
-        None => Ok(None),
+/// A value, and the place behind it. Of a deep value the place alone is put.
+fn put_first(alloc: Global, out: &mut Shown, group: &str, read: ReadValue<'_>) {
+    let depth = if group == "deep values" { 0 } else { DEPTH };
+    match read {
+        Ok((mut value, next)) => {
+            put_value(alloc, out, depth, &mut value);
+            write!(out, " to {next}");
+        }
+        Err(error) => put_error(out, &error),
     }
 }
