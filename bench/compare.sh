@@ -1,41 +1,65 @@
 #!/bin/sh
-# Times the lower layers, and beside them the same work in plain Rust and xxhsum, where these are installed. Run it in the
-# repository, by `make bench`.
+# Times the lower layers, and beside them the same work in plain Rust, xxhsum and Python, where these are installed: of each the
+# least of five. Run it in the repository, by `make bench`, which proves and builds the program where it is not there yet;
+# another one may be named.
 set -e
 root=$(pwd)
+program=${1:-$root/crates/bench/out/bench}
+[ -x "$program" ] || sh tools/build.sh bench
 work=$(mktemp -d)
 trap 'rm -rf "$work"' EXIT
 
-cd "$root/crates/bench"
-rt run bench -- hash bench | grep MiB/s
-bench=$(pwd)/out/bench
+# The least nanoseconds of a measure.
+least() {
+    for _ in 1 2 3 4 5; do
+        "$program" "$@" | awk '{ print $3 }'
+    done | sort -n | head -n 1
+}
+
+# 64 MiB; xxhsum tells millions of bytes a second.
+least hash 1048576 | awk '{ printf "hash %d MiB/s\n", 64000000000 / $1 }'
 if command -v xxhsum > /dev/null; then
-    # xxhsum tells millions of bytes a second.
     xxhsum -b1 -B67108864 2>&1 | sed -n 's/.*(\([0-9.]*\) MB\/s).*/\1/p' |
         awk '{ printf "xxhsum %d MiB/s\n", $1 * 1000000 / 1048576 }'
 fi
 
-"$bench" layers bench > "$work/ours"
 if command -v rustc > /dev/null; then
     rustc -O -o "$work/yardstick" "$root/bench/yardstick.rs"
     "$work/yardstick" > "$work/plain"
 else
     : > "$work/plain"
 fi
+while read -r name size; do
+    echo "$name $(least "$name" "$size")"
+done > "$work/ours" << 'END'
+add-paths 20000
+look-up 20000
+look-up-absent 20000
+places-on-many-lines 100000
+places-on-one-line 100000
+normal 270000
+END
 awk '
     NR == FNR { plain[$1] = $2; next }
     ($1 in plain) && plain[$1] > 0 {
-        printf "%-20s %9d us, plain Rust %9d us, ratio %.2f\n", $1, $2, plain[$1], $2 / plain[$1]
+        printf "%-20s %9d us, plain Rust %9d us, ratio %.2f\n", $1, $2 / 1000, plain[$1] / 1000, $2 / plain[$1]
         next
     }
-    { printf "%-20s %9d us\n", $1, $2 }
+    { printf "%-20s %9d us\n", $1, $2 / 1000 }
 ' "$work/plain" "$work/ours"
 
-"$bench" words bench
-"$bench" metadata bench
+# How a measure grows with its size.
+for name in excludes checks; do
+    for size in 2500 5000 10000 20000; do
+        echo "$name $size values $(least "$name" "$size") ns"
+    done
+done
+for size in 2000 4000 8000; do
+    echo "metadata $size packages $(least metadata "$size") ns"
+done
 
 # The least of five whole runs in seconds, and the memory at its highest in KiB.
-least() {
+whole() {
     for _ in 1 2 3 4 5; do
         /usr/bin/time -f '%e %M' "$@" 2>&1 > /dev/null | tail -n 1
     done | sort -n | head -n 1
@@ -43,14 +67,13 @@ least() {
 
 if command -v python3 > /dev/null && [ -x /usr/bin/time ]; then
     cd "$work"
-    for shape in full small; do
-        "$bench" metadata $shape > metadata.json
-        ours=$(least "$bench" metadata read)
-        plain=$(least python3 -c 'import json; json.load(open("metadata.json"))')
-        bytes=$(wc -c < metadata.json)
-        echo "$shape $bytes $ours $plain" | awk '{
-            printf "read %s metadata of %d bytes: %.2f of the time of Python'"'"'s json, ", $1, $2, $3 / $5
-            printf "memory %.1f times the text (Python %.1f)\n", $4 * 1024 / $2, $6 * 1024 / $2
+    for measure in 'metadata 8000' 'metadata-small 80000'; do
+        "$program" text $measure > metadata.json
+        ours=$(whole "$program" metadata metadata.json)
+        plain=$(whole python3 -c 'import json; json.load(open("metadata.json"))')
+        echo "$measure $(wc -c < metadata.json) $ours $plain" | awk '{
+            printf "%s of %d packages, %d bytes: %.2f of the time of Python'"'"'s json, ", $1, $2, $3, $4 / $6
+            printf "memory %.1f times the text (Python %.1f)\n", $5 * 1024 / $3, $7 * 1024 / $3
         }'
     done
 fi

@@ -1,69 +1,126 @@
-//! Measures the layers. Its first word names what: `hash`, `layers`, `licences`, `toml`, `policies`, `metadata`, `selection`, `words`,
-//! `verdicts` or `gathering`, and further words say how (each module tells them): mostly `bench` for times, or a number for one
-//! run of that size, of which other tools count the instructions. Without a word all of them run on a small scale and print
-//! no times: what they come to is the same in each run.
+//! Measures the layers and whole runs. `bench NAME SIZE` prints what comes of one measure (`parts.rt` and `runs.rt` have their
+//! names) and the nanoseconds that it takes; without a size it is a small one. A part alone takes a file's path in place of a
+//! size, and then that file's text. A run takes a stage behind its size, and goes no further: so other tools count the
+//! instructions of each. `bench text NAME SIZE` prints the text that a part takes. Without a word all of them are small, and
+//! no times are printed: what they come to is the same in each run.
 #![tactic(auto)]
 
-mod gathering;
-mod hash;
-mod layers;
-mod licences;
-mod metadata;
-mod policies;
-mod selection;
-mod toml;
-mod verdicts;
-mod words;
+mod failed;
+mod files;
+mod meter;
+mod parts;
+mod recipes;
+mod runs;
+mod stages;
+mod texts;
 
-use std::{env, io};
+use crate::failed::Failed;
+use crate::meter::Meter;
+use crate::parts::{PARTS, Part};
+use crate::runs::{RUNS, Run};
+use crate::texts::made;
+use std::{env, fs};
 
-/// What is measured, in the order in which all of it is shown.
-const NAMES: [&str; 10] = [
-    "hash",
-    "layers",
-    "licences",
-    "toml",
-    "policies",
-    "metadata",
-    "selection",
-    "words",
-    "verdicts",
-    "gathering",
-];
-
-/// Whether times are asked for.
-pub(crate) fn is_bench(words: &[String]) -> bool {
-    words.iter().any(|word| word.as_str() == "bench")
-}
-
-fn run(rt: &HostRuntime, name: &str, words: &[String]) -> io::Result<()> {
-    match name {
-        "hash" => hash::run(rt, words),
-        "layers" => layers::run(rt, words),
-        "licences" => licences::run(rt, words),
-        "toml" => toml::run(rt, words),
-        "policies" => policies::run(rt, words),
-        "metadata" => metadata::run(rt, words),
-        "selection" => selection::run(rt, words),
-        "words" => words::run(rt, words),
-        "verdicts" => verdicts::run(rt, words),
-        "gathering" => gathering::run(rt, words),
-        _ => Err(io::Error::from(io::ErrorKind::InvalidInput)),
+/// A word at a place; an empty one where there is none.
+fn word_at(words: &[String], place: usize) -> &str {
+    match words.get(place) {
+        Some(word) => word.as_str(),
+        None => "",
     }
 }
 
-fn run_all(rt: &HostRuntime) -> io::Result<()> {
-    for name in NAMES {
-        println!(rt; "{name}:")?;
-        run(rt, name, &[])?;
+fn part_named(name: &str) -> Option<&'static Part> {
+    PARTS.iter().find(|part| part.name == name)
+}
+
+fn run_named(name: &str) -> Option<&'static Run> {
+    RUNS.iter().find(|run| run.name == name)
+}
+
+/// The text of a part that is so large; the text of a file where the size is its path.
+fn text_for(rt: &HostRuntime, part: &Part, size: &str) -> Result<String, Failed> {
+    if size.is_empty() {
+        return Ok(made(rt.alloc(), part.recipe, part.small)?);
+    }
+    match size.parse::<usize>() {
+        Ok(size) => Ok(made(rt.alloc(), part.recipe, size)?),
+        Err(_) => Ok(fs::read_to_string(rt, size)?),
+    }
+}
+
+fn measure_part(
+    rt: &HostRuntime,
+    meter: &mut Meter<'_>,
+    part: &Part,
+    size: &str,
+) -> Result<(), Failed> {
+    let text = text_for(rt, part, size)?;
+    part.measure(meter, rt.alloc(), text.as_str())
+}
+
+fn measure_run(
+    rt: &HostRuntime,
+    meter: &mut Meter<'_>,
+    run: &Run,
+    size: &str,
+) -> Result<(), Failed> {
+    let size = size.parse::<usize>().unwrap_or(run.small);
+    run.measure(meter, rt.alloc(), size)
+}
+
+/// Measures the part or the run of a name.
+fn measure(rt: &HostRuntime, meter: &mut Meter<'_>, name: &str, size: &str) -> Result<(), Failed> {
+    match (part_named(name), run_named(name)) {
+        (Some(part), _) => measure_part(rt, meter, part, size),
+        (None, Some(run)) => measure_run(rt, meter, run, size),
+        (None, None) => Err(Failed::Refused),
+    }
+}
+
+/// Measures all parts and runs, each of its small size.
+fn measure_all(rt: &HostRuntime, meter: &mut Meter<'_>) -> Result<(), Failed> {
+    for part in &PARTS {
+        measure_part(rt, meter, part, "")?;
+    }
+    for run in &RUNS {
+        measure_run(rt, meter, run, "")?;
     }
     Ok(())
 }
 
-fn main(rt: HostRuntime) -> io::Result<()> {
-    let asked: Vec<String> = env::args(&rt)?.skip(1).collect(rt.alloc())?;
-    match asked.split_first() {
-        Some((name, words)) => run(&rt, name.as_str(), words),
-        None => run_all(&rt),
+/// What is told of one measure.
+fn one(rt: &HostRuntime, words: &[String]) -> Result<String, Failed> {
+    let mut meter = Meter::timed(rt, word_at(words, 2));
+    measure(rt, &mut meter, word_at(words, 0), word_at(words, 1))?;
+    Ok(meter.told()?)
+}
+
+/// What is told of all, without times.
+fn all(rt: &HostRuntime) -> Result<String, Failed> {
+    let mut meter = Meter::untimed(rt);
+    measure_all(rt, &mut meter)?;
+    Ok(meter.told()?)
+}
+
+/// The text that a part takes.
+fn text_of(rt: &HostRuntime, words: &[String]) -> Result<String, Failed> {
+    match part_named(word_at(words, 1)) {
+        Some(part) => text_for(rt, part, word_at(words, 2)),
+        None => Err(Failed::Refused),
     }
+}
+
+fn told(rt: &HostRuntime, words: &[String]) -> Result<String, Failed> {
+    match word_at(words, 0) {
+        "" => all(rt),
+        "text" => text_of(rt, words),
+        _ => one(rt, words),
+    }
+}
+
+fn main(rt: HostRuntime) -> Result<(), Failed> {
+    let words: Vec<String> = env::args(&rt)?.skip(1).collect(rt.alloc())?;
+    let told = told(&rt, words.as_slice())?;
+    print!(rt; "{told}")?;
+    Ok(())
 }

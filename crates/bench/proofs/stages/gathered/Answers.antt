@@ -1,6 +1,6 @@
 use Rattle.std.proofs.lemmas.Result.{on_ok_weaker}
 use Rattle.placed_policy.proofs.PlaceLemmas.{are_placed, entries_lie}
-use Rattle.bench.proofs.gathering.stages.gathered.Goals as goal
+use Rattle.bench.proofs.stages.gathered.Goals as goal
 
 pub returns-clause-placed : goal.returns-clause-placed
 returns-clause-placed c = c.gather.ensures.placed (are_placed c.args.files.now c.args.policy.now c.requires)

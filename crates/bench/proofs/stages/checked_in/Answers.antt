@@ -3,7 +3,7 @@ use Rattle.std.specs.Prelude.{All}
 use Rattle.diag_core.specs.File.{File}
 use Rattle.diag_core.specs.declared.overrides.ErrorSink.{ErrorSink}
 use Rattle.check_core.specs.Labels.{GainLies, PackLies}
-use Rattle.bench.proofs.gathering.stages.checked_in.Goals as goal
+use Rattle.bench.proofs.stages.checked_in.Goals as goal
 
 -- a sink of no packs has those that it gained
 labels_gained : (files : List File) (old new : ErrorSink) → old ≡ record { overrides = None; packs = [] } → GainLies files old new → All (PackLies files) new.packs

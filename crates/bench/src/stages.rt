@@ -1,0 +1,243 @@
+//! The stages of a run, by the calls: crates are read and selected, the policy is loaded, licences are gathered and
+//! checked, and what is found is printed.
+ghost use Rattle.std.specs.Prelude.{◌≡◌, ◌<◌, [], All, IfOk, OnOk};
+ghost use Rattle.policy_core.specs.Places.{PolicyStands};
+ghost use Rattle.gather_core.specs.Premises.{IsPlacedAt};
+ghost use Rattle.unused_core.specs.Laws.{EntriesLie};
+ghost use Rattle.check_core.specs.Labels.{PackLies};
+
+use crate::failed::Failed;
+use crate::meter::Meter;
+use crate::parts::from_root;
+use catalog_core::LicenseStore;
+use check_core::check::check;
+use check_core::{CheckCtx, Verdicts};
+use deny_text::{PathBuf, Steps};
+use diag_core::{ErrorSink, Files, LevelFilter, Pack};
+use evaluate_core::Verdict;
+use gather_core::{Gatherer, LicenseInfo, Summary};
+use load_core::{PolicyPaths, ValidConfig, load, print_packs};
+use print_core::{Color, Format, LogContext};
+use selection_core::Krates;
+use spdx_core::Table;
+use std::alloc::{AllocError, Global};
+use std::marker::Brand;
+use std::sync::ledger::{Blank, Ledger};
+use tree_core::{MemSink, MemTree, Sink, Tree};
+use workspace_core::krates_at;
+
+pub(crate) const METADATA: &str = "/w/metadata.json";
+
+pub(crate) const POLICY: &str = "/w/deny.toml";
+
+/// How many bytes a sink takes a call: a line's.
+const LINE: usize = 80;
+
+/// How many bytes a sink holds: what comes of 20,000 crates, or of as many entries.
+const ROOM: usize = 67_108_864;
+
+/// What is printed: all but what is of level debug or trace.
+fn context(format: Format) -> LogContext {
+    LogContext {
+        format,
+        color: Color::Auto,
+        log_level: LevelFilter::Info,
+    }
+}
+
+/// The policy of a tree. What is wrong with it is printed.
+fn loaded(alloc: Global, files: &mut Files, tree: &mut MemTree) -> Result<ValidConfig, Failed>
+    requires { files.old ≡ [] }
+    ensures { IfOk result (λ policy. PolicyStands files.new policy) }
+{
+    let mut sink = MemSink::new(alloc, ROOM, LINE)?;
+    let policy = PathBuf::copy(alloc, POLICY)?;
+    let paths = PolicyPaths {
+        policy: Some(policy),
+        exceptions: None,
+    };
+    let begun = tree.faults();
+    let told = context(Format::Human);
+    match load(alloc, paths, files, told, tree, &mut sink, &Table, begun) {
+        Ok(policy) => Ok(policy.licenses),
+        Err(error) => Err(Failed::from(error)),
+    }
+}
+
+/// The licences of crates under a policy.
+fn gathered<'k>(
+    alloc: Global,
+    krates: &'k Krates,
+    files: &mut Files,
+    policy: &ValidConfig,
+    tree: &mut MemTree,
+) -> Result<Summary<'k>, AllocError>
+    requires { PolicyStands files.old policy.now }
+    ensures placed { IfOk result (λ summary. All (IsPlacedAt files.new) summary.nfos) }
+    ensures entries { OnOk result (EntriesLie files.new policy.now) }
+{
+    let store = LicenseStore::from_cache(alloc)?;
+    let gatherer: Gatherer<'_, LicenseStore> = Gatherer::default();
+    let gatherer = gatherer.with_store(&store);
+    gatherer.gather(alloc, krates, files, policy, tree, &Table)
+}
+
+/// The verdicts on crates, with the steps of the check counted in a ledger. What is found goes into the sink.
+fn checked_in<L: Ledger>(
+    ledger: Blank,
+    alloc: Global,
+    ctx: &CheckCtx<'_, ValidConfig>,
+    summary: &Summary<'_>,
+    sink: &mut ErrorSink,
+) -> Result<Verdicts, AllocError>
+    requires name { ledger.name ≡ L.name }
+    requires parts { ledger.parts ≡ L.parts }
+    requires some { 0 < ledger.parts }
+    requires placed { All (IsPlacedAt ctx.now.files.now) summary.now.nfos }
+    requires entries { EntriesLie ctx.now.files.now ctx.now.cfg }
+    requires empty { sink.old ≡ record { overrides = None; packs = [] } }
+    ensures { OnOk result (All (PackLies ctx.now.files.now) sink.new.packs) }
+{
+    let mut steps = Steps::<L>::new(ledger);
+    check(alloc, ctx, summary, sink, &mut steps)
+}
+
+/// The same, with its steps counted in a ledger of its own.
+fn checked(
+    alloc: Global,
+    ctx: &CheckCtx<'_, ValidConfig>,
+    summary: &Summary<'_>,
+    sink: &mut ErrorSink,
+) -> Result<Verdicts, AllocError>
+    requires placed { All (IsPlacedAt ctx.now.files.now) summary.now.nfos }
+    requires entries { EntriesLie ctx.now.files.now ctx.now.cfg }
+    requires empty { sink.old ≡ record { overrides = None; packs = [] } }
+    ensures { OnOk result (All (PackLies ctx.now.files.now) sink.new.packs) }
+{
+    checked_in::<Brand>(Blank::new(1), alloc, ctx, summary, sink)
+}
+
+/// How many bytes are printed of what was found.
+fn printed(alloc: Global, format: Format, packs: &[Pack], files: &Files) -> Result<usize, Failed>
+    requires { All (PackLies files.now) packs.now }
+{
+    let mut sink = MemSink::new(alloc, ROOM, LINE)?;
+    let begun = sink.faults();
+    print_packs(alloc, context(format), packs, files, &mut sink, begun)?;
+    Ok(sink.written().len())
+}
+
+/// How many crates have an expression.
+fn licensed(summary: &Summary<'_>) -> usize {
+    let mut licensed: usize = 0;
+    for license in summary.nfos.items() {
+        if let LicenseInfo::SpdxExpression { .. } = &license.lic_info {
+            licensed = licensed.saturating_add(1);
+        }
+    }
+    licensed
+}
+
+/// How many verdicts accept a crate.
+fn accepted(verdicts: &[Verdict]) -> usize {
+    let mut accepted: usize = 0;
+    for verdict in verdicts {
+        if let Verdict::Accepted { .. } = verdict {
+            accepted = accepted.saturating_add(1);
+        }
+    }
+    accepted
+}
+
+/// Prints what was found, for a person and as JSON.
+fn from_print(
+    meter: &mut Meter<'_>,
+    alloc: Global,
+    run: &str,
+    packs: &[Pack],
+    files: &Files,
+) -> Result<(), Failed>
+    requires { All (PackLies files.now) packs.now }
+{
+    let human = printed(alloc, Format::Human, packs, files)?;
+    meter.ends(run, "print", human);
+    let json = printed(alloc, Format::Json, packs, files)?;
+    meter.ends(run, "print-json", json);
+    Ok(())
+}
+
+/// Checks the crates of a summary, and goes on from there.
+fn from_check(
+    meter: &mut Meter<'_>,
+    alloc: Global,
+    run: &str,
+    ctx: &CheckCtx<'_, ValidConfig>,
+    summary: &Summary<'_>,
+) -> Result<(), Failed>
+    requires placed { All (IsPlacedAt ctx.now.files.now) summary.now.nfos }
+    requires entries { EntriesLie ctx.now.files.now ctx.now.cfg }
+{
+    let mut found = ErrorSink::new(alloc, None);
+    let verdicts = checked(alloc, ctx, summary, &mut found)?;
+    if meter.ends(run, "check", accepted(verdicts.items())) {
+        return Ok(());
+    }
+    from_print(meter, alloc, run, found.packs.items(), ctx.files)
+}
+
+/// Gathers the licences of crates under their policy, and goes on from there.
+fn from_gathering(
+    meter: &mut Meter<'_>,
+    alloc: Global,
+    run: &str,
+    policy: ValidConfig,
+    krates: &Krates,
+    tree: &mut MemTree,
+    files: &mut Files,
+) -> Result<(), Failed>
+    requires { PolicyStands files.old policy }
+{
+    let summary = gathered(alloc, krates, files, &policy, tree)?;
+    if meter.ends(run, "gather", licensed(&summary)) {
+        return Ok(());
+    }
+    let ctx = CheckCtx {
+        cfg: policy,
+        krates,
+        log_level: LevelFilter::Info,
+        files,
+    };
+    from_check(meter, alloc, run, &ctx, &summary)
+}
+
+/// Loads the policy of crates, and goes on from there.
+fn from_load(
+    meter: &mut Meter<'_>,
+    alloc: Global,
+    run: &str,
+    krates: &Krates,
+    tree: &mut MemTree,
+) -> Result<(), Failed> {
+    let mut files = Files::new(alloc);
+    let policy = loaded(alloc, &mut files, tree)?;
+    let entries = policy.clarifications.items().len();
+    if meter.ends(run, "load", entries) {
+        return Ok(());
+    }
+    from_gathering(meter, alloc, run, policy, krates, tree, &mut files)
+}
+
+/// Goes over the metadata, the policy and the files of a tree.
+pub(crate) fn go(
+    meter: &mut Meter<'_>,
+    alloc: Global,
+    run: &str,
+    tree: &mut MemTree,
+) -> Result<(), Failed> {
+    let begun = tree.faults();
+    let krates = krates_at(alloc, tree, METADATA, &from_root(alloc), begun)?;
+    if meter.ends(run, "read", krates.krates().len()) {
+        return Ok(());
+    }
+    from_load(meter, alloc, run, &krates, tree)
+}
