@@ -8,7 +8,7 @@ COMPLETION = crates/completions/stdout
 
 FIRST = ../../examples/first
 
-.PHONY: try build run test wrong starve calls bench install
+.PHONY: try build run test examples wrong starve calls bench install
 
 # A first answer in minutes, by an unproved build.
 try:
@@ -27,6 +27,10 @@ run: build
 # The merge gate.
 test:
 	rt ci
+
+# Compares what the built program prints of each example, and of odd words and files, with examples/outputs.
+examples: build
+	@sh tools/examples.sh
 
 # Tries the wrong bodies of a crate that the gate leaves out: make wrong NAME=pack_core
 wrong:

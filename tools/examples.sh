@@ -1,0 +1,76 @@
+#!/bin/sh
+# Runs the built program over each folder of examples/ and over words and files that a system can give it, and compares both
+# streams and the status with the files of examples/outputs. A run that differs is told, and the status is then 1.
+# usage: tools/examples.sh [PROGRAM]
+set -eu
+cd "$(dirname "$0")/.."
+top=$(pwd)
+program=$(realpath "${1:-crates/cargo_deny/out/cargo_deny}")
+room=$(mktemp -d)
+trap 'rm -rf "$room"' EXIT
+failed=0
+
+# The status and the streams of a run, with the folder as the examples have it.
+told() {
+    status=$1
+    echo "status $status"
+    for stream in out err; do
+        [ -f "$room/$stream" ] || continue
+        echo "-- $stream"
+        sed "s|$folder|/project|g" "$room/$stream"
+    done
+}
+
+# Runs a command of the shell in a folder, for twenty seconds at most, and compares what it comes to.
+compare() {
+    name=$1
+    folder=$2
+    shift 2
+    rm -f "$room/out" "$room/err"
+    status=0
+    (cd "$folder" && timeout 20 bash -c "$1" >"$room/out" 2>"$room/err") || status=$?
+    told "$status" >"$room/told"
+    if ! diff -u "examples/outputs/$name" "$room/told"; then
+        echo "$name: differs" >&2
+        failed=1
+    fi
+}
+
+# The metadata of an example, with its folder in the place of /project.
+metadata() {
+    sed -e "s|\"/project|\"$1|g" -e "s|file:///project|file://$1|g" "$1/metadata.json" >"$room/metadata.json"
+}
+
+for name in first workspace policy files rejected; do
+    metadata "$top/examples/$name"
+    compare "$name" "$top/examples/$name" "'$program' --metadata-path '$room/metadata.json' --config deny.toml check licenses"
+done
+metadata "$top/examples/policy"
+compare policy-old "$top/examples/policy" "'$program' --metadata-path '$room/metadata.json' --config old.toml check licenses"
+
+# A crate without a field, whose licence file is a pipe that nobody writes to, or a device.
+odd="$room/odd"
+mkdir "$odd"
+mkfifo "$odd/TERMS"
+ln -s /dev/null "$odd/NOTHING"
+printf '[licenses]\nallow = ["MIT"]\n' >"$odd/deny.toml"
+for file in TERMS NOTHING; do
+    cat >"$odd/$file.json" <<END
+{"packages":[{"name":"odd","version":"1.0.0","id":"odd 1.0.0","license":null,"license_file":"$file","manifest_path":"$odd/Cargo.toml"}],
+"workspace_members":["odd 1.0.0"],"workspace_root":"$odd",
+"resolve":{"nodes":[{"id":"odd 1.0.0","deps":[]}],"root":"odd 1.0.0"}}
+END
+    compare "odd-$file" "$odd" "'$program' --metadata-path $file.json --config deny.toml check licenses"
+done
+
+# Metadata that comes through a pipe, words that are refused, and a standard error that is closed.
+first="$top/examples/first"
+metadata "$first"
+words="--config deny.toml check licenses"
+compare piped "$first" "'$program' --metadata-path <(cat '$room/metadata.json') $words"
+compare no-utf8 "$first" "'$program' --metadata-path '$room/metadata.json' $words \$'\\xff'"
+compare eight-words "$first" "'$program' --metadata-path '$room/metadata.json' $words twice"
+compare no-folder "$room" "mkdir gone && cd gone && rmdir ../gone && '$program' --metadata-path '$room/metadata.json' $words"
+compare closed-stderr "$first" "'$program' --metadata-path '$room/metadata.json' $words 2>&-"
+[ "$failed" = 0 ] && echo "the examples come to what stands in examples/outputs"
+exit "$failed"
