@@ -53,9 +53,7 @@ impl CountedTree {
         if matches!(answer, Err(TreeError::Failed)) {
             self.failed = self.failed.saturating_add(1);
         }
-        for piece in [asked, " ", path, ": ", word, "\n"] {
-            self.asked.put(piece);
-        }
+        write!(self.asked, "{asked} {path}: {word}\n");
     }
 }
 

@@ -63,7 +63,7 @@ fn scanned_files(alloc: Global, entries: &[Entry]) -> Option<ListOf<ScannedFile>
 }
 
 /// What settles the licence: the field, or else the files or why they were not listed, with what is joined.
-fn settles<'a>(case: &Case<'a>, files: &'a [ScannedFile]) -> Settles<'a> {
+fn settles<'a>(case: &Case<'_>, files: &'a [ScannedFile], joined: Option<&'a str>) -> Settles<'a> {
     if case.word("settles") == "field" {
         return Settles::Field;
     }
@@ -71,10 +71,7 @@ fn settles<'a>(case: &Case<'a>, files: &'a [ScannedFile]) -> Settles<'a> {
         Some(error) => SeenFiles::Unlisted(error),
         None => SeenFiles::Listed(files),
     };
-    Settles::Files {
-        seen,
-        joined: value(case, "joined-names"),
-    }
+    Settles::Files { seen, joined }
 }
 
 /// The text of a crate's field; the empty text where there is none.
@@ -144,7 +141,14 @@ fn put_points(
 fn put_of(alloc: Global, case: &Case<'_>, krate: &Krate, key: &str, out: &mut Shown) -> Option<()> {
     let mut world = world_of(alloc, case)?;
     let scanned = scanned_files(alloc, case.own)?;
-    let settles = settles(case, scanned.items());
+    let names = value(case, "joined-names");
+    let text = Text::copy(alloc, names.unwrap_or("")).ok()?;
+    let joined = if names.is_some() {
+        Some(text.as_str())
+    } else {
+        None
+    };
+    let settles = settles(case, scanned.items(), joined);
     put_points(alloc, &mut world, krate, settles, key, out)
 }
 

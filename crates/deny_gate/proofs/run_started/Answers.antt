@@ -1,5 +1,6 @@
 use Rattle.std.proofs.Common.{refl, ap}
 use Rattle.catalog_core.specs.Store.{match_of}
+use Rattle.deny_run.specs.Words.{texts}
 use Rattle.deny_gate.proofs.run_started.Goals as goal
 
 pub returns-clause-ran : goal.returns-clause-ran
@@ -7,8 +8,8 @@ returns-clause-ran g c = record {
   given = _;
   lists = refl;
   match_of = ap match_of c.requires;
-  words_given = refl;
-  folder_given = refl;
+  words_given = ap texts c.deref.ensures.value;
+  folder_given = c.as_str.ensures;
   headline = c.run.ensures.headline;
   written = c.run.ensures.written;
   status = c.run.ensures.status;
