@@ -9,6 +9,7 @@ program=$(realpath "${1:-crates/cargo_deny/out/cargo_deny}")
 room=$(mktemp -d)
 trap 'rm -rf "$room"' EXIT
 failed=0
+column=0
 
 # The status and the streams of a run, with the folder as the examples have it.
 told() {
@@ -30,7 +31,8 @@ compare() {
     status=0
     (cd "$folder" && timeout 20 bash -c "$1" >"$room/out" 2>"$room/err") || status=$?
     told "$status" >"$room/told"
-    if ! diff -u "examples/outputs/$name" "$room/told"; then
+    sed "s|COLUMN|$column|" "examples/outputs/$name" >"$room/wanted"
+    if ! diff -u "$room/wanted" "$room/told"; then
         echo "$name: differs" >&2
         failed=1
     fi
@@ -60,6 +62,8 @@ for file in TERMS NOTHING; do
 "workspace_members":["odd 1.0.0"],"workspace_root":"$odd",
 "resolve":{"nodes":[{"id":"odd 1.0.0","deps":[]}],"root":"odd 1.0.0"}}
 END
+    # A list of licence files tells their paths, so a place in it moves with the folder's length.
+    column=$((25 + ${#odd} + 1 + ${#file}))
     compare "odd-$file" "$odd" "'$program' --metadata-path $file.json --config deny.toml check licenses"
 done
 
