@@ -1,15 +1,23 @@
 -- Files of crates, worked out by hand from the rules.
 use Rattle.std.proofs.Common.{◌≡◌, ℕ, true, false, cond, List, [], ◌∷◌, Some, None, codes, refl}
 use Rattle.std.specs.Path.{path_components, path_names}
-use Rattle.std.specs.Str.{bytes_eq}
+use Rattle.std.specs.Str.{bytes_eq, chars, is_utf8}
+use lib.Utf8.{encode}
 use Rattle.std.specs.Cmp.Lexicographic.{pointwise}
 use Rattle.deny_text.specs.Hash.{xxh32_of, mixed, of_groups, with_word, with_byte}
 use Rattle.deny_text.specs.Normal.{normal_of}
 use Rattle.deny_text.specs.Path.{components_of}
+use Rattle.tree_core.specs.Call as call
+use Rattle.tree_core.specs.Call.{Answered}
 use Rattle.tree_core.specs.Content.{Listed}
-use Rattle.reads_core.specs.Heard.{Heard, failed, absent, text, entries}
+use Rattle.tree_core.specs.declared.reads.ReadAnswer.{ReadAnswer}
+use Rattle.tree_core.specs.declared.reads.ReadAnswer.TheVariants as answer
+use Rattle.tree_core.specs.declared.reads.ReadKind.{ReadKind}
+use Rattle.tree_core.specs.declared.reads.ReadKind.TheVariants.{Listing, LicenseFile}
+use Rattle.reads_core.specs.Heard.{Heard, failed, absent, text, entries, file_heard}
+use Rattle.reads_core.specs.Read.{Read}
 use Rattle.pack_core.specs.NamedFile.{Named}
-use Rattle.pack_core.specs.Ears.{Ears, has_hash, holds, tried_of}
+use Rattle.pack_core.specs.Ears.{Ears, ears_by, has_hash, holds, tried_of}
 use Rattle.pack_core.specs.Pack.{found_of, reads_of, pack_of}
 
 -- ---- what is heard of some files, by their paths; of any other, nothing is there
@@ -136,3 +144,37 @@ first_spelling = refl
 first_spelling_in_order : pack_of (ears (entries []) ((codes "s/T", text (10 ∷ [])) ∷ [])) None (both_spellings ∷ []) ≡ codes "a" ∷ codes "s/T" ∷ []
 unfolding path_components path_names xxh32_of mixed of_groups with_word with_byte normal_of
 first_spelling_in_order = refl
+
+-- ---- by the answers to reads
+
+abbrev read_so : ReadKind → List ℕ → ReadAnswer → Answered → Read
+read_so kind path came answered = record { recorded = record { path = path; kind = kind; answer = came }; answer = answered }
+
+-- two names were listed; one file was read, and the read of the other failed
+abbrev were_read : List Read
+were_read =
+    read_so Listing (codes "/w") answer.Got (call.entries (file (codes "COPYING") ∷ file (codes "LICENSE") ∷ []))
+    ∷ read_so LicenseFile (codes "COPYING") (answer.Failed 0 1) call.failed
+    ∷ read_so LicenseFile (codes "LICENSE") answer.Got (call.bytes (10 ∷ []))
+    ∷ []
+
+listing_answered : (ears_by were_read).listing ≡ entries (file (codes "COPYING") ∷ file (codes "LICENSE") ∷ [])
+listing_answered = refl
+
+text_answered : (ears_by were_read).file (components_of (codes "LICENSE")) ≡ text (10 ∷ [])
+unfolding path_components path_names is_utf8 chars encode file_heard
+text_answered = refl
+
+failure_answered : (ears_by were_read).file (components_of (codes "COPYING")) ≡ failed 0 1
+unfolding path_components path_names
+failure_answered = refl
+
+-- what was not read is not there
+not_answered : (ears_by were_read).file (components_of (codes "NOTICE")) ≡ absent
+unfolding path_components path_names
+not_answered = refl
+
+-- these are the reads that their answers ask for
+asked_by_answers : reads_of (ears_by were_read) (Some (codes "x/LICENSE")) ((named (codes "LICENSE") of_feed ∷ []) ∷ []) ≡ codes "COPYING" ∷ codes "LICENSE" ∷ codes "x/LICENSE" ∷ []
+unfolding path_components path_names is_utf8 chars encode file_heard xxh32_of mixed of_groups with_word with_byte normal_of
+asked_by_answers = refl

@@ -1,12 +1,14 @@
 -- Crates and where their licences come from, worked out by hand from the rules.
-use Rattle.std.proofs.Common.{◌≡◌, ℕ, true, cond, List, [], ◌∷◌, Option, Some, None, codes, refl}
-use Rattle.std.specs.Path.{path_components, path_names, path_parent, rsplit_once, split_last_component, trim_trailing}
-use Rattle.std.specs.Str.{bytes_eq}
+use Rattle.std.proofs.Common.{◌≡◌, ℕ, true, cond, List, [], ◌∷◌, ◌++◌, Option, Some, None, codes, refl}
+use Rattle.std.specs.Path.{path_components, path_join, path_names, path_parent, rsplit_once, split_last_component, trim_trailing}
+use Rattle.std.specs.Str.{bytes_eq, chars, is_utf8}
+use lib.Utf8.{encode}
 use Rattle.std.specs.Cmp.Lexicographic.{pointwise}
 use Rattle.deny_text.specs.Hash.{xxh32_of, mixed, of_groups, with_word, with_byte}
 use Rattle.deny_text.specs.Normal.{normal_of}
 use Rattle.deny_text.specs.Path.{components_of}
 use Rattle.deny_text.specs.declared.span.Span.{Span}
+use Rattle.tree_core.specs.Call as call
 use Rattle.tree_core.specs.declared.reads.ReadAnswer.{ReadAnswer}
 use Rattle.tree_core.specs.declared.reads.ReadAnswer.TheVariants as answer
 use Rattle.tree_core.specs.declared.reads.ReadKind.TheVariants.{Listing, LicenseFile}
@@ -14,11 +16,13 @@ use Rattle.tree_core.specs.declared.reads.ReadRecord.{ReadRecord}
 use Rattle.spdx_core.specs.Grammar.{leaf}
 use Rattle.spdx_core.specs.Reading.{ExpressionView}
 use Rattle.graph_core.specs.Krate.{Record}
-use Rattle.reads_core.specs.Heard.{Heard, failed, absent, not_utf8, text, entries}
-use Rattle.pack_core.specs.Ears.{Ears}
+use Rattle.reads_core.specs.Answered.{call_of}
+use Rattle.reads_core.specs.Heard.{Heard, failed, absent, not_utf8, text, entries, file_heard}
+use Rattle.reads_core.specs.Read.{AreReads, Read, call_lost, calls_in, records_in}
+use Rattle.pack_core.specs.Ears.{Ears, ears_by}
 use Rattle.expression_core.specs.Scanned.{Scanner}
 use Rattle.priority_core.specs.Clarification.{Clarification}
-use Rattle.priority_core.specs.Priority.{Answer, user_override, priority_of, records_of}
+use Rattle.priority_core.specs.Priority.{Answer, folder_of, user_override, priority_of, records_of}
 use Rattle.priority_core.specs.Settled.{missing_of}
 
 -- no text is identified
@@ -122,3 +126,44 @@ another_hash = refl
 read_failed : missing_of (ears listed (codes "LICENSE") (failed 0 1)) (clarified (codes "LICENSE")) ≡ []
 unfolding path_components path_names
 read_failed = refl
+
+-- ---- by the answers to the crate's own reads
+
+-- no clarification and no field: the folder is listed, and the file that is found is read
+abbrev were_read : List Read
+were_read =
+    record { recorded = listing_read answer.Got; answer = call.entries ((codes "LICENSE", true) ∷ []) }
+    ∷ record { recorded = license_read answer.Got; answer = call.bytes (10 ∷ []) }
+    ∷ []
+
+own_reads : records_of scanner [] (krate None) (ears_by were_read) ≡ records_in were_read
+unfolding path_components path_names path_parent split_last_component trim_trailing rsplit_once is_utf8 chars encode file_heard
+own_reads = refl
+
+own_calls : calls_in (folder_of (krate None)) were_read
+    ≡ call_of call.list (codes "/w") (call.entries ((codes "LICENSE", true) ∷ [])) ∷ call_of call.read (codes "/w/LICENSE") (call.bytes (10 ∷ [])) ∷ []
+unfolding path_components path_names path_parent split_last_component trim_trailing rsplit_once path_join
+own_calls = refl
+
+-- the listing fails as the first call that does: its record has the counts 0 and 1, and no file is read
+abbrev unlisted : List Read
+unlisted = record { recorded = listing_read (answer.Failed 0 1); answer = call.failed } ∷ []
+
+unlisted_reads : records_of scanner [] (krate (Some (codes "LICENSE"))) (ears_by unlisted) ≡ records_in unlisted
+unfolding path_components path_names path_parent split_last_component trim_trailing rsplit_once
+unlisted_reads = refl
+
+unlisted_counts : AreReads 0 unlisted
+unlisted_counts = (record { heard = failed 0 1; hears = refl; tells = refl }, tt)
+
+-- memory is wanting in the call of the file: with it, the listing is all that would be read
+abbrev first_read : List Read
+first_read = record { recorded = listing_read answer.Got; answer = call.entries ((codes "LICENSE", true) ∷ []) } ∷ []
+
+next_read : records_of scanner [] (krate None) (ears_by first_read) ≡ records_in first_read ++ license_read answer.Absent ∷ []
+unfolding path_components path_names path_parent split_last_component trim_trailing rsplit_once
+next_read = refl
+
+lost_call : call_lost (folder_of (krate None)) (Some (license_read answer.Absent)) ≡ call_of call.read (codes "/w/LICENSE") call.no_memory ∷ []
+unfolding path_components path_names path_parent split_last_component trim_trailing rsplit_once path_join
+lost_call = refl
