@@ -1,5 +1,6 @@
 //! Lists that contracts see as lists.
 ghost use Rattle.std.specs.Prelude.{◌≡◌, List, [], ◌∷◌, ◌++◌, OnOk, OnErr};
+ghost use Rattle.std.specs.Cmp.Lexicographic.{pointwise, lists_equiv, lists_per};
 
 use crate::text::Text;
 use std::alloc::{AllocError, Global};
@@ -65,4 +66,18 @@ impl<T> From<Vec<T>> for ListOf<T> {
     fn from(inner: Vec<T>) -> ListOf<T> {
         ListOf { inner }
     }
+}
+
+impl<T: PartialEq> PartialEq for ListOf<T> {
+    ghost eq = { pointwise T.eq };
+
+    ghost laws = { lists_per T.laws };
+
+    fn eq(&self, other: &ListOf<T>) -> bool {
+        self.inner == other.inner
+    }
+}
+
+impl<T: Eq> Eq for ListOf<T> {
+    ghost laws = { lists_equiv T.Eq.laws };
 }

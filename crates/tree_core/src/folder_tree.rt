@@ -390,8 +390,9 @@ fn dangling(answer: io::Result<Metadata>) -> Result<bool, TreeError>
     ensures link { IfOk answer (λ found. (result ≡ Ok false) ↔ IsSymlink (file_type found)) }
     ensures no_file { result ≢ Ok true }
     ensures there { IfErr answer (λ error. result ≢ Ok false) }
-    ensures memory { (result ≡ Err TreeError.Memory)
-        → IfErr answer (λ error. error_kind error ≡ ErrorKind.OutOfMemory) }
+    ensures memory { IfErr answer
+        (λ error. (result ≡ Err TreeError.Memory) ↔ (error_kind error ≡ ErrorKind.OutOfMemory)) }
+    ensures told { IfOk answer (λ found. result ≢ Err TreeError.Memory) }
     ensures refusal { FailsOrLacksMemory result }
 {
     match answer {

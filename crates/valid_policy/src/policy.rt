@@ -33,6 +33,7 @@ pub struct ValidClarification {
 
 /// Licensees that a policy allows some crates.
 #[derive(Drop)]
+#[derive_where(PartialEq, Eq)]
 pub struct ValidException {
     /// The crates that it is for.
     pub spec: PackageSpec,
