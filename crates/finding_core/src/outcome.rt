@@ -8,7 +8,7 @@ ghost use Rattle.finding_core.specs.Findings.{field_place, files_by, joined_plac
 ghost use Rattle.finding_core.specs.Findings.{points_of, unlicensed_findings};
 ghost use Rattle.finding_core.specs.Cuts.{LabelLies, MarksLie, StandsAt, expression_text, labels_of};
 ghost use Rattle.finding_core.specs.Cuts.{text_under, texts_by};
-ghost use Rattle.finding_core.specs.Premises.{FaultsLie, IsPlaced};
+ghost use Rattle.finding_core.specs.Premises.{FaultsLie, Grows, IsPlaced};
 ghost use Rattle.finding_core.specs.Views.{case_view, seen_view};
 
 use crate::case::{Case, SeenFiles, Settles};
@@ -60,6 +60,7 @@ fn find_without_location(
         }) }
     ensures files { OnOk result (files.new ≡ files_by (case_view case.now) by_field files.old) }
     ensures marks { OnOk result (MarksLie (case_view case.now) by_field) }
+    ensures grows { Grows files.old files.new }
 {
     let seen = SeenFiles::Listed(&[]);
     let marks = synthesize(alloc, files, case.krate, case.folder, None, seen)?;
@@ -134,6 +135,7 @@ fn find_by_files(
         OnOk result (files.new ≡ files_by (case_view case.now) outcome files.old) }
     ensures marks { let outcome = by_files (seen_view seen.entry) (option_copied joined.entry) in
         OnOk result (MarksLie (case_view case.now) outcome) }
+    ensures grows { Grows files.old files.new }
 {
     let marks = synthesize(alloc, files, case.krate, case.folder, joined, seen)?;
     let place = field_place(case.location, &marks);
@@ -151,6 +153,7 @@ fn find_points(alloc: Global, files: &mut Files, case: &Case<'_>) -> Result<Poin
     ensures points { IfOk result (λ found. found ≡ points_of (case_view case.now) files.old) }
     ensures files { OnOk result (files.new ≡ spec.files_with (case_view case.now) files.old) }
     ensures marks { let case = case_view case.now in OnOk result (MarksLie case case.outcome) }
+    ensures grows { Grows files.old files.new }
 {
     match case.settles {
         Settles::Field => match case.location {
@@ -175,6 +178,8 @@ pub fn find(alloc: Global, files: &mut Files, case: &Case<'_>) -> Result<Points,
     // the expression has a place exactly where there is one, and the place cuts out its text
     ensures expression { let case = case_view case.now in IfOk result (λ found.
         StandsAt files.new found.expression (expression_text case case.outcome)) }
+    // the files that were there are as they were, also where memory is refused
+    ensures grows { Grows files.old files.new }
 {
     let points = find_points(alloc, files, case)?;
     Ok(points)

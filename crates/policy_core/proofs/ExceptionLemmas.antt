@@ -19,7 +19,7 @@ use Rattle.valid_policy.specs.declared.policy.ValidConfig.{ValidConfig}
 use Rattle.valid_policy.specs.declared.policy.ValidException.{ValidException}
 use Rattle.policy_core.specs.Exceptions.{exceptions_in, exceptions_kept, exceptions_told, with_exceptions, shape_told, syntax_told, itself_told, unread_told}
 use Rattle.policy_core.specs.ExceptionsText.{Answer, IsAnswered, ReadsBy, kept_of, told_of}
-use Rattle.policy_core.specs.Heard.{ExceptionsHeard, IsFileText, IsHeardAt, IsReadAt, IsReadOf, LoadState, LoadsExceptions, LoadsExceptionsBy, MayReadAt, MayReadOf, after_exceptions, fault_words, heard, the_policy, value_or_fault}
+use Rattle.policy_core.specs.Heard.{ExceptionsHeard, Grows, IsFileText, IsHeardAt, IsReadAt, IsReadOf, LoadState, LoadsExceptions, LoadsExceptionsBy, MayReadAt, MayReadOf, after_exceptions, fault_words, heard, the_policy, value_or_fault}
 use Rattle.policy_core.specs.declared.exceptions_text.NoExceptions.TheVariants.{Syntax, Shape, Memory}
 
 -- what is kept of a text is what is kept of the answer
@@ -207,3 +207,13 @@ may_at before after calls more None path hearing is = inr (is.2.answer, is.2.mad
 pub may_of : (before after : ℕ) (calls more : List Call) (files : List File) (path : Option (List ℕ)) (hearing : ExceptionsHeard) → IsReadOf before after calls more files path hearing → MayReadOf calls more files path
 may_of before after calls more files None hearing is = is.1
 may_of before after calls more files (Some path) hearing is = may_at before after calls more (id_at files path) path hearing is
+
+-- ---- files that are known
+
+-- no file was added
+pub grows_itself : (files new : List File) → new ≡ files → Grows files new
+grows_itself files new same = ([], same ∙ sym (append-nil files))
+
+-- files may be added to files that are the same
+pub grows_from : (files middle new : List File) → middle ≡ files → Grows middle new → Grows files new
+grows_from files middle new same grows = subst (λ (front : List File). Grows front new) same grows

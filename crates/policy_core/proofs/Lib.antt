@@ -1,5 +1,5 @@
 mod AnswerLemmas
-mod ExceptionLemmas
+pub mod ExceptionLemmas
 mod Examples
 mod LoadLemmas
 mod MapLemmas

@@ -126,3 +126,9 @@ pub record LoadsExceptionsBy (lists : CatalogLists) (before after : ℕ) (calls 
   pub is : IsReadOf before after calls more old.files path hearing
   pub text : IsTextHeard hearing
   pub loads : new ≡ after_exceptions lists hearing old
+
+-- ---- files
+
+-- The files are those that were there, and others behind them: a file that is known keeps its number and its text.
+abbrev pub Grows : List File → List File → Type 0
+Grows files new = (more : List File) × (new ≡ files ++ more)

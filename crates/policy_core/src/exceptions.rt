@@ -5,7 +5,7 @@ ghost use Rattle.diag_core.specs.File.{id_at};
 ghost use Rattle.tree_core.specs.Hearing.{KeepsTree, MadeSome};
 ghost use Rattle.policy_core.specs.ExceptionsText.{IsAnswered, kept_of, told_of};
 ghost use Rattle.policy_core.specs.Heard.{LoadState, LoadsExceptions, after_exceptions, heard as heard_at};
-ghost use Rattle.policy_core.specs.Heard.{IsFileText, LoadsExceptionsBy, MayReadOf};
+ghost use Rattle.policy_core.specs.Heard.{Grows, IsFileText, LoadsExceptionsBy, MayReadOf};
 ghost use Rattle.policy_core.specs.Places.{PointInto, PolicyStands};
 
 use crate::exceptions_text::{NoExceptions, read_exceptions};
@@ -59,6 +59,7 @@ fn take_text<C: Catalog>(
     ensures taken { let old : LoadState = record { policy = cfg.old; files = files.old; found = diags.old } in
         let new : LoadState = record { policy = cfg.new; files = files.new; found = diags.new } in
         OnOk result (new ≡ after_exceptions (C.lists catalog.now) (heard_at path (Ok text)) old) }
+    ensures grows { Grows files.old files.new }
 {
     let read = read_exceptions(alloc, text.as_str(), catalog);
     match files.add(path, text) {
@@ -88,6 +89,7 @@ fn load_other<T: Tree, C: Catalog>(
         (record { policy = cfg.new; files = files.new; found = diags.new })) }
     ensures no_memory { OnErr result
         (MayReadOf (T.trace tree.old) (T.trace tree.new) files.old (Some path)) }
+    ensures grows { Grows files.old files.new }
     ensures made { MadeSome (T.content tree.old) (T.content tree.new) (T.fault_count tree.old)
         (T.fault_count tree.new) (T.trace tree.old) (T.trace tree.new) }
     ensures kept { KeepsTree (T.content tree.old) (T.content tree.new)
@@ -105,7 +107,8 @@ fn load_other<T: Tree, C: Catalog>(
 /// policy is not read again.
 ///
 /// The path of the policy's file, and no other one, may be equal to that of the exceptions file, part by
-/// part. It is refused for want of memory alone; the three may have grown then.
+/// part. It is refused for want of memory alone; the three may have grown then. Files that are known keep
+/// their texts, whatever it answers.
 pub fn load_exceptions<T: Tree, C: Catalog>(
     alloc: Global,
     cfg: &mut ValidConfig,
@@ -128,6 +131,7 @@ pub fn load_exceptions<T: Tree, C: Catalog>(
         (record { policy = cfg.new; files = files.new; found = diags.new })) }
     ensures no_memory { OnErr result
         (MayReadOf (T.trace tree.old) (T.trace tree.new) files.old (Some path)) }
+    ensures grows { Grows files.old files.new }
     ensures made { MadeSome (T.content tree.old) (T.content tree.new) (T.fault_count tree.old)
         (T.fault_count tree.new) (T.trace tree.old) (T.trace tree.new) }
     ensures kept { KeepsTree (T.content tree.old) (T.content tree.new)

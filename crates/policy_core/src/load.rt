@@ -8,7 +8,7 @@ ghost use Rattle.validate_core.specs.Order.{PutsPolicyInOrder};
 ghost use Rattle.validate_core.specs.Valid.{valid_part, validation_findings};
 ghost use Rattle.policy_core.specs.Findings.{moved_told};
 ghost use Rattle.policy_core.specs.Findings.{targets_told, graph_keys_told, output_key_told};
-ghost use Rattle.policy_core.specs.Heard.{LoadsExceptions, LoadsExceptionsBy, MayReadOf};
+ghost use Rattle.policy_core.specs.Heard.{Grows, LoadsExceptions, LoadsExceptionsBy, MayReadOf};
 ghost use Rattle.policy_core.specs.Load.{LoadsPolicy, LoadsPolicyBy};
 ghost use Rattle.policy_core.specs.Places.{IsPlacedIn, PointInto, PolicyStands};
 ghost use Rattle.policy_core.specs.Policy.{absence_told};
@@ -114,6 +114,7 @@ fn load_further<T: Tree, C: Catalog>(
         (record { policy = cfg.new; files = files.new; found = diags.new })) }
     ensures no_memory { OnErr result
         (MayReadOf (T.trace tree.old) (T.trace tree.new) files.old path) }
+    ensures grows { Grows files.old files.new }
     ensures made { MadeSome (T.content tree.old) (T.content tree.new) (T.fault_count tree.old)
         (T.fault_count tree.new) (T.trace tree.old) (T.trace tree.new) }
     ensures kept { KeepsTree (T.content tree.old) (T.content tree.new)
@@ -164,7 +165,8 @@ fn tell_settings(
 ///
 /// The path of the policy's file, and no other one, may be equal to that of the exceptions file, part by
 /// part. Where the policy was read from the text of its file, each label points into its file, and so does each
-/// place that is kept. It is refused for want of memory alone; files and findings may have grown then.
+/// place that is kept. It is refused for want of memory alone; files and findings may have grown then. Files
+/// that are known keep their texts, whatever it answers.
 pub fn load_policy<T: Tree, C: Catalog>(
     alloc: Global,
     source: &PolicySource<'_>,
@@ -190,6 +192,7 @@ pub fn load_policy<T: Tree, C: Catalog>(
         (record { files = files.old; found = found.old }) (record { files = files.new; found = found.new })) }
     ensures no_memory { OnErr result
         (MayReadOf (T.trace tree.old) (T.trace tree.new) files.old exceptions_path) }
+    ensures grows { Grows files.old files.new }
     ensures made { MadeSome (T.content tree.old) (T.content tree.new) (T.fault_count tree.old)
         (T.fault_count tree.new) (T.trace tree.old) (T.trace tree.new) }
     ensures kept { KeepsTree (T.content tree.old) (T.content tree.new)

@@ -12,5 +12,5 @@ mod KeptLemmas
 mod KeepLemmas
 mod ChosenLemmas
 mod CountLemmas
-mod SelectedLemmas
+pub mod SelectedLemmas
 mod Examples

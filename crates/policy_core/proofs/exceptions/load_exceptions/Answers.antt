@@ -1,9 +1,9 @@
-use Rattle.std.proofs.Common.{◌≡◌, ◌∙◌, sym, ap, subst, true, [], ◌∷◌, ◌++◌, Some}
+use Rattle.std.proofs.Common.{◌≡◌, ◌∙◌, refl, sym, ap, subst, true, [], ◌∷◌, ◌++◌, Some}
 use Rattle.std.specs.Prelude.{is_some, OnOk}
 use Rattle.diag_core.specs.File.{id_at}
 use Rattle.policy_core.specs.Exceptions.{itself_told}
 use Rattle.policy_core.proofs.AnswerLemmas.{itself, itself_by, labels_of, on_err, places_of}
-use Rattle.policy_core.proofs.ExceptionLemmas.{unread_of}
+use Rattle.policy_core.proofs.ExceptionLemmas.{grows_itself, unread_of}
 use Rattle.policy_core.proofs.exceptions.load_exceptions.Goals as goal
 
 pub returns-then-is_some-clause-loads : goal.returns-then-is_some-clause-loads
@@ -49,3 +49,6 @@ returns-then-is_some-clause-read g c =
 pub returns-then-is_some-clause-no_memory : goal.returns-then-is_some-clause-no_memory
 returns-then-is_some-clause-no_memory g c =
     on_err c.tell_itself.result _ (unread_of (g.T.Tree.trace c.args.tree.now) c.args.files.now (Some c.args.path))
+
+pub returns-then-is_some-clause-grows : goal.returns-then-is_some-clause-grows
+returns-then-is_some-clause-grows g c = grows_itself c.args.files.now c.args.files.now refl

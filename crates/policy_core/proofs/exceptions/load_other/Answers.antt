@@ -1,13 +1,12 @@
-use Rattle.std.proofs.Common.{◌≡◌, subst, [], ◌∷◌, ◌++◌, Ok, Err}
+use Rattle.std.proofs.Common.{◌≡◌, refl, subst, [], ◌∷◌, ◌++◌, Ok, Err}
 use Rattle.std.specs.Prelude.{OnOk}
 use Rattle.std.specs.Option.{ForSome}
 use Rattle.heard_core.specs.Cause.{ReadCounts, heard_cause}
 use Rattle.heard_core.specs.Heard.{IsHeard, IsRead, read_of}
-use Rattle.tree_core.specs.Call.{no_memory}
 use Rattle.policy_core.specs.Exceptions.{unread_told}
 use Rattle.policy_core.specs.Heard.{fault_words}
 use Rattle.policy_core.proofs.AnswerLemmas.{fault_by, heard_text, heard_fault, on_err, text_by}
-use Rattle.policy_core.proofs.ExceptionLemmas.{one_read_of}
+use Rattle.policy_core.proofs.ExceptionLemmas.{grows_itself, one_read_of}
 use Rattle.policy_core.proofs.exceptions.load_other.Goals as goal
 
 pub returns-in-Ok-clause-loads : goal.returns-in-Ok-clause-loads
@@ -82,3 +81,9 @@ returns-in-Err-clause-no_memory g c =
     on_err c.tell_unread.result _
     (one_read_of _ _ c.args.files.now c.args.path c.in_ok-text.ensures.read.answer c.requires
     (subst (λ path. g.T.Tree.trace c.load.new.tree ≡ g.T.Tree.trace c.args.tree.now ++ read_of path c.in_ok-text.ensures.read.answer ∷ []) c.as_path.ensures c.in_ok-text.ensures.read.made))
+
+pub returns-in_err-text-clause-grows : goal.returns-in_err-text-clause-grows
+returns-in_err-text-clause-grows g c = grows_itself c.args.files.now c.args.files.now refl
+
+pub returns-in-Err-clause-grows : goal.returns-in-Err-clause-grows
+returns-in-Err-clause-grows g c = grows_itself c.args.files.now c.args.files.now refl

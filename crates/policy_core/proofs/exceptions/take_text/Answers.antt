@@ -1,6 +1,7 @@
 use Rattle.std.proofs.Common.{subst}
 use Rattle.policy_core.specs.ExceptionsText.{ReadsExceptions}
 use Rattle.policy_core.proofs.AnswerLemmas.{taken}
+use Rattle.policy_core.proofs.ExceptionLemmas.{grows_itself}
 use Rattle.policy_core.proofs.exceptions.take_text.Goals as goal
 
 pub returns-in-Ok-clause-taken : goal.returns-in-Ok-clause-taken
@@ -12,3 +13,9 @@ returns-in-Ok-clause-taken g c =
     c.keep_or_tell.ensures.answered c.keep_or_tell.ensures.kept c.keep_or_tell.ensures.told
     (subst (λ text. ReadsExceptions lists text read) c.as_str.ensures c.read_exceptions-read.ensures.reads)
     c.in-Ok.ensures.number c.in-Ok.ensures.ok
+
+pub returns-in-Ok-clause-grows : goal.returns-in-Ok-clause-grows
+returns-in-Ok-clause-grows g c = (_, c.in-Ok.ensures.ok)
+
+pub returns-in-Err-clause-grows : goal.returns-in-Err-clause-grows
+returns-in-Err-clause-grows g c = grows_itself c.args.files.now c.add.new.self c.in-Err.ensures.err

@@ -1,4 +1,4 @@
-use Rattle.std.proofs.Common.{◌∙◌, ap, subst}
+use Rattle.std.proofs.Common.{◌∙◌, ap, refl, subst}
 use Rattle.std.specs.Prelude.{unwrap_or}
 use Rattle.std.specs.Option.{option_copied}
 use Rattle.policy_config.specs.Config.{no_config}
@@ -7,7 +7,7 @@ use Rattle.policy_core.specs.Policy.{absence_told}
 use Rattle.policy_core.proofs.KeptLemmas.{load_places}
 use Rattle.policy_core.proofs.LoadLemmas.{loads_policy, may_read_of, reads_policy}
 use Rattle.policy_core.proofs.AnswerLemmas.{on_err}
-use Rattle.policy_core.proofs.ExceptionLemmas.{may_of, unread_of}
+use Rattle.policy_core.proofs.ExceptionLemmas.{grows_from, grows_itself, may_of, unread_of}
 use Rattle.policy_core.proofs.PlaceLemmas.{load_labels}
 use Rattle.policy_core.proofs.load.load_policy.Goals as goal
 
@@ -86,3 +86,21 @@ returns-in_err-tell_settings-clause-no_memory g c =
     on_err c.from_residual-in_err-tell_settings.result _
     (may_read_of _ _ _ _ c.args.exceptions_path c.in_ok-licenses.ensures.files
     (may_of _ _ _ _ _ c.args.exceptions_path c.in_ok-load_further.ensures.read.hearing c.in_ok-load_further.ensures.read.is))
+
+pub returns-clause-grows : goal.returns-clause-grows
+returns-clause-grows g c =
+    grows_from c.args.files.now c.validated.new.files c.load_further.new.files c.validated.ensures.files c.load_further.ensures.grows
+
+pub returns-in_err-tell_absence-clause-grows : goal.returns-in_err-tell_absence-clause-grows
+returns-in_err-tell_absence-clause-grows g c = grows_itself c.args.files.now c.args.files.now refl
+
+pub returns-in_err-licenses-clause-grows : goal.returns-in_err-licenses-clause-grows
+returns-in_err-licenses-clause-grows g c = grows_itself c.args.files.now c.validated.new.files c.validated.ensures.files
+
+pub returns-in_err-load_further-clause-grows : goal.returns-in_err-load_further-clause-grows
+returns-in_err-load_further-clause-grows g c =
+    grows_from c.args.files.now c.validated.new.files c.load_further.new.files c.validated.ensures.files c.load_further.ensures.grows
+
+pub returns-in_err-tell_settings-clause-grows : goal.returns-in_err-tell_settings-clause-grows
+returns-in_err-tell_settings-clause-grows g c =
+    grows_from c.args.files.now c.validated.new.files c.load_further.new.files c.validated.ensures.files c.load_further.ensures.grows
