@@ -5,6 +5,7 @@ use Rattle.std.proofs.lemmas.Iterator.Adapters.{position_from-zero}
 use Rattle.std.specs.Option.{ForSome, option_and_then, option_map_or}
 use Rattle.std.specs.Ordering.{eq_by_cmp}
 use Rattle.deny_text.specs.Path.{path_order}
+use Rattle.tree_core.specs.Call.{Call}
 use Rattle.tree_core.specs.Content.{Content, node_at}
 use Rattle.tree_core.specs.Hearing.{policy, FailedRead, Hearing, IsHearing, read_failed, stands}
 use Rattle.tree_core.proofs.HearingLemmas.{heard-failed}
@@ -15,7 +16,7 @@ use Rattle.heard_core.specs.declared.fault.ReadFault.{ReadFault}
 use Rattle.heard_core.specs.declared.fault.ReadFault.TheVariants.{Failed, Absent, Folder, NotUtf8}
 use Rattle.policy_text.specs.Text.{text_told}
 use Rattle.policy_text.specs.declared.text.ConfigText.{ConfigText}
-use Rattle.policy_core.specs.Heard.{ExceptionsHeard, no_path, the_policy, heard, file_heard, read_of, IsHeardOf}
+use Rattle.policy_core.specs.Heard.{ExceptionsHeard, no_path, the_policy, heard, file_heard, read_of, IsHeardOf, IsReadAt, IsReadOf}
 use Rattle.policy_core.specs.Heard as theirs
 use Rattle.load_core.specs.Heard.{LoadHeard, HearsFiles, IsHeardAt, exceptions_at, exceptions_heard, heard_at, load_heard}
 use Rattle.load_core.specs.Load.{policy_file, with_policy}
@@ -235,7 +236,7 @@ pub record HeardBoth (paths : PolicyPaths) (content : Option Content) (begun aft
   pub hears : ForSome content (HearsFiles paths begun after heard)
 
 -- a tree that tells nothing
-text_of : ExceptionsHeard → Result (List ℕ) ReadFault
+pub text_of : ExceptionsHeard → Result (List ℕ) ReadFault
 text_of no_path = Err Absent
 text_of (the_policy path) = Err Absent
 text_of (heard path found) = found
@@ -249,6 +250,17 @@ untold known (Some path) mid after exceptions further =
       | Some id ↦ λ (same, still). sym same
       | None ↦ λ (found, same, heard_so, counts). ap (λ one. heard path (text_of one)) same ∙ sym same
     ] further
+
+-- by the answer of its read the same is heard
+pub read_so : (known : List File) (path : Option (List ℕ)) (before after : ℕ) (calls more : List Call) (exceptions : ExceptionsHeard) → IsReadOf before after calls more known path exceptions
+    → exceptions_heard known path (text_of exceptions) ≡ exceptions
+unfolding text_of
+read_so known None before after calls more exceptions (same, still) = sym same
+read_so known (Some path) before after calls more exceptions reads =
+    elim (id_at known path) as (λ found. IsReadAt before after calls more found path exceptions → exceptions_at found path (text_of exceptions) ≡ exceptions) [
+      | Some id ↦ λ (same, still). sym same
+      | None ↦ λ (found, same, read). ap (λ one. heard path (text_of one)) same ∙ sym same
+    ] reads
 
 pub both_heard : (paths : PolicyPaths) (content : Option Content) (begun before mid after : ℕ) (told : Result (List ℕ) ReadFault) (text : ConfigText) (old : List File) (exceptions : ExceptionsHeard)
     → begun ≤ mid → mid ≤ after → text_told told ≡ Ok text → option_and_then (id_at old) paths.exceptions ≡ None

@@ -1,3 +1,5 @@
+mod CallLemmas
+mod Examples
 mod HeardLemmas
 mod LoadLemmas
 mod PlaceLemmas

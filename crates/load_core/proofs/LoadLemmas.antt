@@ -45,7 +45,7 @@ handed_on (Ok policy) error is = absurd is
 handed_on (Err own) error is = ap Err is
 
 -- the policy's file was refused
-refused_comes : (context : LogContext) (old : List File) (held : Option (List ℕ)) (refused : ConfigError)
+pub refused_comes : (context : LogContext) (old : List File) (held : Option (List ℕ)) (refused : ConfigError)
     → Comes (record { files = []; findings = []; answer = Err (error_of_config refused) }) context old old held held (Err (error_of_config refused))
 refused_comes context old held config.Memory = record { answers = tt; files = tt; prints = front_of_any held _ }
 refused_comes context old held (config.ConfigRead fault) = record { answers = refl; files = sym (append-nil old); prints = gained_nothing held [] refl }

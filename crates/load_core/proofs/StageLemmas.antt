@@ -20,8 +20,8 @@ use Rattle.policy_text.specs.declared.error.ConfigError.{ConfigError}
 use Rattle.policy_text.specs.declared.error.ConfigError.TheVariants as config
 use Rattle.policy_text.specs.declared.text.ConfigText.{ConfigText}
 use Rattle.policy_core.specs.Exceptions.{shape_told}
-use Rattle.policy_core.specs.Heard.{no_path, file_heard, read_of, IsHeardOf}
-use Rattle.policy_core.specs.Load.{LoadsPolicy, numbers_at}
+use Rattle.policy_core.specs.Heard.{ExceptionsHeard, no_path, file_heard, read_of, IsHeardOf}
+use Rattle.policy_core.specs.Load.{Keeps, LoadsPolicy, numbers_at}
 use Rattle.policy_core.specs.Policy.{PolicyFound, absence_told, policy_found}
 use Rattle.policy_core.specs.declared.load.LoadedPolicy.{LoadedPolicy}
 use Rattle.load_core.specs.Answer.{Answers, Comes, Ends, GainsFiles, IsOfText, IsPolicyOf, IsUnprinted, LoadsRoot, LoadsText, Prints, WhereRead, WriteCounts}
@@ -107,28 +107,33 @@ answered it policy (Err NotCarried) valid ends = refuses it NotCarried ends
 answered it policy (Err (ConfigInvalid found)) valid ends = refuses it (ConfigInvalid found) ends
 answered it policy (Err (WriteFault before after)) valid ends = tt
 
--- what was loaded, told and printed comes of the policy
+-- what was kept, told and printed comes of the policy
+pub root_comes : (lists : CatalogLists) (context : LogContext) (file : ℕ) (absence : List Diagnostic) (root : RootConfig) (exceptions : ExceptionsHeard)
+    (old new : List File) (found : List Diagnostic) (before behind : Option (List ℕ)) (policy : LoadedPolicy) (result : Result LoadedPolicy LoadError)
+    → Keeps (policy_found lists (numbers_at file old) absence (read_of exceptions) root) exceptions (record { files = old; found = [] }) (record { files = new; found = found }) policy
+    → Ends policy found result → Prints before behind (printed_findings context new found) result
+    → Comes (rooted_by exceptions (policy_found lists (numbers_at file old) absence (read_of exceptions) root)) context old new before behind result
+root_comes lists context file absence root exceptions old new found before behind policy result keeps ends prints =
+    let it = policy_found lists (numbers_at file old) absence (read_of exceptions) root in
+    record {
+      answers = answered it policy result (record { licenses = keeps.licenses; graph = keeps.graph; output = keeps.output })
+          (subst (λ one. Ends policy one result) keeps.found ends);
+      files = gains_all old new (file_heard exceptions) result keeps.files;
+      prints =
+          subst (λ files. Prints before behind (printed_findings context files it.findings) result) keeps.files
+          (subst (λ one. Prints before behind (printed_findings context new one) result) keeps.found prints);
+    }
+
 pub loads_root : (lists : CatalogLists) (context : LogContext) (file : ℕ) (absence : List Diagnostic) (root : RootConfig) (path : Option (List ℕ))
     (content : Option Content) (mid after : ℕ) (old new : List File) (found : List Diagnostic) (before behind : Option (List ℕ)) (policy : LoadedPolicy) (result : Result LoadedPolicy LoadError)
     → LoadsPolicy lists content mid after file absence root path (record { files = old; found = [] }) (record { files = new; found = found }) policy
     → Ends policy found result → Prints before behind (printed_findings context new found) result
     → LoadsRoot lists context file absence root path content mid after old new before behind result
-loads_root lists context file absence root path content mid after old new found before behind policy result loads ends prints =
-    let exceptions = loads.hearing in
-    let it = policy_found lists (numbers_at file old) absence (read_of exceptions) root in
-    let keeps = loads.keeps in
-    record {
-      exceptions = exceptions;
-      hears = loads.is;
-      comes = record {
-        answers = answered it policy result (record { licenses = keeps.licenses; graph = keeps.graph; output = keeps.output })
-            (subst (λ one. Ends policy one result) keeps.found ends);
-        files = gains_all old new (file_heard exceptions) result keeps.files;
-        prints =
-            subst (λ files. Prints before behind (printed_findings context files it.findings) result) keeps.files
-            (subst (λ one. Prints before behind (printed_findings context new one) result) keeps.found prints);
-      };
-    }
+loads_root lists context file absence root path content mid after old new found before behind policy result loads ends prints = record {
+  exceptions = loads.hearing;
+  hears = loads.is;
+  comes = root_comes lists context file absence root loads.hearing old new found before behind policy result loads.keeps ends prints;
+}
 
 -- ---- behind the policy's file
 
@@ -153,6 +158,25 @@ comes_behind it context old new file before behind result comes = record {
   prints = subst (λ files. Prints before behind (printed_findings context files it.findings) result) (append_assoc old (file ∷ []) it.files) comes.prints;
 }
 
+module _ (lists : CatalogLists) (context : LogContext) (paths : PolicyPaths) (text : ConfigText) (old new : List File) (before behind : Option (List ℕ)) where
+  -- what comes of a policy that has its shape
+  pub root_text_comes : (root : RootConfig) (exceptions : ExceptionsHeard) (result : Result LoadedPolicy LoadError) → config_told lists text.text ≡ Ok root
+      → Comes (rooted_by exceptions (policy_found lists (numbers_at (length old) (with_policy old paths text)) (absence_told text.is_there paths.policy) (read_of exceptions) root))
+      context (with_policy old paths text) new before behind result
+      → Comes (load_by_config lists old paths exceptions text (config_told lists text.text)) context old new before behind result
+  root_text_comes root exceptions result told comes =
+      subst (λ one. Comes (load_by_config lists old paths exceptions text one) context old new before behind result) (sym told)
+      (comes_behind (rooted_by exceptions (policy_found lists (numbers_at (length old) (with_policy old paths text)) (absence_told text.is_there paths.policy) (read_of exceptions) root))
+      context old new (policy_file paths.policy text.text) before behind result comes)
+
+  -- what comes of the refusal of a policy's text
+  pub refused_text_comes : (refused : ConfigError) (exceptions : ExceptionsHeard) (result : Result LoadedPolicy LoadError) → config_told lists text.text ≡ Err refused
+      → Comes (refused_by (length old) refused) context (with_policy old paths text) new before behind result
+      → Comes (load_by_config lists old paths exceptions text (config_told lists text.text)) context old new before behind result
+  refused_text_comes refused exceptions result told comes =
+      subst (λ one. Comes (load_by_config lists old paths exceptions text one) context old new before behind result) (sym told)
+      (comes_behind (refused_by (length old) refused) context old new (policy_file paths.policy text.text) before behind result comes)
+
 module _ (lists : CatalogLists) (context : LogContext) (paths : PolicyPaths) (text : ConfigText) (content : Option Content) (mid after : ℕ)
     (old new : List File) (before behind : Option (List ℕ)) where
   root_text : (root : RootConfig) (result : Result LoadedPolicy LoadError) → config_told lists text.text ≡ Ok root
@@ -161,10 +185,7 @@ module _ (lists : CatalogLists) (context : LogContext) (paths : PolicyPaths) (te
   root_text root result told loads = record {
     exceptions = loads.exceptions;
     hears = subst (λ one. WhereRead one (IsHeardOf content mid after (with_policy old paths text) paths.exceptions loads.exceptions)) (sym told) loads.hears;
-    comes =
-        subst (λ one. Comes (load_by_config lists old paths loads.exceptions text one) context old new before behind result) (sym told)
-        (comes_behind (rooted_by loads.exceptions (policy_found lists (numbers_at (length old) (with_policy old paths text)) (absence_told text.is_there paths.policy) (read_of loads.exceptions) root))
-        context old new (policy_file paths.policy text.text) before behind result loads.comes);
+    comes = root_text_comes lists context paths text old new before behind root loads.exceptions result told loads.comes;
   }
 
   -- a policy that has its shape
@@ -181,9 +202,7 @@ module _ (lists : CatalogLists) (context : LogContext) (paths : PolicyPaths) (te
   refused_text refused error told comes = record {
     exceptions = no_path;
     hears = subst (λ one. WhereRead one (IsHeardOf content mid after (with_policy old paths text) paths.exceptions no_path)) (sym told) tt;
-    comes =
-        subst (λ one. Comes (load_by_config lists old paths no_path text one) context old new before behind (Err error)) (sym told)
-        (comes_behind (refused_by (length old) refused) context old new (policy_file paths.policy text.text) before behind (Err error) comes);
+    comes = refused_text_comes lists context paths text old new before behind refused no_path (Err error) told comes;
   }
 
   -- the refusal of a policy's text

@@ -1,27 +1,31 @@
 -- What a call that loads a policy answers and leaves.
-use Rattle.std.specs.Prelude.{◌≡◌, ℕ, true, false, List, [], ◌++◌, Option, Result, Ok, Err, ⊤}
+use Rattle.std.specs.Prelude.{◌≡◌, ◌⊎◌, ℕ, true, false, List, [], ◌++◌, Option, Result, Ok, Err, ⊤}
 use Rattle.std.specs.List.{list_any}
 use Rattle.std.specs.Option.{ForSome}
 use Rattle.catalog_core.specs.Catalog.{CatalogLists}
 use Rattle.diag_core.specs.File.{File}
 use Rattle.diag_core.specs.declared.diagnostic.Diagnostic.{Diagnostic}
 use Rattle.heard_core.specs.Cause.{Cause, no_memory, told, failed_read, refused_write}
+use Rattle.heard_core.specs.declared.fault.ReadFault.{ReadFault}
 use Rattle.heard_core.specs.declared.fault.ReadFault.TheVariants.{Failed}
 use Rattle.print_core.specs.declared.context.LogContext.{LogContext}
 use Rattle.print_core.specs.declared.printer.PrintError.{PrintError}
 use Rattle.print_core.specs.declared.printer.PrintError.TheVariants as print
+use Rattle.tree_core.specs.Call.{Call}
 use Rattle.tree_core.specs.Content.{Content}
 use Rattle.tree_core.specs.Faults.{Rose, Gained, GainedPrefix}
-use Rattle.policy_core.specs.Heard.{ExceptionsHeard, IsHeardOf, file_heard, read_of}
+use Rattle.tree_core.specs.Trace.{faults_after}
+use Rattle.policy_core.specs.Heard.{ExceptionsHeard, IsHeardOf, IsReadOf, MayReadOf, file_heard, read_of}
 use Rattle.policy_core.specs.Load.{numbers_at}
 use Rattle.policy_core.specs.Policy.{PolicyFound, policy_found}
 use Rattle.policy_config.specs.declared.root.RootConfig.{RootConfig}
 use Rattle.policy_text.specs.Config.{config_told}
+use Rattle.policy_text.specs.Text.{text_told}
 use Rattle.policy_text.specs.declared.error.ConfigError.{ConfigError}
 use Rattle.policy_text.specs.declared.text.ConfigText.{ConfigText}
 use Rattle.policy_core.specs.declared.load.LoadedPolicy.{LoadedPolicy}
 use Rattle.validate_core.specs.Order.{PutsPolicyInOrder}
-use Rattle.load_core.specs.Heard.{LoadHeard, HearsFiles}
+use Rattle.load_core.specs.Heard.{LoadHeard, HearsFiles, IsPolicyRead, MayReadPolicy, exceptions_heard}
 use Rattle.load_core.specs.Load.{Loaded, error_of_config, load_by_config, load_of, refusal_findings, unless_error, with_policy}
 use Rattle.load_core.specs.Print.{is_error, printed_findings}
 use Rattle.load_core.specs.declared.error.LoadError.{LoadError}
@@ -132,3 +136,66 @@ Ends policy found (Err error) = (error ≡ ConfigInvalid found) × (list_any is_
 abbrev pub error_of_print : PrintError → LoadError
 error_of_print (print.WriteFault before after) = WriteFault before after
 error_of_print print.Memory = Memory
+
+-- ---- by what a tree answered, whatever it tells of its content
+
+-- Where the text is that of a policy, a value of its shape whose specs are carried, one call is made, the read of the exceptions file,
+-- and its answer lets hear this; but none where there is no path, or where a known file has it. Where the text is refused, none is made.
+abbrev pub ReadsFurther : ℕ → ℕ → List Call → List Call → List File → Option (List ℕ) → ExceptionsHeard → Result RootConfig ConfigError → Type 0
+ReadsFurther mid after calls more files path exceptions (Ok root) = IsReadOf mid after calls more files path exceptions
+ReadsFurther mid after calls more files path exceptions (Err refused) = more ≡ calls
+
+-- the same behind the read of the policy, where a text was heard of it; else no further call is made
+abbrev pub ReadsBehind : CatalogLists → List File → PolicyPaths → ℕ → ℕ → List Call → List Call → Result (List ℕ) ReadFault → Result ConfigText ConfigError → Type 0
+ReadsBehind lists old paths mid after calls more exceptions (Err refused) = more ≡ calls
+ReadsBehind lists old paths mid after calls more exceptions (Ok text) =
+    ReadsFurther mid after calls more (with_policy old paths text) paths.exceptions
+    (exceptions_heard (with_policy old paths text) paths.exceptions exceptions) (config_told lists text.text)
+
+-- where memory was wanting, that call was made, whatever was answered, or none
+abbrev pub MayReadFurther : List Call → List Call → List File → Option (List ℕ) → Result RootConfig ConfigError → Type 0
+MayReadFurther calls more files path (Ok root) = MayReadOf calls more files path
+MayReadFurther calls more files path (Err refused) = more ≡ calls
+
+-- The load of a policy: its file was read, then the exceptions file where that was due, and no other call was made; what the answers
+-- let hear, and what came of that. The policy's read is told from the run's start on, the exceptions file's from its own. Behind the
+-- policy's read the tree's count of faults is the one behind that call.
+pub record LoadsBy (lists : CatalogLists) (context : LogContext) (paths : PolicyPaths) (begun first after : ℕ) (calls more : List Call)
+    (old new : List File) (before behind : Option (List ℕ)) (result : Result LoadedPolicy LoadError) : Type 0 where
+  pub heard : LoadHeard
+  pub mid : ℕ
+  pub between : List Call
+  pub policy : IsPolicyRead begun mid calls between paths.policy heard.policy
+  pub counts : (read : List Call) → between ≡ calls ++ read → mid ≡ faults_after first read
+  pub reads : ReadsBehind lists old paths mid after between more heard.exceptions (text_told heard.policy)
+  pub comes : Comes (load_of lists old paths heard) context old new before behind result
+
+-- the same where the policy's text was heard
+pub record LoadsTextBy (lists : CatalogLists) (context : LogContext) (paths : PolicyPaths) (text : ConfigText)
+    (mid after : ℕ) (calls more : List Call) (old new : List File) (before behind : Option (List ℕ)) (result : Result LoadedPolicy LoadError) : Type 0 where
+  pub exceptions : ExceptionsHeard
+  pub reads : ReadsFurther mid after calls more (with_policy old paths text) paths.exceptions exceptions (config_told lists text.text)
+  pub comes : Comes (load_by_config lists old paths exceptions text (config_told lists text.text)) context old new before behind result
+
+-- the same where it has its shape, and its file is the one of that number
+pub record LoadsRootBy (lists : CatalogLists) (context : LogContext) (file : ℕ) (absence : List Diagnostic) (root : RootConfig) (path : Option (List ℕ))
+    (mid after : ℕ) (calls more : List Call) (old new : List File) (before behind : Option (List ℕ)) (result : Result LoadedPolicy LoadError) : Type 0 where
+  pub exceptions : ExceptionsHeard
+  pub reads : IsReadOf mid after calls more old path exceptions
+  pub comes : Comes (rooted_by exceptions (policy_found lists (numbers_at file old) absence (read_of exceptions) root)) context old new before behind result
+
+-- memory was wanting behind the policy's text, which was heard: the exceptions file may have been read where that was due
+pub record MayReadBoth (lists : CatalogLists) (begun : ℕ) (calls more : List Call) (old : List File) (paths : PolicyPaths) : Type 0 where
+  pub heard : Result (List ℕ) ReadFault
+  pub mid : ℕ
+  pub between : List Call
+  pub policy : IsPolicyRead begun mid calls between paths.policy heard
+  pub text : ConfigText
+  pub is : text_told heard ≡ Ok text
+  pub further : MayReadFurther between more (with_policy old paths text) paths.exceptions (config_told lists text.text)
+
+-- memory was wanting, nothing was printed, and the calls are a front of those of a load
+pub record IsCutLoad (lists : CatalogLists) (begun : ℕ) (calls more : List Call) (old : List File) (paths : PolicyPaths)
+    (before behind : Option (List ℕ)) (result : Result LoadedPolicy LoadError) : Type 0 where
+  pub unprinted : IsUnprinted before behind result
+  pub calls_are : MayReadPolicy calls more paths.policy ⊎ MayReadBoth lists begun calls more old paths

@@ -1,9 +1,10 @@
 -- What is heard of the files of a policy.
-use Rattle.std.specs.Prelude.{◌≡◌, ℕ, List, Option, Some, None, Result, Err}
+use Rattle.std.specs.Prelude.{◌≡◌, ◌⊎◌, ℕ, List, [], ◌∷◌, ◌++◌, Option, Some, None, Result, Err}
+use Rattle.tree_core.specs.Call.{Answered, Call}
 use Rattle.tree_core.specs.Content.{Content}
 use Rattle.tree_core.specs.Hearing.{Hearing, policy, IsHearing}
 use Rattle.diag_core.specs.File.{File, id_at}
-use Rattle.heard_core.specs.Heard.{text_heard, IsHeard}
+use Rattle.heard_core.specs.Heard.{text_heard, IsHeard, IsRead, read_of}
 use Rattle.heard_core.specs.declared.fault.ReadFault.{ReadFault}
 use Rattle.heard_core.specs.declared.fault.ReadFault.TheVariants.{Absent}
 use Rattle.policy_core.specs.Heard.{ExceptionsHeard, no_path, the_policy, heard}
@@ -47,3 +48,16 @@ pub record HearsFiles (paths : PolicyPaths) (begun after : ℕ) (told : LoadHear
 abbrev pub IsHeardAt : ℕ → Option (List ℕ) → ℕ → ℕ → Result (List ℕ) ReadFault → Content → Type 0
 IsHeardAt begun None before after told content = told ≡ Err Absent
 IsHeardAt begun (Some path) before after told content = IsHeard content begun path before after told
+
+-- ---- by what a tree answered, whatever it tells of its content
+
+-- One call is made, the read of the policy's file, and its answer lets hear this. Where there is no path none is made, and the policy
+-- is absent.
+abbrev pub IsPolicyRead : ℕ → ℕ → List Call → List Call → Option (List ℕ) → Result (List ℕ) ReadFault → Type 0
+IsPolicyRead begun after old new None told = (told ≡ Err Absent) × (new ≡ old)
+IsPolicyRead begun after old new (Some path) told = IsRead begun after old new path told
+
+-- where memory was wanting, that call was made, whatever was answered, or none
+abbrev pub MayReadPolicy : List Call → List Call → Option (List ℕ) → Type 0
+MayReadPolicy old new None = new ≡ old
+MayReadPolicy old new (Some path) = (new ≡ old) ⊎ ((answer : Answered) × (new ≡ old ++ read_of path answer ∷ []))

@@ -3,19 +3,20 @@ ghost use Rattle.std.specs.Prelude.{◌≡◌, ◌≢◌, ◌≤◌, ◌⊎◌, 
 ghost use Rattle.std.specs.Prelude.{IfOk, IfErr, OnOk, OnErr};
 ghost use Rattle.std.specs.Option.{ForSome, option_and_then, option_copied};
 ghost use Rattle.tree_core.specs.Faults.{Gained, GainedPrefix};
-ghost use Rattle.tree_core.specs.Hearing.{KeepsTree};
+ghost use Rattle.tree_core.specs.Hearing.{KeepsTree, MadeSome};
 ghost use Rattle.heard_core.specs.Cause.{ReadCounts, heard_cause};
 ghost use Rattle.heard_core.specs.declared.fault.ReadFault.{ReadFault};
 ghost use Rattle.diag_core.specs.File.{id_at};
 ghost use Rattle.policy_text.specs.Config as config;
 ghost use Rattle.policy_core.specs.Exceptions.{shape_told};
-ghost use Rattle.policy_core.specs.Heard.{IsFileText};
+ghost use Rattle.policy_core.specs.Heard.{Grows, IsFileText, MayReadOf};
 ghost use Rattle.policy_core.specs.Places.{IsPlacedIn, PolicyStands};
 ghost use Rattle.policy_core.specs.Policy.{absence_told};
 ghost use Rattle.load_core.specs.Answer.{Comes, Ends, IsOfText, IsUnprinted, Loads, LoadsRoot, LoadsText};
 ghost use Rattle.load_core.specs.Answer.{Prints, WriteCounts, load_cause, refused_by};
-ghost use Rattle.load_core.specs.Heard.{IsHeardAt};
-ghost use Rattle.load_core.specs.Load.{policy_file, policy_name, refusal_findings};
+ghost use Rattle.load_core.specs.Answer.{IsCutLoad, LoadsBy, LoadsRootBy, LoadsTextBy, MayReadFurther};
+ghost use Rattle.load_core.specs.Heard.{IsHeardAt, IsPolicyRead, MayReadPolicy};
+ghost use Rattle.load_core.specs.Load.{policy_file, policy_name, refusal_findings, with_policy};
 ghost use Rattle.load_core.specs.Print.{AreInside, HasReasonSince, printed_findings};
 
 use crate::error::LoadError;
@@ -48,6 +49,11 @@ fn hear<T: Tree>(
     requires { begun ≤ T.fault_count tree.old }
     ensures answer { ForSome (T.content tree.old) (λ c. IfOk result (λ heard.
         IsHeardAt begun path.now (T.fault_count tree.old) (T.fault_count tree.new) heard c)) }
+    ensures read { IfOk result (IsPolicyRead begun (T.fault_count tree.new)
+        (T.trace tree.old) (T.trace tree.new) path.now) }
+    ensures no_memory { OnErr result (MayReadPolicy (T.trace tree.old) (T.trace tree.new) path.now) }
+    ensures made { MadeSome (T.content tree.old) (T.content tree.new) (T.fault_count tree.old)
+        (T.fault_count tree.new) (T.trace tree.old) (T.trace tree.new) }
     ensures kept { KeepsTree (T.content tree.old) (T.content tree.new)
         (T.fault_count tree.old) (T.fault_count tree.new) }
     ensures counts { IfOk result (λ heard.
@@ -79,6 +85,7 @@ fn add_policy(
     requires { id_at files.old (policy_name path.now) ≡ None }
     ensures number { IfOk result (λ id. id ≡ length files.old) }
     ensures ok { OnOk result (files.new ≡ files.old ++ policy_file path.now text ∷ []) }
+    ensures err { OnErr result (files.new ≡ files.old) }
 {
     let name = name_of(alloc, path)?;
     match files.add(name, text) {
@@ -196,6 +203,14 @@ fn load_root<T: Tree, S: Sink, C: Catalog>(
         paths.exceptions (T.content tree.old) (T.fault_count tree.old) (T.fault_count tree.new)
         files.old files.new (S.written sink.old) (S.written sink.new) result }
     ensures places { IfOk result (λ loaded. PolicyStands files.new loaded.licenses) }
+    ensures reads { (IsUnprinted (S.written sink.old) (S.written sink.new) result
+        × MayReadOf (T.trace tree.old) (T.trace tree.new) files.old paths.exceptions)
+        ⊎ LoadsRootBy (C.lists catalog.now) context file_id (absence_told is_there paths.policy) root
+        paths.exceptions (T.fault_count tree.old) (T.fault_count tree.new) (T.trace tree.old) (T.trace tree.new)
+        files.old files.new (S.written sink.old) (S.written sink.new) result }
+    ensures made { MadeSome (T.content tree.old) (T.content tree.new) (T.fault_count tree.old)
+        (T.fault_count tree.new) (T.trace tree.old) (T.trace tree.new) }
+    ensures grows { Grows files.old files.new }
     ensures kept { KeepsTree (T.content tree.old) (T.content tree.new)
         (T.fault_count tree.old) (T.fault_count tree.new) }
     ensures of_text { IfErr result IsOfText }
@@ -245,6 +260,15 @@ fn load_text<T: Tree, S: Sink, C: Catalog>(
         (T.fault_count tree.old) (T.fault_count tree.new)
         files.old files.new (S.written sink.old) (S.written sink.new) result }
     ensures places { IfOk result (λ loaded. PolicyStands files.new loaded.licenses) }
+    ensures reads { (IsUnprinted (S.written sink.old) (S.written sink.new) result
+        × MayReadFurther (T.trace tree.old) (T.trace tree.new) (with_policy files.old paths found)
+        paths.exceptions (config.config_told (C.lists catalog.now) found.text))
+        ⊎ LoadsTextBy (C.lists catalog.now) context paths found (T.fault_count tree.old)
+        (T.fault_count tree.new) (T.trace tree.old) (T.trace tree.new)
+        files.old files.new (S.written sink.old) (S.written sink.new) result }
+    ensures made { MadeSome (T.content tree.old) (T.content tree.new) (T.fault_count tree.old)
+        (T.fault_count tree.new) (T.trace tree.old) (T.trace tree.new) }
+    ensures grows { Grows files.old files.new }
     ensures kept { KeepsTree (T.content tree.old) (T.content tree.new)
         (T.fault_count tree.old) (T.fault_count tree.new) }
     ensures of_text { IfErr result IsOfText }
@@ -268,8 +292,8 @@ fn load_text<T: Tree, S: Sink, C: Catalog>(
 /// is empty, under its own path, or as `deny.default.toml` where there is no path. `begun` is the tree's
 /// count of faults when the run began.
 ///
-/// No file that is known may have the path of one of the two. After want of memory nothing is said of
-/// `files`.
+/// No file that is known may have the path of one of the two. Files that are known keep their texts, whatever
+/// it answers; after want of memory nothing is said of those that were added.
 pub fn load<T: Tree, S: Sink, C: Catalog>(
     alloc: Global,
     paths: PolicyPaths,
@@ -290,7 +314,17 @@ pub fn load<T: Tree, S: Sink, C: Catalog>(
     // Each place that the policy keeps lies in its file.
     ensures places { IfOk result (λ loaded. PolicyStands files.new loaded.licenses) }
 
+    // Its files were read, each where it was due, and no other call was made.
+    ensures reads { IsCutLoad (C.lists catalog.now) begun (T.trace tree.old) (T.trace tree.new) files.old
+        paths (S.written sink.old) (S.written sink.new) result
+        ⊎ LoadsBy (C.lists catalog.now) context paths begun (T.fault_count tree.old) (T.fault_count tree.new)
+        (T.trace tree.old) (T.trace tree.new) files.old files.new
+        (S.written sink.old) (S.written sink.new) result }
+    ensures grows { Grows files.old files.new }
+
     // The tree stays as it was, and a failed read or write has a cause.
+    ensures made { MadeSome (T.content tree.old) (T.content tree.new) (T.fault_count tree.old)
+        (T.fault_count tree.new) (T.trace tree.old) (T.trace tree.new) }
     ensures kept { KeepsTree (T.content tree.old) (T.content tree.new)
         (T.fault_count tree.old) (T.fault_count tree.new) }
     ensures counts { IfErr result (λ error. ReadCounts begun

@@ -1,7 +1,16 @@
 use Rattle.std.proofs.Common.{◌∙◌, Some, ap, sym}
+use Rattle.load_core.proofs.CallLemmas.{policy_read, policy_wanting}
 use Rattle.load_core.proofs.HeardLemmas.{hears_some}
 use Rattle.load_core.proofs.loading.hear.Goals as goal
 
 pub returns-in-Some-clause-answer : goal.returns-in-Some-clause-answer
 returns-in-Some-clause-answer g c = λ content told.
     hears_some c.args.begun c.args.path.now c.as_path.result.now _ _ content c.load.result (c.in-Some.is ∙ ap Some (sym c.as_path.ensures)) (c.load.ensures.answer content told)
+
+pub returns-in-Some-clause-read : goal.returns-in-Some-clause-read
+returns-in-Some-clause-read g c =
+    policy_read c.args.begun _ _ _ c.args.path.now c.as_path.result.now c.load.result (c.in-Some.is ∙ ap Some (sym c.as_path.ensures)) c.load.ensures.read
+
+pub returns-in-Some-clause-no_memory : goal.returns-in-Some-clause-no_memory
+returns-in-Some-clause-no_memory g c =
+    policy_wanting _ _ c.args.path.now c.as_path.result.now c.load.result (c.in-Some.is ∙ ap Some (sym c.as_path.ensures)) c.load.ensures.no_memory
