@@ -28,7 +28,8 @@ run: build
 test:
 	rt ci
 
-# Compares what the built program prints of each example, and of odd words and files, with examples/outputs.
+# Compares what the built program prints of each example, and of odd words and files, and the outputs that the documents show,
+# with examples/outputs.
 examples: build
 	@sh tools/examples.sh
 

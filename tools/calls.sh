@@ -1,6 +1,7 @@
 #!/bin/sh
 # Compares the public calls of the libraries that take memory with the list of docs/CALLS.md: '<' stands in the sources alone,
-# '>' in the list alone. With --list it prints those of the sources.
+# '>' in the list alone. Then each group or case of a program, and each test, that the list names is looked for. With --list it
+# prints the calls of the sources.
 # usage: tools/calls.sh [--list]
 set -eu
 cd "$(dirname "$0")/.."
@@ -38,12 +39,37 @@ public() {
             }'
     done | sort -u
 }
+# What the list names, a line each: a program, its file, and its group or case; or `code_tests`, its file, and a test.
+named() {
+    sed -n 's/^| `[a-z0-9_]*` | `[A-Za-z0-9_:]*` | \(`.*\) |$/\1/p' docs/CALLS.md | sed 's/; `/\n`/g' |
+        sed 's/ (it gives no error)$//; s/ (its [a-z]* row)$//' |
+        sed -e 's/^`code_tests`, `\([a-z_]*\)::\([a-z_]*\)`$/code_tests\t\1.rt\t\2/; t' \
+            -e 's/^`\([a-z_]*\)`, \([a-z_]*\.txt\), /\1\t\2\t/; t' \
+            -e 's/^`\([a-z_]*\)`, \([a-z_]*\.txt\)$/\1\t\2\t/; t' \
+            -e 's/^`\([a-z_]*\)`, /\1\t*.txt\t/' | sort -u
+}
+is_there() {
+    case $1 in
+    code_tests) grep -qF "fn $3(" "crates/$1/src/$2" ;;
+    *) [ -z "$3" ] && [ -s "crates/$1/data/$2" ] || cat "crates/$1/data"/$2 | grep -qxF -e "[$3]" -e "case $3" ;;
+    esac
+}
+missing() {
+    named | while IFS="$(printf '\t')" read -r program file name; do
+        is_there "$program" "$file" "$name" || echo "not there: $program, $file, $name"
+    done
+}
 case ${1:-} in
 --list) public ;;
 *)
     here=$(mktemp)
     trap 'rm -f "$here"' EXIT
     public > "$here"
-    listed | diff "$here" - && echo "the list of docs/CALLS.md has each call"
+    failed=0
+    listed | diff "$here" - && echo "the list of docs/CALLS.md has each call" || failed=1
+    missing > "$here"
+    cat "$here"
+    [ ! -s "$here" ] && echo "each group, case and test that it names is there" || failed=1
+    exit "$failed"
     ;;
 esac

@@ -1,6 +1,7 @@
 #!/bin/sh
 # Runs the built program over each folder of examples/ and over words and files that a system can give it, and compares both
-# streams and the status with the files of examples/outputs. A run that differs is told, and the status is then 1.
+# streams and the status with the files of examples/outputs, and these with the blocks of the documents. What differs is told,
+# and the status is then 1.
 # usage: tools/examples.sh [PROGRAM]
 set -eu
 cd "$(dirname "$0")/.."
@@ -10,6 +11,7 @@ room=$(mktemp -d)
 trap 'rm -rf "$room"' EXIT
 failed=0
 column=0
+sh tools/blocks.sh || failed=1
 
 # The status and the streams of a run, with the folder as the examples have it.
 told() {
@@ -76,5 +78,19 @@ compare no-utf8 "$first" "'$program' --metadata-path '$room/metadata.json' $word
 compare eight-words "$first" "'$program' --metadata-path '$room/metadata.json' $words twice"
 compare no-folder "$room" "mkdir gone && cd gone && rmdir ../gone && '$program' --metadata-path '$room/metadata.json' $words"
 compare closed-stderr "$first" "'$program' --metadata-path '$room/metadata.json' $words 2>&-"
+
+# Words that reach the run as they are: one with blanks, one that differs from a file's name in case alone, an empty one, and
+# one with a way that goes up.
+folder="$room/words"
+mkdir "$folder"
+cp "$first/Cargo.toml" "$first/metadata.json" "$folder"
+cp "$first/deny.toml" "$folder/p.toml"
+cp "$first/deny.toml" "$folder/ a  policy"
+printf '[licenses]\nallow = ["ISC"]\n' >"$folder/P.toml"
+metadata "$folder"
+for row in "blanks: a  policy" capital:P.toml empty-path: way-up:../words/p.toml; do
+    compare "word-${row%%:*}" "$folder" "'$program' --metadata-path '$room/metadata.json' --config '${row#*:}' check licenses"
+done
+compare word-empty "$folder" "'$program' --metadata-path '$room/metadata.json' --config p.toml check licenses ''"
 [ "$failed" = 0 ] && echo "the examples come to what stands in examples/outputs"
 exit "$failed"

@@ -1,14 +1,15 @@
-//! A process that is made up: its words as bytes, and its folder where it is told.
+//! A process that is made up: its words as bytes, and its folder, or why that is not told.
 ghost use Rattle.std.specs.Prelude.{◌≤◌, length, IfSome};
 
 use std::env::{Env, FillError};
 use std::io;
+use std::io::ErrorKind;
 
-/// Words as bytes, and a folder where it is told.
+/// Words as bytes, and a folder, or why it is not told.
 #[derive(Clone, Copy)]
 pub struct Process {
     pub words: &'static [&'static [u8]],
-    pub folder: Option<&'static str>,
+    pub folder: Result<&'static str, ErrorKind>,
 }
 
 /// Copies bytes to the start of a buffer; none where they are longer.
@@ -42,12 +43,13 @@ impl Env for Process {
     }
 
     fn current_dir(&self, buf: &mut [u8]) -> io::Result<usize> {
-        let Some(folder) = self.folder else {
-            return Err(io::Error::from(io::ErrorKind::NotFound));
+        let folder = match self.folder {
+            Ok(folder) => folder,
+            Err(kind) => return Err(io::Error::from(kind)),
         };
         match fill(folder.as_bytes(), buf) {
             Some(count) => Ok(count),
-            None => Err(io::Error::from(io::ErrorKind::NotFound)),
+            None => Err(io::Error::from(ErrorKind::NotFound)),
         }
     }
 }

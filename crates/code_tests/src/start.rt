@@ -1,9 +1,10 @@
 //! How a process ends, and what it writes.
 use crate::made_up::Process;
-use deny_gate::{StartError, exit_code, gate_over};
+use deny_gate::{StartError, exit_code, gate_over, named_paths};
 use deny_run::error::{Error, Part};
 use deny_run::report::{CrateReport, Ended, Outcome, Verdict};
 use std::alloc::{AllocError, Global};
+use std::io::ErrorKind;
 use std::process::ExitCode;
 use std::test::Fail;
 use tree_core::{MemSink, MemTree};
@@ -16,11 +17,20 @@ const METADATA: &[u8] = br#"{"packages":[
 
 const MANIFEST: &[u8] = b"[package]\nname = \"a\"\nversion = \"1.0.0\"\nlicense = \"MIT\"\n";
 
-/// The folder `/w` with the crate's manifest, a policy and the metadata.
+const ALLOWS_MIT: &[u8] = b"[licenses]\nallow = [\"MIT\"]\n";
+
+const ALLOWS_NOTHING: &[u8] = b"[licenses]\nallow = []\n";
+
+const ALLOWS_MORE: &[u8] = b"[licenses]\nallow = [\"MIT\", \"Zlib\"]\n";
+
+/// The folder `/w` with the crate's manifest, a policy and the metadata. Two further policies have names that differ from
+/// the first one's in case and in blanks alone, and allow nothing.
 fn tree(alloc: Global, policy: &[u8]) -> Result<MemTree, Fail> {
     let mut tree = MemTree::new(alloc);
     tree.put("/w/Cargo.toml", MANIFEST)?;
     tree.put("/w/p.toml", policy)?;
+    tree.put("/w/P.toml", ALLOWS_NOTHING)?;
+    tree.put("/w/ p.toml ", ALLOWS_NOTHING)?;
     tree.put("/w/m.json", METADATA)?;
     Ok(tree)
 }
@@ -109,73 +119,205 @@ const WORDS: &[&[u8]] = &[
     b"licenses",
 ];
 
-const ALLOWS_MIT: &[u8] = b"[licenses]\nallow = [\"MIT\"]\n";
+const EIGHT: &[&[u8]] = &[
+    b"cargo-deny",
+    b"--metadata-path",
+    b"m.json",
+    b"--config",
+    b"p.toml",
+    b"check",
+    b"licenses",
+    b"twice",
+];
 
-const ALLOWS_NOTHING: &[u8] = b"[licenses]\nallow = []\n";
+const EMPTY_FIRST: &[&[u8]] = &[
+    b"",
+    b"--metadata-path",
+    b"m.json",
+    b"--config",
+    b"p.toml",
+    b"check",
+    b"licenses",
+];
 
-/// A process and its policy, and what it comes to.
-#[derive(Clone, Copy)]
-struct Row {
-    words: &'static [&'static [u8]],
-    folder: Option<&'static str>,
-    policy: &'static [u8],
-    status: u8,
-    told: &'static str,
-}
+const EMPTY_LAST: &[&[u8]] = &[
+    b"cargo-deny",
+    b"--metadata-path",
+    b"m.json",
+    b"--config",
+    b"p.toml",
+    b"check",
+    b"licenses",
+    b"",
+];
 
-const ROWS: [Row; 5] = [
-    Row {
-        words: WORDS,
-        folder: Some("/w"),
-        policy: ALLOWS_MIT,
-        status: 0,
-        told: "a 1.0.0: MIT Accepted; licenses ok\n; ",
-    },
-    Row {
-        words: WORDS,
-        folder: Some("/w"),
-        policy: ALLOWS_NOTHING,
-        status: 4,
-        told: "a 1.0.0: MIT Rejected; licenses FAILED\n; \
+const EMPTY_PATH: &[&[u8]] = &[
+    b"cargo-deny",
+    b"--metadata-path",
+    b"m.json",
+    b"--config",
+    b"",
+    b"check",
+    b"licenses",
+];
+
+const BLANKS: &[&[u8]] = &[
+    b"cargo-deny",
+    b"--metadata-path",
+    b"m.json",
+    b"--config",
+    b" p.toml ",
+    b"check",
+    b"licenses",
+];
+
+const CAPITAL: &[&[u8]] = &[
+    b"cargo-deny",
+    b"--metadata-path",
+    b"m.json",
+    b"--config",
+    b"P.toml",
+    b"check",
+    b"licenses",
+];
+
+const CAPITAL_CHECK: &[&[u8]] = &[
+    b"cargo-deny",
+    b"--metadata-path",
+    b"m.json",
+    b"--config",
+    b"p.toml",
+    b"Check",
+    b"licenses",
+];
+
+const ACCEPTED: &str = "a 1.0.0: MIT Accepted; licenses ok\n; ";
+
+const REJECTED: &str = "a 1.0.0: MIT Rejected; licenses FAILED\n; \
 error[rejected]: failed to satisfy license requirements\n  \
 ::: /w/Cargo.toml:4:12: license expression retrieved via Cargo.toml `license`\n  \
---> /w/Cargo.toml:4:12: rejected: license is not explicitly allowed\n",
-    },
-    Row {
-        words: &[b"cargo-deny"],
-        folder: Some("/w"),
-        policy: ALLOWS_MIT,
-        status: 1,
-        told: "words; ; error: the input is of a form that is not built yet\n",
-    },
-    Row {
-        words: &[b"cargo-deny", b"\xff"],
-        folder: Some("/w"),
-        policy: ALLOWS_MIT,
-        status: 1,
-        told: "Words; ; error: the words could not be read\n",
-    },
-    Row {
-        words: WORDS,
-        folder: None,
-        policy: ALLOWS_MIT,
-        status: 1,
-        told: "Folder; ; error: the working folder could not be read\n",
-    },
+--> /w/Cargo.toml:4:12: rejected: license is not explicitly allowed\n";
+
+const NO_FOLDER: &str = "Folder; ; error: the working folder could not be read\n";
+
+const NOT_BUILT: &str = "words; ; error: the input is of a form that is not built yet\n";
+
+/// Words in the folder `/w`, where `p.toml` allows MIT, and what they come to.
+const IN_FOLDER: [(&[&[u8]], u8, &str); 10] = [
+    (WORDS, 0, ACCEPTED),
+    // The first word is the program's name, whatever it is.
+    (EMPTY_FIRST, 0, ACCEPTED),
+    (EMPTY_LAST, 1, NOT_BUILT),
+    // The folder itself is no policy.
+    (
+        EMPTY_PATH,
+        1,
+        "another refusal; ; error: the policy could not be read\n",
+    ),
+    (BLANKS, 4, REJECTED),
+    (CAPITAL, 4, REJECTED),
+    (CAPITAL_CHECK, 1, NOT_BUILT),
+    (EIGHT, 1, NOT_BUILT),
+    (&[b"cargo-deny"], 1, NOT_BUILT),
+    (
+        &[b"cargo-deny", b"\xff"],
+        1,
+        "Words; ; error: the words could not be read\n",
+    ),
 ];
 
 #[test]
-fn each_ending_has_its_status_and_its_line(rt: HostRuntime) -> Result<(), Fail> {
+fn words_reach_the_run_as_they_are(rt: HostRuntime) -> Result<(), Fail> {
     let alloc = rt.alloc();
-    for row in ROWS {
-        let process = Process {
-            words: row.words,
-            folder: row.folder,
-        };
-        let mut tree = tree(alloc, row.policy)?;
-        let (code, told) = watch(alloc, process, &mut tree)?;
-        assert_eq!(rt; told.as_str(), row.told);
-        assert!(rt; code == ExitCode::from(row.status));
+    for (words, status, wanted) in IN_FOLDER {
+        let folder = Ok("/w");
+        let mut tree = tree(alloc, ALLOWS_MIT)?;
+        let (code, told) = watch(alloc, Process { words, folder }, &mut tree)?;
+        assert_eq!(rt; told.as_str(), wanted);
+        assert!(rt; code == ExitCode::from(status));
     }
+    Ok(())
+}
+
+/// A folder, the policy in it, and what the seven words come to there.
+const FOLDERS: [(Result<&str, ErrorKind>, &[u8], u8, &str); 6] = [
+    (Ok("/w"), ALLOWS_NOTHING, 4, REJECTED),
+    // The folder reaches the run as it is told, and so does the way to the policy.
+    (
+        Ok("/w/x/.."),
+        ALLOWS_MORE,
+        0,
+        "a 1.0.0: MIT Accepted; licenses ok\n; \
+warning[license-not-encountered]: license was not encountered\n  \
+--> /w/x/../p.toml:2:18: unmatched license allowance\n",
+    ),
+    (Err(ErrorKind::NotFound), ALLOWS_MIT, 1, NO_FOLDER),
+    (Err(ErrorKind::PermissionDenied), ALLOWS_MIT, 1, NO_FOLDER),
+    (Err(ErrorKind::Interrupted), ALLOWS_MIT, 1, NO_FOLDER),
+    (
+        Err(ErrorKind::OutOfMemory),
+        ALLOWS_MIT,
+        1,
+        "Memory; ; error: out of memory\n",
+    ),
+];
+
+#[test]
+fn each_folder_has_its_ending(rt: HostRuntime) -> Result<(), Fail> {
+    let alloc = rt.alloc();
+    let words = WORDS;
+    for (folder, policy, status, wanted) in FOLDERS {
+        let mut tree = tree(alloc, policy)?;
+        let (code, told) = watch(alloc, Process { words, folder }, &mut tree)?;
+        assert_eq!(rt; told.as_str(), wanted);
+        assert!(rt; code == ExitCode::from(status));
+    }
+    Ok(())
+}
+
+/// A word, and the paths that it names in the folder `/w`, each in brackets.
+const NAMED: [(&str, &str); 10] = [
+    ("m.json", "[/w/m.json]"),
+    ("/dev/fd/63", "[/dev/fd/63]"),
+    ("../m.json", "[/w/../m.json]"),
+    ("", "[/w/]"),
+    (
+        "--metadata-path=/dev/stdin",
+        "[/w/--metadata-path=/dev/stdin][/dev/stdin]",
+    ),
+    ("--config=p.toml", "[/w/--config=p.toml][/w/p.toml]"),
+    (
+        "--config=../p.toml",
+        "[/w/--config=../p.toml][/w/../p.toml]",
+    ),
+    ("--config=", "[/w/--config=][/w/]"),
+    ("a=b=c", "[/w/a=b=c][/w/b=c]"),
+    ("=", "[/w/=][/w/]"),
+];
+
+/// The paths that words name, each in brackets.
+fn named_told(alloc: Global, words: &[&str]) -> Result<String, Fail> {
+    let mut all = Vec::new(alloc);
+    for word in words {
+        let word = String::from_str(alloc, word)?;
+        all.push(word)?;
+    }
+    let mut told = String::new(alloc);
+    for path in &named_paths(alloc, &all, "/w")? {
+        let path = path.as_path();
+        write!(told, "[{path}]")?;
+    }
+    Ok(told)
+}
+
+#[test]
+fn words_name_their_paths(rt: HostRuntime) -> Result<(), Fail> {
+    let alloc = rt.alloc();
+    for (word, wanted) in NAMED {
+        let told = named_told(alloc, &[word])?;
+        assert_eq!(rt; told.as_str(), wanted, "{word}");
+    }
+    let told = named_told(alloc, &["a", "b=c", "d"])?;
+    assert_eq!(rt; told.as_str(), "[/w/a][/w/b=c][/w/c][/w/d]");
     Ok(())
 }

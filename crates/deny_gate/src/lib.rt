@@ -13,10 +13,11 @@ ghost use Rattle.deny_run.specs.Script.{between};
 ghost use Rattle.deny_run.specs.Words.{texts};
 ghost use Rattle.deny_gate.specs.Start.{IsRun, RunsOverSome, ending_of, start_line};
 
+mod named;
+
 use deny_run::report::Outcome;
 use deny_run::run::run;
-use deny_text::PathBuf;
-use deny_text::path::join;
+pub use named::named_paths;
 use spdx_core::{LicenseStore, Table};
 use std::alloc::{AllocError, Global};
 use std::env::Env;
@@ -188,29 +189,6 @@ pub fn gate_over<V: Env + AllocGlobal, T: Tree, O: Sink, E: Sink>(
 {
     let start = started(env, err)?;
     Ok(run_started(env.alloc(), &start, tree, out, err))
-}
-
-/// The path of a word, and the path of what stands behind its first `=`, as an option's value may.
-fn push_paths(
-    named: &mut Vec<PathBuf>,
-    alloc: Global,
-    folder: &str,
-    word: &str,
-) -> Result<(), AllocError> {
-    named.push(join(alloc, folder, word)?)?;
-    if let Some((_, value)) = word.split_once('=') {
-        named.push(join(alloc, folder, value)?)?;
-    }
-    Ok(())
-}
-
-/// The paths that the words name. A pipe or a device is read at these alone.
-fn named_paths(alloc: Global, words: &[String], folder: &str) -> Result<Vec<PathBuf>, AllocError> {
-    let mut named = Vec::new(alloc);
-    'words: for word in words {
-        push_paths(&mut named, alloc, folder, word.as_str())?;
-    }
-    Ok(named)
 }
 
 /// The real files, of which those that the words name may be pipes or devices. Where memory is wanting, one
