@@ -1,10 +1,8 @@
 -- Licences of crates, one after another.
 use Rattle.std.proofs.Common.{◌≡◌, ◌∙◌, ℕ, List, [], ◌∷◌, ◌++◌, map, Option, None, Some, refl, sym, ap, subst, append-nil}
 use Rattle.std.specs.Prelude.{unwrap_or}
-use Rattle.std.specs.List.{flat_map}
 use Rattle.std.proofs.lemmas.List.Concat.{flat_map-append}
 use Rattle.tree_core.specs.Content.{Content}
-use Rattle.tree_core.specs.declared.reads.ReadRecord.{ReadRecord}
 use Rattle.reads_core.specs.Heard.{Heard}
 use Rattle.reads_core.specs.Rising.{RiseInOrder}
 use Rattle.reads_core.proofs.RisingLemmas.{rises_compose}
@@ -24,7 +22,7 @@ use Rattle.gather_core.specs.Gathered.{AreCutOut, ArePriorities, AreTurns, AreTu
 use Rattle.gather_core.specs.Premises.{Grows}
 use Rattle.gather_core.specs.Told.{answer_told, info_by, notes_of, nowhere}
 use Rattle.gather_core.specs.Turns.{IsCutOut, IsTurn, Turn, files_behind, info_in, located_in, points_in, settling_in}
-use Rattle.gather_core.proofs.PlacedLemmas.{cut_grown, grows_behind, grows_then}
+use Rattle.gather_core.proofs.PlacedLemmas.{cut_grown}
 
 -- one more crate's reads rise behind those before
 pub rises_push : (first middle last : ℕ) (licenses : List KrateLicense) (license : KrateLicense)
@@ -79,13 +77,6 @@ cuts_push scanner policy all content files (first ∷ licenses) license middle l
   cut_grown middle last (own_turn scanner policy all content files first) grows cuts.0,
   cuts_push scanner policy all content (files_behind (own_turn scanner policy all content files first)) licenses license middle last turns.1 grows cuts.1 is,
 )
-
--- the table grows from turn to turn
-pub turns_grow : (scanner : Scanner) (policy : ℕ) (all : List Entry) (files : List File) (licenses : List KrateLicense) (last : List File) → AreTurnsBySome scanner policy all files licenses last → Grows files last
-turns_grow scanner policy all files [] last turns = ([], turns ∙ sym (append-nil files))
-turns_grow scanner policy all files (license ∷ licenses) last turns =
-    let turn = turn_of scanner policy all turns.0 turns.1.0 files license in
-    grows_then files (files_behind turn) last (grows_behind turn) (turns_grow scanner policy all (files_behind turn) licenses last turns.1.1.1.1)
 
 -- ---- what is told has priority
 

@@ -1,8 +1,6 @@
 -- What further records let hear.
-use Rattle.std.proofs.Common.{◌≡◌, ◌∙◌, ℕ, Bool, true, false, not, ◌&&◌, cond, List, [], ◌∷◌, ◌++◌, map, Option, None, Some, is_some, is_none, refl, sym, ap}
+use Rattle.std.proofs.Common.{◌≡◌, ◌∙◌, ℕ, Bool, true, false, cond, List, [], ◌∷◌, ◌++◌, map, Option, None, Some, refl, ap}
 use Rattle.std.specs.Option.{option_to_list}
-use Rattle.std.specs.Prelude.{option_map, unwrap_or}
-use Rattle.catalog_core.specs.Catalog.{CatalogLists}
 use Rattle.tree_core.specs.Content.{Content, Place, resolve}
 use Rattle.tree_core.specs.declared.reads.ReadKind.{ReadKind}
 use Rattle.tree_core.specs.declared.reads.ReadKind.TheVariants.{Manifest, Listing, LicenseFile}
@@ -15,10 +13,9 @@ use Rattle.pack_core.specs.Ears.{Ears, ears_of}
 use Rattle.pack_core.specs.Pack.{reads_of}
 use Rattle.pack_core.specs.Steps.{file_record, records_by}
 use Rattle.expression_core.specs.Scanned.{Scanner}
-use Rattle.location_core.specs.declared.location.Located.{Located}
 use Rattle.location_core.specs.Location.{located_by, manifest_heard}
 use Rattle.priority_core.specs.Clarification.{Clarification, files_of}
-use Rattle.priority_core.specs.Priority.{folder_of, looks_at_files, records_of, records_with}
+use Rattle.priority_core.specs.Priority.{folder_of, looks_at_files, records_of}
 use Rattle.gather_core.specs.Turns.{field_text, located_where, not_asked}
 
 -- ---- failed reads of lists that follow one another
@@ -27,7 +24,7 @@ or_counts-assoc : (a b c : Option (ℕ × ℕ)) → or_counts a (or_counts b c) 
 or_counts-assoc None b c = refl
 or_counts-assoc (Some x) b c = refl
 
-or_counts-none : (a : Option (ℕ × ℕ)) → or_counts a None ≡ a
+pub or_counts-none : (a : Option (ℕ × ℕ)) → or_counts a None ≡ a
 or_counts-none None = refl
 or_counts-none (Some x) = refl
 

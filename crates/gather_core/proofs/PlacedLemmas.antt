@@ -1,7 +1,7 @@
 -- Places that stay where they are while the file table grows.
-use Rattle.std.proofs.Common.{◌≡◌, ◌∙◌, ℕ, zero, suc, ◌+◌, ◌<◌, length, Bool, true, false, cond, List, [], ◌∷◌, ◌++◌, map, Option, None, Some, unwrap_or, refl, sym, ap, subst, append-nil, append_assoc, arith}
-use Rattle.std.specs.Prelude.{find, option_map, option_and_then}
-use Rattle.std.specs.List.{All, filter_map}
+use Rattle.std.proofs.Common.{◌≡◌, ◌∙◌, ℕ, zero, suc, ◌+◌, ◌<◌, length, Bool, true, false, cond, List, [], ◌∷◌, ◌++◌, map, Option, None, Some, unwrap_or, refl, sym, ap, subst, append_assoc, arith}
+use Rattle.std.specs.Prelude.{option_map, option_and_then}
+use Rattle.std.specs.List.{All}
 use Rattle.std.specs.Option.{option_to_list}
 use Rattle.std.specs.Str.{IsCharBoundary}
 use Rattle.std.proofs.lemmas.List.Elements.{All-append, All-cons, All-filter, All-head, All-map, All-nil, All-tail, All-weaker}
@@ -19,12 +19,13 @@ use Rattle.policy_spec.specs.Matching.{spec_matches}
 use Rattle.location_core.specs.Location.{PointsAt, files_by, files_heard, joined_by, span_in}
 use Rattle.manifest_core.specs.Synthetic.{cut}
 use Rattle.finding_core.specs.Cuts.{LabelLies, labels_of, text_under}
+use Rattle.finding_core.proofs.GrowLemmas.{grows_itself}
 use Rattle.priority_core.specs.declared.settling.FilesSeen.{FilesSeen}
 use Rattle.priority_core.specs.declared.settling.Settling.{Settling}
 use Rattle.priority_core.specs.declared.settling.Settling.TheVariants.{Clarified, Field, Files}
 use Rattle.priority_core.specs.Clarification.{Clarification, PlacedFile, held_in, named_in}
 use Rattle.priority_core.specs.Priority.{field_of, files_scanned, holding}
-use Rattle.priority_core.specs.Settled.{by_seen, missing_in, missing_of, seen_by, settling_by, settling_of, span_at}
+use Rattle.priority_core.specs.Settled.{by_seen, missing_in, missing_of, seen_by, settling_by, span_at}
 use Rattle.gather_core.specs.declared.license.LicenseInfo.{LicenseInfo}
 use Rattle.gather_core.specs.declared.license.LicenseInfo.TheVariants.{SpdxExpression, Unlicensed}
 use Rattle.gather_core.specs.declared.summary.KrateLicense.{KrateLicense}
@@ -137,9 +138,6 @@ cut_grown files new turn grows is = subst (λ (new : List File). IsCutOut new tu
 
 -- ---- the table grows
 
-grows_itself : (files : List File) → Grows files files
-grows_itself files = ([], sym (append-nil files))
-
 pub grows_then : (files middle last : List File) → Grows files middle → Grows middle last → Grows files last
 grows_then files middle last one two =
     (one.0 ++ two.0, two.1 ∙ ap (λ (front : List File). front ++ two.0) one.1 ∙ append_assoc files one.0 two.0)
@@ -156,7 +154,7 @@ grows_heard path field files not_utf8 = grows_itself files
 grows_heard path field files (text bytes) = grows_joined path files bytes (span_in field bytes)
 grows_heard path field files (entries listed) = grows_itself files
 
-grows_by : (path field : List ℕ) (files : List File) (manifest : Heard) (there : Option ℕ) → Grows files (files_by path field files manifest there)
+pub grows_by : (path field : List ℕ) (files : List File) (manifest : Heard) (there : Option ℕ) → Grows files (files_by path field files manifest there)
 grows_by path field files manifest None = grows_heard path field files manifest
 grows_by path field files manifest (Some id) = grows_itself files
 

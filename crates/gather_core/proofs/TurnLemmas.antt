@@ -1,5 +1,5 @@
 -- What is told of a crate at its turn.
-use Rattle.std.proofs.Common.{◌≡◌, ◌∙◌, ℕ, List, ◌++◌, map, Option, Result, Ok, Err, refl, sym, ap, subst}
+use Rattle.std.proofs.Common.{◌≡◌, ◌∙◌, ℕ, List, ◌++◌, map, Option, Result, Ok, Err, sym, ap, subst}
 use Rattle.std.specs.Prelude.{IfOk, OnOk}
 use Rattle.std.specs.List.{All}
 use Rattle.std.specs.declared.alloc.AllocError.{AllocError}
@@ -15,20 +15,18 @@ use Rattle.expression_core.specs.Scanned.{Scanner}
 use Rattle.location_core.specs.Location.{manifest_heard}
 use Rattle.priority_core.specs.Priority.{folder_of}
 use Rattle.diag_core.specs.declared.label.Coord.{Coord}
-use Rattle.diag_core.specs.declared.pack.Diag.{Diag}
 use Rattle.diag_core.specs.File.{File}
 use Rattle.priority_core.specs.declared.settling.Settling.{Settling}
 use Rattle.priority_core.specs.Settled.{answer_in, missing_of}
 use Rattle.finding_core.specs.declared.outcome.Points.{Points}
 use Rattle.finding_core.specs.Cuts.{LabelLies, labels_of, text_under}
-use Rattle.gather_core.specs.declared.license.LicenseInfo.{LicenseInfo}
 use Rattle.gather_core.specs.declared.summary.KrateLicense.{KrateLicense}
 use Rattle.gather_core.specs.declared.turn.Taken.{Taken}
 use Rattle.gather_core.specs.Entries.{Entry, clarifications_of}
 use Rattle.gather_core.specs.Gathered.{IsTurnBySome, krate_of, own_turn}
 use Rattle.gather_core.specs.Taken.{IsTaken, turn_with}
 use Rattle.gather_core.specs.Told.{info_by, notes_of, nowhere}
-use Rattle.gather_core.specs.Turns.{IsCutOut, IsTurn, Turn, faults_in, files_left, files_located, located_in, missing_findings, points_for, points_in, settling_in, texts_for}
+use Rattle.gather_core.specs.Turns.{IsCutOut, IsTurn, Turn, faults_in, files_left, files_located, located_in, missing_findings, points_for, points_in, texts_for}
 
 pub points_are : (turn : Turn) (faults : List ParseError) (taken : Taken) (points : Points) (old : List File) → faults ≡ faults_in turn.scanner turn.krate → IsTaken turn taken old
     → points ≡ points_for turn.krate faults taken.location old taken.by → points ≡ points_in turn

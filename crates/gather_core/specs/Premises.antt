@@ -1,10 +1,11 @@
 -- Where a policy's places stand, and where the places of what was gathered do.
-use Rattle.std.specs.Prelude.{◌≡◌, ℕ, ◌+◌, ◌≤◌, List, ◌++◌, length, All, Option, Some, None, ⊤}
+use Rattle.std.specs.Prelude.{◌≡◌, ℕ, ◌+◌, ◌≤◌, List, length, All, Option, Some, None, ⊤}
 use Rattle.std.specs.Str.{IsCharBoundary}
 use Rattle.deny_text.specs.declared.span.Span.{Span}
 use Rattle.diag_core.specs.File.{File, source_of}
 use Rattle.location_core.specs.Location.{PointsAt}
 use Rattle.finding_core.specs.Cuts.{LabelLies, labels_of}
+pub use Rattle.finding_core.specs.Premises.{Grows}
 use Rattle.priority_core.specs.declared.settling.Settling.{Settling}
 use Rattle.priority_core.specs.declared.settling.Settling.TheVariants.{Clarified, Field, Files}
 use Rattle.priority_core.specs.Clarification.{Clarification, PlacedFile}
@@ -52,10 +53,6 @@ TextIs words (Field expression) = expression.text ≡ words
 TextIs words (Files seen joined) = ⊤
 
 -- ---- what is left
-
--- the files are those that were there, and others behind them
-abbrev pub Grows : List File → List File → Type 0
-Grows files new = (more : List File) × (new ≡ files ++ more)
 
 -- the expression of a crate, where there is one, stands in its file
 abbrev pub InfoStands : List File → LicenseInfo → Type 0

@@ -4,10 +4,8 @@ use Rattle.std.specs.Option.{option_map_or}
 use Rattle.diag_core.specs.declared.label.Coord.{Coord}
 use Rattle.priority_core.specs.declared.settling.Settling.{Settling}
 use Rattle.priority_core.specs.declared.settling.Settling.TheVariants.{Clarified, Field, Files}
-use Rattle.priority_core.specs.declared.settling.FilesSeen.{FilesSeen}
 use Rattle.priority_core.specs.declared.settling.JoinedNames.{JoinedNames}
 use Rattle.priority_core.specs.Priority.{Answer, Source, metadata, user_override, license_files}
-use Rattle.priority_core.specs.Settled.{answer_in}
 use Rattle.gather_core.specs.declared.license.LicenseExprInfo.{LicenseExprInfo}
 use Rattle.gather_core.specs.declared.license.LicenseExprSource.{LicenseExprSource}
 use Rattle.gather_core.specs.declared.license.LicenseExprSource.TheVariants.{Metadata, UserOverride, LicenseFiles}

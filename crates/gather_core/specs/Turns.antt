@@ -1,8 +1,7 @@
 -- One crate's turn: what it asks of the tree and of the file table, what is told of it, and what it leaves.
-use Rattle.std.specs.Prelude.{◌≡◌, ℕ, Bool, true, false, not, ◌&&◌, List, [], ◌∷◌, ◌++◌, map, Option, Some, None, is_none, is_some, option_map, unwrap_or, if◌then◌else◌}
+use Rattle.std.specs.Prelude.{◌≡◌, ℕ, Bool, ◌&&◌, List, [], ◌++◌, map, Option, Some, None, is_none, is_some, option_map, unwrap_or, if◌then◌else◌}
 use Rattle.std.specs.List.{All}
 use Rattle.std.specs.Option.{option_map_or, option_to_list}
-use Rattle.tree_core.specs.Content.{Content}
 use Rattle.tree_core.specs.declared.reads.ReadRecord.{ReadRecord}
 use Rattle.deny_text.specs.declared.span.Span.{Span}
 use Rattle.term_core.specs.declared.error.ParseError.{ParseError}

@@ -1,23 +1,25 @@
 //! Gathering.
-ghost use Rattle.std.specs.Prelude.{◌≡◌, [], IfOk, OnOk, All, map, None, Some};
+ghost use Rattle.std.specs.Prelude.{◌≡◌, ◌⊎◌, [], IfOk, OnErr, OnOk, All, map, None, Some};
 ghost use Rattle.std.specs.Option.{ForSome, option_map_or};
-ghost use Rattle.tree_core.specs.Hearing.{KeepsTree};
+ghost use Rattle.tree_core.specs.Hearing.{KeepsTree, Made};
 ghost use Rattle.graph_core.specs.Krate.{record_of};
 ghost use Rattle.graph_core.specs.Metadata.{Graph};
 ghost use Rattle.reads_core.specs.Rising.{RiseInOrder};
-ghost use Rattle.priority_core.specs.Priority.{field_of};
+ghost use Rattle.priority_core.specs.Priority.{field_of, folder_of};
 ghost use Rattle.priority_core.specs.Settled.{scanner_with};
 ghost use Rattle.selection_core.specs.Choice.{Choice};
 ghost use Rattle.selection_core.specs.Listed.{IsChosen, IsListOf, record_behind, selected_in};
 ghost use Rattle.selection_core.specs.Walks.{Selected};
 ghost use Rattle.finding_core.specs.Faults.{faults_of};
 ghost use Rattle.finding_core.specs.Premises.{FaultsLie};
-ghost use Rattle.gather_core.specs.Entries.{entries_of};
+ghost use Rattle.gather_core.specs.Calls.{AreTurnsByReads, IsByOwnReads, IsTurnHeard, StarvesGathering, StarvesTaking};
+ghost use Rattle.gather_core.specs.Entries.{clarifications_of, entries_of};
 ghost use Rattle.gather_core.specs.Gathered.{AreCutOut, ArePriorities, AreTurns, AreTurnsBySome, IsTurnBySome};
 ghost use Rattle.gather_core.specs.Gathered.{all_reads, include_of, krate_of, own_turn};
 ghost use Rattle.gather_core.specs.Gathered.{scanner_of, threshold_of};
 ghost use Rattle.gather_core.specs.Premises.{ArePlacedIn, Grows, IsPlacedAt};
-ghost use Rattle.gather_core.specs.Turns.{IsCutOut, IsTurn, field_text};
+ghost use Rattle.gather_core.specs.Taken.{turn_with};
+ghost use Rattle.gather_core.specs.Turns.{IsCutOut, IsTurn, field_text, records_in};
 
 use crate::clarifications::Clarifications;
 use crate::summary::{KrateLicense, KrateLicenses, Summary};
@@ -97,6 +99,19 @@ fn license_of<'k, T: Tree, I: Identifier, C: Catalog>(
         files.new) }
     ensures cuts { ForSome (T.content tree.old) (λ c. IfOk result (λ license. IsCutOut files.new
         (own_turn (scanner_with C.lists I.match_of scan.now) policy clarifications.now c files.old license))) }
+    // over any tree, by the answers to the crate's own reads, which are all the calls
+    ensures answered { IfOk result (λ license.
+        IsByOwnReads (T.content tree.old) (T.content tree.new) (T.fault_count tree.old)
+        (T.fault_count tree.new) (T.trace tree.old) (T.trace tree.new)
+        (folder_of (krate_of license)) license.reads (IsTurnHeard
+        (scanner_with C.lists I.match_of scan.now) policy clarifications.now files.old license files.new)) }
+    ensures no_memory { let krate = record_of krate.now in OnErr result (
+        StarvesTaking (T.content tree.old) (T.content tree.new) (T.fault_count tree.old)
+        (T.fault_count tree.new) (T.trace tree.old) (T.trace tree.new)
+        (folder_of krate) (λ ears manifest. records_in (turn_with
+        (scanner_with C.lists I.match_of scan.now) policy (clarifications_of krate clarifications.now) krate
+        ears manifest files.old))) }
+    ensures grows { Grows files.old files.new }
     ensures placed { ArePlacedIn files.old policy clarifications.now
         → IfOk result (λ license. IsPlacedAt files.new license) }
 {
@@ -130,7 +145,17 @@ fn gather_all<'k, T: Tree, I: Identifier, C: Catalog>(
     ensures cuts { ForSome (T.content tree.old) (λ c. IfOk result (λ licenses.
         AreCutOut (scanner_with C.lists I.match_of scan.now) policy clarifications.now c files.old licenses
         files.new)) }
-    ensures grows { OnOk result (Grows files.old files.new) }
+    // over any tree, by the answers to each crate's own reads, which are all the calls, crate after crate
+    ensures answered { IfOk result (λ licenses.
+        AreTurnsByReads (T.content tree.old) (T.content tree.new) (T.fault_count tree.old)
+        (T.fault_count tree.new) (T.trace tree.old) (T.trace tree.new)
+        (scanner_with C.lists I.match_of scan.now) policy clarifications.now files.old licenses files.new) }
+    ensures no_memory { OnErr result (
+        StarvesGathering (T.content tree.old) (T.content tree.new) (T.fault_count tree.old)
+        (T.fault_count tree.new) (T.trace tree.old) (T.trace tree.new)
+        (scanner_with C.lists I.match_of scan.now) policy clarifications.now files.old
+        (map record_behind krates.now)) }
+    ensures grows { Grows files.old files.new }
     ensures placed { ArePlacedIn files.old policy clarifications.now
         → IfOk result (λ licenses. All (IsPlacedAt files.new) licenses) }
 {
@@ -200,11 +225,27 @@ impl<'i, I: Identifier> Gatherer<'i, I> {
         ensures cuts { ForSome (T.content tree.old) (λ c. IfOk result (λ summary.
             AreCutOut (scanner_of (C.lists catalog.now) I.match_of self.entry) policy.now.file_id
             (entries_of policy.now) c files.old summary.nfos files.new)) }
+        // over any tree, by the answers to each crate's own reads, which are all the calls, crate after crate; with
+        // what has priority by them, and what the labels cut out of the table that is left
+        ensures answered { IfOk result (λ summary.
+            AreTurnsByReads (T.content tree.old) (T.content tree.new) (T.fault_count tree.old)
+            (T.fault_count tree.new) (T.trace tree.old) (T.trace tree.new)
+            (scanner_of (C.lists catalog.now) I.match_of self.entry) policy.now.file_id (entries_of policy.now)
+            files.old summary.nfos files.new) }
+        // for want of memory no call was made, or those of the first crates and the first ones of the next crate
+        ensures no_memory { OnErr result (
+            Made (T.content tree.old) (T.content tree.new) (T.fault_count tree.old)
+            (T.fault_count tree.new) (T.trace tree.old) (T.trace tree.new) []
+            ⊎ StarvesGathering (T.content tree.old) (T.content tree.new) (T.fault_count tree.old)
+            (T.fault_count tree.new) (T.trace tree.old) (T.trace tree.new)
+            (scanner_of (C.lists catalog.now) I.match_of self.entry) policy.now.file_id (entries_of policy.now)
+            files.old (selected_in (include_of policy.now) krates.entry.now)) }
         // where the policy's places stand in its file, each label and each expression stands in its own, in the
-        // table that is left; files that were there stay
+        // table that is left
         ensures placed { ArePlacedIn files.old policy.now.file_id (entries_of policy.now)
             → IfOk result (λ summary. All (IsPlacedAt files.new) summary.nfos) }
-        ensures grows { OnOk result (Grows files.old files.new) }
+        // files that were there are as they were, also where memory is refused
+        ensures grows { Grows files.old files.new }
         ensures rises { IfOk result (λ summary.
             RiseInOrder (T.fault_count tree.old) (all_reads summary.nfos) (T.fault_count tree.new)) }
     {

@@ -3,6 +3,7 @@
 
 mod clarifications;
 pub mod gatherer;
+pub mod laws;
 pub mod license;
 pub mod summary;
 mod tell;

@@ -4,7 +4,7 @@ use diag_core::FileId;
 use spdx_core::Expression;
 
 /// Where a licence expression comes from.
-#[derive(Drop)]
+#[derive(Drop, PartialEq, Eq)]
 pub enum LicenseExprSource {
     /// The crate's own field, and the place in its manifest where that writes it.
     Metadata(Option<(FileId, Span)>),

@@ -7,7 +7,7 @@ ghost use Rattle.finding_core.specs.Cuts.{LabelLies, StandsAt, labels_of, text_u
 ghost use Rattle.finding_core.specs.Premises.{FaultsLie};
 ghost use Rattle.finding_core.specs.Views.{outcome_view, seen_view};
 ghost use Rattle.gather_core.specs.Gathered.{krate_of};
-ghost use Rattle.gather_core.specs.Premises.{ByStands, IsPlacedAt, PlaceLies, TextIs};
+ghost use Rattle.gather_core.specs.Premises.{ByStands, Grows, IsPlacedAt, PlaceLies, TextIs};
 ghost use Rattle.gather_core.specs.Taken.{IsTaken};
 ghost use Rattle.gather_core.specs.Turns as spec;
 ghost use Rattle.gather_core.specs.Turns.{IsCutOut, IsTurn, Turn, faults_in, field_text, files_left};
@@ -97,6 +97,7 @@ fn find_points(
         ≡ texts_for (record_of krate.now) faults.now taken.now.location taken.now.by) }
     ensures expression { IfOk result (λ found.
         StandsAt files.new found.expression (text_settled (record_of krate.now) taken.now.by)) }
+    ensures grows { Grows files.old files.new }
 {
     match settles(&taken.by) {
         Some(settles) => {
@@ -140,6 +141,7 @@ pub(crate) fn tell<'k>(
     ensures placed { All (PlaceLies files.old policy) taken.missing → ByStands files.old policy taken.by
         → TextIs (field_text (record_of krate.now)) taken.by
         → IfOk result (λ license. IsPlacedAt files.new license) }
+    ensures grows { Grows files.old files.new }
 {
     let missing = missing_findings(alloc, policy, taken.missing.items())?;
     let points = find_points(alloc, files, krate, faults, &taken)?;

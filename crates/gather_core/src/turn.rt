@@ -9,10 +9,12 @@ ghost use Rattle.reads_core.specs.Rising.{RiseInOrder};
 ghost use Rattle.location_core.specs.Location.{PointsAt, manifest_heard};
 ghost use Rattle.priority_core.specs.Clarification.{behind};
 ghost use Rattle.priority_core.specs.Priority as spec;
-ghost use Rattle.priority_core.specs.Priority.{field_of};
+ghost use Rattle.priority_core.specs.Priority.{field_of, folder_of};
 ghost use Rattle.priority_core.specs.Settled.{scanner_with};
-ghost use Rattle.gather_core.specs.Taken.{IsLocatedWhere, IsTakenByOwn, IsTakenBySome, is_clarified};
-ghost use Rattle.gather_core.specs.Turns.{field_text};
+ghost use Rattle.gather_core.specs.Calls.{IsByOwnReads, StarvesTaking};
+ghost use Rattle.gather_core.specs.Premises.{Grows};
+ghost use Rattle.gather_core.specs.Taken.{IsLocatedWhere, IsTaken, IsTakenByOwn, IsTakenBySome, is_clarified, turn_with};
+ghost use Rattle.gather_core.specs.Turns.{field_text, located_where, records_in};
 
 use catalog_core::Identifier;
 use deny_text::ListOf;
@@ -72,9 +74,21 @@ fn locate_field<T: Tree>(
         (manifest_heard c krate.manifest_path (option_to_list located.read)) located files.new)) }
     ensures some { let krate = record_of krate.now in IfOk result (λ located. (manifest : Heard)
         × IsLocatedWhere (is_some krate.license) krate files.old manifest located files.new) }
+    // over any tree, by the answers to the reads that are made, which are all the calls
+    ensures answered { let krate = record_of krate.now in IfOk result (λ located.
+        IsByOwnReads (T.content tree.old) (T.content tree.new) (T.fault_count tree.old)
+        (T.fault_count tree.new) (T.trace tree.old) (T.trace tree.new)
+        (folder_of krate) (option_to_list located.read) (λ ears manifest.
+        IsLocatedWhere (is_some krate.license) krate files.old manifest located files.new)) }
+    ensures no_memory { let krate = record_of krate.now in OnErr result (
+        StarvesTaking (T.content tree.old) (T.content tree.new) (T.fault_count tree.old)
+        (T.fault_count tree.new) (T.trace tree.old) (T.trace tree.new)
+        (folder_of krate) (λ ears manifest. option_to_list
+        (located_where (is_some krate.license) krate files.old manifest).read)) }
     ensures points { IfOk result (λ located. IfSome located.location (λ at.
         PointsAt files.new at (field_text (record_of krate.now)))) }
     ensures err { OnErr result (files.new ≡ files.old) }
+    ensures grows { Grows files.old files.new }
 {
     match &krate.license {
         Some(field) => locate(alloc, tree, files, &krate.manifest_path, field.as_str()),
@@ -115,9 +129,21 @@ fn locate_unless_clarified<T: Tree>(
     ensures some { let krate = record_of krate.now in IfOk result (λ located. (manifest : Heard)
         × IsLocatedWhere (not (is_clarified by.now) && is_some krate.license) krate files.old manifest
         located files.new) }
+    // over any tree, by the answers to the reads that are made, which are all the calls
+    ensures answered { let krate = record_of krate.now in IfOk result (λ located.
+        IsByOwnReads (T.content tree.old) (T.content tree.new) (T.fault_count tree.old)
+        (T.fault_count tree.new) (T.trace tree.old) (T.trace tree.new)
+        (folder_of krate) (option_to_list located.read) (λ ears manifest.
+        IsLocatedWhere (not (is_clarified by.now) && is_some krate.license) krate files.old manifest located files.new)) }
+    ensures no_memory { let krate = record_of krate.now in OnErr result (
+        StarvesTaking (T.content tree.old) (T.content tree.new) (T.fault_count tree.old)
+        (T.fault_count tree.new) (T.trace tree.old) (T.trace tree.new)
+        (folder_of krate) (λ ears manifest. option_to_list
+        (located_where (not (is_clarified by.now) && is_some krate.license) krate files.old manifest).read)) }
     ensures points { IfOk result (λ located. IfSome located.location (λ at.
         PointsAt files.new at (field_text (record_of krate.now)))) }
     ensures err { OnErr result (files.new ≡ files.old) }
+    ensures grows { Grows files.old files.new }
 {
     if is_clarified(by) {
         return Ok(Located {
@@ -150,8 +176,22 @@ fn take_manifest_first<T: Tree, I: Identifier, C: Catalog>(
     ensures some { (policy : ℕ) → IfOk result (λ taken.
         IsTakenBySome (scanner_with C.lists I.match_of scan.now) policy (map behind clarifications.now)
         (record_of krate.now) files.old taken files.new) }
+    // over any tree, by the answers to the turn's own reads, which are all the calls
+    ensures answered { let krate = record_of krate.now in (policy : ℕ) → IfOk result (λ taken.
+        IsByOwnReads (T.content tree.old) (T.content tree.new) (T.fault_count tree.old)
+        (T.fault_count tree.new) (T.trace tree.old) (T.trace tree.new)
+        (folder_of krate) taken.reads (λ ears manifest. IsTaken (turn_with
+        (scanner_with C.lists I.match_of scan.now) policy (map behind clarifications.now) krate ears manifest
+        files.old) taken files.new)) }
+    ensures no_memory { let krate = record_of krate.now in (policy : ℕ) → OnErr result (
+        StarvesTaking (T.content tree.old) (T.content tree.new) (T.fault_count tree.old)
+        (T.fault_count tree.new) (T.trace tree.old) (T.trace tree.new)
+        (folder_of krate) (λ ears manifest. records_in (turn_with
+        (scanner_with C.lists I.match_of scan.now) policy (map behind clarifications.now) krate ears manifest
+        files.old))) }
     ensures points { IfOk result (λ taken. IfSome taken.location (λ at.
         PointsAt files.new at (field_text (record_of krate.now)))) }
+    ensures grows { Grows files.old files.new }
 {
     let located = locate_field(alloc, tree, files, krate)?;
     let settled = settle_licence(alloc, tree, scan, krate, clarifications, field)?;
@@ -188,8 +228,22 @@ fn take_files_first<T: Tree, I: Identifier, C: Catalog>(
     ensures some { (policy : ℕ) → IfOk result (λ taken.
         IsTakenBySome (scanner_with C.lists I.match_of scan.now) policy (map behind clarifications.now)
         (record_of krate.now) files.old taken files.new) }
+    // over any tree, by the answers to the turn's own reads, which are all the calls
+    ensures answered { let krate = record_of krate.now in (policy : ℕ) → IfOk result (λ taken.
+        IsByOwnReads (T.content tree.old) (T.content tree.new) (T.fault_count tree.old)
+        (T.fault_count tree.new) (T.trace tree.old) (T.trace tree.new)
+        (folder_of krate) taken.reads (λ ears manifest. IsTaken (turn_with
+        (scanner_with C.lists I.match_of scan.now) policy (map behind clarifications.now) krate ears manifest
+        files.old) taken files.new)) }
+    ensures no_memory { let krate = record_of krate.now in (policy : ℕ) → OnErr result (
+        StarvesTaking (T.content tree.old) (T.content tree.new) (T.fault_count tree.old)
+        (T.fault_count tree.new) (T.trace tree.old) (T.trace tree.new)
+        (folder_of krate) (λ ears manifest. records_in (turn_with
+        (scanner_with C.lists I.match_of scan.now) policy (map behind clarifications.now) krate ears manifest
+        files.old))) }
     ensures points { IfOk result (λ taken. IfSome taken.location (λ at.
         PointsAt files.new at (field_text (record_of krate.now)))) }
+    ensures grows { Grows files.old files.new }
 {
     let settled = settle_licence(alloc, tree, scan, krate, clarifications, field)?;
     let located = locate_unless_clarified(alloc, tree, files, krate, &settled.by)?;
@@ -232,8 +286,22 @@ pub(crate) fn take<T: Tree, I: Identifier, C: Catalog>(
     ensures some { (policy : ℕ) → IfOk result (λ taken.
         IsTakenBySome (scanner_with C.lists I.match_of scan.now) policy (map behind clarifications.now)
         (record_of krate.now) files.old taken files.new) }
+    // over any tree, by the answers to the turn's own reads, which are all the calls
+    ensures answered { let krate = record_of krate.now in (policy : ℕ) → IfOk result (λ taken.
+        IsByOwnReads (T.content tree.old) (T.content tree.new) (T.fault_count tree.old)
+        (T.fault_count tree.new) (T.trace tree.old) (T.trace tree.new)
+        (folder_of krate) taken.reads (λ ears manifest. IsTaken (turn_with
+        (scanner_with C.lists I.match_of scan.now) policy (map behind clarifications.now) krate ears manifest
+        files.old) taken files.new)) }
+    ensures no_memory { let krate = record_of krate.now in (policy : ℕ) → OnErr result (
+        StarvesTaking (T.content tree.old) (T.content tree.new) (T.fault_count tree.old)
+        (T.fault_count tree.new) (T.trace tree.old) (T.trace tree.new)
+        (folder_of krate) (λ ears manifest. records_in (turn_with
+        (scanner_with C.lists I.match_of scan.now) policy (map behind clarifications.now) krate ears manifest
+        files.old))) }
     ensures points { IfOk result (λ taken. IfSome taken.location (λ at.
         PointsAt files.new at (field_text (record_of krate.now)))) }
+    ensures grows { Grows files.old files.new }
 {
     if is_nothing(clarifications) {
         take_manifest_first(alloc, tree, files, scan, krate, clarifications, field)

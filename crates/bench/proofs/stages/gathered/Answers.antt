@@ -1,4 +1,5 @@
-use Rattle.std.proofs.lemmas.Result.{on_ok_weaker}
+use Rattle.std.proofs.lemmas.Result.{IfOk-weaker}
+use Rattle.unused_core.specs.Laws.{EntriesLie}
 use Rattle.placed_policy.proofs.PlaceLemmas.{are_placed, entries_lie}
 use Rattle.bench.proofs.stages.gathered.Goals as goal
 
@@ -7,4 +8,5 @@ returns-clause-placed c = c.gather.ensures.placed (are_placed c.args.files.now c
 
 pub returns-clause-entries : goal.returns-clause-entries
 returns-clause-entries c =
-    on_ok_weaker c.gather.result (λ grows. entries_lie c.args.files.now c.gather.new.files c.args.policy.now c.requires grows) c.gather.ensures.grows
+    IfOk-weaker c.gather.result _ (λ summary. EntriesLie c.gather.new.files c.args.policy.now)
+    (λ summary krates. entries_lie c.args.files.now c.gather.new.files c.args.policy.now c.requires c.gather.ensures.grows) c.gather.ensures.krates

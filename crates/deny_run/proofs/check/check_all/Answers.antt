@@ -21,7 +21,7 @@ pub check_summary-requires-clause-placed : goal.check_summary-requires-clause-pl
 check_summary-requires-clause-placed g c = c.in_ok-summary.ensures.placed (are_placed c.args.files.now c.args.policy c.requires)
 
 pub check_summary-requires-clause-entries : goal.check_summary-requires-clause-entries
-check_summary-requires-clause-entries g c = entries_lie c.args.files.now c.gather.new.files c.args.policy c.requires c.in_ok-summary.ensures.grows
+check_summary-requires-clause-entries g c = entries_lie c.args.files.now c.gather.new.files c.args.policy c.requires c.gather.ensures.grows
 
 pub returns-clause-checked : goal.returns-clause-checked
 returns-clause-checked g c = λ content told. λ graph choice chosen.

@@ -1,14 +1,20 @@
-use Rattle.std.proofs.Common.{◌≡◌, ◌≤◌, ◌∷◌, [], ◌++◌, map, take, sym, ap, subst, ◌∙◌, arith}
+use Rattle.std.proofs.Common.{◌≤◌, ◌∷◌, [], ◌++◌, map, take, refl, sym, ap, subst, ◌∙◌, arith}
 use Rattle.std.specs.List.{All}
 use Rattle.std.proofs.lemmas.List.{take_more}
-use Rattle.std.proofs.lemmas.List.Elements.{All-push}
+use Rattle.std.proofs.lemmas.List.Elements.{All-nil, All-push}
+use Rattle.graph_core.specs.Krate.{Record}
 use Rattle.reads_core.specs.Rising.{RiseInOrder}
 use Rattle.priority_core.specs.Settled.{scanner_with}
 use Rattle.selection_core.specs.Listed.{record_behind}
-use Rattle.gather_core.specs.Gathered.{AreCutOut, AreTurns, AreTurnsBySome, all_reads, krate_of, turn_of}
+use Rattle.pack_core.specs.Calls.{IsFront}
+use Rattle.finding_core.proofs.GrowLemmas.{grows_itself}
+use Rattle.gather_core.specs.Calls.{AreTurnsByReads}
+use Rattle.gather_core.specs.Gathered.{AreCutOut, AreTurns, AreTurnsBySome, all_reads, krate_of}
 use Rattle.gather_core.specs.Premises.{Grows, IsPlacedAt}
-use Rattle.gather_core.proofs.GatheredLemmas.{cuts_push, map_push, rises_push, turns_grow, turns_push, turns_push_some}
-use Rattle.gather_core.proofs.PlacedLemmas.{entries_grown, grows_behind, licenses_grown}
+use Rattle.gather_core.proofs.CallLemmas.{on_err}
+use Rattle.gather_core.proofs.GatheredLemmas.{cuts_push, map_push, rises_push, turns_push, turns_push_some}
+use Rattle.gather_core.proofs.PlacedLemmas.{entries_grown, grows_then, licenses_grown}
+use Rattle.gather_core.proofs.TurnCalls.{front_next, no_turns, starves_next, starves_told, turns_then}
 use Rattle.gather_core.proofs.gatherer.gather_all.Goals as goal
 
 pub krates-preserved : goal.krates-preserved
@@ -28,8 +34,7 @@ krates-preserved g c =
     let policy = c.args.policy in
     let new_files = c.license_of.new.files in
     let by_some = c.in_ok-license.ensures.some in
-    let grows : Grows c.krates.files new_files =
-    subst (Grows c.krates.files) (sym by_some.1.1.0.table) (grows_behind (turn_of scanner policy all by_some.0 by_some.1.0 c.krates.files license)) in
+    let grows : Grows c.krates.files new_files = c.license_of.ensures.grows in
     record {
       kept = record { content = c.license_of.ensures.kept.content ∙ so_far.kept.content; later = omega arith };
       krates =
@@ -51,12 +56,72 @@ krates-preserved g c =
           subst (λ licenses. AreCutOut scanner policy all content c.args.files.now licenses new_files) (sym pushed)
           (cuts_push scanner policy all content c.args.files.now c.krates.licenses license c.krates.files new_files (so_far.told content is) grows (so_far.cuts content is)
           (c.in_ok-license.ensures.cuts content (so_far.kept.content ∙ is)));
+      answered =
+          subst (λ licenses. AreTurnsByReads (g.T.Tree.content c.args.tree.now) (g.T.Tree.content c.license_of.new.tree) (g.T.Tree.fault_count c.args.tree.now) (g.T.Tree.fault_count c.license_of.new.tree) (g.T.Tree.trace c.args.tree.now) (g.T.Tree.trace c.license_of.new.tree)
+          scanner policy all c.args.files.now licenses new_files) (sym pushed)
+          (turns_then scanner policy all c.args.files.now c.krates.licenses license c.krates.files new_files so_far.answered grows c.in_ok-license.ensures.answered);
       placed = λ stand.
           subst (All (IsPlacedAt new_files)) (sym pushed)
           (All-push (IsPlacedAt new_files) c.krates.licenses license (licenses_grown c.krates.files new_files c.krates.licenses grows (so_far.placed stand))
-          (c.in_ok-license.ensures.placed (entries_grown c.args.files.now c.krates.files policy all (turns_grow scanner policy all c.args.files.now c.krates.licenses c.krates.files so_far.some) stand)));
+          (c.in_ok-license.ensures.placed (entries_grown c.args.files.now c.krates.files policy all so_far.grows stand)));
+      grows = grows_then c.args.files.now c.krates.files new_files so_far.grows grows;
     }
 
-pub returns-clause-grows : goal.returns-clause-grows
-returns-clause-grows g c =
-    turns_grow (scanner_with g.C.Catalog.lists g.I.Identifier.match_of c.args.scan.now) c.args.policy c.args.clarifications.now c.args.files.now c.krates.licenses c.krates.files c.krates.invariant.some
+-- no crate so far
+pub krates-init : goal.krates-init
+krates-init g c =
+    let none = sym c.new-licenses.ensures in
+    let scanner = scanner_with g.C.Catalog.lists g.I.Identifier.match_of c.args.scan.now in
+    let all = c.args.clarifications.now in
+    let policy = c.args.policy in
+    let files = c.args.files.now in
+    let count = g.T.Tree.fault_count c.args.tree.now in
+    record {
+      kept = record { content = refl; later = omega arith };
+      krates = ap (map krate_of) c.new-licenses.ensures;
+      rises = subst (λ licenses. RiseInOrder count (all_reads licenses) count) none (omega arith);
+      told = λ content is. subst (λ licenses. AreTurns scanner policy all content files licenses files) none refl;
+      some = subst (λ licenses. AreTurnsBySome scanner policy all files licenses files) none refl;
+      cuts = λ content is. subst (λ licenses. AreCutOut scanner policy all content files licenses files) none tt;
+      answered =
+          subst (λ licenses. AreTurnsByReads (g.T.Tree.content c.args.tree.now) (g.T.Tree.content c.args.tree.now) (g.T.Tree.fault_count c.args.tree.now) (g.T.Tree.fault_count c.args.tree.now) (g.T.Tree.trace c.args.tree.now) (g.T.Tree.trace c.args.tree.now)
+          scanner policy all files licenses files) none
+          (no_turns (g.T.Tree.content c.args.tree.now) count (g.T.Tree.trace c.args.tree.now) scanner policy all files);
+      placed = λ stand. subst (All (IsPlacedAt files)) none (All-nil (IsPlacedAt files));
+      grows = grows_itself files;
+    }
+
+-- for want of memory
+pub returns-in_err-license-clause-no_memory : goal.returns-in_err-license-clause-no_memory
+returns-in_err-license-clause-no_memory g c =
+    let place = c.krates.krate-index in
+    let krates = c.args.krates.now in
+    let item = c.krate-item.result in
+    on_err c.from_residual.result _
+    (starves_next (scanner_with g.C.Catalog.lists g.I.Identifier.match_of c.args.scan.now) c.args.policy c.args.clarifications.now c.args.files.now
+    c.krates.licenses c.krates.files (record_behind item) (map record_behind krates) c.krates.invariant.answered c.in_err-license.ensures.no_memory
+    (front_next record_behind krates place item (map krate_of c.krates.licenses) c.krates.invariant.krates
+    (take_more krates place item c.krates-test.true ∙ ap (λ one. take place krates ++ one ∷ []) (sym c.krate-item.is))))
+
+pub returns-in_err-push-clause-no_memory : goal.returns-in_err-push-clause-no_memory
+returns-in_err-push-clause-no_memory g c =
+    let scanner = scanner_with g.C.Catalog.lists g.I.Identifier.match_of c.args.scan.now in
+    let all = c.args.clarifications.now in
+    let policy = c.args.policy in
+    let place = c.krates.krate-index in
+    let krates = c.args.krates.now in
+    let item = c.krate-item.result in
+    let license = c.in_ok-license.license in
+    on_err c.from_residual-in_err-push.result _
+    (starves_next scanner policy all c.args.files.now c.krates.licenses c.krates.files (krate_of license) (map record_behind krates) c.krates.invariant.answered
+    (starves_told scanner policy all c.krates.files c.license_of.new.files license c.in_ok-license.ensures.answered)
+    (subst (λ (krate : Record). IsFront (map krate_of c.krates.licenses ++ krate ∷ []) (map record_behind krates)) (sym c.in_ok-license.ensures.krate)
+    (front_next record_behind krates place item (map krate_of c.krates.licenses) c.krates.invariant.krates
+    (take_more krates place item c.krates-test.true ∙ ap (λ one. take place krates ++ one ∷ []) (sym c.krate-item.is)))))
+
+-- the table grows
+pub returns-in_err-license-clause-grows : goal.returns-in_err-license-clause-grows
+returns-in_err-license-clause-grows g c = grows_then c.args.files.now c.krates.files c.license_of.new.files c.krates.invariant.grows c.license_of.ensures.grows
+
+pub returns-in_err-push-clause-grows : goal.returns-in_err-push-clause-grows
+returns-in_err-push-clause-grows g c = grows_then c.args.files.now c.krates.files c.license_of.new.files c.krates.invariant.grows c.license_of.ensures.grows

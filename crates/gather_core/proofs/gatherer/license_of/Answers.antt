@@ -3,12 +3,17 @@ use Rattle.std.specs.List.{All}
 use Rattle.graph_core.specs.Krate.{record_of}
 use Rattle.priority_core.specs.Clarification.{Clarification, behind}
 use Rattle.priority_core.specs.Settled.{scanner_with}
+use Rattle.priority_core.specs.Priority.{folder_of}
+use Rattle.finding_core.proofs.GrowLemmas.{grows_itself}
+use Rattle.gather_core.specs.Calls.{IsByOwnReads, StarvesTaking}
 use Rattle.gather_core.specs.Entries.{clarifications_of}
 use Rattle.gather_core.specs.Premises.{IsPlacedIn, TextIs}
-use Rattle.gather_core.specs.Taken.{IsTakenByOwn, IsTakenBySome, turn_with}
-use Rattle.gather_core.specs.Turns.{field_text}
-use Rattle.gather_core.proofs.PlacedLemmas.{for_krate, held_taken, missing_taken}
+use Rattle.gather_core.specs.Taken.{IsTaken, IsTakenByOwn, IsTakenBySome, turn_with}
+use Rattle.gather_core.specs.Turns.{field_text, records_in}
+use Rattle.gather_core.proofs.CallLemmas.{on_err, starves_before, starves_behind}
+use Rattle.gather_core.proofs.PlacedLemmas.{for_krate, grows_then, held_taken, missing_taken}
 use Rattle.gather_core.proofs.ToldLemmas.{text_settles}
+use Rattle.gather_core.proofs.TurnCalls.{license_answered}
 use Rattle.gather_core.proofs.TurnLemmas.{license_cut, license_some, license_told}
 use Rattle.gather_core.proofs.gatherer.license_of.Goals as goal
 
@@ -63,3 +68,68 @@ returns-clause-placed g c = λ placed.
     (missing_taken turn c.in_ok-taken.taken c.take.new.files by_some.1.1 stand)
     (held_taken turn c.in_ok-taken.taken c.take.new.files by_some.1.1 stand)
     (subst (TextIs (field_text krate)) (sym by_some.1.1.by) (text_settles turn))
+
+-- over any tree, by the crate's own reads
+pub returns-clause-answered : goal.returns-clause-answered
+returns-clause-answered g c =
+    let scanner = scanner_with g.C.Catalog.lists g.I.Identifier.match_of c.args.scan.now in
+    let policy = c.args.policy in
+    let files = c.args.files.now in
+    let krate = record_of c.args.krate.now in
+    let all = c.args.clarifications.now in
+    let matching : map behind c.deref.result.now ≡ clarifications_of krate all = ap (map behind) c.deref.ensures.value ∙ c.in_ok-matching.ensures in
+    let taken = c.in_ok-taken.taken in
+    let by =
+    subst (λ (matching : List Clarification). IsByOwnReads (g.T.Tree.content c.args.tree.now) (g.T.Tree.content c.take.new.tree) (g.T.Tree.fault_count c.args.tree.now) (g.T.Tree.fault_count c.take.new.tree) (g.T.Tree.trace c.args.tree.now) (g.T.Tree.trace c.take.new.tree)
+    (folder_of krate) taken.reads (λ ears manifest. IsTaken (turn_with scanner policy matching krate ears manifest files) taken c.take.new.files)) matching
+    (c.in_ok-taken.ensures.answered policy) in
+    license_answered scanner policy all files c.tell.new.files krate taken.reads by.reads c.tell.result by.recorded_are by.made c.tell.ensures.krate c.tell.ensures.reads
+    (c.tell.ensures.turn _ refl refl c.in_ok-field.ensures.faults by.is_so) (c.tell.ensures.found _ refl c.in_ok-field.ensures.faults by.is_so)
+
+-- for want of memory
+pub returns-in_err-matching-clause-no_memory : goal.returns-in_err-matching-clause-no_memory
+returns-in_err-matching-clause-no_memory g c = on_err c.from_residual.result _ (starves_before _ _ _ (folder_of (record_of c.args.krate.now)) _)
+
+pub returns-in_err-field-clause-no_memory : goal.returns-in_err-field-clause-no_memory
+returns-in_err-field-clause-no_memory g c = on_err c.from_residual-in_err-field.result _ (starves_before _ _ _ (folder_of (record_of c.args.krate.now)) _)
+
+pub returns-in_err-taken-clause-no_memory : goal.returns-in_err-taken-clause-no_memory
+returns-in_err-taken-clause-no_memory g c =
+    let scanner = scanner_with g.C.Catalog.lists g.I.Identifier.match_of c.args.scan.now in
+    let policy = c.args.policy in
+    let files = c.args.files.now in
+    let krate = record_of c.args.krate.now in
+    let all = c.args.clarifications.now in
+    let matching : map behind c.deref.result.now ≡ clarifications_of krate all = ap (map behind) c.deref.ensures.value ∙ c.in_ok-matching.ensures in
+    on_err c.from_residual-in_err-taken.result _
+    (subst (λ (matching : List Clarification). StarvesTaking (g.T.Tree.content c.args.tree.now) (g.T.Tree.content c.take.new.tree) (g.T.Tree.fault_count c.args.tree.now) (g.T.Tree.fault_count c.take.new.tree) (g.T.Tree.trace c.args.tree.now) (g.T.Tree.trace c.take.new.tree)
+    (folder_of krate) (λ ears manifest. records_in (turn_with scanner policy matching krate ears manifest files))) matching
+    (c.in_err-taken.ensures.no_memory policy))
+
+pub returns-clause-no_memory : goal.returns-clause-no_memory
+returns-clause-no_memory g c =
+    let scanner = scanner_with g.C.Catalog.lists g.I.Identifier.match_of c.args.scan.now in
+    let policy = c.args.policy in
+    let files = c.args.files.now in
+    let krate = record_of c.args.krate.now in
+    let all = c.args.clarifications.now in
+    let matching : map behind c.deref.result.now ≡ clarifications_of krate all = ap (map behind) c.deref.ensures.value ∙ c.in_ok-matching.ensures in
+    let taken = c.in_ok-taken.taken in
+    let by =
+    subst (λ (matching : List Clarification). IsByOwnReads (g.T.Tree.content c.args.tree.now) (g.T.Tree.content c.take.new.tree) (g.T.Tree.fault_count c.args.tree.now) (g.T.Tree.fault_count c.take.new.tree) (g.T.Tree.trace c.args.tree.now) (g.T.Tree.trace c.take.new.tree)
+    (folder_of krate) taken.reads (λ ears manifest. IsTaken (turn_with scanner policy matching krate ears manifest files) taken c.take.new.files)) matching
+    (c.in_ok-taken.ensures.answered policy) in
+    on_err c.tell.result _
+    (starves_behind (folder_of krate) taken.reads
+    (λ ears manifest. IsTaken (turn_with scanner policy (clarifications_of krate all) krate ears manifest files) taken c.take.new.files)
+    (λ ears manifest. records_in (turn_with scanner policy (clarifications_of krate all) krate ears manifest files)) (λ ears manifest is. is.reads) by)
+
+-- the table grows
+pub returns-in_err-matching-clause-grows : goal.returns-in_err-matching-clause-grows
+returns-in_err-matching-clause-grows g c = grows_itself c.args.files.now
+
+pub returns-in_err-field-clause-grows : goal.returns-in_err-field-clause-grows
+returns-in_err-field-clause-grows g c = grows_itself c.args.files.now
+
+pub returns-clause-grows : goal.returns-clause-grows
+returns-clause-grows g c = grows_then c.args.files.now c.take.new.files c.tell.new.files c.take.ensures.grows c.tell.ensures.grows

@@ -5,12 +5,13 @@ use Rattle.deny_text.specs.declared.span.Span.{Span}
 use Rattle.diag_core.specs.declared.pack.Diag.{Diag}
 use Rattle.graph_core.specs.Krate.{Record, record_of}
 use Rattle.finding_core.specs.Cuts.{LabelLies, labels_of}
+use Rattle.finding_core.proofs.GrowLemmas.{grows_itself}
 use Rattle.finding_core.proofs.LabelLemmas.{lie-append}
 use Rattle.gather_core.specs.declared.summary.KrateLicense.{KrateLicense}
 use Rattle.gather_core.specs.Premises.{Grows, InfoStands}
 use Rattle.gather_core.specs.Told.{info_by, nowhere}
 use Rattle.gather_core.specs.Turns.{files_left, missing_findings, points_for, texts_for}
-use Rattle.gather_core.proofs.PlacedLemmas.{by_grown, grows_left, places_grown}
+use Rattle.gather_core.proofs.PlacedLemmas.{by_grown, places_grown}
 use Rattle.gather_core.proofs.ToldLemmas.{info_stands, missing_labels}
 use Rattle.gather_core.proofs.TurnLemmas.{found_turn, told_turn}
 use Rattle.gather_core.proofs.tell.tell.Goals as goal
@@ -51,8 +52,7 @@ returns-clause-placed c = λ missing_lie held_stands words.
     let old = c.args.files.now in
     let new = c.find_points.new.files in
     let points = c.in_ok-points.points in
-    let grows : Grows old new =
-    subst (Grows old) (sym c.in_ok-points.ensures.files) (grows_left krate c.args.faults.now taken.location old taken.by) in
+    let grows : Grows old new = c.find_points.ensures.grows in
     let diags_are : c.in_ok-diags.diags ≡ missing_findings policy taken.missing ++ points.findings =
     c.in_ok-diags.ensures
     ∙ ap (λ (front : List Diag). front ++ points.findings) c.in_ok-missing.ensures
@@ -66,3 +66,7 @@ returns-clause-placed c = λ missing_lie held_stands words.
           subst (InfoStands new) (sym c.told_by-told.ensures.info)
           (info_stands new policy krate taken.location points.expression taken.by (by_grown old new policy taken.by grows held_stands) words c.in_ok-points.ensures.expression);
     }
+
+-- the table grows
+pub returns-in_err-missing-clause-grows : goal.returns-in_err-missing-clause-grows
+returns-in_err-missing-clause-grows c = grows_itself c.args.files.now

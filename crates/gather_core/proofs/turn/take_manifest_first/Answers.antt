@@ -1,4 +1,4 @@
-use Rattle.std.proofs.Common.{◌≡◌, ◌∙◌, ◌++◌, List, map, sym, ap, subst}
+use Rattle.std.proofs.Common.{◌≡◌, ◌∙◌, ◌++◌, List, map, refl, sym, ap, subst}
 use Rattle.std.specs.Option.{option_to_list}
 use Rattle.tree_core.specs.declared.reads.ReadRecord.{ReadRecord}
 use Rattle.graph_core.specs.Krate.{record_of}
@@ -6,6 +6,7 @@ use Rattle.reads_core.specs.Rising.{RiseInOrder}
 use Rattle.reads_core.proofs.RisingLemmas.{rises_compose}
 use Rattle.priority_core.specs.Clarification.{behind}
 use Rattle.priority_core.specs.Settled.{scanner_with}
+use Rattle.gather_core.proofs.CallLemmas.{on_err, own_first, starves_first, starves_first_settling, starves_taken}
 use Rattle.gather_core.proofs.TakenLemmas.{taken_first, told_first}
 use Rattle.gather_core.proofs.turn.take_manifest_first.Goals as goal
 
@@ -40,3 +41,58 @@ returns-clause-some g c = λ policy.
             c.args.files.now c.in_ok-located.located c.in_ok-settled.settled c.locate_field.new.files c.in_ok-reads.reads c.requires.nothing by_manifest.1 by_ears.1 reads_are,
       ),
     )
+
+pub returns-clause-answered : goal.returns-clause-answered
+returns-clause-answered g c = λ policy.
+    let scanner = scanner_with g.C.Catalog.lists g.I.Identifier.match_of c.args.scan.now in
+    let krate = record_of c.args.krate.now in
+    let all = map behind c.args.clarifications.now in
+    let files = c.args.files.now in
+    let reads_are : c.in_ok-reads.reads ≡ option_to_list c.in_ok-located.located.read ++ c.in_ok-settled.settled.reads =
+    c.in_ok-reads.ensures ∙ ap (λ (front : List ReadRecord). front ++ c.in_ok-settled.settled.reads) c.in_ok-front.ensures in
+    own_first scanner policy all krate files c.in_ok-located.located c.in_ok-settled.settled c.locate_field.new.files
+    c.requires.nothing c.in_ok-located.ensures.answered c.in_ok-settled.ensures.answered c.in_ok-reads.reads reads_are
+
+pub returns-in_err-located-clause-no_memory : goal.returns-in_err-located-clause-no_memory
+returns-in_err-located-clause-no_memory g c = λ policy.
+    let scanner = scanner_with g.C.Catalog.lists g.I.Identifier.match_of c.args.scan.now in
+    let krate = record_of c.args.krate.now in
+    let all = map behind c.args.clarifications.now in
+    let files = c.args.files.now in
+    on_err c.from_residual.result _ (starves_first scanner policy all krate files c.requires.nothing c.in_err-located.ensures.no_memory)
+
+pub returns-in_err-settled-clause-no_memory : goal.returns-in_err-settled-clause-no_memory
+returns-in_err-settled-clause-no_memory g c = λ policy.
+    let scanner = scanner_with g.C.Catalog.lists g.I.Identifier.match_of c.args.scan.now in
+    let krate = record_of c.args.krate.now in
+    let all = map behind c.args.clarifications.now in
+    let files = c.args.files.now in
+    on_err c.from_residual-in_err-settled.result _
+    (starves_first_settling scanner policy all krate files c.in_ok-located.located c.locate_field.new.files
+    c.requires.nothing c.in_ok-located.ensures.answered c.in_err-settled.ensures.no_memory)
+
+pub returns-in_err-front-clause-no_memory : goal.returns-in_err-front-clause-no_memory
+returns-in_err-front-clause-no_memory g c = λ policy.
+    let scanner = scanner_with g.C.Catalog.lists g.I.Identifier.match_of c.args.scan.now in
+    let krate = record_of c.args.krate.now in
+    let all = map behind c.args.clarifications.now in
+    let files = c.args.files.now in
+    let located = c.in_ok-located.located in
+    let settled = c.in_ok-settled.settled in
+    let reads = option_to_list located.read ++ settled.reads in
+    on_err c.from_residual-in_err-front.result _
+    (starves_taken scanner policy all krate files located settled c.locate_field.new.files reads
+    (own_first scanner policy all krate files located settled c.locate_field.new.files c.requires.nothing c.in_ok-located.ensures.answered c.in_ok-settled.ensures.answered reads refl))
+
+pub returns-in_err-reads-clause-no_memory : goal.returns-in_err-reads-clause-no_memory
+returns-in_err-reads-clause-no_memory g c = λ policy.
+    let scanner = scanner_with g.C.Catalog.lists g.I.Identifier.match_of c.args.scan.now in
+    let krate = record_of c.args.krate.now in
+    let all = map behind c.args.clarifications.now in
+    let files = c.args.files.now in
+    let located = c.in_ok-located.located in
+    let settled = c.in_ok-settled.settled in
+    let reads = option_to_list located.read ++ settled.reads in
+    on_err c.from_residual-in_err-reads.result _
+    (starves_taken scanner policy all krate files located settled c.locate_field.new.files reads
+    (own_first scanner policy all krate files located settled c.locate_field.new.files c.requires.nothing c.in_ok-located.ensures.answered c.in_ok-settled.ensures.answered reads refl))

@@ -1,0 +1,224 @@
+-- What the answers to reads let hear, where content is told: what the content and the records of the reads let hear.
+use Rattle.std.proofs.Common.{◌≡◌, ◌∙◌, ℕ, Bool, true, false, ◌&&◌, ◌||◌, cond, List, [], ◌∷◌, Option, None, Some, refl, sym, ap, ap₂, subst}
+use Rattle.std.specs.FinMap as finite
+use Rattle.std.specs.List.{All, AllByRecursion, list_any}
+use Rattle.std.specs.Prelude.{⊤, unwrap_or}
+use Rattle.std.proofs.lemmas.List.Elements.{All-head, All-tail}
+use Rattle.deny_text.specs.Path.{components_of, join_of}
+use Rattle.deny_text.proofs.PathLemmas.{joins_by_parts}
+use Rattle.tree_core.specs.Call as call
+use Rattle.tree_core.specs.Call.{Answered, Call}
+use Rattle.tree_core.specs.Content as tree
+use Rattle.tree_core.specs.Content.{Content, Node, Place, entries_in, node_at, resolve}
+use Rattle.tree_core.specs.Trace.{IsUnlessLost, Says, content_answer, fault_behind, list_answer, read_answer}
+use Rattle.tree_core.specs.declared.reads.ReadAnswer.{ReadAnswer}
+use Rattle.tree_core.specs.declared.reads.ReadKind.{ReadKind}
+use Rattle.tree_core.specs.declared.reads.ReadKind.TheVariants.{Manifest, Listing, LicenseFile}
+use Rattle.tree_core.specs.declared.reads.ReadRecord.{ReadRecord}
+use Rattle.tree_core.proofs.JoinLemmas.{resolve-join}
+use Rattle.reads_core.specs.Answered.{file_answered, folder_answered}
+use Rattle.reads_core.specs.Heard.{Heard, failed, absent, wrong_kind, not_utf8, text, entries, answer_of, counts_in, failed_counts, file_heard, is_kind, is_read, listing_by, listing_heard, or_counts, or_there, place_of, same_parts, there_heard}
+use Rattle.reads_core.specs.Heard.{heard as heard_by}
+use Rattle.reads_core.specs.Read.{AreReads, IsRecorded, Read, asked_for, call_for, calls_in, counts_carried, first_heard, given_path, kind_answered, read_heard, records_in as recorded}
+use Rattle.reads_core.specs.Told.{IsHeardOf}
+use Rattle.reads_core.proofs.ReadLemmas.{heard_recorded}
+use Rattle.pack_core.proofs.PackLemmas.{by_test}
+use Rattle.pack_core.proofs.PathLemmas.{parts_of_same}
+use Rattle.gather_core.proofs.CallLemmas.{first_false, second_false}
+use Rattle.gather_core.proofs.HeardLemmas.{or_counts-none}
+
+-- ---- one answer
+
+itself : (heard : Heard) → IsHeardOf heard heard
+itself (failed before after) = tt
+itself absent = refl
+itself wrong_kind = refl
+itself not_utf8 = refl
+itself (text bytes) = refl
+itself (entries listed) = refl
+
+same_heard : (there heard : Heard) → there ≡ heard → IsHeardOf there heard
+same_heard there heard is = subst (λ (one : Heard). IsHeardOf there one) is (itself there)
+
+heard_nothing : file_heard None ≡ absent
+unfolding file_heard
+heard_nothing = refl
+
+heard_folder : file_heard (Some tree.folder) ≡ wrong_kind
+unfolding file_heard
+heard_folder = refl
+
+-- what stands there, by the answer to a read
+bytes_there : (node : Option Node) (items : List ℕ) → call.bytes items ≡ read_answer node → node ≡ Some (tree.file items)
+bytes_there None items says = cc
+bytes_there (Some tree.folder) items says = cc
+bytes_there (Some (tree.file bytes)) items says = let same : items ≡ bytes = cc in ap (λ (one : List ℕ). Some (tree.file one)) (sym same)
+
+nothing_there : (node : Option Node) → call.absent ≡ read_answer node → node ≡ None
+nothing_there None says = refl
+nothing_there (Some tree.folder) says = cc
+nothing_there (Some (tree.file bytes)) says = cc
+
+folder_there : (node : Option Node) → call.wrong_kind ≡ read_answer node → node ≡ Some tree.folder
+folder_there None says = cc
+folder_there (Some tree.folder) says = refl
+folder_there (Some (tree.file bytes)) says = cc
+
+file_told : (there : Option Node) (before after : ℕ) (answer : Answered) (heard : Heard) → file_answered before after answer ≡ Some heard → IsUnlessLost (read_answer there) answer
+    → IsHeardOf (file_heard there) heard
+file_told there before after (call.bytes items) heard is says =
+    let same : file_heard (Some (tree.file items)) ≡ heard = cc in same_heard (file_heard there) heard (ap file_heard (bytes_there there items says) ∙ same)
+file_told there before after (call.entries items) heard is says = cc
+file_told there before after (call.told answer) heard is says = cc
+file_told there before after call.absent heard is says =
+    let same : absent ≡ heard = cc in same_heard (file_heard there) heard (ap file_heard (nothing_there there says) ∙ heard_nothing ∙ same)
+file_told there before after call.wrong_kind heard is says =
+    let same : wrong_kind ≡ heard = cc in same_heard (file_heard there) heard (ap file_heard (folder_there there says) ∙ heard_folder ∙ same)
+file_told there before after call.failed heard is says = let same : failed before after ≡ heard = cc in subst (λ (one : Heard). IsHeardOf (file_heard there) one) same tt
+file_told there before after call.no_memory heard is says = cc
+
+listing_is : (content : Content) (place : Place) → listing_heard content place ≡ listing_by content place (finite.get content place)
+unfolding listing_heard
+listing_is content place = refl
+
+-- what stands there, by the answer to a listing
+module _ (content : Content) (place : Place) where
+  listed_there : (node : Option Node) (items : List (List ℕ × Bool)) → call.entries items ≡ list_answer (entries_in content place) node → listing_by content place node ≡ entries items
+  listed_there None items says = cc
+  listed_there (Some tree.folder) items says = let same : items ≡ entries_in content place = cc in ap entries (sym same)
+  listed_there (Some (tree.file bytes)) items says = cc
+
+  nothing_listed : (node : Option Node) → call.absent ≡ list_answer (entries_in content place) node → listing_by content place node ≡ absent
+  nothing_listed None says = refl
+  nothing_listed (Some tree.folder) says = cc
+  nothing_listed (Some (tree.file bytes)) says = cc
+
+  file_listed : (node : Option Node) → call.wrong_kind ≡ list_answer (entries_in content place) node → listing_by content place node ≡ wrong_kind
+  file_listed None says = cc
+  file_listed (Some tree.folder) says = cc
+  file_listed (Some (tree.file bytes)) says = refl
+
+  listing_told : (before after : ℕ) (answer : Answered) (heard : Heard) → folder_answered before after answer ≡ Some heard
+      → IsUnlessLost (list_answer (entries_in content place) (finite.get content place)) answer → IsHeardOf (listing_heard content place) heard
+  listing_told before after (call.bytes items) heard is says = cc
+  listing_told before after (call.entries items) heard is says =
+      let same : entries items ≡ heard = cc in same_heard (listing_heard content place) heard (listing_is content place ∙ listed_there (finite.get content place) items says ∙ same)
+  listing_told before after (call.told answer) heard is says = cc
+  listing_told before after call.absent heard is says =
+      let same : absent ≡ heard = cc in same_heard (listing_heard content place) heard (listing_is content place ∙ nothing_listed (finite.get content place) says ∙ same)
+  listing_told before after call.wrong_kind heard is says =
+      let same : wrong_kind ≡ heard = cc in same_heard (listing_heard content place) heard (listing_is content place ∙ file_listed (finite.get content place) says ∙ same)
+  listing_told before after call.failed heard is says = let same : failed before after ≡ heard = cc in subst (λ (one : Heard). IsHeardOf (listing_heard content place) one) same tt
+  listing_told before after call.no_memory heard is says = cc
+
+-- ---- one read
+
+kind_told : (kind : ReadKind) (content : Content) (base path : List ℕ) (before after : ℕ) (answer : Answered) (heard : Heard) → kind_answered kind before after answer ≡ Some heard
+    → IsUnlessLost (content_answer content (asked_for kind) (given_path base kind path)) answer
+    → IsHeardOf (there_heard kind content (place_of kind (resolve base) (components_of path))) heard
+kind_told Manifest content base path before after answer heard is says = file_told (node_at content path) before after answer heard is says
+kind_told Listing content base path before after answer heard is says = listing_told content (resolve path) before after answer heard is says
+kind_told LicenseFile content base path before after answer heard is says =
+    subst (λ (place : Place). IsHeardOf (file_heard (finite.get content place)) heard) (resolve-join joins_by_parts base path)
+    (file_told (node_at content (join_of base path)) before after answer heard is says)
+
+-- what is heard of what is there, but for a failure
+or_failed : (there heard : Heard) → IsHeardOf there heard → or_there (counts_in (answer_of heard)) there ≡ heard
+or_failed there (failed before after) is = refl
+or_failed there absent is = is
+or_failed there wrong_kind is = is
+or_failed there not_utf8 is = is
+or_failed there (text bytes) is = is
+or_failed there (entries listed) is = is
+
+-- where the content says what a read was answered, the read lets hear what the content has there, but for its failure
+pub read_told : (content : Content) (base : List ℕ) (before : ℕ) (read : Read) → IsRecorded before read → Says content (call_for base read.recorded read.answer)
+    → read_heard read
+    ≡ or_there (counts_in read.recorded.answer) (there_heard read.recorded.kind content (place_of read.recorded.kind (resolve base) (components_of read.recorded.path)))
+read_told content base before read is says =
+    let kind = read.recorded.kind in
+    let path = read.recorded.path in
+    let there : Heard = there_heard kind content (place_of kind (resolve base) (components_of path)) in
+    let after : ℕ = fault_behind before read.answer in
+    ap (λ (told : ReadAnswer). unwrap_or (kind_answered kind (counts_carried told).0 (counts_carried told).1 read.answer) absent) is.tells
+    ∙ heard_recorded kind path before after read.answer is.heard is.hears
+    ∙ sym (or_failed there is.heard (kind_told kind content base path before after read.answer is.heard is.hears says))
+    ∙ ap (λ (told : ReadAnswer). or_there (counts_in told) there) (sym is.tells)
+
+-- ---- the one read that is asked for
+
+-- at most one of a list passes a test
+abbrev pub IsPassedOnce : {A : Type 0} → (A → Bool) → List A → Type 0
+IsPassedOnce passes [] = ⊤
+IsPassedOnce passes (x ∷ xs) = (passes x ≡ true → list_any passes xs ≡ false) × IsPassedOnce passes xs
+
+-- a test of records is whether they are of a kind, at a path of some parts
+abbrev pub AreAskedBy : (ReadRecord → Bool) → ReadKind → List (List ℕ) → List ReadRecord → Type 0
+AreAskedBy is_asked kind parts records = AllByRecursion (λ (read : ReadRecord). is_asked read ≡ is_read kind parts read) records
+
+none_failed : (is_asked : ReadRecord → Bool) (kind : ReadKind) (parts : List (List ℕ)) (records : List ReadRecord) → AreAskedBy is_asked kind parts records → list_any is_asked records ≡ false
+    → failed_counts kind parts records ≡ None
+none_failed is_asked kind parts [] are none = refl
+none_failed is_asked kind parts (read ∷ records) are none =
+    ap (λ b. cond b (or_counts (counts_in read.answer) (failed_counts kind parts records)) (failed_counts kind parts records))
+    (sym are.0 ∙ first_false (is_asked read) (list_any is_asked records) none)
+    ∙ none_failed is_asked kind parts records are.1 (second_false (is_asked read) (list_any is_asked records) none)
+
+first_true : (a b : Bool) → (a && b) ≡ true → a ≡ true
+first_true true b e = refl
+first_true false b e = cc
+
+second_true : (a b : Bool) → (a && b) ≡ true → b ≡ true
+second_true true b e = e
+second_true false b e = cc
+
+kind_same : (one other : ReadKind) → is_kind one other ≡ true → one ≡ other
+kind_same Manifest Manifest is = refl
+kind_same Manifest Listing is = cc
+kind_same Manifest LicenseFile is = cc
+kind_same Listing Manifest is = cc
+kind_same Listing Listing is = refl
+kind_same Listing LicenseFile is = cc
+kind_same LicenseFile Manifest is = cc
+kind_same LicenseFile Listing is = cc
+kind_same LicenseFile LicenseFile is = refl
+
+module _ (content : Content) (base : List ℕ) (kind : ReadKind) (at : List ℕ) (is_asked : ReadRecord → Bool) where
+  abbrev there_at : Heard
+  there_at = there_heard kind content (place_of kind (resolve base) (components_of at))
+
+  abbrev failed_at : List ReadRecord → Option (ℕ × ℕ)
+  failed_at records = failed_counts kind (components_of at) records
+
+  -- the read that is asked for lets hear it
+  here_told : (before : ℕ) (read : Read) → IsRecorded before read → Says content (call_for base read.recorded read.answer) → is_read kind (components_of at) read.recorded ≡ true
+      → read_heard read ≡ or_there (counts_in read.recorded.answer) there_at
+  here_told before read is says here =
+      let kind_is : kind ≡ read.recorded.kind = kind_same kind read.recorded.kind (first_true (is_kind kind read.recorded.kind) (same_parts (components_of at) (components_of read.recorded.path)) here) in
+      let parts_are : components_of at ≡ components_of read.recorded.path =
+      parts_of_same at read.recorded.path (second_true (is_kind kind read.recorded.kind) (same_parts (components_of at) (components_of read.recorded.path)) here) in
+      read_told content base before read is says
+      ∙ ap (or_there (counts_in read.recorded.answer))
+      (ap₂ (λ (one : ReadKind) (parts : List (List ℕ)). there_heard one content (place_of one (resolve base) parts)) (sym kind_is) (sym parts_are))
+
+  -- Where each call says what is so, and one read is asked for, the answers let hear what the content and the records do.
+  pub first_told : (before : ℕ) (reads : List Read) → AreReads before reads → All (Says content) (calls_in base reads) → AreAskedBy is_asked kind (components_of at) (recorded reads)
+      → IsPassedOnce is_asked (recorded reads) → list_any is_asked (recorded reads) ≡ true
+      → first_heard is_asked reads ≡ heard_by content (resolve base) (recorded reads) kind (components_of at)
+  first_told before [] are says asked once any = cc
+  first_told before (read ∷ reads) are says asked once any =
+      let counts = counts_in read.recorded.answer in
+      let rest = failed_at (recorded reads) in
+      by_test (is_read kind (components_of at) read.recorded)
+      (λ here.
+      ap (λ b. cond b (read_heard read) (first_heard is_asked reads)) (asked.0 ∙ here)
+      ∙ here_told before read are.0 (All-head (Says content) (call_for base read.recorded read.answer) (calls_in base reads) says) here
+      ∙ sym (ap (λ b. or_there (cond b (or_counts counts rest) rest) there_at) here
+      ∙ ap (λ (more : Option (ℕ × ℕ)). or_there (or_counts counts more) there_at)
+      (none_failed is_asked kind (components_of at) (recorded reads) asked.1 (once.0 (asked.0 ∙ here)))
+      ∙ ap (λ (those : Option (ℕ × ℕ)). or_there those there_at) (or_counts-none counts)))
+      (λ other.
+      ap (λ b. cond b (read_heard read) (first_heard is_asked reads)) (asked.0 ∙ other)
+      ∙ first_told (fault_behind before read.answer) reads are.1 (All-tail (Says content) (call_for base read.recorded read.answer) (calls_in base reads) says) asked.1 once.1
+      (ap (λ b. b || list_any is_asked (recorded reads)) (sym (asked.0 ∙ other)) ∙ any)
+      ∙ sym (ap (λ b. or_there (cond b (or_counts counts rest) rest) there_at) other))

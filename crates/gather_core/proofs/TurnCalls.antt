@@ -1,0 +1,205 @@
+-- Crates that have their turns one after another, each by its own reads.
+use Rattle.std.proofs.Common.{◌≡◌, ◌∙◌, ℕ, ◌+◌, List, [], ◌∷◌, ◌++◌, map, append-nil, Option, Result, Ok, Err, refl, sym, ap, ap₂, subst, take, take-append-drop, drop}
+use Rattle.std.specs.Prelude.{IfOk, OnOk}
+use Rattle.std.specs.declared.alloc.AllocError.{AllocError}
+use Rattle.std.specs.Option.{option_to_list}
+use Rattle.std.proofs.lemmas.List.{map-append}
+use Rattle.std.proofs.lemmas.List.Concat.{flat_map-append}
+use Rattle.tree_core.specs.Call.{Call}
+use Rattle.tree_core.specs.Content.{Content}
+use Rattle.tree_core.specs.Hearing.{Made}
+use Rattle.tree_core.specs.Trace.{fault_behind, faults_after}
+use Rattle.tree_core.specs.declared.reads.ReadRecord.{ReadRecord}
+use Rattle.tree_core.proofs.MadeLemmas.{faults_after-append, made_as, made_joined, made_none}
+use Rattle.graph_core.specs.Krate.{Record}
+use Rattle.reads_core.specs.Read.{AreReads, MadeReads, Read, calls_in, records_in as recorded}
+use Rattle.reads_core.proofs.ReadLemmas.{are_joined, calls_in-append}
+use Rattle.pack_core.specs.Calls.{IsFront}
+use Rattle.pack_core.specs.Ears.{ears_by}
+use Rattle.expression_core.specs.Scanned.{Scanner}
+use Rattle.diag_core.specs.File.{File}
+use Rattle.location_core.specs.Calls.{manifest_by}
+use Rattle.priority_core.specs.Priority.{folder_of}
+use Rattle.gather_core.specs.declared.summary.KrateLicense.{KrateLicense}
+use Rattle.gather_core.specs.Calls.{AreOwnReads, AreTurnsBy, AreTurnsByReads, CrateReads, IsByOwnReads, IsTurnBy, IsTurnHeard, StarvesGathering, StarvesTaking}
+use Rattle.gather_core.specs.Calls.{calls_of_all, files_behind_all, reads_of_all, turn_by}
+use Rattle.gather_core.specs.Entries.{Entry, clarifications_of}
+use Rattle.gather_core.specs.Gathered.{krate_of, turn_of}
+use Rattle.gather_core.specs.Premises.{Grows}
+use Rattle.gather_core.specs.Taken.{turn_with}
+use Rattle.gather_core.specs.Turns.{IsCutOut, IsTurn, files_behind, records_in}
+use Rattle.gather_core.proofs.CallLemmas.{starves_behind}
+use Rattle.gather_core.proofs.GatheredLemmas.{map_push, priority_turn}
+use Rattle.gather_core.proofs.PlacedLemmas.{cut_grown}
+
+-- ---- one crate
+
+-- what is told of a crate is what its turn says by its own reads
+pub license_answered : {told tells : Option Content} {before after : ℕ} {old new : List Call} (scanner : Scanner) (policy : ℕ) (all : List Entry) (files last : List File) (krate : Record)
+    (records : List ReadRecord) (reads : List Read) (result : Result KrateLicense AllocError) → recorded reads ≡ records → MadeReads told tells before after old new (folder_of krate) reads
+    → IfOk result (λ license. krate_of license ≡ krate) → IfOk result (λ license. license.reads ≡ records)
+    → IfOk result (λ license. IsTurn (turn_with scanner policy (clarifications_of krate all) krate (ears_by reads) (manifest_by reads) files) license last)
+    → OnOk result (IsCutOut last (turn_with scanner policy (clarifications_of krate all) krate (ears_by reads) (manifest_by reads) files))
+    → IfOk result (λ license. IsByOwnReads told tells before after old new (folder_of (krate_of license)) license.reads (IsTurnHeard scanner policy all files license last))
+license_answered {told} {tells} {before} {after} {old} {new} scanner policy all files last krate records reads (Ok license) recorded_are made krate_is reads_are is cut = record {
+  reads = reads;
+  recorded_are = recorded_are ∙ sym reads_are;
+  made = subst (λ (krate : Record). MadeReads told tells before after old new (folder_of krate) reads) (sym krate_is) made;
+  is_so = (
+    subst (λ (krate : Record). IsTurn (turn_with scanner policy (clarifications_of krate all) krate (ears_by reads) (manifest_by reads) files) license last) (sym krate_is) is,
+    subst (λ (krate : Record). IsCutOut last (turn_with scanner policy (clarifications_of krate all) krate (ears_by reads) (manifest_by reads) files)) (sym krate_is) cut,
+  );
+}
+license_answered scanner policy all files last krate records reads (Err error) recorded_are made krate_is reads_are is cut = tt
+
+-- memory was wanting behind a crate's turn
+pub starves_told : {told tells : Option Content} {before after : ℕ} {old new : List Call} (scanner : Scanner) (policy : ℕ) (all : List Entry) (files last : List File) (license : KrateLicense)
+    → IsByOwnReads told tells before after old new (folder_of (krate_of license)) license.reads (IsTurnHeard scanner policy all files license last)
+    → StarvesTaking told tells before after old new (folder_of (krate_of license)) (λ ears manifest. records_in (turn_of scanner policy all ears manifest files license))
+starves_told scanner policy all files last license by =
+    starves_behind (folder_of (krate_of license)) license.reads (IsTurnHeard scanner policy all files license last)
+    (λ ears manifest. records_in (turn_of scanner policy all ears manifest files license)) (λ ears manifest is. is.0.read) by
+
+-- ---- the calls of crates, one after another
+
+-- the count behind reads is the same in any folder
+faults_in : (count : ℕ) (folder other : List ℕ) (reads : List Read) → faults_after count (calls_in folder reads) ≡ faults_after count (calls_in other reads)
+faults_in count folder other [] = refl
+faults_in count folder other (read ∷ reads) = faults_in (fault_behind count read.answer) folder other reads
+
+pub counts_of_all : (count : ℕ) (crates : List CrateReads) → faults_after count (calls_of_all crates) ≡ faults_after count (calls_in [] (reads_of_all crates))
+counts_of_all count [] = refl
+counts_of_all count (one ∷ crates) =
+    let own = calls_in (folder_of one.krate) one.reads in
+    faults_after-append count own (calls_of_all crates)
+    ∙ counts_of_all (faults_after count own) crates
+    ∙ ap (λ (from : ℕ). faults_after from (calls_in [] (reads_of_all crates))) (faults_in count (folder_of one.krate) [] one.reads)
+    ∙ sym (faults_after-append count (calls_in [] one.reads) (calls_in [] (reads_of_all crates)))
+    ∙ ap (faults_after count) (sym (calls_in-append [] one.reads (reads_of_all crates)))
+
+calls_push : (crates : List CrateReads) (one : CrateReads) → calls_of_all (crates ++ one ∷ []) ≡ calls_of_all crates ++ calls_in (folder_of one.krate) one.reads
+calls_push crates one =
+    flat_map-append (λ (one : CrateReads). calls_in (folder_of one.krate) one.reads) crates (one ∷ [])
+    ∙ ap (λ (calls : List Call). calls_of_all crates ++ calls) (append-nil (calls_in (folder_of one.krate) one.reads))
+
+reads_push : (crates : List CrateReads) (one : CrateReads) → reads_of_all (crates ++ one ∷ []) ≡ reads_of_all crates ++ one.reads
+reads_push crates one =
+    flat_map-append (λ (one : CrateReads). one.reads) crates (one ∷ []) ∙ ap (λ (reads : List Read). reads_of_all crates ++ reads) (append-nil one.reads)
+
+-- records tell what the answers let hear, and so do those of the next crate
+are_then : {told mid : Option Content} {before middle : ℕ} {old between : List Call} (crates : List CrateReads) (more : List Read) → Made told mid before middle old between (calls_of_all crates)
+    → AreReads before (reads_of_all crates) → AreReads middle more → AreReads before (reads_of_all crates ++ more)
+are_then {told} {mid} {before} {middle} crates more made first then =
+    are_joined before [] (reads_of_all crates) more first (subst (λ (count : ℕ). AreReads count more) (made.counts ∙ counts_of_all before crates) then)
+
+-- ---- turn after turn
+
+pub no_turns : (told : Option Content) (count : ℕ) (calls : List Call) (scanner : Scanner) (policy : ℕ) (all : List Entry) (files : List File)
+    → AreTurnsByReads told told count count calls calls scanner policy all files [] files
+no_turns told count calls scanner policy all files = record { crates = []; made = made_none told count calls; are = tt; turns = refl }
+
+turns_push : (scanner : Scanner) (policy : ℕ) (all : List Entry) (one : CrateReads) (files : List File) (crates : List CrateReads) (licenses : List KrateLicense) (license : KrateLicense) (middle last : List File)
+    → AreTurnsBy scanner policy all files crates licenses middle → Grows middle last → IsTurnBy scanner policy all middle one license last → last ≡ files_behind (turn_by scanner policy all middle one)
+    → AreTurnsBy scanner policy all files (crates ++ one ∷ []) (licenses ++ license ∷ []) last
+turns_push scanner policy all one files [] [] license middle last same grows is table = (
+  subst (λ (files : List File). IsTurnBy scanner policy all files one license last) same is,
+  subst (λ (files : List File). last ≡ files_behind (turn_by scanner policy all files one)) same table,
+)
+turns_push scanner policy all one files [] (other ∷ licenses) license middle last turns grows is table = absurd turns
+turns_push scanner policy all one files (first ∷ crates) [] license middle last turns grows is table = absurd turns
+turns_push scanner policy all one files (first ∷ crates) (other ∷ licenses) license middle last turns grows is table =
+    let turn = turn_by scanner policy all files first in (
+      record {
+        krate = turns.0.krate;
+        recorded_are = turns.0.recorded_are;
+        turn = turns.0.turn;
+        answer = turns.0.answer;
+        cuts = cut_grown middle last turn grows turns.0.cuts;
+      },
+      turns_push scanner policy all one (files_behind turn) crates licenses license middle last turns.1 grows is table,
+    )
+
+module _ {told mid tells : Option Content} {before between_count after : ℕ} {old between new : List Call} (scanner : Scanner) (policy : ℕ) (all : List Entry) (files : List File) (licenses : List KrateLicense) where
+  -- one more crate
+  pub turns_then : (license : KrateLicense) (middle last : List File) → AreTurnsByReads told mid before between_count old between scanner policy all files licenses middle → Grows middle last
+      → IsByOwnReads mid tells between_count after between new (folder_of (krate_of license)) license.reads (IsTurnHeard scanner policy all middle license last)
+      → AreTurnsByReads told tells before after old new scanner policy all files (licenses ++ license ∷ []) last
+  turns_then license middle last first grows by =
+      let one : CrateReads = record { krate = krate_of license; reads = by.reads } in
+      let turn = turn_by scanner policy all middle one in
+      record {
+        crates = first.crates ++ one ∷ [];
+        made = made_as (sym (calls_push first.crates one)) (made_joined first.made by.made.made);
+        are = subst (AreReads before) (sym (reads_push first.crates one)) (are_then first.crates by.reads first.made first.are by.made.are);
+        turns =
+            turns_push scanner policy all one files first.crates licenses license middle last first.turns grows
+            (record {
+              krate = refl;
+              recorded_are = by.recorded_are;
+              turn = subst (IsTurn turn license) by.is_so.0.table by.is_so.0;
+              answer = priority_turn turn license last by.is_so.0;
+              cuts = by.is_so.1;
+            })
+            by.is_so.0.table;
+      }
+
+-- ---- for want of memory
+
+own_turns : (scanner : Scanner) (policy : ℕ) (all : List Entry) (files : List File) (crates : List CrateReads) (licenses : List KrateLicense) (last : List File)
+    → AreTurnsBy scanner policy all files crates licenses last → AreOwnReads scanner policy all files crates
+own_turns scanner policy all files [] licenses last turns = tt
+own_turns scanner policy all files (one ∷ crates) [] last turns = absurd turns
+own_turns scanner policy all files (one ∷ crates) (license ∷ licenses) last turns = (
+  turns.0.recorded_are ∙ turns.0.turn.read,
+  own_turns scanner policy all (files_behind (turn_by scanner policy all files one)) crates licenses last turns.1,
+)
+
+left_turns : (scanner : Scanner) (policy : ℕ) (all : List Entry) (files : List File) (crates : List CrateReads) (licenses : List KrateLicense) (last : List File)
+    → AreTurnsBy scanner policy all files crates licenses last → last ≡ files_behind_all scanner policy all files crates
+left_turns scanner policy all files [] [] last turns = turns
+left_turns scanner policy all files [] (license ∷ licenses) last turns = absurd turns
+left_turns scanner policy all files (one ∷ crates) [] last turns = absurd turns
+left_turns scanner policy all files (one ∷ crates) (license ∷ licenses) last turns =
+    left_turns scanner policy all (files_behind (turn_by scanner policy all files one)) crates licenses last turns.1
+
+krates_turned : (scanner : Scanner) (policy : ℕ) (all : List Entry) (files : List File) (crates : List CrateReads) (licenses : List KrateLicense) (last : List File)
+    → AreTurnsBy scanner policy all files crates licenses last → map (λ (one : CrateReads). one.krate) crates ≡ map krate_of licenses
+krates_turned scanner policy all files [] [] last turns = refl
+krates_turned scanner policy all files [] (license ∷ licenses) last turns = absurd turns
+krates_turned scanner policy all files (one ∷ crates) [] last turns = absurd turns
+krates_turned scanner policy all files (one ∷ crates) (license ∷ licenses) last turns =
+    ap₂ (λ (krate : Record) (rest : List Record). krate ∷ rest) turns.0.krate
+    (krates_turned scanner policy all (files_behind (turn_by scanner policy all files one)) crates licenses last turns.1)
+
+-- memory was wanting at the turn of the next crate
+pub starves_next : {told mid tells : Option Content} {before between_count after : ℕ} {old between new : List Call} (scanner : Scanner) (policy : ℕ) (all : List Entry) (files : List File)
+    (licenses : List KrateLicense) (middle : List File) (krate : Record) (krates : List Record) → AreTurnsByReads told mid before between_count old between scanner policy all files licenses middle
+    → StarvesTaking mid tells between_count after between new (folder_of krate) (λ ears manifest. records_in (turn_with scanner policy (clarifications_of krate all) krate ears manifest middle))
+    → IsFront (map krate_of licenses ++ krate ∷ []) krates
+    → StarvesGathering told tells before after old new scanner policy all files krates
+starves_next scanner policy all files licenses middle krate krates first starves among =
+    let begun : CrateReads = record { krate = krate; reads = starves.reads } in
+    record {
+      crates = first.crates;
+      begun = begun;
+      next = starves.next;
+      made = made_joined first.made starves.made.made;
+      are = are_then first.crates starves.reads first.made first.are starves.made.are;
+      own = own_turns scanner policy all files first.crates licenses middle first.turns;
+      front =
+          subst (λ (files : List File). IsFront (recorded starves.reads ++ option_to_list starves.next) (records_in (turn_by scanner policy all files begun)))
+          (left_turns scanner policy all files first.crates licenses middle first.turns) starves.front;
+      among =
+          subst (λ (those : List Record). IsFront (those ++ krate ∷ []) krates) (sym (krates_turned scanner policy all files first.crates licenses middle first.turns)) among;
+    }
+
+-- the first ones of a list, with the next one
+pub front_next : {A B : Type 0} (f : A → B) (xs : List A) (place : ℕ) (x : A) (before : List B) → before ≡ map f (take place xs) → take (place + 1) xs ≡ take place xs ++ x ∷ []
+    → IsFront (before ++ f x ∷ []) (map f xs)
+front_next f xs place x before are more = (
+  map f (drop (place + 1) xs),
+  ap (map f) (sym (take-append-drop (place + 1) xs))
+      ∙ map-append f (take (place + 1) xs) (drop (place + 1) xs)
+      ∙ ap (λ front. map f front ++ map f (drop (place + 1) xs)) more
+      ∙ ap (λ front. front ++ map f (drop (place + 1) xs)) (map_push f (take place xs) x ∙ ap (λ front. front ++ f x ∷ []) (sym are)),
+)

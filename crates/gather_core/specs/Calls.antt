@@ -1,0 +1,117 @@
+-- Over any tree, whatever it tells of its content: the calls that are made at the turns of crates, and what is so by what their
+-- answers let hear.
+use Rattle.std.specs.Prelude.{◌≡◌, ℕ, List, [], ◌∷◌, ◌++◌, map, Option, ⊤}
+use Rattle.std.specs.List.{flat_map}
+use Rattle.std.specs.Option.{option_to_list}
+use Rattle.tree_core.specs.Call.{Call}
+use Rattle.tree_core.specs.Content.{Content}
+use Rattle.tree_core.specs.Hearing.{Made}
+use Rattle.tree_core.specs.declared.reads.ReadRecord.{ReadRecord}
+use Rattle.graph_core.specs.Krate.{Record}
+use Rattle.reads_core.specs.Heard.{Heard}
+use Rattle.reads_core.specs.Read.{AreReads, LackedMemory, MadeReads, Read, call_lost, calls_in, records_in as recorded}
+use Rattle.pack_core.specs.Calls.{IsFront}
+use Rattle.pack_core.specs.Ears.{Ears, ears_by}
+use Rattle.expression_core.specs.Scanned.{Scanner}
+use Rattle.diag_core.specs.File.{File}
+use Rattle.location_core.specs.Calls.{manifest_by}
+use Rattle.priority_core.specs.Priority.{folder_of}
+use Rattle.gather_core.specs.Entries.{Entry, clarifications_of}
+use Rattle.gather_core.specs.declared.summary.KrateLicense.{KrateLicense}
+use Rattle.gather_core.specs.Gathered.{IsPriorityBy, krate_of, turn_of}
+use Rattle.gather_core.specs.Taken.{turn_with}
+use Rattle.gather_core.specs.Turns.{IsCutOut, IsTurn, Turn, files_behind, records_in}
+
+-- ---- one crate
+
+-- Reads with these records were made over a tree, for a crate in this folder: their calls were made, and no other, and this is so
+-- by what their answers let hear of the crate's files and of its manifest.
+pub record IsByOwnReads (told tells : Option Content) (before after : ℕ) (old new : List Call) (folder : List ℕ) (records : List ReadRecord) (IsSo : Ears → Heard → Type 0) : Type 0 where
+  pub reads : List Read
+  pub recorded_are : recorded reads ≡ records
+  pub made : MadeReads told tells before after old new folder reads
+  pub is_so : IsSo (ears_by reads) (manifest_by reads)
+
+-- These reads were made over a tree, for a crate in this folder, and then memory was wanting, perhaps in the call of one more.
+-- They, and that one, are the first ones of those that are made by what they let hear.
+pub record StarvesTaking (told tells : Option Content) (before after : ℕ) (old new : List Call) (folder : List ℕ) (wanted : Ears → Heard → List ReadRecord) : Type 0 where
+  pub reads : List Read
+  pub next : Option ReadRecord
+  pub made : LackedMemory told tells before after old new folder reads next
+  pub front : IsFront (recorded reads ++ option_to_list next) (wanted (ears_by reads) (manifest_by reads))
+
+-- what is told of a crate is what its turn says by what is heard, and the labels of what is found cut out what they say
+abbrev pub IsTurnHeard : Scanner → ℕ → List Entry → List File → KrateLicense → List File → Ears → Heard → Type 0
+IsTurnHeard scanner policy all files license last ears manifest =
+    IsTurn (turn_of scanner policy all ears manifest files license) license last
+    × IsCutOut last (turn_of scanner policy all ears manifest files license)
+
+-- ---- several crates
+
+-- a crate, and the reads of its turn
+pub record CrateReads : Type 0 where
+  pub krate : Record
+  pub reads : List Read
+
+-- the turn of a crate among all, by what its own reads let hear, with the table that the crates before have left
+abbrev pub turn_by : Scanner → ℕ → List Entry → List File → CrateReads → Turn
+turn_by scanner policy all files one =
+    turn_with scanner policy (clarifications_of one.krate all) one.krate (ears_by one.reads) (manifest_by one.reads) files
+
+-- the table behind all of them
+abbrev pub files_behind_all : Scanner → ℕ → List Entry → List File → List CrateReads → List File
+files_behind_all scanner policy all files [] = files
+files_behind_all scanner policy all files (one ∷ crates) = files_behind_all scanner policy all (files_behind (turn_by scanner policy all files one)) crates
+
+-- the calls of their reads, crate after crate, each crate's in its own folder
+abbrev pub calls_of_all : List CrateReads → List Call
+calls_of_all crates = flat_map (λ one. calls_in (folder_of one.krate) one.reads) crates
+
+abbrev pub reads_of_all : List CrateReads → List Read
+reads_of_all crates = flat_map (λ one. one.reads) crates
+
+-- What is told of a crate is what its turn says by its own reads, which have the records that are told of it; it has priority by
+-- them; and the labels of what is found cut out what they say, in the table that is left at last.
+pub record IsTurnBy (scanner : Scanner) (policy : ℕ) (all : List Entry) (files : List File) (one : CrateReads) (license : KrateLicense) (last : List File) : Type 0 where
+  pub krate : one.krate ≡ krate_of license
+  pub recorded_are : recorded one.reads ≡ license.reads
+  pub turn : IsTurn (turn_by scanner policy all files one) license (files_behind (turn_by scanner policy all files one))
+  pub answer : IsPriorityBy scanner all (ears_by one.reads) license
+  pub cuts : IsCutOut last (turn_by scanner policy all files one)
+
+-- crate after crate, from a table on to the one that is left at last
+abbrev pub AreTurnsBy : Scanner → ℕ → List Entry → List File → List CrateReads → List KrateLicense → List File → Type 0
+AreTurnsBy scanner policy all files [] [] last = last ≡ files
+AreTurnsBy scanner policy all files (one ∷ crates) (license ∷ licenses) last =
+    IsTurnBy scanner policy all files one license last
+    × AreTurnsBy scanner policy all (files_behind (turn_by scanner policy all files one)) crates licenses last
+AreTurnsBy scanner policy all files _ _ last = ⊥
+
+-- Crates had their turns over a tree, each by its own reads: the calls of these were made, one crate after another, and no other;
+-- their records tell what the answers let hear; and what is told of each crate is what its turn says by them.
+pub record AreTurnsByReads (told tells : Option Content) (before after : ℕ) (old new : List Call) (scanner : Scanner) (policy : ℕ) (all : List Entry) (files : List File) (licenses : List KrateLicense) (last : List File) : Type 0 where
+  pub crates : List CrateReads
+  pub made : Made told tells before after old new (calls_of_all crates)
+  pub are : AreReads before (reads_of_all crates)
+  pub turns : AreTurnsBy scanner policy all files crates licenses last
+
+-- ---- for want of memory
+
+-- crate after crate, the reads are those that its turn asks for by them
+abbrev pub AreOwnReads : Scanner → ℕ → List Entry → List File → List CrateReads → Type 0
+AreOwnReads scanner policy all files [] = ⊤
+AreOwnReads scanner policy all files (one ∷ crates) =
+    (recorded one.reads ≡ records_in (turn_by scanner policy all files one))
+    × AreOwnReads scanner policy all (files_behind (turn_by scanner policy all files one)) crates
+
+-- Some of these crates, the first ones, had their turns over a tree, and memory was wanting at the turn of the next one, perhaps in
+-- a call. Its reads, and that call's, are the first ones of those that its turn asks for by what they let hear.
+pub record StarvesGathering (told tells : Option Content) (before after : ℕ) (old new : List Call) (scanner : Scanner) (policy : ℕ) (all : List Entry) (files : List File) (krates : List Record) : Type 0 where
+  pub crates : List CrateReads
+  pub begun : CrateReads
+  pub next : Option ReadRecord
+  pub made : Made told tells before after old new (calls_of_all crates ++ (calls_in (folder_of begun.krate) begun.reads ++ call_lost (folder_of begun.krate) next))
+  pub are : AreReads before (reads_of_all crates ++ begun.reads)
+  pub own : AreOwnReads scanner policy all files crates
+  pub front : IsFront (recorded begun.reads ++ option_to_list next) (records_in (turn_by scanner policy all (files_behind_all scanner policy all files crates) begun))
+  pub among : IsFront (map (λ (one : CrateReads). one.krate) crates ++ begun.krate ∷ []) krates
