@@ -1,14 +1,15 @@
 -- How a gate begins and ends.
-use Rattle.std.specs.Prelude.{◌≡◌, ℕ, List, Option, Result, Ok, Err, codes}
+use Rattle.std.specs.Prelude.{◌≡◌, ℕ, List, Result, Ok, Err, codes}
 use Rattle.std.specs.Option.{ForSome}
-use Rattle.tree_core.specs.Content.{Content}
 use Rattle.tree_core.specs.Script.{FaultCounts, Written}
 use Rattle.catalog_core.specs.BuiltIn.{built_in}
 use Rattle.catalog_core.specs.Store.{match_of}
 use Rattle.catalog_core.specs.Table.{table_lists}
 use Rattle.deny_run.specs.declared.report.Outcome.{Outcome}
 use Rattle.deny_run.specs.Given.{Given}
-use Rattle.deny_run.specs.Headline.{Headline}
+use Rattle.deny_run.specs.Headline.{Headline, HeadlineRead}
+use Rattle.deny_run.specs.Hearing.{TreeSeen}
+use Rattle.deny_run.specs.Report.{IsAnswer}
 use Rattle.deny_run.specs.Run.{answer_of, exit_status}
 use Rattle.deny_run.specs.Script.{Writes}
 use Rattle.deny_gate.specs.declared.StartError.{StartError}
@@ -21,21 +22,23 @@ start_line Words = codes "error: the words could not be read\n"
 start_line Folder = codes "error: the working folder could not be read\n"
 
 -- the outcome is that of a run over these words and this folder, with the catalogue and the licence texts that are built in
-pub record IsRun (words : List (List ℕ)) (folder : List ℕ) (told : Option Content) (counts : FaultCounts) (old new : Written) (outcome : Outcome) : Type 0 where
+pub record IsRun (words : List (List ℕ)) (folder : List ℕ) (tree : TreeSeen) (counts : FaultCounts) (old new : Written) (outcome : Outcome) : Type 0 where
   pub given : Given
   pub lists : given.lists ≡ table_lists
   pub match_of : given.match_of ≡ match_of built_in
   pub words_given : given.words ≡ words
   pub folder_given : given.cwd ≡ folder
-  pub headline : ForSome told (λ content. Headline given content counts outcome)
-  pub written : Writes given told counts old new (answer_of outcome.ended)
+  pub answer : IsAnswer given tree (answer_of outcome.ended)
+  pub headline_read : HeadlineRead given tree counts outcome
+  pub headline : ForSome tree.told (λ content. Headline given content counts outcome)
+  pub written : Writes given tree counts old new (answer_of outcome.ended)
   pub status : outcome.status ≡ exit_status (answer_of outcome.ended)
 
 -- the outcome is that of a run over some words and some folder
-pub record RunsOverSome (told : Option Content) (counts : FaultCounts) (old new : Written) (outcome : Outcome) : Type 0 where
+pub record RunsOverSome (tree : TreeSeen) (counts : FaultCounts) (old new : Written) (outcome : Outcome) : Type 0 where
   pub words : List (List ℕ)
   pub folder : List ℕ
-  pub ran : IsRun words folder told counts old new outcome
+  pub ran : IsRun words folder tree counts old new outcome
 
 -- the number that the process ends with
 abbrev pub ending_of : Result Outcome StartError → ℕ

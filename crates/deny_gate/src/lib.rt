@@ -5,8 +5,9 @@ ghost use Rattle.std.specs.Prelude.{◌≡◌, ◌≤◌, IfOk, IfErr, OnOk, OnE
 ghost use Rattle.std.specs.Path.{path_buf_bytes};
 ghost use Rattle.std.specs.Process.{exit_status};
 ghost use Rattle.catalog_core.specs.BuiltIn.{built_in};
-ghost use Rattle.tree_core.specs.Hearing.{KeepsTree};
+ghost use Rattle.tree_core.specs.Hearing.{MadeSome};
 ghost use Rattle.tree_core.specs.Script.{LineWritten};
+ghost use Rattle.deny_run.specs.Hearing.{seen};
 ghost use Rattle.deny_run.specs.Run.{answer_of};
 ghost use Rattle.deny_run.specs.Run as run;
 ghost use Rattle.deny_run.specs.Script.{between};
@@ -124,9 +125,11 @@ fn run_started<T: Tree, O: Sink, E: Sink>(
     err: &mut E,
 ) -> Outcome
     requires { start.now.store ≡ built_in }
-    ensures kept { KeepsTree (T.content tree.old) (T.content tree.new)
-        (T.fault_count tree.old) (T.fault_count tree.new) }
-    ensures ran { IsRun (texts start.now.words.items) (path_buf_bytes start.now.folder) (T.content tree.old)
+    ensures made { MadeSome (T.content tree.old) (T.content tree.new) (T.fault_count tree.old)
+        (T.fault_count tree.new) (T.trace tree.old) (T.trace tree.new) }
+    ensures ran { IsRun (texts start.now.words.items) (path_buf_bytes start.now.folder)
+        (seen (T.content tree.old) (T.content tree.new) (T.fault_count tree.old) (T.fault_count tree.new)
+        (T.trace tree.old) (T.trace tree.new))
         (between
         (record { tree = T.fault_count tree.old; out = O.fault_count out.old; err = E.fault_count err.old })
         (record { tree = T.fault_count tree.new; out = O.fault_count out.new; err = E.fault_count err.new }))
@@ -171,8 +174,8 @@ pub fn gate_over<V: Env + AllocGlobal, T: Tree, O: Sink, E: Sink>(
     out: &mut O,
     err: &mut E,
 ) -> Result<Outcome, StartError>
-    ensures kept { KeepsTree (T.content tree.old) (T.content tree.new)
-        (T.fault_count tree.old) (T.fault_count tree.new) }
+    ensures made { MadeSome (T.content tree.old) (T.content tree.new) (T.fault_count tree.old)
+        (T.fault_count tree.new) (T.trace tree.old) (T.trace tree.new) }
 
     // Where the gate could not begin, its line stands on `err` and `out` is as it was.
     ensures line { IfErr result (λ error. LineWritten (E.written err.old) (E.written err.new)
@@ -180,7 +183,9 @@ pub fn gate_over<V: Env + AllocGlobal, T: Tree, O: Sink, E: Sink>(
     ensures silent { OnErr result (O.written out.new ≡ O.written out.old) }
 
     // Where it ran, it did what a run over some words and some folder does.
-    ensures ran { IfOk result (RunsOverSome (T.content tree.old)
+    ensures ran { IfOk result (RunsOverSome
+        (seen (T.content tree.old) (T.content tree.new) (T.fault_count tree.old) (T.fault_count tree.new)
+        (T.trace tree.old) (T.trace tree.new))
         (between
         (record { tree = T.fault_count tree.old; out = O.fault_count out.old; err = E.fault_count err.old })
         (record { tree = T.fault_count tree.new; out = O.fault_count out.new; err = E.fault_count err.new }))

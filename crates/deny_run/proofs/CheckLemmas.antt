@@ -1,23 +1,12 @@
 -- What a sink without overrides has gained of a check.
-use Rattle.std.proofs.Common.{◌≡◌, ◌∙◌, refl, sym, ap, subst, ℕ, List, [], ◌∷◌, ◌++◌, map, None, Result, Ok, Err, IfOk, OnOk}
+use Rattle.std.proofs.Common.{◌≡◌, ◌∙◌, refl, sym, ap, subst, List, [], ◌∷◌, ◌++◌, map, None, Result, Ok, Err, IfOk, OnOk, OnErr}
 use Rattle.std.specs.Prelude.{All}
 use Rattle.diag_core.specs.File.{File}
 use Rattle.diag_core.specs.Overrides.{pack_overridden}
 use Rattle.diag_core.specs.Pack.{PackOf}
 use Rattle.diag_core.specs.declared.overrides.ErrorSink.{ErrorSink}
-use Rattle.catalog_core.specs.Catalog.{CatalogLists}
-use Rattle.catalog_core.specs.declared.identifier.Match.{Match}
-use Rattle.valid_policy.specs.View.{policy_of}
-use Rattle.valid_policy.specs.declared.policy.ValidConfig.{ValidConfig}
-use Rattle.gather_core.specs.Entries.{entries_of}
-use Rattle.gather_core.specs.Gathered.{AreTurnsBySome}
-use Rattle.gather_core.specs.declared.summary.KrateLicense.{KrateLicense}
 use Rattle.check_core.specs.Check.{gained}
-use Rattle.check_core.specs.Labels.{GainLies, PackLies, VerdictPoints}
-use Rattle.check_core.specs.Summary.{all_asked}
-use Rattle.deny_run.specs.declared.check.CheckedCrates.{CheckedCrates}
-use Rattle.deny_run.specs.BySome.{IsFoundBySome}
-use Rattle.deny_run.specs.Steps.{IsCheckOf, scanner_by}
+use Rattle.check_core.specs.Labels.{GainLies, PackLies}
 
 abbrev pub empty_sink : ErrorSink
 empty_sink = record { overrides = None; packs = [] }
@@ -41,19 +30,7 @@ pub both_of : {T E : Type 0} (result : Result T E) (P Q : T → Type 0) → IfOk
 both_of (Ok value) P Q first second = (first, second)
 both_of (Err error) P Q first second = tt
 
--- what a check comes to is found by what the licences of its summary were settled by
-pub found_by_some : (lists : CatalogLists) (match_of : List ℕ → Match) (files last : List File) (policy : ValidConfig) (licenses : List KrateLicense) (checked : CheckedCrates)
-    → AreTurnsBySome (scanner_by lists match_of policy) policy.file_id (entries_of policy) files licenses last → IsCheckOf policy licenses checked
-    → All (VerdictPoints last (policy_of policy)) (all_asked licenses) → All (PackLies last) checked.findings
-    → IsFoundBySome lists match_of files last checked.policy checked.crates checked.findings
-found_by_some lists match_of files last policy licenses checked turns check points lie =
-    subst (λ (one : CheckedCrates). IsFoundBySome lists match_of files last one.policy one.crates one.findings) (sym check.is) (record {
-      licenses = licenses;
-      verdicts = check.verdicts;
-      turns = turns;
-      are = check.are;
-      reports = refl;
-      found = refl;
-      points = points;
-      lie = subst (λ (one : CheckedCrates). All (PackLies last) one.findings) check.is lie;
-    })
+-- what is so is so of a failure
+pub of_failure : {T E : Type 0} (result : Result T E) (P : Type 0) → P → OnErr result P
+of_failure (Ok value) P is = tt
+of_failure (Err error) P is = is

@@ -1,12 +1,17 @@
 -- The headline, from what a run answers.
-use Rattle.std.proofs.Common.{◌≡◌, Ok, ℕ, ◌≤◌, false, List, [], ◌∷◌, Option, All, inl, inr, sym, ap, ap₂, subst, ◌∙◌, refl, arith}
-use Rattle.std.specs.List.{sum_by}
-use Rattle.std.proofs.lemmas.List.Elements.{All-from_recursion}
+use Rattle.std.proofs.Common.{◌≡◌, ◌∙◌, ◌⊎◌, ℕ, ◌≤◌, ◌<◌, ◌^◌, ◌-◌, true, false, List, [], ◌∷◌, Some, All, inl, inr, sym, ap, subst, refl, arith}
+use Rattle.std.proofs.Common.{ltb}
+use Rattle.std.proofs.lemmas.Bool.Decides.{Decides-ltb}
+use Rattle.std.specs.List.{AllByRecursion, sum_by}
+use Rattle.std.proofs.lemmas.List.{append_cancel_left}
+use Rattle.std.proofs.lemmas.List.Elements.{All-from_recursion, recursion_from_All}
+use Rattle.tree_core.specs.Call as call
+use Rattle.tree_core.specs.Call.{Asked as AskedOf, Answered, Call}
 use Rattle.tree_core.specs.Content.{Content}
-use Rattle.tree_core.specs.Hearing.{Hearing}
-use Rattle.tree_core.specs.Faults.{Rose}
+use Rattle.tree_core.specs.Faults.{Rose, counted}
 use Rattle.tree_core.specs.Script.{to_out, to_err, Target, Script, FaultCounts, IsWithoutFault, RefusedBy, Written}
-use Rattle.tree_core.proofs.HearingLemmas.{none_failed}
+use Rattle.tree_core.specs.Trace.{Says, fault_behind, faults_after}
+use Rattle.tree_core.proofs.MadeLemmas.{faults_after-later}
 use Rattle.diag_core.specs.declared.severity.Severity.TheVariants as severity
 use Rattle.valid_policy.specs.View.{policy_of}
 use Rattle.unused_core.specs.Unused.{last_pack}
@@ -21,25 +26,23 @@ use Rattle.deny_run.specs.declared.report.Ended.{Ended}
 use Rattle.deny_run.specs.declared.report.Ended.TheVariants.{Checked, Refused}
 use Rattle.deny_run.specs.declared.report.Outcome.{Outcome}
 use Rattle.deny_run.specs.Counts.{count_in, is_against, status_of}
-use Rattle.deny_run.specs.Error.{cause_of, FreeOr, MayEndLawful}
+use Rattle.deny_run.specs.Error.{cause_of, MayEndLawful}
 use Rattle.deny_run.specs.Given.{Given}
-use Rattle.deny_run.specs.Headline.{EndsInReport, Headline}
-use Rattle.deny_run.specs.Heard.{all_looked_at, files_loaded, found_of}
-use Rattle.deny_run.specs.Hearing.{CrateHeard, Looks, look_failed, all_told, LooksRise, RunHearing, all_heard, reads_of}
-use Rattle.deny_run.specs.Report.{Asked, Asks, IsAnswer, IsRefusal, IsReport, verdicts_told}
+use Rattle.deny_run.specs.Headline.{EndsInReport, Headline, HeadlineRead, IsHeardOf, Tells}
+use Rattle.deny_run.specs.Heard.{HearsAllDue, IsRunHearing, all_looked_at, calls_of, files_loaded, found_of}
+use Rattle.deny_run.specs.Hearing.{RunHearing, TreeSeen}
+use Rattle.deny_run.specs.Report.{Asked, Asks, IsAnsweredBy, IsRefusal, IsRefusedBy, IsReport, verdicts_told}
 use Rattle.deny_run.specs.Run.{answer_of, exit_status}
 use Rattle.deny_run.specs.Script.{Begins, HasBegun, Writes}
 use Rattle.deny_run.specs.Selection.{Refuses, RefusesSelection}
-use Rattle.deny_run.proofs.AnswerLemmas.{found_of-from_Asks}
 use Rattle.deny_run.proofs.CountLemmas.{none_against, none_counted}
-use Rattle.deny_run.proofs.GatheredLemmas.{reads_later, rose_wider}
+use Rattle.deny_run.proofs.FoundLemmas.{found_of-from_Asks}
+use Rattle.deny_run.proofs.HeardAlike.{found_alike}
 
--- what is heard where no count rose in the run, whatever is read of the crates
-abbrev all_but : Content → ℕ → List CrateHeard → RunHearing
-all_but content begun crates = record { looks = all_told; files = record { content = content; begun = begun; failed = [] }; crates = crates }
+-- ---- lawful input is not refused
 
-module _ (given : Given) (content : Content) (begun : ℕ) (asked : Asked) (asks : Asks given (all_heard content begun) asked) (crates : List CrateHeard) where
-  -- lawful input has a selection
+module _ (given : Given) (hearing : RunHearing) (asked : Asked) (asks : Asks given hearing asked) where
+  -- it has a selection
   selection_apart : (error : Error) → RefusesSelection (record { request = asked.request; policy = asked.policy; graph = asked.graph }) error → ⊥
   selection_apart Memory refuses = refuses
   selection_apart (NotCarried what) refuses = refuses
@@ -54,37 +57,104 @@ module _ (given : Given) (content : Content) (begun : ℕ) (asked : Asked) (asks
   selection_apart (WriteFault before last) refuses = refuses
   selection_apart (NotYet Words) refuses = refuses
 
-  -- what it asks for is found
-  is_found : found_of given (all_but content begun crates) ≡ Ok (record { request = asked.request; policy = asked.policy; graph = asked.graph })
-  is_found = found_of-from_Asks given (all_heard content begun) asked asks
+  -- a refusal of what is found alike
+  pub refuses_apart : (error : Error) (found : _) → found ≡ found_of given hearing → Refuses found error → ⊥
+  refuses_apart error found same refuses =
+      selection_apart error (subst (λ own. Refuses own error) (same ∙ found_of-from_Asks given hearing asked asks) refuses)
 
-  refuses_apart : (error : Error) → Refuses (found_of given (all_but content begun crates)) error → ⊥
-  refuses_apart error refuses = selection_apart error (subst (λ found. Refuses found error) is_found refuses)
+-- ---- the same calls
 
--- where no count rose, each look told
-all_looked : (looks : Looks) (before after : ℕ) → LooksRise before after looks → ¬ (Rose before after) → looks ≡ all_told
-all_looked all_told before after rise quiet = refl
-all_looked (look_failed first last) before after rise quiet = absurd (quiet rise.2)
+-- two lists of calls are the same one
+abbrev IsSame : List Call → List Call → Type 0
+IsSame X Y = X ≡ Y
 
--- lawful input without a fault is not refused
-not_refused : (given : Given) (content : Content) (counts : FaultCounts) (asked : Asked) (error : Error) → Asks given (all_heard content counts.tree_before) asked
-    → IsWithoutFault counts → IsRefusal given content counts.tree_before counts.tree_after error → ⊥
-not_refused given content counts asked error lawful quiet refused =
-    let files = refused.hearing.files in
-    let crates = refused.hearing.crates in
-    let middle = refused.heard.middle in
-    let before = counts.tree_before in
-    let after = counts.tree_after in
-    let then : middle ≤ after = reads_later middle (reads_of crates) after refused.heard.crates in
-    let none = none_failed before files.failed middle refused.heard.files.rises (λ rose. quiet.tree (rose_wider before before middle after (omega arith) then rose)) in
-    let same : ◌≡◌ {A = Hearing} files (record { content = content; begun = before; failed = [] }) =
-    ap (λ held. record { content = held; begun = files.begun; failed = files.failed }) refused.heard.files.content
-    ∙ ap (λ begun. record { content = content; begun = begun; failed = files.failed }) refused.heard.files.begun
-    ∙ ap (λ failed. record { content = content; begun = before; failed = failed }) none in
-    let whole : ◌≡◌ {A = RunHearing} refused.hearing (all_but content before crates) =
-    ap₂ (λ looks own. let it : RunHearing = record { looks = looks; files = own; crates = crates } in it)
-    (all_looked refused.hearing.looks before after refused.heard.looks quiet.tree) same in
-    refuses_apart given content before asked lawful crates error (subst (λ one. Refuses (found_of given one) error) whole refused.refused)
+-- the answer of the first one
+first_answer : List Call → Answered
+first_answer [] = call.no_memory
+first_answer (one ∷ calls) = one.answer
+
+same_step : (asked : AskedOf) (path : List ℕ) (one other : Answered) (X Y : List Call)
+    → IsSame (record { asked = asked; path = path; answer = one } ∷ X) (record { asked = asked; path = path; answer = other } ∷ Y)
+    → ((one ≡ other) ⊎ (other ≡ call.no_memory)) × IsSame X Y
+unfolding first_answer
+same_step asked path one other X Y e = (inl (ap first_answer e), cc)
+
+-- by what was read, lawful input is not refused
+not_refused_read : (given : Given) (tree : TreeSeen) (hearing own : RunHearing) (asked : Asked) (error : Error) → IsRunHearing given tree hearing → HearsAllDue given hearing → Asks given hearing asked
+    → IsRunHearing given tree own → IsRefusal given own error → ⊥
+not_refused_read given tree hearing own asked error heard due asks ran refusal =
+    let same = append_cancel_left tree.calls_before (calls_of given own) (calls_of given hearing) (sym ran.made.traced ∙ heard.made.traced) in
+    refuses_apart given hearing asked asks error (found_of given own)
+    (found_alike IsSame same_step given own hearing (ran.begun ∙ sym heard.begun) refusal.due due same) refusal.refused
+
+-- ---- the same content
+
+not_less : (a b : ℕ) → ltb a b ≡ false → b ≤ a
+not_less a b is = grind (arith, Decides-ltb a b)
+
+-- a call that failed raised the count
+rose_counted : (count after : ℕ) → counted count ≤ after → Rose count after
+rose_counted count after later = elim (ltb count (2 ^ 64 - 1)) as (λ b. ltb count (2 ^ 64 - 1) ≡ b → Rose count after) [
+  | true ↦ λ below. let less : count < 2 ^ 64 - 1 = (Decides-ltb count (2 ^ 64 - 1)).0 below in inl (omega arith)
+  | false ↦ λ over. let most : 2 ^ 64 - 1 ≤ count = not_less count (2 ^ 64 - 1) over in inr (omega arith)
+] refl
+
+-- the answer of a call is what the content has, or memory was wanting
+abbrev Fair : Content → Call → Type 0
+Fair content one = (one.answer ≡ call.no_memory) ⊎ Tells content one
+
+-- where no count rose
+fair_one : (content : Content) (asked : AskedOf) (path : List ℕ) (answer : Answered) (count after : ℕ) → Says content (record { asked = asked; path = path; answer = answer })
+    → fault_behind count answer ≤ after → ¬ (Rose count after) → Fair content (record { asked = asked; path = path; answer = answer })
+fair_one content asked path (call.bytes items) count after says later quiet = inr says
+fair_one content asked path (call.entries items) count after says later quiet = inr says
+fair_one content asked path (call.told answer) count after says later quiet = inr says
+fair_one content asked path call.absent count after says later quiet = inr says
+fair_one content asked path call.wrong_kind count after says later quiet = inr says
+fair_one content asked path call.failed count after says later quiet = absurd (quiet (rose_counted count after later))
+fair_one content asked path call.no_memory count after says later quiet = inl refl
+
+-- the count is the same behind an answer where it did not rise
+quiet_behind : (answer : Answered) (count after : ℕ) → fault_behind count answer ≤ after → ¬ (Rose count after) → fault_behind count answer ≡ count
+quiet_behind (call.bytes items) count after later quiet = refl
+quiet_behind (call.entries items) count after later quiet = refl
+quiet_behind (call.told answer) count after later quiet = refl
+quiet_behind call.absent count after later quiet = refl
+quiet_behind call.wrong_kind count after later quiet = refl
+quiet_behind call.failed count after later quiet = absurd (quiet (rose_counted count after later))
+quiet_behind call.no_memory count after later quiet = refl
+
+all_fair : (content : Content) (calls : List Call) (count : ℕ) → AllByRecursion (Says content) calls → ¬ (Rose count (faults_after count calls)) → AllByRecursion (Fair content) calls
+all_fair content [] count says quiet = tt
+all_fair content (one ∷ calls) count says quiet =
+    let later = faults_after-later (fault_behind count one.answer) calls in
+    let same = quiet_behind one.answer count (faults_after count (one ∷ calls)) later quiet in (
+      fair_one content one.asked one.path one.answer count (faults_after count (one ∷ calls)) says.0 later quiet,
+      all_fair content calls count says.1 (subst (λ n. ¬ (Rose count (faults_after n calls))) same quiet),
+    )
+
+-- what the first calls are answered is what the content has, and the second ones too where memory was not wanting
+abbrev IsToldBy : Content → List Call → List Call → Type 0
+IsToldBy content X Y = AllByRecursion (Tells content) X × AllByRecursion (Fair content) Y
+
+told_step : (content : Content) (asked : AskedOf) (path : List ℕ) (one other : Answered) (X Y : List Call)
+    → IsToldBy content (record { asked = asked; path = path; answer = one } ∷ X) (record { asked = asked; path = path; answer = other } ∷ Y)
+    → ((one ≡ other) ⊎ (other ≡ call.no_memory)) × IsToldBy content X Y
+told_step content asked path one other X Y both = (answered both.0.0 both.1.0, (both.0.1, both.1.1))
+  where
+    answered : Tells content (record { asked = asked; path = path; answer = one }) → Fair content (record { asked = asked; path = path; answer = other }) → (one ≡ other) ⊎ (other ≡ call.no_memory)
+    answered tells (inl lost) = inr lost
+    answered tells (inr own) = inl (tells ∙ sym own)
+
+-- over a content, lawful input is not refused without a fault
+not_refused_told : (given : Given) (content : Content) (tree : TreeSeen) (hearing own : RunHearing) (asked : Asked) (error : Error) → tree.told ≡ Some content
+    → IsHeardOf given content tree.count_before hearing → Asks given hearing asked → ¬ (Rose tree.count_before tree.count_after) → IsRunHearing given tree own → IsRefusal given own error → ⊥
+not_refused_told given content tree hearing own asked error told heard asks quiet ran refusal =
+    let says = recursion_from_All (Says content) (calls_of given own) (ran.made.says content told) in
+    let fair = all_fair content (calls_of given own) tree.count_before says (subst (λ n. ¬ (Rose tree.count_before n)) ran.made.counts quiet) in
+    let tells = recursion_from_All (Tells content) (calls_of given hearing) heard.tells in
+    refuses_apart given hearing asked asks error (found_of given own)
+    (sym (found_alike (IsToldBy content) (told_step content) given hearing own (heard.begun ∙ sym ran.begun) heard.due refusal.due (tells, fair))) refusal.refused
 
 -- a write that was refused raised a count
 rose_by : (counts : FaultCounts) → (target : Target) (before after : ℕ) → RefusedBy counts target before after → IsWithoutFault counts → ⊥
@@ -95,48 +165,71 @@ rose_by counts to_err before after refused quiet = quiet.err (wider refused.2)
     wider (inl less) = inl (omega (arith, refused.0, refused.1))
     wider (inr last) = inr (omega (arith, refused.1))
 
-rose_begun : (given : Given) (told : Option Content) (counts : FaultCounts) (text : List ℕ) (begun : Script) (before after : ℕ)
-    → Begins given told counts text begun (refused_write before after) → IsWithoutFault counts → ⊥
-rose_begun given told counts text begun before after (inl cut) quiet = rose_by counts cut.target before after cut.refused quiet
-rose_begun given told counts text begun before after (inr cut) quiet = rose_by counts cut.cut.target before after cut.cut.refused quiet
+rose_begun : (given : Given) (tree : TreeSeen) (counts : FaultCounts) (text : List ℕ) (begun : Script) (before after : ℕ)
+    → Begins given tree counts text begun (refused_write before after) → IsWithoutFault counts → ⊥
+rose_begun given tree counts text begun before after (inl cut) quiet = rose_by counts cut.target before after cut.refused quiet
+rose_begun given tree counts text begun before after (inr cut) quiet = rose_by counts cut.cut.target before after cut.cut.refused quiet
 
 -- a cause that may end a lawful run, since no other one is there
-lawful_cause : (given : Given) (content : Option Content) (counts : FaultCounts) (text : List ℕ) (begun : Script) (cause : Cause) (P : Type 0)
-    → FreeOr cause P → ¬ P → Begins given content counts text begun cause → IsWithoutFault counts → MayEndLawful cause
-lawful_cause given content counts text begun no_memory P free fails begins quiet = tt
-lawful_cause given content counts text begun causes.told P free fails begins quiet = absurd (fails free)
-lawful_cause given content counts text begun (failed_read before after) P free fails begins quiet = absurd (fails free)
-lawful_cause given content counts text begun (refused_write before after) P free fails begins quiet = absurd (rose_begun given content counts text begun before after begins quiet)
+lawful_cause : (given : Given) (tree : TreeSeen) (counts : FaultCounts) (text : List ℕ) (begun : Script) (hearing : RunHearing) (error : Error) (cause : Cause)
+    → IsRefusedBy given tree hearing error cause → (IsRunHearing given tree hearing → IsRefusal given hearing error → ⊥) → Begins given tree counts text begun cause → IsWithoutFault counts → MayEndLawful cause
+lawful_cause given tree counts text begun hearing error no_memory refused fails begins quiet = tt
+lawful_cause given tree counts text begun hearing error causes.told refused fails begins quiet = absurd (fails refused.0 refused.1)
+lawful_cause given tree counts text begun hearing error (failed_read before after) refused fails begins quiet = absurd (fails refused.0 refused.1)
+lawful_cause given tree counts text begun hearing error (refused_write before after) refused fails begins quiet = absurd (rose_begun given tree counts text begun before after begins quiet)
 
 -- lawful input without a fault ends in a report or in want of memory
-ends_lawful : (given : Given) (content : Content) (counts : FaultCounts) (asked : Asked) (told : Option Content) (text : List ℕ) (begun : Script) (ended : Ended)
-    → Asks given (all_heard content counts.tree_before) asked → IsWithoutFault counts → IsAnswer given content counts.tree_before counts.tree_after (answer_of ended)
-    → HasBegun given told counts text begun (answer_of ended) → EndsInReport ended
-ends_lawful given content counts asked told text begun (Checked report) asks quiet answer begins = tt
-ends_lawful given content counts asked told text begun (Refused error) asks quiet answer begins =
-    lawful_cause given told counts text begun (cause_of error) (IsRefusal given content counts.tree_before counts.tree_after error) answer
-    (not_refused given content counts asked error asks quiet) begins quiet
+ends_lawful : (given : Given) (tree : TreeSeen) (counts : FaultCounts) (text : List ℕ) (begun : Script) (hearing : RunHearing) (ended : Ended)
+    → IsAnsweredBy given tree hearing (answer_of ended) → ((error : Error) → IsRunHearing given tree hearing → IsRefusal given hearing error → ⊥)
+    → HasBegun given tree counts text begun (answer_of ended) → IsWithoutFault counts → EndsInReport ended
+ends_lawful given tree counts text begun hearing (Checked report) answers fails begins quiet = tt
+ends_lawful given tree counts text begun hearing (Refused error) answers fails begins quiet =
+    lawful_cause given tree counts text begun hearing error (cause_of error) answers (fails error) begins quiet
 
 -- no verdict is against a crate where the status is 0
-clear_status : (given : Given) (content : Content) (before after : ℕ) (report : Report) (status : ℕ) → IsReport given content before after report
+clear_status : (given : Given) (hearing : RunHearing) (report : Report) (status : ℕ) → IsReport given hearing report
     → status ≡ status_of report.stats → status ≡ 0 → All (λ crate. is_against crate.verdict ≡ false) report.crates
-clear_status given content before after report status asked is clear =
-    let hearing = asked.hearing in
-    let looked = all_looked_at given report.policy hearing (files_loaded given hearing) hearing.crates in
+clear_status given hearing report status asked is clear =
+    let looked = all_looked_at given report.policy (files_loaded given hearing) hearing.crates in
     let last = last_pack report.policy (all_hits (policy_of report.policy) looked (verdicts_told report)) ∷ [] in
     All-from_recursion (λ crate. is_against crate.verdict ≡ false) report.crates
     (none_against (policy_of report.policy) looked report.crates last asked.tells.are
     (sym (ap (sum_by (count_in severity.Error)) asked.tells.findings)
     ∙ none_counted (sum_by (count_in severity.Error) report.findings) (sym (is ∙ ap status_of asked.gives.stats) ∙ clear)))
 
--- the headline, from the answer, what was begun of the script, and the status
-pub Headline-from_answer : (given : Given) (content : Content) (counts : FaultCounts) (told : Option Content) (old new : Written) (outcome : Outcome)
-    → IsAnswer given content counts.tree_before counts.tree_after (answer_of outcome.ended) → Writes given told counts old new (answer_of outcome.ended)
-    → outcome.status ≡ exit_status (answer_of outcome.ended) → Headline given content counts outcome
-Headline-from_answer given content counts told old new outcome answer writes status =
-    let reported = λ (report : Report) (e : outcome.ended ≡ Checked report). subst (λ ended. IsAnswer given content counts.tree_before counts.tree_after (answer_of ended)) e answer in
-    record {
-      verdicts = reported;
-      status = λ report e clear. clear_status given content counts.tree_before counts.tree_after report outcome.status (reported report e) (status ∙ ap (λ ended. exit_status (answer_of ended)) e) clear;
-      lawful = λ asked asks quiet. ends_lawful given content counts asked told writes.text writes.begun outcome.ended asks quiet answer writes.begins;
-    }
+-- ---- the headline
+
+module _ (given : Given) (tree : TreeSeen) (counts : FaultCounts) (old new : Written) (outcome : Outcome) (writes : Writes given tree counts old new (answer_of outcome.ended))
+    (status : outcome.status ≡ exit_status (answer_of outcome.ended)) where
+  -- what was heard
+  abbrev own : RunHearing
+  own = writes.tells.hearing
+
+  reported : (report : Report) → outcome.ended ≡ Checked report → IsRunHearing given tree own × IsReport given own report
+  reported report e = subst (λ ended. IsAnsweredBy given tree own (answer_of ended)) e writes.tells.answers
+
+  clear : (report : Report) → outcome.ended ≡ Checked report → outcome.status ≡ 0 → All (λ crate. is_against crate.verdict ≡ false) report.crates
+  clear report e zero = clear_status given own report outcome.status (reported report e).1 (status ∙ ap (λ ended. exit_status (answer_of ended)) e) zero
+
+  -- by what was read
+  pub HeadlineRead-from_writes : HeadlineRead given tree counts outcome
+  HeadlineRead-from_writes = record {
+    verdicts = λ report e. record { hearing = own; heard = (reported report e).0; is = (reported report e).1 };
+    status = clear;
+    lawful = λ hearing asked heard due asks quiet.
+        ends_lawful given tree counts writes.text writes.begun own outcome.ended writes.tells.answers
+        (λ error ran refusal. not_refused_read given tree hearing own asked error heard due asks ran refusal) writes.begins quiet;
+  }
+
+  -- and so by the content, where the tree tells it
+  pub told_headline : (content : Content) → tree.told ≡ Some content → tree.count_before ≡ counts.tree_before → tree.count_after ≡ counts.tree_after → Headline given content counts outcome
+  told_headline content told before after = record {
+    verdicts = λ report e. record { hearing = own; says = (reported report e).0.made.says content told; is = (reported report e).1 };
+    status = clear;
+    lawful = λ hearing asked heard asks quiet.
+        let still : ¬ (Rose tree.count_before tree.count_after) =
+        subst (λ n. ¬ (Rose n tree.count_after)) (sym before) (subst (λ n. ¬ (Rose counts.tree_before n)) (sym after) quiet.tree) in
+        ends_lawful given tree counts writes.text writes.begun own outcome.ended writes.tells.answers
+        (λ error ran refusal. not_refused_told given content tree hearing own asked error told (subst (λ n. IsHeardOf given content n hearing) (sym before) heard) asks still ran refusal)
+        writes.begins quiet;
+  }

@@ -1,8 +1,13 @@
 pub mod AnswerLemmas
+pub mod CallLemmas
 pub mod CheckLemmas
 pub mod CountLemmas
+pub mod EndLemmas
+pub mod FoundLemmas
 pub mod GatheredLemmas
 pub mod HeadlineLemmas
+pub mod HeardAlike
+pub mod LoadCalls
 pub mod LoadedLemmas
 pub mod PlaceLemmas
 pub mod PolicyLemmas

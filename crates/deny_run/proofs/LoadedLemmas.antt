@@ -1,131 +1,284 @@
--- The load in a run, as a part of one hearing: what it comes to is what is found by that, and a load that answers a policy
--- heard no read fail.
-use Rattle.std.proofs.Common.{◌≡◌, ◌∙◌, refl, sym, ap, ap₂, subst, ℕ, Bool, true, false, List, [], ◌∷◌, Option, Some, None, Result, Ok, Err}
-use Rattle.std.specs.Prelude.{find}
-use Rattle.std.specs.Option.{option_map_or}
-use Rattle.catalog_core.specs.Catalog.{CatalogLists}
-use Rattle.diag_core.specs.File.{File, id_at}
-use Rattle.tree_core.specs.Content.{Content, node_at}
-use Rattle.tree_core.specs.Hearing.{policy, metadata, FailedRead, Hearing, is_read, read_failed, stands}
-use Rattle.heard_core.specs.Heard.{hearing_of, text_heard, text_in}
+-- What is heard behind the looks: of the policy's files, and then of the metadata and of the crates.
+use Rattle.std.proofs.Common.{◌≡◌, ◌∙◌, refl, sym, ap, subst, ℕ, List, [], ◌∷◌, ◌++◌, append-nil, append_assoc, Option, Some, None, Result, Ok}
+use Rattle.tree_core.specs.Call.{Answered, Call}
+use Rattle.tree_core.specs.Content.{Content}
+use Rattle.tree_core.specs.Hearing.{MadeSome}
+use Rattle.tree_core.specs.Trace.{fault_behind, faults_after}
+use Rattle.tree_core.proofs.MadeLemmas.{made_these}
+use Rattle.heard_core.specs.Heard.{IsRead, read_of, text_answered}
 use Rattle.heard_core.specs.declared.fault.ReadFault.{ReadFault}
-use Rattle.heard_core.specs.declared.fault.ReadFault.TheVariants.{Failed, Absent, Folder, NotUtf8}
-use Rattle.load_core.specs.Heard.{LoadHeard, exceptions_at, exceptions_heard, heard_at, load_heard}
-use Rattle.load_core.specs.Load.{Loaded, found_by, load_by_config, load_by_text, load_of, policy_file}
-use Rattle.load_core.specs.declared.loading.PolicyPaths.{PolicyPaths}
-use Rattle.policy_config.specs.declared.root.RootConfig.{RootConfig}
-use Rattle.policy_core.specs.Heard.{ExceptionsHeard, heard, read_of}
-use Rattle.policy_core.specs.Policy.{PolicyFound, absence_told}
+use Rattle.search_core.specs.Search.{candidates}
+use Rattle.search_core.specs.declared.search.Sought.TheVariants.{Exceptions}
+use Rattle.gather_core.specs.Calls.{CrateReads, calls_of_all}
 use Rattle.policy_text.specs.Config.{config_told}
 use Rattle.policy_text.specs.Text.{text_told}
-use Rattle.policy_text.specs.declared.error.ConfigError.{ConfigError}
-use Rattle.policy_text.specs.declared.text.ConfigText.{ConfigText}
-use Rattle.deny_run.proofs.PolicyLemmas.{told_among, unless_Ok}
+use Rattle.load_core.specs.Answer.{MayReadBoth, ReadsBehind}
+use Rattle.load_core.specs.Heard.{LoadHeard}
+use Rattle.load_core.specs.Load.{load_by_text, load_of, with_policy}
+use Rattle.load_core.specs.declared.loading.PolicyPaths.{PolicyPaths}
+use Rattle.deny_run.specs.declared.words.Request.{Request}
+use Rattle.deny_run.specs.Given.{Given}
+use Rattle.deny_run.specs.Heard.{HearsAllDue, calls_of, count_exceptions, count_looked, count_metadata, count_policy, due_behind, due_by_text, exceptions_by, exceptions_due, exceptions_in, load_at, load_heard, manifest_in, metadata_due, metadata_heard, paths_looked, policy_due}
+use Rattle.deny_run.specs.Hearing.{unended, IsReadWhereDue, RunHearing, count_behind, look_calls, looks_by, read_calls, text_by}
+use Rattle.deny_run.specs.Report.{paths_at}
+use Rattle.deny_run.specs.Words.{request_of}
+use Rattle.deny_run.proofs.CallLemmas.{heard_where, looks_found, text_heard_by}
+use Rattle.deny_run.proofs.FoundLemmas.{calls-due, exceptions-are, exceptions-is, looked-at, policy-is}
+use Rattle.deny_run.proofs.LoadCalls.{CountsFurther, LoadsAlike, ReadsDue, may_further, reads_behind, text_anyhow}
 
--- what stands where no read failed
-abbrev pub quiet : Content → ℕ → Hearing
-quiet content begun = record { content = content; begun = begun; failed = [] }
+-- the count behind a read that was made where it was due
+counts_due : (due : Option (List ℕ)) (answer : Option Answered) (count : ℕ) → IsReadWhereDue due answer → faults_after count (read_calls due answer) ≡ count_behind count answer
+counts_due None answer count is = ap (count_behind count) (sym is)
+counts_due (Some path) (Some answer) count is = refl
+counts_due (Some path) None count is = absurd (cc)
 
--- a file is heard to have failed, or as where no read failed
-data Alike (begun : ℕ) (one other : Result (List ℕ) ReadFault) : Type 0 where
-  alike : one ≡ other → Alike begun one other
-  failed : (last : ℕ) → one ≡ Err (Failed begun last) → Alike begun one other
+sought_found : (begun after : ℕ) (found : Option (List ℕ)) → exceptions_by begun after (looks_found found) ≡ Ok found
+sought_found begun after None = refl
+sought_found begun after (Some path) = refl
 
-by_find : (begun : ℕ) (content : Content) (path : List ℕ) (found : Option FailedRead)
-    → Alike begun (text_in begun (option_map_or (λ (read : FailedRead). read_failed read.before read.after) found (stands (node_at content path)))) (text_heard (quiet content begun) policy path)
-by_find begun content path None = alike refl
-by_find begun content path (Some read) = failed read.after refl
+-- ---- behind the looks
 
-alike_at : (hearing : Hearing) (path : Option (List ℕ)) → Alike hearing.begun (heard_at hearing path) (heard_at (quiet hearing.content hearing.begun) path)
-alike_at hearing None = alike refl
-alike_at hearing (Some path) = by_find hearing.begun hearing.content path (find (is_read policy path) hearing.failed)
+module _ (given : Given) (request : Request) (asked : request_of given.words given.cwd ≡ Some request) (begun : ℕ) (looks : List Answered) (exceptions : Option (List ℕ))
+    (by : looks_by (candidates Exceptions (manifest_in given.cwd)) looks ≡ looks_found exceptions) where
+  -- the calls of the looks, and the count behind them
+  abbrev pub look_calls_made : List Call
+  look_calls_made = look_calls (candidates Exceptions (manifest_in given.cwd)) looks
 
--- a policy whose read failed is not answered
-failed_policy : (lists : CatalogLists) (paths : PolicyPaths) (told : LoadHeard) (found : PolicyFound) (begun last : ℕ)
-    → told.policy ≡ Err (Failed begun last) → (load_of lists [] paths told).answer ≡ Ok found → {A : Type 0} → A
-failed_policy lists paths told found begun last is e =
-    let same : (load_by_text lists [] paths told.exceptions (text_told (Err (Failed begun last)))).answer ≡ Ok found =
-    subst (λ one. (load_by_text lists [] paths told.exceptions (text_told one)).answer ≡ Ok found) is e in
-    absurd (cc)
+  abbrev pub paths : PolicyPaths
+  paths = paths_at request.config_path exceptions
 
-module _ (lists : CatalogLists) (paths : PolicyPaths) (found : PolicyFound) (begun last : ℕ) where
-  -- an exceptions file whose read failed is a finding, unless it is the policy
-  module _ (text : ConfigText) (other : Result (List ℕ) ReadFault) where
-    abbrev files : List File
-    files = policy_file paths.policy text.text ∷ []
+  -- what is heard, by these answers
+  abbrev pub hears : Option Answered → Option Answered → Option Answered → List CrateReads → RunHearing
+  hears policy exceptions_file metadata crates =
+      record { begun = begun; looks = looks; policy = policy; exceptions = exceptions_file; metadata = metadata; crates = crates }
 
-    abbrev by_exceptions : ExceptionsHeard → Result RootConfig ConfigError → Loaded
-    by_exceptions exceptions config = load_by_config lists [] paths exceptions text config
+  own_calls : look_calls (paths_looked given) looks ≡ look_calls_made
+  own_calls = ap (λ own. look_calls own looks) (looked-at given request asked)
 
-    unread_root : (path : List ℕ) (root : RootConfig) → (by_exceptions (heard path (Err (Failed begun last))) (Ok root)).answer ≡ Ok found → {A : Type 0} → A
-    unread_root path root e =
-        let exceptions = heard path (Err (Failed begun last)) in
-        let (same, none) = unless_Ok (found_by lists (policy_file paths.policy text.text ∷ []) 0 paths text.is_there exceptions root) found e in
-        let both : ◌≡◌ {A = Bool} true false = sym (told_among lists 0 1 (absence_told text.is_there paths.policy) root (read_of exceptions) refl) ∙ none in
-        absurd (cc)
+  own_count : (hearing : RunHearing) → hearing.begun ≡ begun → hearing.looks ≡ looks → count_looked given hearing ≡ faults_after begun look_calls_made
+  own_count hearing one other =
+      ap (λ n. faults_after n (look_calls (paths_looked given) hearing.looks)) one
+      ∙ ap (λ own. faults_after begun (look_calls (paths_looked given) own)) other
+      ∙ ap (faults_after begun) own_calls
 
-    unread_config : (path : List ℕ) (config : Result RootConfig ConfigError) → (by_exceptions (heard path (Err (Failed begun last))) config).answer ≡ Ok found → {A : Type 0} → A
-    unread_config path (Ok root) e = unread_root path root e
-    unread_config path (Err refused) e = absurd (cc)
+  module _ (policy exceptions_file metadata : Option Answered) (crates : List CrateReads) where
+    abbrev hearing : RunHearing
+    hearing = hears policy exceptions_file metadata crates
 
-    at_id : (path : List ℕ) (id : Option ℕ) (config : Result RootConfig ConfigError)
-        → (by_exceptions (exceptions_at id path (Err (Failed begun last))) config).answer ≡ Ok found
-        → by_exceptions (exceptions_at id path (Err (Failed begun last))) config ≡ by_exceptions (exceptions_at id path other) config
-    at_id path None config e = unread_config path config e
-    at_id path (Some id) config e = refl
+    own_by : looks_by (paths_looked given) looks ≡ looks_found exceptions
+    own_by = ap (λ own. looks_by own looks) (looked-at given request asked) ∙ by
 
-    at_path : (path : Option (List ℕ)) (config : Result RootConfig ConfigError)
-        → (by_exceptions (exceptions_heard files path (Err (Failed begun last))) config).answer ≡ Ok found
-        → by_exceptions (exceptions_heard files path (Err (Failed begun last))) config ≡ by_exceptions (exceptions_heard files path other) config
-    at_path None config e = refl
-    at_path (Some path) config e = at_id path (id_at files path) config e
+    pub sought_is : exceptions_in given (hears policy exceptions_file metadata crates) ≡ Ok exceptions
+    sought_is = exceptions-are given request asked hearing (looks_found exceptions) own_by ∙ sought_found begun (count_looked given hearing) exceptions
 
-  at_text : (other : Result (List ℕ) ReadFault) (text : Result ConfigText ConfigError)
-      → (load_by_text lists [] paths (Err (Failed begun last)) text).answer ≡ Ok found
-      → load_by_text lists [] paths (Err (Failed begun last)) text ≡ load_by_text lists [] paths other text
-  at_text other (Ok text) e = at_path text other paths.exceptions (config_told lists text.text) e
-  at_text other (Err refused) e = absurd (cc)
+    pub looks_ended : looks_by (paths_looked given) looks ≡ unended → ⊥
+    looks_ended e = apart exceptions (sym own_by ∙ e)
+      where
+        apart : (found : Option (List ℕ)) → looks_found found ≡ unended → ⊥
+        apart None e = absurd (cc)
+        apart (Some path) e = absurd (cc)
 
-same_exceptions : (lists : CatalogLists) (paths : PolicyPaths) (found : PolicyFound) (begun : ℕ) (one other : Result (List ℕ) ReadFault) (text : Result ConfigText ConfigError)
-    → Alike begun one other → (load_by_text lists [] paths one text).answer ≡ Ok found → load_by_text lists [] paths one text ≡ load_by_text lists [] paths other text
-same_exceptions lists paths found begun one other text (alike same) e = ap (λ own. load_by_text lists [] paths own text) same
-same_exceptions lists paths found begun one other text (failed last is) e =
-    ap (λ own. load_by_text lists [] paths own text) is
-    ∙ at_text lists paths found begun last other text (subst (λ own. (load_by_text lists [] paths own text).answer ≡ Ok found) is e)
+    pub policy_is_due : policy_due given (hears policy exceptions_file metadata crates) ≡ Some request.config_path
+    policy_is_due = policy-is given request asked hearing exceptions sought_is
 
-same_policy : (lists : CatalogLists) (paths : PolicyPaths) (found : PolicyFound) (begun : ℕ) (told other : LoadHeard)
-    → Alike begun told.policy other.policy → Alike begun told.exceptions other.exceptions
-    → (load_of lists [] paths told).answer ≡ Ok found → load_of lists [] paths told ≡ load_of lists [] paths other
-same_policy lists paths found begun told other (alike same) further e =
-    same_exceptions lists paths found begun told.exceptions other.exceptions (text_told told.policy) further e
-    ∙ ap (λ own. load_by_text lists [] paths other.exceptions (text_told own)) same
-same_policy lists paths found begun told other (failed last is) further e = failed_policy lists paths told found begun last is e
+-- ---- a load that came to its end
 
--- a load that answers a policy comes to the same where no read failed
-pub stands_quiet : (lists : CatalogLists) (paths : PolicyPaths) (found : PolicyFound) (hearing : Hearing)
-    → (load_of lists [] paths (load_heard hearing paths)).answer ≡ Ok found
-    → load_of lists [] paths (load_heard hearing paths) ≡ load_of lists [] paths (load_heard (quiet hearing.content hearing.begun) paths)
-stands_quiet lists paths found hearing e =
-    same_policy lists paths found hearing.begun (load_heard hearing paths) (load_heard (quiet hearing.content hearing.begun) paths)
-    (alike_at hearing paths.policy) (alike_at hearing paths.exceptions) e
+-- A load came to its end, and these calls were made: whatever is answered behind it, this is heard of the policy's files.
+pub record LoadEnded (given : Given) (request : Request) (exceptions : Option (List ℕ)) (begun after : ℕ) (heard : LoadHeard) (calls : List Call) : Type 0 where
+  pub hears : Option Answered → List CrateReads → RunHearing
+  pub begun_is : (metadata : Option Answered) (crates : List CrateReads) → (hears metadata crates).begun ≡ begun
+  pub crates_are : (metadata : Option Answered) (crates : List CrateReads) → (hears metadata crates).crates ≡ crates
+  pub sought : (metadata : Option Answered) (crates : List CrateReads) → exceptions_in given (hears metadata crates) ≡ Ok exceptions
+  pub loads : (metadata : Option Answered) (crates : List CrateReads)
+      → load_at given (hears metadata crates) (paths_at request.config_path exceptions) ≡ load_of given.lists [] (paths_at request.config_path exceptions) heard
+  pub due : (metadata : Option Answered) (crates : List CrateReads) → IsReadWhereDue (metadata_due given (hears metadata crates)) metadata → HearsAllDue given (hears metadata crates)
+  pub calls_are : (metadata : Option Answered) (crates : List CrateReads) (at : Option (List ℕ)) → metadata_due given (hears metadata crates) ≡ at
+      → calls_of given (hears metadata crates) ≡ calls ++ read_calls at metadata ++ calls_of_all crates
+  pub metadata_text : (answer : Answered) (crates : List CrateReads) (text : Result (List ℕ) ReadFault) → text_answered begun (fault_behind after answer) answer ≡ Some text
+      → metadata_heard given (hears (Some answer) crates) ≡ text
+  pub metadata_count : (answer : Answered) (crates : List CrateReads) → count_metadata given (hears (Some answer) crates) ≡ fault_behind after answer
 
--- ---- the policy's files are heard alike where the metadata's read may have failed
+module _ (given : Given) (request : Request) (asked : request_of given.words given.cwd ≡ Some request) (begun first after : ℕ) (told tells : Option Content) (calls between more : List Call)
+    (looks : List Answered) (exceptions : Option (List ℕ)) (by : looks_by (candidates Exceptions (manifest_in given.cwd)) looks ≡ looks_found exceptions)
+    (first_is : first ≡ faults_after begun (look_calls (candidates Exceptions (manifest_in given.cwd)) looks))
+    (made : MadeSome told tells first after calls more) (heard : LoadHeard) (mid : ℕ) (read : IsRead begun mid calls between request.config_path heard.policy)
+    (counts : (own : List Call) → between ≡ calls ++ own → mid ≡ faults_after first own)
+    (behind : ReadsBehind given.lists [] (paths_at request.config_path exceptions) mid after between more heard.exceptions (text_told heard.policy)) where
+  abbrev pub load_paths : PolicyPaths
+  load_paths = paths_at request.config_path exceptions
 
-alike_one : (content : Content) (begun : ℕ) (path other : List ℕ) (before after : ℕ) (told : Result (List ℕ) ReadFault)
-    → text_heard (hearing_of content begun (record { kind = metadata; path = other; before = before; after = after }) told) policy path ≡ text_heard (quiet content begun) policy path
-alike_one content begun path other before after (Ok text) = refl
-alike_one content begun path other before after (Err (Failed first last)) = refl
-alike_one content begun path other before after (Err Absent) = refl
-alike_one content begun path other before after (Err Folder) = refl
-alike_one content begun path other before after (Err (NotUtf8 at)) = refl
+  pub mid_is : mid ≡ fault_behind first read.answer
+  mid_is = counts (read_of request.config_path read.answer ∷ []) read.made
 
-alike_path : (content : Content) (begun : ℕ) (path : Option (List ℕ)) (other : List ℕ) (before after : ℕ) (told : Result (List ℕ) ReadFault)
-    → heard_at (hearing_of content begun (record { kind = metadata; path = other; before = before; after = after }) told) path ≡ heard_at (quiet content begun) path
-alike_path content begun None other before after told = refl
-alike_path content begun (Some path) other before after told = alike_one content begun path other before after told
+  pub further_counts : CountsFurther mid after between more
+  further_counts path answer is =
+      let both : more ≡ calls ++ (read_of request.config_path read.answer ∷ read_of path answer ∷ []) =
+      is ∙ ap (λ own. own ++ read_of path answer ∷ []) read.made ∙ append_assoc calls (read_of request.config_path read.answer ∷ []) (read_of path answer ∷ []) in
+      (made_these made both).counts ∙ ap (λ n. fault_behind n answer) (sym mid_is)
 
-pub metadata_alike : (content : Content) (begun : ℕ) (paths : PolicyPaths) (other : List ℕ) (before after : ℕ) (told : Result (List ℕ) ReadFault)
-    → load_heard (hearing_of content begun (record { kind = metadata; path = other; before = before; after = after }) told) paths ≡ load_heard (quiet content begun) paths
-metadata_alike content begun paths other before after told =
-    ap₂ (λ one two. let it : LoadHeard = record { policy = one; exceptions = two } in it)
-    (alike_path content begun paths.policy other before after told) (alike_path content begun paths.exceptions other before after told)
+  abbrev pub reads : ReadsDue (due_by_text given.lists load_paths (text_told heard.policy)) mid between more (LoadsAlike given.lists load_paths heard.exceptions (text_told heard.policy))
+  reads = reads_behind given.lists load_paths mid after between more further_counts heard.exceptions (text_told heard.policy) behind
+
+  -- what is heard, with what was answered behind the load
+  abbrev pub load_hears : Option Answered → List CrateReads → RunHearing
+  load_hears metadata crates = hears given request asked begun looks exceptions by (Some read.answer) reads.answer metadata crates
+
+  -- the calls of the load
+  abbrev pub load_calls : List Call
+  load_calls = read_of request.config_path read.answer ∷ read_calls (due_by_text given.lists load_paths (text_told heard.policy)) reads.answer
+
+  pub load_made : more ≡ calls ++ load_calls
+  load_made =
+      reads.made ∙ ap (λ own. own ++ read_calls (due_by_text given.lists load_paths (text_told heard.policy)) reads.answer) read.made
+      ∙ append_assoc calls (read_of request.config_path read.answer ∷ []) (read_calls (due_by_text given.lists load_paths (text_told heard.policy)) reads.answer)
+
+  -- the count behind it
+  after_is : after ≡ count_behind mid reads.answer
+  after_is =
+      (made_these made load_made).counts
+      ∙ ap (λ n. faults_after n (read_calls (due_by_text given.lists load_paths (text_told heard.policy)) reads.answer)) (sym mid_is)
+      ∙ counts_due (due_by_text given.lists load_paths (text_told heard.policy)) reads.answer mid reads.due_read
+
+  module _ (metadata : Option Answered) (crates : List CrateReads) where
+    abbrev own : RunHearing
+    own = load_hears metadata crates
+
+    policy_count : count_policy given own ≡ mid
+    policy_count = ap (λ n. fault_behind n read.answer) (own_count given request asked begun looks exceptions by own refl refl ∙ sym first_is) ∙ sym mid_is
+
+    pub exceptions_count : count_exceptions given (load_hears metadata crates) ≡ after
+    exceptions_count = ap (λ n. count_behind n reads.answer) policy_count ∙ sym after_is
+
+    policy_text : (load_heard given own).policy ≡ heard.policy
+    policy_text =
+        ap (λ n. text_by begun n (Some read.answer)) policy_count
+        ∙ text_heard_by read.answer begun mid heard.policy read.hears
+
+    exceptions_text : (load_heard given own).exceptions ≡ text_by mid (count_behind mid reads.answer) reads.answer
+    exceptions_text = ap (λ n. text_by n (count_behind n reads.answer) reads.answer) policy_count
+
+    pub sought_at : exceptions_in given (load_hears metadata crates) ≡ Ok exceptions
+    sought_at = sought_is given request asked begun looks exceptions by (Some read.answer) reads.answer metadata crates
+
+    pub exceptions_at : exceptions_due given (load_hears metadata crates) ≡ due_by_text given.lists load_paths (text_told heard.policy)
+    exceptions_at = exceptions-is given request asked own exceptions sought_at ∙ ap (λ text. due_by_text given.lists load_paths (text_told text)) policy_text
+
+    pub policy_at : policy_due given (load_hears metadata crates) ≡ Some request.config_path
+    policy_at = policy-is given request asked own exceptions sought_at
+
+    -- the load comes to the same
+    pub load_same : load_at given (load_hears metadata crates) load_paths ≡ load_of given.lists [] load_paths heard
+    load_same =
+        ap (λ text. load_by_text given.lists [] load_paths (load_heard given own).exceptions (text_told text)) policy_text
+        ∙ ap (λ text. load_by_text given.lists [] load_paths text (text_told heard.policy)) exceptions_text
+        ∙ reads.same
+
+    pub looks_at_end : looks_by (paths_looked given) looks ≡ unended → ⊥
+    looks_at_end = looks_ended given request asked begun looks exceptions by (Some read.answer) reads.answer metadata crates
+
+    pub policy_where_due : IsReadWhereDue (policy_due given (load_hears metadata crates)) (Some read.answer)
+    policy_where_due = subst (λ due. IsReadWhereDue due (Some read.answer)) (sym policy_at) (heard_where read.answer begun mid heard.policy read.hears)
+
+    pub exceptions_where_due : IsReadWhereDue (exceptions_due given (load_hears metadata crates)) (load_hears metadata crates).exceptions
+    exceptions_where_due = subst (λ due. IsReadWhereDue due reads.answer) (sym exceptions_at) reads.due_read
+
+    -- all calls, where the metadata was read at this path, or not
+    pub calls_at : (due : Option (List ℕ)) → metadata_due given (load_hears metadata crates) ≡ due
+        → calls_of given (load_hears metadata crates) ≡ look_calls (candidates Exceptions (manifest_in given.cwd)) looks ++ load_calls ++ read_calls due metadata ++ calls_of_all crates
+    calls_at due is =
+        calls-due given own (Some request.config_path) (due_by_text given.lists load_paths (text_told heard.policy)) due policy_at exceptions_at is
+        ∙ ap (λ first_ones. first_ones ++ read_of request.config_path read.answer ∷ [] ++ read_calls (due_by_text given.lists load_paths (text_told heard.policy)) reads.answer ++ read_calls due metadata ++ calls_of_all crates)
+        (ap (λ paths. look_calls paths looks) (looked-at given request asked))
+        ∙ ap (λ first_ones. first_ones ++ read_calls due metadata ++ calls_of_all crates)
+        (append_assoc (look_calls (candidates Exceptions (manifest_in given.cwd)) looks) (read_of request.config_path read.answer ∷ [])
+        (read_calls (due_by_text given.lists load_paths (text_told heard.policy)) reads.answer))
+
+  pub load_ended : LoadEnded given request exceptions begun after heard (look_calls (candidates Exceptions (manifest_in given.cwd)) looks ++ load_calls)
+  load_ended = record {
+    hears = load_hears;
+    begun_is = λ metadata crates. refl;
+    crates_are = λ metadata crates. refl;
+    sought = sought_at;
+    loads = load_same;
+    due = λ metadata crates is. record {
+      looks = looks_at_end metadata crates;
+      policy = policy_where_due metadata crates;
+      exceptions = exceptions_where_due metadata crates;
+      metadata = is;
+    };
+    calls_are = calls_at;
+    metadata_text = λ answer crates text is. ap (λ n. text_by begun (fault_behind n answer) (Some answer)) (exceptions_count (Some answer) crates) ∙ text_heard_by answer begun (fault_behind after answer) text is;
+    metadata_count = λ answer crates. ap (λ n. fault_behind n answer) (exceptions_count (Some answer) crates);
+  }
+
+-- ---- a load that was given up
+
+-- reads that were due, up to some place
+pub record LoadsInPart (given : Given) (begun : ℕ) (looks : List Answered) (calls : List Call) : Type 0 where
+  pub policy : Option Answered
+  pub exceptions : Option Answered
+  pub calls_are : calls_of given (record { begun = begun; looks = looks; policy = policy; exceptions = exceptions; metadata = None; crates = [] }) ≡ calls
+
+module _ (given : Given) (request : Request) (asked : request_of given.words given.cwd ≡ Some request) (begun : ℕ) (looks : List Answered) (exceptions : Option (List ℕ))
+    (by : looks_by (candidates Exceptions (manifest_in given.cwd)) looks ≡ looks_found exceptions) where
+  -- the calls where no metadata was read
+  in_part : (policy exceptions_file : Option Answered) (due : Option (List ℕ)) → exceptions_due given (hears given request asked begun looks exceptions by policy exceptions_file None []) ≡ due
+      → calls_of given (hears given request asked begun looks exceptions by policy exceptions_file None [])
+      ≡ look_calls (candidates Exceptions (manifest_in given.cwd)) looks ++ read_calls (Some request.config_path) policy ++ read_calls due exceptions_file
+  in_part policy exceptions_file due is =
+      let own = hears given request asked begun looks exceptions by policy exceptions_file None [] in
+      let looked = look_calls (candidates Exceptions (manifest_in given.cwd)) looks in
+      calls-due given own (Some request.config_path) due (metadata_due given own) (policy_is_due given request asked begun looks exceptions by policy exceptions_file None []) is refl
+      ∙ ap (λ first_ones. first_ones ++ read_calls (Some request.config_path) policy ++ read_calls due exceptions_file ++ read_calls (metadata_due given own) None ++ [])
+      (ap (λ paths. look_calls paths looks) (looked-at given request asked))
+      ∙ append-nil (looked ++ read_calls (Some request.config_path) policy ++ read_calls due exceptions_file ++ read_calls (metadata_due given own) None)
+      ∙ ap (λ own_calls. looked ++ read_calls (Some request.config_path) policy ++ read_calls due exceptions_file ++ own_calls) (nothing (metadata_due given own))
+      ∙ append-nil (looked ++ read_calls (Some request.config_path) policy ++ read_calls due exceptions_file)
+    where
+      nothing : (due : Option (List ℕ)) → read_calls due None ≡ []
+      nothing None = refl
+      nothing (Some path) = refl
+
+  -- the policy's file may have been read
+  pub policy_part : (answer : Option Answered) → LoadsInPart given begun looks (look_calls (candidates Exceptions (manifest_in given.cwd)) looks ++ read_calls (Some request.config_path) answer)
+  policy_part answer =
+      let own = hears given request asked begun looks exceptions by answer None None [] in
+      record {
+        policy = answer;
+        exceptions = None;
+        calls_are =
+            in_part answer None (exceptions_due given own) refl
+            ∙ ap (λ rest. look_calls (candidates Exceptions (manifest_in given.cwd)) looks ++ read_calls (Some request.config_path) answer ++ rest) (nothing (exceptions_due given own))
+            ∙ append-nil (look_calls (candidates Exceptions (manifest_in given.cwd)) looks ++ read_calls (Some request.config_path) answer);
+      }
+    where
+      nothing : (due : Option (List ℕ)) → read_calls due None ≡ []
+      nothing None = refl
+      nothing (Some path) = refl
+
+  -- and behind it the exceptions file
+  pub both_part : (calls more : List Call) (both : MayReadBoth given.lists begun calls more [] (paths_at request.config_path exceptions))
+      → (own : List Call) × LoadsInPart given begun looks (look_calls (candidates Exceptions (manifest_in given.cwd)) looks ++ own) × (more ≡ calls ++ own)
+  both_part calls more both =
+      let load_paths = paths_at request.config_path exceptions in
+      let read : IsRead begun both.mid calls both.between request.config_path both.heard = both.policy in
+      let due = due_behind (with_policy [] load_paths both.text) exceptions (config_told given.lists both.text.text) in
+      let may = may_further (with_policy [] load_paths both.text) exceptions (config_told given.lists both.text.text) both.between more both.further in
+      let hearing = hears given request asked begun looks exceptions by (Some read.answer) may.answer None [] in
+      let same : text_by begun (count_policy given hearing) (Some read.answer) ≡ both.heard =
+      text_anyhow read.answer begun both.mid (count_policy given hearing) both.heard both.text read.hears both.is in
+      let due_is : exceptions_due given hearing ≡ due =
+      exceptions-is given request asked hearing exceptions (sought_is given request asked begun looks exceptions by (Some read.answer) may.answer None [])
+      ∙ ap (λ text. due_by_text given.lists load_paths (text_told text)) same
+      ∙ ap (due_by_text given.lists load_paths) both.is in
+      let own = read_of request.config_path read.answer ∷ read_calls due may.answer in (
+        own,
+        record {
+          policy = Some read.answer;
+          exceptions = may.answer;
+          calls_are =
+              in_part (Some read.answer) may.answer due due_is
+              ∙ append_assoc (look_calls (candidates Exceptions (manifest_in given.cwd)) looks) (read_of request.config_path read.answer ∷ []) (read_calls due may.answer);
+        },
+        may.made ∙ ap (λ before. before ++ read_calls due may.answer) read.made ∙ append_assoc calls (read_of request.config_path read.answer ∷ []) (read_calls due may.answer),
+      )

@@ -1,69 +1,79 @@
 -- The answer of `report` and what it writes, at each of its ends.
-use Rattle.std.proofs.Common.{◌≡◌, ◌∙◌, inl, inr, refl, sym, ap, subst, ℕ, ◌≤◌, List, [], Option, Some, None, Result, Ok, Err, arith}
-use Rattle.std.specs.Option.{ForSome, option_map_or}
+use Rattle.std.proofs.Common.{◌≡◌, ◌∙◌, inl, inr, refl, sym, ap, ap₂, subst, ℕ, true, List, [], ◌∷◌, ◌++◌, append-nil, append_assoc, Option, Some, None, Result, Ok, Err}
+use Rattle.tree_core.specs.Call.{Answered, Call}
 use Rattle.tree_core.specs.Content.{Content}
-use Rattle.catalog_core.specs.Catalog.{CatalogLists}
+use Rattle.tree_core.specs.Faults.{Gained}
+use Rattle.tree_core.specs.Hearing.{Made, MadeSome}
+use Rattle.tree_core.specs.Trace.{fault_behind, faults_after}
+use Rattle.tree_core.proofs.MadeLemmas.{made_as, made_joined, made_none, made_these}
 use Rattle.graph_core.specs.Metadata.{Graph}
 use Rattle.heard_core.specs.Cause.{Cause, no_memory, failed_read, refused_write, ReadCounts}
 use Rattle.heard_core.specs.Cause as causes
-use Rattle.search_core.specs.Search.{search_cause}
+use Rattle.heard_core.specs.Heard.{read_of, text_answered}
+use Rattle.heard_core.specs.declared.fault.ReadFault.{ReadFault}
+use Rattle.heard_core.specs.declared.fault.ReadFault.TheVariants.{Failed, Absent, Folder, NotUtf8}
+use Rattle.search_core.specs.Looked.{LookedUntil}
+use Rattle.search_core.specs.Search.{candidates, search_cause}
+use Rattle.search_core.specs.declared.search.Sought.TheVariants.{Exceptions}
 use Rattle.search_core.specs.declared.search.SearchError.{SearchError}
 use Rattle.search_core.specs.declared.search.SearchError.TheVariants as search
-use Rattle.selection_core.specs.Roots.{HasRoot}
-use Rattle.workspace_core.specs.Krates.{Gathers}
+use Rattle.selection_core.specs.Listed.{IsListOf}
+use Rattle.selection_core.specs.Roots.{HasRoot, LacksRoots}
+use Rattle.selection_core.specs.Walks.{Selected}
+use Rattle.workspace_core.specs.Krates.{graph_in}
+use Rattle.workspace_core.specs.declared.error.KratesError.{KratesError}
+use Rattle.workspace_core.specs.declared.error.KratesError.TheVariants as krates
 use Rattle.valid_policy.specs.declared.policy.ValidConfig.{ValidConfig}
 use Rattle.diag_core.specs.File.{File}
-use Rattle.print_core.specs.declared.context.LogContext.{LogContext}
+use Rattle.reads_core.specs.Read.{AreReads}
+use Rattle.gather_core.specs.Calls.{CrateReads, calls_of_all, reads_of_all}
 use Rattle.policy_core.specs.Policy.{PolicyFound}
 use Rattle.policy_core.specs.declared.load.LoadedPolicy.{LoadedPolicy}
-use Rattle.load_core.specs.Answer.{Answers, IsPolicyOf, Loads, WriteCounts, load_cause}
-use Rattle.load_core.specs.Heard.{LoadHeard, HearsFiles, load_heard}
+use Rattle.load_core.specs.Answer.{Answers, Comes, IsPolicyOf, WriteCounts, load_cause}
+use Rattle.load_core.specs.Heard.{LoadHeard}
 use Rattle.load_core.specs.Load.{Loaded, load_of}
 use Rattle.load_core.specs.declared.error.LoadError.{LoadError}
+use Rattle.load_core.specs.declared.error.LoadError.TheVariants as load
 use Rattle.load_core.specs.declared.loading.PolicyPaths.{PolicyPaths}
-use Rattle.deny_run.specs.declared.error.Error.TheVariants.{Memory}
+use Rattle.deny_run.specs.declared.error.Part.TheVariants.{Words}
+use Rattle.deny_run.specs.declared.error.Error.{Error}
+use Rattle.deny_run.specs.declared.error.Error.TheVariants.{ConfigRead, Memory, NotYet}
 use Rattle.deny_run.specs.declared.error.Refusal.{Refusal}
 use Rattle.deny_run.specs.declared.error.Refusal.TheVariants as refusal
 use Rattle.deny_run.specs.declared.check.CheckedCrates.{CheckedCrates}
 use Rattle.deny_run.specs.declared.words.Request.{Request}
-use Rattle.deny_run.specs.Error.{cause_of, error_of, error_of_load, error_of_search, FreeOr}
+use Rattle.deny_run.specs.Error.{cause_of, error_of, error_of_krates, error_of_load}
 use Rattle.deny_run.specs.Given.{Given}
-use Rattle.deny_run.specs.Heard.{scanner_in}
-use Rattle.expression_core.specs.Scanned.{Scanner}
-use Rattle.deny_run.specs.Hearing.{all_heard}
-use Rattle.deny_run.specs.Report.{IsReport, IsRefusal}
-use Rattle.deny_run.specs.Script.{TellsLoad, WritesLoad, plain_log, told_before, told_of}
-use Rattle.deny_run.specs.Selection.{choice_by, choice_in, included_by, included_in}
-use Rattle.deny_run.specs.Steps.{ChecksAt, IsAfterLoad, IsChecked, IsCheckedAt, paths_by, report_with}
+use Rattle.deny_run.specs.Heard.{HearsAllDue, calls_of, count_looked, exceptions_due, exceptions_in, files_loaded, graph_heard, load_at, manifest_in, metadata_due, metadata_heard, or_error, paths_looked, policy_due, scanner_in}
+use Rattle.deny_run.specs.Hearing.{Looks, look_failed, nowhere, at, unended, IsReadWhereDue, MadeOn, RunHearing, TreeSeen, is_heard, look_calls, looks_by, read_calls, seen}
+use Rattle.deny_run.specs.Report.{HaveTurns, IsAnsweredBy, IsGivenUp, IsRefusal, paths_at}
+use Rattle.deny_run.specs.Script.{WritesLoad, plain_log, told_before, told_of}
+use Rattle.deny_run.specs.Selection.{choice_by, choice_in, included_by, included_in, Refuses}
+use Rattle.deny_run.specs.Steps.{AreCheckedInPart, ChecksAt, HasNoCrates, IsAfterLoad, IsCheckGivenUp, IsChecked, IsCheckedAt, report_with}
 use Rattle.deny_run.specs.Words.{request_of}
-use Rattle.deny_run.proofs.AnswerLemmas.{Refused, is_reported, report_tells, freely_refused, graph_stands, is_refusal, krates_refused, load_refused, load_tells, quiet_run, search_refused, words_refused}
-use Rattle.deny_run.proofs.LoadedLemmas.{quiet, stands_quiet}
-use Rattle.deny_run.proofs.PolicyLemmas.{policy_is}
-use Rattle.deny_run.proofs.ScriptLemmas.{after_written, load_written, refused_tells, silent}
+use Rattle.deny_run.proofs.AnswerLemmas.{IsFree, first_of, given_up, is_reported, refused_first, up_without}
+use Rattle.deny_run.proofs.CallLemmas.{LooksAre, LooksMade, failed_are, heard_where, looks_found, lost_made, no_looks, no_read}
+use Rattle.deny_run.proofs.FoundLemmas.{exceptions-are, exceptions-looks, exceptions-words, found-graph, found-load, found-looks, found-words, loaded-is, loaded-looks, loaded-words, looked-at, looked-words, metadata-is, metadata-load, metadata-looks, metadata-words, policy-looks, policy-words, table-is}
+use Rattle.deny_run.proofs.LoadedLemmas.{LoadEnded}
+use Rattle.deny_run.proofs.ScriptLemmas.{after_written, load_written, silent}
 
--- ---- what a step answered, in the words of the run: between the counts since it began, over the content that it began with
+-- ---- looks alone
 
-pub counts_at : (begun own before after : ℕ) (cause : Cause) → own ≡ begun → ReadCounts own before after cause → ReadCounts begun before after cause
-counts_at begun own before after cause same counts = subst (λ n. ReadCounts n before after cause) same counts
+-- where only looks were made
+abbrev pub looked_alone : ℕ → List Answered → RunHearing
+looked_alone begun looks = record { begun = begun; looks = looks; policy = None; exceptions = None; metadata = None; crates = [] }
 
-pub loads_at : (lists : CatalogLists) (context : LogContext) (paths : PolicyPaths) (content held : Option Content) (begun own after : ℕ)
-    (old new : List File) (before behind : Option (List ℕ)) (result : Result LoadedPolicy LoadError) → context ≡ plain_log → held ≡ content → own ≡ begun → old ≡ []
-    → Loads lists context paths held own after old new before behind result → Loads lists plain_log paths content begun after [] new before behind result
-loads_at lists context paths content held begun own after old new before behind result plain same since none loads =
-    subst (λ files. Loads lists plain_log paths content begun after files new before behind result) none
-    (subst (λ n. Loads lists plain_log paths content n after old new before behind result) since
-    (subst (λ there. Loads lists plain_log paths there own after old new before behind result) same
-    (subst (λ log. Loads lists log paths held own after old new before behind result) plain loads)))
+four_nil : (calls : List Call) → calls ++ [] ++ [] ++ [] ++ [] ≡ calls
+four_nil calls = append-nil (calls ++ [] ++ [] ++ []) ∙ append-nil (calls ++ [] ++ []) ∙ append-nil (calls ++ []) ∙ append-nil calls
 
-pub checks_at : (scanner : Scanner) (policy : LoadedPolicy) (files last : List File) (content held : Option Content) (begun own : ℕ) (path other : List ℕ) (before after : ℕ)
-    (result : Result CheckedCrates Refusal) → held ≡ content → own ≡ begun → other ≡ path
-    → ForSome held (λ one. ChecksAt scanner policy one files last own other before after result) → ForSome content (λ one. ChecksAt scanner policy one files last begun path before after result)
-checks_at scanner policy files last content held begun own path other before after result same since at checks =
-    subst (λ own_path. ForSome content (λ one. ChecksAt scanner policy one files last begun own_path before after result)) at
-    (subst (λ n. ForSome content (λ one. ChecksAt scanner policy one files last n other before after result)) since
-    (subst (λ there. ForSome there (λ one. ChecksAt scanner policy one files last own other before after result)) same checks))
-
--- ---- before the load
+pub calls-looked : (given : Given) (begun : ℕ) (looks : List Answered) → calls_of given (looked_alone begun looks) ≡ look_calls (paths_looked given) looks
+calls-looked given begun looks =
+    let hearing = looked_alone begun looks in
+    let own = look_calls (paths_looked given) looks in
+    ap (λ calls. own ++ calls ++ read_calls (exceptions_due given hearing) None ++ read_calls (metadata_due given hearing) None ++ []) (no_read (policy_due given hearing))
+    ∙ ap (λ calls. own ++ [] ++ calls ++ read_calls (metadata_due given hearing) None ++ []) (no_read (exceptions_due given hearing))
+    ∙ ap (λ calls. own ++ [] ++ [] ++ calls ++ []) (no_read (metadata_due given hearing))
+    ∙ four_nil own
 
 -- what is told of the words or of a read comes of no refused write
 told_apart : (first last : ℕ) → ◌≡◌ {A = Cause} causes.told (refused_write first last) → ⊥
@@ -72,90 +82,119 @@ told_apart first last e = absurd (cc)
 read_apart : (begun after first last : ℕ) → ◌≡◌ {A = Cause} (failed_read begun after) (refused_write first last) → ⊥
 read_apart begun after first last e = absurd (cc)
 
--- what is told where no read failed
-told_quietly : Given → Option Content → ℕ → List ℕ
-told_quietly given content begun = option_map_or (λ one. told_before given (all_heard one begun)) content []
+nowhere-apart : ◌≡◌ {A = Looks} nowhere unended → ⊥
+nowhere-apart e = absurd (cc)
 
-module _ (given : Given) (content : Option Content) (begun after : ℕ) (later : begun ≤ after) (held : Option (List ℕ)) (err_before err_after : ℕ) where
-  pub memory_before : WritesLoad given content begun after held held err_before err_after (Err Memory)
-  unfolding told_quietly
-  memory_before = record {
-    text = told_quietly given content begun;
-    tells = λ one is. refused_tells given one begun after Memory (told_quietly given content begun)
-        (freely_refused given one begun after (all_heard one begun) Memory (told_quietly given content begun) (quiet_run one begun after later)
-        (ap (λ own. option_map_or (λ other. told_before given (all_heard other begun)) own []) is) tt);
-    written = silent held err_before err_after (told_quietly given content begun) no_memory (inl refl);
-  }
+failed-apart : ◌≡◌ {A = Looks} look_failed unended → ⊥
+failed-apart e = absurd (cc)
 
-  pub words_before : request_of given.words given.cwd ≡ None → WritesLoad given content begun after held held err_before err_after (Err (error_of refusal.Words))
-  words_before none = record {
-    text = [];
-    tells = λ one is. refused_tells given one begun after (error_of refusal.Words) [] (words_refused given one begun after later none);
-    written = silent held err_before err_after [] causes.told (inr (refl, told_apart));
-  }
+at-apart : (path : List ℕ) → ◌≡◌ {A = Looks} (at path) unended → ⊥
+at-apart path e = absurd (cc)
 
-  pub search_before : (request : Request) (error : SearchError) → request_of given.words given.cwd ≡ Some request → ReadCounts begun begun after (search_cause error)
-      → WritesLoad given content begun after held held err_before err_after (Err (error_of_search error))
-  search_before request search.Memory asked counts = memory_before
-  search_before request (search.Failed first last) asked counts = record {
-    text = [];
-    tells = λ one is. refused_tells given one begun after (error_of_search (search.Failed first last)) [] (search_refused given one begun after request first last later asked counts);
-    written = silent held err_before err_after [] (failed_read first last) (inr (refl, read_apart first last));
-  }
+found-apart : (found : Option (List ℕ)) → ◌≡◌ {A = Looks} (looks_found found) unended → ⊥
+found-apart None e = nowhere-apart e
+found-apart (Some path) e = at-apart path e
 
-pub search_answer : (given : Given) (content : Content) (begun after : ℕ) (request : Request) (error : SearchError) → begun ≤ after
-    → request_of given.words given.cwd ≡ Some request → ReadCounts begun begun after (search_cause error)
-    → FreeOr (cause_of (error_of_search error)) (IsRefusal given content begun after (error_of_search error))
-search_answer given content begun after request search.Memory later asked counts = tt
-search_answer given content begun after request (search.Failed first last) later asked counts =
-    is_refusal given content begun after (error_of_search (search.Failed first last)) [] (search_refused given content begun after request first last later asked counts)
+-- ---- before the load
+
+module _ (given : Given) (told : Option Content) (count : ℕ) (calls : List Call) (held : Option (List ℕ)) (err_before err_after : ℕ) where
+  -- memory was wanting before any call
+  pub memory_before : WritesLoad given (seen told told count count calls calls) held held err_before err_after (Err Memory)
+  memory_before =
+      let hearing = looked_alone count [] in
+      let tree = seen told told count count calls calls in
+      let made = made_as (sym (calls-looked given count [] ∙ no_looks (paths_looked given))) (made_none told count calls) in
+      record {
+        text = told_before given hearing;
+        tells = record { hearing = hearing; answers = given_up given tree hearing Memory (up_without given tree hearing refl made refl) tt; is = refl };
+        written = silent held err_before err_after (told_before given hearing) no_memory (inl refl);
+      }
+
+  -- words of another form
+  pub words_before : request_of given.words given.cwd ≡ None → WritesLoad given (seen told told count count calls calls) held held err_before err_after (Err (error_of refusal.Words))
+  words_before none =
+      let hearing = looked_alone count [] in
+      let tree = seen told told count count calls calls in
+      let made = made_as (sym (calls-looked given count [] ∙ no_looks (paths_looked given))) (made_none told count calls) in
+      let due : HearsAllDue given hearing = record {
+        looks = subst (λ paths. looks_by paths [] ≡ unended → ⊥) (sym (looked-words given hearing none)) nowhere-apart;
+        policy = subst (λ own. IsReadWhereDue own None) (sym (policy-words given hearing none)) refl;
+        exceptions = subst (λ own. IsReadWhereDue own None) (sym (exceptions-words given hearing none)) refl;
+        metadata = subst (λ own. IsReadWhereDue own None) (sym (metadata-words given hearing none)) refl;
+      } in
+      record {
+        text = told_before given hearing;
+        tells = record {
+          hearing = hearing;
+          answers = refused_first given tree hearing (NotYet Words) (record { begun = refl; made = made }) (first_of given hearing (NotYet Words) due refl (found-words given hearing none)) (λ free. free);
+          is = refl;
+        };
+        written = silent held err_before err_after (told_before given hearing) causes.told (inr (ap told_of (loaded-words given hearing none), told_apart));
+      }
+
+module _ (given : Given) (request : Request) (asked : request_of given.words given.cwd ≡ Some request) (told tells : Option Content) (count after : ℕ) (calls more : List Call)
+    (made : MadeSome told tells count after calls more) (held : Option (List ℕ)) (err_before err_after : ℕ) where
+  abbrev sought : List (List ℕ)
+  sought = candidates Exceptions (manifest_in given.cwd)
+
+  abbrev tree : TreeSeen
+  tree = seen told tells count after calls more
+
+  -- looks whose calls these are
+  made_looks : (looks : List Answered) → more ≡ calls ++ look_calls sought looks → MadeOn tree (calls_of given (looked_alone count looks))
+  made_looks looks is =
+      made_as (sym (calls-looked given count looks ∙ ap (λ paths. look_calls paths looks) (looked-at given request asked))) (made_these made is)
+
+  look_lost : LooksMade sought calls more → WritesLoad given tree held held err_before err_after (Err Memory)
+  look_lost looks =
+      let hearing = looked_alone count looks.looks in
+      record {
+        text = told_before given hearing;
+        tells = record { hearing = hearing; answers = given_up given tree hearing Memory (up_without given tree hearing refl (made_looks looks.looks looks.made) refl) tt; is = refl };
+        written = silent held err_before err_after (told_before given hearing) no_memory (inl refl);
+      }
+
+  look_refused : (first last : ℕ) → LooksAre sought look_failed calls more → ReadCounts count count after (failed_read first last)
+      → WritesLoad given tree held held err_before err_after (Err (ConfigRead (Failed first last)))
+  look_refused first last looks counts =
+      let hearing = looked_alone count looks.looks in
+      let error = ConfigRead (Failed first last) in
+      let same = looked-at given request asked in
+      let by : looks_by (paths_looked given) looks.looks ≡ look_failed = ap (λ paths. looks_by paths looks.looks) same ∙ looks.by in
+      let own = made_these made looks.made in
+      let behind : after ≡ count_looked given hearing = own.counts ∙ ap (λ paths. faults_after count (look_calls paths looks.looks)) (sym same) in
+      let refused : exceptions_in given hearing ≡ Err error =
+      exceptions-are given request asked hearing look_failed by
+      ∙ ap₂ (λ one other. let it : Result (Option (List ℕ)) Error = Err (ConfigRead (Failed one other)) in it) (sym counts.0) (sym (counts.1 ∙ behind)) in
+      let due : HearsAllDue given hearing = record {
+        looks = λ e. failed-apart (sym by ∙ e);
+        policy = subst (λ own. IsReadWhereDue own None) (sym (policy-looks given request asked hearing error refused)) refl;
+        exceptions = subst (λ own. IsReadWhereDue own None) (sym (exceptions-looks given request asked hearing error refused)) refl;
+        metadata = subst (λ own. IsReadWhereDue own None) (sym (metadata-looks given request asked hearing error refused)) refl;
+      } in
+      record {
+        text = told_before given hearing;
+        tells = record {
+          hearing = hearing;
+          answers = refused_first given tree hearing error (record { begun = refl; made = made_looks looks.looks looks.made })
+              (first_of given hearing error due refl (found-looks given request asked hearing error refused)) (λ free. free);
+          is = refl;
+        };
+        written = silent held err_before err_after (told_before given hearing) (failed_read first last)
+            (inr (ap told_of (loaded-looks given request asked hearing error refused), read_apart first last));
+      }
+
+  -- a search that was refused
+  pub search_writes : (error : SearchError) → LookedUntil sought calls more error → ReadCounts count count after (search_cause error)
+      → WritesLoad given tree held held err_before err_after (Err (error_of (refusal.Search error)))
+  search_writes search.Memory until counts = look_lost (lost_made sought calls more until)
+  search_writes (search.Failed first last) until counts = look_refused first last (failed_are sought calls more first last until) counts
 
 -- ---- the load
 
-module _ (given : Given) (content : Content) (begun : ℕ) (request : Request) (asked : request_of given.words given.cwd ≡ Some request)
-    (paths : PolicyPaths) (at : paths ≡ paths_by content given.cwd request.config_path) (heard : LoadHeard) where
-  refused_load : (after : ℕ) (error : LoadError) → HearsFiles paths begun after heard content → Answers (load_of given.lists [] paths heard).answer (Err error)
-      → Refused given content begun after (error_of_load error) (told_of (Ok (load_of given.lists [] paths heard)))
-  refused_load after error hears answers =
-      let files = hears.hearing in
-      load_refused given content begun request asked files after hears.heard (told_of (Ok (load_of given.lists [] paths heard)))
-      (load_tells given content request files asked hears.heard.content paths at heard hears.is) error
-      (subst (λ own. Answers (load_of given.lists [] own (load_heard files own)).answer (Err error)) at
-      (subst (λ own. Answers (load_of given.lists [] paths own).answer (Err error)) hears.is answers))
-
-  -- a load that answers a policy comes to the same where no read failed
-  quiet_load : (found : PolicyFound) (mid : ℕ) → HearsFiles paths begun mid heard content → (load_of given.lists [] paths heard).answer ≡ Ok found
-      → load_of given.lists [] paths heard
-      ≡ load_of given.lists [] (paths_by content given.cwd request.config_path) (load_heard (quiet content begun) (paths_by content given.cwd request.config_path))
-  quiet_load found mid hears e =
-      let files = hears.hearing in
-      ap (λ own. load_of given.lists [] paths own) hears.is
-      ∙ stands_quiet given.lists paths found files (subst (λ own. (load_of given.lists [] paths own).answer ≡ Ok found) hears.is e)
-      ∙ ap (λ own. load_of given.lists [] paths (load_heard (quiet own files.begun) paths)) hears.heard.content
-      ∙ ap (λ own. load_of given.lists [] paths (load_heard (quiet content own) paths)) hears.heard.begun
-      ∙ ap (λ own. load_of given.lists [] own (load_heard (quiet content begun) own)) at
-
--- ---- at the load's refusal
-
-module _ (given : Given) (content : Option Content) (begun before after : ℕ) (request : Request) (asked : request_of given.words given.cwd ≡ Some request) (paths : PolicyPaths)
-    (new : List File) (old_err new_err : Option (List ℕ)) (err_before err_after : ℕ) (error : LoadError)
-    (loads : Loads given.lists plain_log paths content begun after [] new old_err new_err (Err error)) where
-  pub load_answer : (one : Content) → content ≡ Some one → paths ≡ paths_by one given.cwd request.config_path
-      → FreeOr (cause_of (error_of_load error)) (IsRefusal given one begun after (error_of_load error))
-  load_answer one is at =
-      is_refusal given one begun after (error_of_load error) (told_of (Ok (load_of given.lists [] paths loads.heard)))
-      (refused_load given one begun request asked paths at loads.heard after error (loads.hears one is) loads.comes.answers)
-
-  pub load_writes : ForSome content (λ one. paths ≡ paths_by one given.cwd request.config_path) → WriteCounts err_before err_after (load_cause error)
-      → WritesLoad given content begun after old_err new_err err_before err_after (Err (error_of_load error))
-  load_writes at counts = record {
-    text = told_of (Ok (load_of given.lists [] paths loads.heard));
-    tells = λ one is. refused_tells given one begun after (error_of_load error) (told_of (Ok (load_of given.lists [] paths loads.heard)))
-        (refused_load given one begun request asked paths (at one is) loads.heard after error (loads.hears one is) loads.comes.answers);
-    written = load_written old_err new_err err_before err_after (told_of (Ok (load_of given.lists [] paths loads.heard))) error counts loads.comes.prints;
-  }
-
--- ---- behind the load
+-- the paths that were given and found
+pub same_paths : (paths : PolicyPaths) (path : List ℕ) → paths.policy ≡ Some path → paths ≡ paths_at path paths.exceptions
+same_paths paths path is = ap (λ own. let it : PolicyPaths = record { policy = own; exceptions = paths.exceptions } in it) is
 
 -- what is checked by the policy that was answered is checked by the one that was found
 same_choice : (found : PolicyFound) (loaded : LoadedPolicy) → IsPolicyOf found loaded → choice_by loaded.graph.exclude ≡ choice_in found
@@ -164,116 +203,246 @@ same_choice found loaded is = ap (λ graph. choice_by graph.exclude) is.graph
 same_flags : (found : PolicyFound) (loaded : LoadedPolicy) → IsPolicyOf found loaded → included_by loaded.licenses ≡ included_in found
 same_flags found loaded is = ap (λ (one : ValidConfig). included_by one) is.licenses.rest
 
-module _ (given : Given) (content : Content) (begun mid after : ℕ) (first : begun ≤ mid) (later : mid ≤ after) (request : Request) (asked : request_of given.words given.cwd ≡ Some request)
-    (found : PolicyFound) (loaded : LoadedPolicy) (is : IsPolicyOf found loaded)
-    (answers : (load_of given.lists [] (paths_by content given.cwd request.config_path) (load_heard (record { content = content; begun = begun; failed = [] }) (paths_by content given.cwd request.config_path))).answer ≡ Ok found)
-    (text : List ℕ) (tells : text ≡ told_of (Ok (load_of given.lists [] (paths_by content given.cwd request.config_path) (load_heard (record { content = content; begun = begun; failed = [] }) (paths_by content given.cwd request.config_path))))) where
-  -- the file table that the load has left
-  abbrev table : List File
-  table = (load_of given.lists [] (paths_by content given.cwd request.config_path) (load_heard (record { content = content; begun = begun; failed = [] }) (paths_by content given.cwd request.config_path))).files
+module _ (given : Given) (request : Request) (asked : request_of given.words given.cwd ≡ Some request) (exceptions : Option (List ℕ)) (begun mid : ℕ) (told middle : Option Content)
+    (old between calls : List Call) (heard : LoadHeard) (ended : LoadEnded given request exceptions begun mid heard calls) (made : Made told middle begun mid old between calls)
+    (err_old err_new : Option (List ℕ)) (err_before err_after : ℕ) where
+  abbrev loaded : Loaded
+  loaded = load_of given.lists [] (paths_at request.config_path exceptions) heard
 
-  rooted_by : (graph : Graph) → HasRoot graph (choice_by loaded.graph.exclude) → HasRoot graph (choice_in found)
-  rooted_by graph root = subst (HasRoot graph) (same_choice found loaded is) root
+  -- what is told of the load, whatever is heard behind it
+  told_same : (metadata : Option Answered) (crates : List CrateReads) → told_of (Ok loaded) ≡ told_before given (ended.hears metadata crates)
+  told_same metadata crates =
+      sym (ap told_of (loaded-is given request asked (ended.hears metadata crates) exceptions (ended.sought metadata crates)) ∙ ap (λ own. told_of (Ok own)) (ended.loads metadata crates))
 
-  begun_first : (middle : ℕ) → mid ≤ middle → begun ≤ middle
-  begun_first middle next = omega arith
+  -- ---- the load was refused
 
-  by_refusal : (last : List File) (refused : Refusal) → IsAfterLoad refused → ChecksAt (scanner_in given loaded.licenses) loaded content table last begun request.metadata_path mid after (Err refused)
-      → Refused given content begun after (error_of refused) text
-  by_refusal last refusal.Memory cause checks =
-      freely_refused given content begun after (all_heard content begun) (error_of refusal.Memory) text (quiet_run content begun after (omega arith))
-      (tells ∙ load_tells given content request (quiet content begun) asked refl (paths_by content given.cwd request.config_path) refl _ refl) tt
-  by_refusal last refusal.Words cause checks = absurd cause
-  by_refusal last (refusal.Search error) cause checks = absurd cause
-  by_refusal last (refusal.Load error) cause checks = absurd cause
-  by_refusal last (refusal.Krates error) cause checks =
-      krates_refused given content begun request asked found answers text tells mid after first later error
-      (subst (λ choice. Gathers choice content begun request.metadata_path mid after (Err error)) (same_choice found loaded is) checks)
+  -- where no metadata was read
+  unread_calls : calls_of given (ended.hears None []) ≡ calls
+  unread_calls =
+      let due = metadata_due given (ended.hears None []) in
+      ended.calls_are None [] due refl ∙ append-nil (calls ++ read_calls due None) ∙ ap (λ own. calls ++ own) (no_read due) ∙ append-nil calls
 
-  -- the policy's file is the first
-  file_of : found.licenses.file_id ≡ 0
-  file_of =
-      let at = paths_by content given.cwd request.config_path in
-      let own = policy_is given.lists at (load_heard (quiet content begun) at) found answers in
-      ap (λ (one : PolicyFound). one.licenses.file_id) own.is
+  unread_made : MadeOn (seen told middle begun mid old between) (calls_of given (ended.hears None []))
+  unread_made = made_as (sym unread_calls) made
 
-  module _ (last : List File) (checked : CheckedCrates) (at : IsCheckedAt (scanner_in given loaded.licenses) loaded content table last begun request.metadata_path mid after checked) where
-    done : IsChecked (scanner_in given loaded.licenses) loaded.licenses content table last at.middle after at.graph (choice_in found) checked
-    done = subst (λ choice. IsChecked (scanner_in given loaded.licenses) loaded.licenses content table last at.middle after at.graph choice checked) (same_choice found loaded is) at.checked
+  load_first : (error : LoadError) → loaded.answer ≡ Err error → (IsFree (cause_of (error_of_load error)) → ⊥) → IsAnsweredBy given (seen told middle begun mid old between) (ended.hears None []) (Err (error_of_load error))
+  load_first error is bound =
+      let hearing = ended.hears None [] in
+      let refused = ap (λ (own : Loaded). own.answer) (ended.loads None []) ∙ is in
+      refused_first given (seen told middle begun mid old between) hearing (error_of_load error) (record { begun = ended.begun_is None []; made = unread_made })
+      (first_of given hearing (error_of_load error)
+      (ended.due None [] (subst (λ due. IsReadWhereDue due None) (sym (metadata-load given request asked hearing exceptions (ended.sought None []) error refused)) refl))
+      (ended.crates_are None []) (found-load given request asked hearing exceptions (ended.sought None []) error refused)) bound
 
-    by_report : IsReport given content begun after (report_with checked last)
-    by_report =
-        is_reported given content begun request asked found answers text tells at.graph at.middle after (begun_first at.middle at.first) (omega arith) (rooted_by at.graph at.rooted)
-        (graph_stands content begun mid at.middle request.metadata_path at.heard at.graph at.hears at.tells) loaded.licenses is.licenses (same_flags found loaded is)
-        last checked done file_of
+  load_given_up : (error : Error) → IsFree (cause_of error) → IsAnsweredBy given (seen told middle begun mid old between) (ended.hears None []) (Err error)
+  load_given_up error free =
+      given_up given (seen told middle begun mid old between) (ended.hears None []) error
+      (up_without given (seen told middle begun mid old between) (ended.hears None []) (ended.begun_is None []) unread_made (ended.crates_are None [])) free
 
-    by_reads : TellsLoad given content begun after (Ok (report_with checked last)) text
-    by_reads =
-        report_tells given content begun request asked found answers text tells at.graph at.middle after (begun_first at.middle at.first) (omega arith) (rooted_by at.graph at.rooted)
-        (graph_stands content begun mid at.middle request.metadata_path at.heard at.graph at.hears at.tells) loaded.licenses is.licenses (same_flags found loaded is)
-        last checked done
+  load_answered : (error : LoadError) → Answers loaded.answer (Err error) → IsAnsweredBy given (seen told middle begun mid old between) (ended.hears None []) (Err (error_of_load error))
+  load_answered load.Memory answers = load_given_up Memory tt
+  load_answered (load.ConfigRead (Failed first last)) answers = load_first (load.ConfigRead (Failed first last)) answers (λ free. free)
+  load_answered (load.ConfigRead Absent) answers = load_first (load.ConfigRead Absent) answers (λ free. free)
+  load_answered (load.ConfigRead Folder) answers = load_first (load.ConfigRead Folder) answers (λ free. free)
+  load_answered (load.ConfigRead (NotUtf8 place)) answers = load_first (load.ConfigRead (NotUtf8 place)) answers (λ free. free)
+  load_answered (load.ConfigSyntax fault) answers = load_first (load.ConfigSyntax fault) answers (λ free. free)
+  load_answered (load.ConfigShape faults) answers = load_first (load.ConfigShape faults) answers (λ free. free)
+  load_answered load.NotCarried answers = load_first load.NotCarried answers (λ free. free)
+  load_answered (load.ConfigInvalid found) answers = load_first (load.ConfigInvalid found) answers (λ free. free)
+  load_answered (load.WriteFault first last) answers = load_given_up (error_of_load (load.WriteFault first last)) tt
 
-module _ (given : Given) (content : Option Content) (begun mid after : ℕ) (first : begun ≤ mid) (later : mid ≤ after)
-    (request : Request) (asked : request_of given.words given.cwd ≡ Some request) (paths : PolicyPaths)
-    (new : List File) (old_err new_err : Option (List ℕ)) (err_before err_after : ℕ) (loaded : LoadedPolicy)
-    (loads : Loads given.lists plain_log paths content begun mid [] new old_err new_err (Ok loaded)) where
-  -- the table that the load has left is the one that is found
-  checks_found : (one : Content) (is : content ≡ Some one) (at : paths ≡ paths_by one given.cwd request.config_path) (last : List File) (result : Result CheckedCrates Refusal)
-      → ChecksAt (scanner_in given loaded.licenses) loaded one new last begun request.metadata_path mid after result
-      → ChecksAt (scanner_in given loaded.licenses) loaded one
-      (load_of given.lists [] (paths_by one given.cwd request.config_path) (load_heard (quiet one begun) (paths_by one given.cwd request.config_path))).files last begun request.metadata_path mid after result
-  checks_found one is at last result checks =
-      let answers = loads.comes.answers in
-      let same = quiet_load given one begun request asked paths at loads.heard answers.found mid (loads.hears one is) answers.is in
-      subst (λ files. ChecksAt (scanner_in given loaded.licenses) loaded one files last begun request.metadata_path mid after result) (loads.comes.files ∙ ap (λ (it : Loaded). it.files) same) checks
-
-  crates_refused : (one : Content) → content ≡ Some one → paths ≡ paths_by one given.cwd request.config_path → (last : List File) (refused : Refusal) → IsAfterLoad refused
-      → ChecksAt (scanner_in given loaded.licenses) loaded one new last begun request.metadata_path mid after (Err refused)
-      → Refused given one begun after (error_of refused) (told_of (Ok (load_of given.lists [] paths loads.heard)))
-  crates_refused one is at last refused cause checks =
-      let answers = loads.comes.answers in
-      let same = quiet_load given one begun request asked paths at loads.heard answers.found mid (loads.hears one is) answers.is in
-      by_refusal given one begun mid after first later request asked answers.found loaded answers.valid_of
-      (sym (ap (λ (it : Loaded). it.answer) same) ∙ answers.is) (told_of (Ok (load_of given.lists [] paths loads.heard))) (ap (λ it. told_of (Ok it)) same) last refused cause
-      (checks_found one is at last (Err refused) checks)
-
-  pub crates_answer : (one : Content) → content ≡ Some one → paths ≡ paths_by one given.cwd request.config_path → (last : List File) (refused : Refusal) → IsAfterLoad refused
-      → ChecksAt (scanner_in given loaded.licenses) loaded one new last begun request.metadata_path mid after (Err refused)
-      → FreeOr (cause_of (error_of refused)) (IsRefusal given one begun after (error_of refused))
-  crates_answer one is at last refused cause checks =
-      is_refusal given one begun after (error_of refused) (told_of (Ok (load_of given.lists [] paths loads.heard))) (crates_refused one is at last refused cause checks)
-
-  pub crates_writes : ForSome content (λ one. paths ≡ paths_by one given.cwd request.config_path) → (last : List File) (refused : Refusal) → IsAfterLoad refused
-      → ForSome content (λ one. ChecksAt (scanner_in given loaded.licenses) loaded one new last begun request.metadata_path mid after (Err refused))
-      → WritesLoad given content begun after old_err new_err err_before err_after (Err (error_of refused))
-  crates_writes at last refused cause checks = record {
-    text = told_of (Ok (load_of given.lists [] paths loads.heard));
-    tells = λ one is. refused_tells given one begun after (error_of refused) (told_of (Ok (load_of given.lists [] paths loads.heard))) (crates_refused one is (at one is) last refused cause (checks one is));
-    written = after_written old_err new_err err_before err_after (told_of (Ok (load_of given.lists [] paths loads.heard))) refused cause loads.comes.prints;
+  pub load_writes : (error : LoadError) (new : List File) → Comes loaded plain_log [] new err_old err_new (Err error) → WriteCounts err_before err_after (load_cause error)
+      → WritesLoad given (seen told middle begun mid old between) err_old err_new err_before err_after (Err (error_of_load error))
+  load_writes error new comes counts = record {
+    text = told_of (Ok loaded);
+    tells = record { hearing = ended.hears None []; answers = load_answered error comes.answers; is = told_same None [] };
+    written = load_written err_old err_new err_before err_after (told_of (Ok loaded)) error counts comes.prints;
   }
 
-  -- ---- at the report
+  -- ---- behind the load
 
-  module _ (last : List File) (checked : CheckedCrates) where
-    pub report_answer : (one : Content) → content ≡ Some one → paths ≡ paths_by one given.cwd request.config_path
-        → IsCheckedAt (scanner_in given loaded.licenses) loaded one new last begun request.metadata_path mid after checked → IsReport given one begun after (report_with checked last)
-    report_answer one is at checks =
-        let answers = loads.comes.answers in
-        let same = quiet_load given one begun request asked paths at loads.heard answers.found mid (loads.hears one is) answers.is in
-        by_report given one begun mid after first later request asked answers.found loaded answers.valid_of
-        (sym (ap (λ (it : Loaded). it.answer) same) ∙ answers.is) (told_of (Ok (load_of given.lists [] paths loads.heard))) (ap (λ it. told_of (Ok it)) same) last checked
-        (checks_found one is at last (Ok checked) checks)
+  module _ (found : PolicyFound) (is : loaded.answer ≡ Ok found) (policy : LoadedPolicy) (valid : IsPolicyOf found policy) (tells : Option Content) (after : ℕ) (more : List Call) where
+    abbrev whole : TreeSeen
+    whole = seen told tells begun after old more
 
-    pub report_writes : ForSome content (λ one. paths ≡ paths_by one given.cwd request.config_path)
-        → ForSome content (λ one. IsCheckedAt (scanner_in given loaded.licenses) loaded one new last begun request.metadata_path mid after checked)
-        → WritesLoad given content begun after old_err new_err err_before err_after (Ok (report_with checked last))
-    report_writes at checks = record {
-      text = told_of (Ok (load_of given.lists [] paths loads.heard));
-      tells = λ one is.
-          let answers = loads.comes.answers in
-          let same = quiet_load given one begun request asked paths (at one is) loads.heard answers.found mid (loads.hears one is) answers.is in
-          by_reads given one begun mid after first later request asked answers.found loaded answers.valid_of
-          (sym (ap (λ (it : Loaded). it.answer) same) ∙ answers.is) (told_of (Ok (load_of given.lists [] paths loads.heard))) (ap (λ it. told_of (Ok it)) same) last checked
-          (checks_found one is (at one is) last (Ok checked) (checks one is));
-      written = loads.comes.prints;
-    }
+    loads_found : (metadata : Option Answered) (crates : List CrateReads) → (load_at given (ended.hears metadata crates) (paths_at request.config_path exceptions)).answer ≡ Ok found
+    loads_found metadata crates = ap (λ (own : Loaded). own.answer) (ended.loads metadata crates) ∙ is
+
+    metadata_at : (metadata : Option Answered) (crates : List CrateReads) → metadata_due given (ended.hears metadata crates) ≡ Some request.metadata_path
+    metadata_at metadata crates = metadata-is given request asked (ended.hears metadata crates) exceptions (ended.sought metadata crates) found (loads_found metadata crates)
+
+    -- the calls of the crates behind that of the metadata
+    made_behind : (metadata : Option Answered) (crates : List CrateReads) (lost : List Call)
+        → Made middle tells mid after between more (read_calls (Some request.metadata_path) metadata ++ calls_of_all crates ++ lost)
+        → MadeOn whole (calls_of given (ended.hears metadata crates) ++ lost)
+    made_behind metadata crates lost then =
+        let reads = read_calls (Some request.metadata_path) metadata in
+        made_as (sym (append_assoc calls (reads ++ calls_of_all crates) lost) ∙ ap (λ own. own ++ lost) (sym (append_assoc calls reads (calls_of_all crates)) ∙ sym (ended.calls_are metadata crates (Some request.metadata_path) (metadata_at metadata crates))))
+        (made_joined made then)
+
+    made_all : (metadata : Option Answered) (crates : List CrateReads) → Made middle tells mid after between more (read_calls (Some request.metadata_path) metadata ++ calls_of_all crates)
+        → MadeOn whole (calls_of given (ended.hears metadata crates))
+    made_all metadata crates then =
+        let reads = read_calls (Some request.metadata_path) metadata in
+        made_as (sym (append_assoc calls reads (calls_of_all crates)) ∙ sym (ended.calls_are metadata crates (Some request.metadata_path) (metadata_at metadata crates))) (made_joined made then)
+
+    due_at : (answer : Answered) (crates : List CrateReads) → is_heard (Some answer) ≡ true → HearsAllDue given (ended.hears (Some answer) crates)
+    due_at answer crates heard_by = ended.due (Some answer) crates (subst (λ due. IsReadWhereDue due (Some answer)) (sym (metadata_at (Some answer) crates)) heard_by)
+
+    drawn_at : (answer : Answered) (crates : List CrateReads) (text : Result (List ℕ) ReadFault) (graph : Graph) → text_answered begun (fault_behind mid answer) answer ≡ Some text → graph_in text ≡ Ok graph
+        → graph_heard (metadata_heard given (ended.hears (Some answer) crates)) ≡ Ok graph
+    drawn_at answer crates text graph hears tells_graph = ap graph_heard (ended.metadata_text answer crates text hears) ∙ ap or_error tells_graph
+
+    table_at : (metadata : Option Answered) (crates : List CrateReads) → files_loaded given (ended.hears metadata crates) ≡ loaded.files
+    table_at metadata crates = table-is given request asked (ended.hears metadata crates) exceptions (ended.sought metadata crates) ∙ ap (λ (own : Loaded). own.files) (ended.loads metadata crates)
+
+    -- ---- memory was wanting
+
+    unread_up : (metadata : Option Answered) → Made middle tells mid after between more (read_calls (Some request.metadata_path) metadata) → IsGivenUp given whole (ended.hears metadata [])
+    unread_up metadata then =
+        up_without given whole (ended.hears metadata []) (ended.begun_is metadata [])
+        (made_all metadata [] (made_as (sym (append-nil (read_calls (Some request.metadata_path) metadata))) then)) (ended.crates_are metadata [])
+
+    in_part_up : (part : AreCheckedInPart (scanner_in given policy.licenses) policy (seen middle tells mid after between more) loaded.files begun request.metadata_path)
+        → IsGivenUp given whole (ended.hears (Some part.answer) part.crates)
+    in_part_up part =
+        let hearing = ended.hears (Some part.answer) part.crates in
+        record {
+          begun = ended.begun_is (Some part.answer) part.crates;
+          lost = part.lost;
+          made = made_behind (Some part.answer) part.crates part.lost part.made;
+          front = inr (record {
+            found = record { request = request; policy = found; graph = part.graph };
+            is = found-graph given request asked hearing exceptions (ended.sought (Some part.answer) part.crates) found (loads_found (Some part.answer) part.crates) (Ok part.graph)
+                (drawn_at part.answer part.crates part.tells.heard part.graph part.tells.hears part.tells.tells);
+            policy = policy.licenses;
+            ordered = valid.licenses;
+            checked = part.checked;
+            selected = subst (λ include. IsListOf part.graph (Selected part.graph (choice_in found) include) part.checked) (same_flags found policy valid)
+                (subst (λ choice. IsListOf part.graph (Selected part.graph choice (included_by policy.licenses)) part.checked) (same_choice found policy valid) part.selected);
+            turns = subst (λ files. HaveTurns (scanner_in given policy.licenses) policy.licenses files part.checked hearing.crates part.lost) (sym (table_at (Some part.answer) part.crates))
+                (subst (λ crates. HaveTurns (scanner_in given policy.licenses) policy.licenses loaded.files part.checked crates part.lost) (sym (ended.crates_are (Some part.answer) part.crates)) part.turns);
+          });
+        }
+
+    -- something was heard up to there
+    pub record GivenUpBehind (error : Error) : Type 0 where
+      pub metadata : Option Answered
+      pub crates : List CrateReads
+      pub up : IsGivenUp given whole (ended.hears metadata crates)
+
+    memory_behind : (error : Error) → IsCheckGivenUp (scanner_in given policy.licenses) policy (seen middle tells mid after between more) loaded.files begun request.metadata_path → GivenUpBehind error
+    memory_behind error (inl read) = record { metadata = read.0; crates = []; up = unread_up read.0 read.1 }
+    memory_behind error (inr part) = record { metadata = Some part.answer; crates = part.crates; up = in_part_up part }
+
+    memory_writes : (refused : Refusal) → IsFree (cause_of (error_of refused)) → IsAfterLoad refused → Gained err_old err_new (told_of (Ok loaded))
+        → IsCheckGivenUp (scanner_in given policy.licenses) policy (seen middle tells mid after between more) loaded.files begun request.metadata_path
+        → WritesLoad given whole err_old err_new err_before err_after (Err (error_of refused))
+    memory_writes refused free behind gained part =
+        let up = memory_behind (error_of refused) part in
+        record {
+          text = told_of (Ok loaded);
+          tells = record { hearing = ended.hears up.metadata up.crates; answers = given_up given whole (ended.hears up.metadata up.crates) (error_of refused) up.up free; is = told_same up.metadata up.crates };
+          written = after_written err_old err_new err_before err_after (told_of (Ok loaded)) refused behind gained;
+        }
+
+    -- ---- no crates
+
+    no_crates : (error : KratesError) (none : HasNoCrates policy (seen middle tells mid after between more) begun request.metadata_path error) → IsAfterLoad (refusal.Krates error)
+        → (IsFree (cause_of (error_of_krates error)) → ⊥) → Gained err_old err_new (told_of (Ok loaded))
+        → ((due : HearsAllDue given (ended.hears (Some none.answer) [])) → IsRefusal given (ended.hears (Some none.answer) []) (error_of_krates error))
+        → WritesLoad given whole err_old err_new err_before err_after (Err (error_of_krates error))
+    no_crates error none behind bound gained refusal_by =
+        let hearing = ended.hears (Some none.answer) [] in
+        record {
+          text = told_of (Ok loaded);
+          tells = record {
+            hearing = hearing;
+            answers = refused_first given whole hearing (error_of_krates error)
+                (record { begun = ended.begun_is (Some none.answer) []; made = made_all (Some none.answer) [] (made_as (sym (append-nil (read_of request.metadata_path none.answer ∷ []))) none.made) })
+                (refusal_by (due_at none.answer [] (heard_where none.answer begun (fault_behind mid none.answer) none.heard none.hears))) bound;
+            is = told_same (Some none.answer) [];
+          };
+          written = after_written err_old err_new err_before err_after (told_of (Ok loaded)) (refusal.Krates error) behind gained;
+        }
+
+    -- the metadata tells of no graph
+    no_graph : (error : KratesError) (none : HasNoCrates policy (seen middle tells mid after between more) begun request.metadata_path error) → graph_in none.heard ≡ Err error
+        → (due : HearsAllDue given (ended.hears (Some none.answer) [])) → IsRefusal given (ended.hears (Some none.answer) []) (error_of_krates error)
+    no_graph error none refused due =
+        let hearing = ended.hears (Some none.answer) [] in
+        first_of given hearing (error_of_krates error) due (ended.crates_are (Some none.answer) [])
+        (found-graph given request asked hearing exceptions (ended.sought (Some none.answer) []) found (loads_found (Some none.answer) []) (Err (error_of_krates error))
+        (ap graph_heard (ended.metadata_text none.answer [] none.heard none.hears) ∙ ap or_error refused))
+
+    -- no root is left of it
+    no_roots : (base excluded unpublished : ℕ) (none : HasNoCrates policy (seen middle tells mid after between more) begun request.metadata_path (krates.NoRoots base excluded unpublished))
+        → (due : HearsAllDue given (ended.hears (Some none.answer) [])) → IsRefusal given (ended.hears (Some none.answer) []) (error_of_krates (krates.NoRoots base excluded unpublished))
+    no_roots base excluded unpublished none due =
+        let hearing = ended.hears (Some none.answer) [] in
+        let rootless = none.from in
+        let found_is = found-graph given request asked hearing exceptions (ended.sought (Some none.answer) []) found (loads_found (Some none.answer) []) (Ok rootless.graph)
+        (drawn_at none.answer [] none.heard rootless.graph none.hears rootless.tells) in
+        record {
+          due = due;
+          crates = ended.crates_are (Some none.answer) [];
+          refused = subst (λ own. Refuses own (error_of_krates (krates.NoRoots base excluded unpublished))) (sym found_is)
+              (subst (λ choice. LacksRoots rootless.graph choice base excluded unpublished) (same_choice found policy valid) rootless.lacks);
+        }
+
+    krates_writes : (error : KratesError) → IsAfterLoad (refusal.Krates error) → Gained err_old err_new (told_of (Ok loaded))
+        → ChecksAt (scanner_in given policy.licenses) policy (seen middle tells mid after between more) loaded.files loaded.files begun request.metadata_path (Err (refusal.Krates error))
+        → WritesLoad given whole err_old err_new err_before err_after (Err (error_of_krates error))
+    krates_writes krates.Memory behind gained checks = memory_writes (refusal.Krates krates.Memory) tt behind gained checks
+    krates_writes (krates.NotCarried what) behind gained checks = absurd behind
+    krates_writes (krates.MetadataRead (Failed first last)) behind gained checks =
+        no_crates (krates.MetadataRead (Failed first last)) checks behind (λ free. free) gained (no_graph (krates.MetadataRead (Failed first last)) checks checks.from)
+    krates_writes (krates.MetadataRead Absent) behind gained checks = no_crates (krates.MetadataRead Absent) checks behind (λ free. free) gained (no_graph (krates.MetadataRead Absent) checks checks.from)
+    krates_writes (krates.MetadataRead Folder) behind gained checks = no_crates (krates.MetadataRead Folder) checks behind (λ free. free) gained (no_graph (krates.MetadataRead Folder) checks checks.from)
+    krates_writes (krates.MetadataRead (NotUtf8 place)) behind gained checks = no_crates (krates.MetadataRead (NotUtf8 place)) checks behind (λ free. free) gained (no_graph (krates.MetadataRead (NotUtf8 place)) checks checks.from)
+    krates_writes krates.MetadataSyntax behind gained checks = no_crates krates.MetadataSyntax checks behind (λ free. free) gained (no_graph krates.MetadataSyntax checks checks.from)
+    krates_writes (krates.MetadataShape fault) behind gained checks = no_crates (krates.MetadataShape fault) checks behind (λ free. free) gained (no_graph (krates.MetadataShape fault) checks checks.from)
+    krates_writes (krates.NoRoots base excluded unpublished) behind gained checks =
+        no_crates (krates.NoRoots base excluded unpublished) checks behind (λ free. free) gained (no_roots base excluded unpublished checks)
+
+    pub checks_write : (last : List File) (refused : Refusal) → IsAfterLoad refused → Gained err_old err_new (told_of (Ok loaded))
+        → ChecksAt (scanner_in given policy.licenses) policy (seen middle tells mid after between more) loaded.files last begun request.metadata_path (Err refused)
+        → WritesLoad given whole err_old err_new err_before err_after (Err (error_of refused))
+    checks_write last refusal.Memory behind gained checks = memory_writes refusal.Memory tt behind gained checks
+    checks_write last refusal.Words behind gained checks = absurd behind
+    checks_write last (refusal.Search error) behind gained checks = absurd behind
+    checks_write last (refusal.Load error) behind gained checks = absurd behind
+    checks_write last (refusal.Krates error) behind gained checks = krates_writes error behind gained (any_last error checks)
+      where
+        any_last : (error : KratesError) → ChecksAt (scanner_in given policy.licenses) policy (seen middle tells mid after between more) loaded.files last begun request.metadata_path (Err (refusal.Krates error))
+            → ChecksAt (scanner_in given policy.licenses) policy (seen middle tells mid after between more) loaded.files loaded.files begun request.metadata_path (Err (refusal.Krates error))
+        any_last error is = is
+
+    -- ---- the report
+
+    pub report_writes : (last : List File) (checked : CheckedCrates) → Gained err_old err_new (told_of (Ok loaded))
+        → IsCheckedAt (scanner_in given policy.licenses) policy (seen middle tells mid after between more) loaded.files last begun request.metadata_path checked
+        → WritesLoad given whole err_old err_new err_before err_after (Ok (report_with checked last))
+    report_writes last checked gained done =
+        let hearing = ended.hears (Some done.answer) done.crates in
+        let crates_same = sym (ended.crates_are (Some done.answer) done.crates) in
+        let choice_same = same_choice found policy valid in
+        record {
+          text = told_of (Ok loaded);
+          tells = record {
+            hearing = hearing;
+            answers = (
+              record { begun = ended.begun_is (Some done.answer) done.crates; made = made_all (Some done.answer) done.crates done.made },
+              is_reported given request asked hearing exceptions (ended.sought (Some done.answer) done.crates) found (loads_found (Some done.answer) done.crates) done.graph
+                  (drawn_at done.answer done.crates done.tells.heard done.graph done.tells.hears done.tells.tells) (subst (HasRoot done.graph) choice_same done.tells.rooted)
+                  policy.licenses valid.licenses (same_flags found policy valid) loaded.files (sym (ap (λ (own : Loaded). own.files) (ended.loads (Some done.answer) done.crates)))
+                  (due_at done.answer done.crates (heard_where done.answer begun (fault_behind mid done.answer) done.tells.heard done.tells.hears)) last checked
+                  (subst (λ n. AreReads n (reads_of_all hearing.crates)) (sym (ended.metadata_count done.answer done.crates))
+                  (subst (λ crates. AreReads (fault_behind mid done.answer) (reads_of_all crates)) crates_same done.records))
+                  (subst (λ choice. IsChecked (scanner_in given policy.licenses) policy.licenses loaded.files last done.graph choice hearing.crates checked) choice_same
+                  (subst (λ crates. IsChecked (scanner_in given policy.licenses) policy.licenses loaded.files last done.graph (choice_by policy.graph.exclude) crates checked) crates_same done.is)),
+            );
+            is = told_same (Some done.answer) done.crates;
+          };
+          written = gained;
+        }

@@ -2,8 +2,6 @@
 use Rattle.std.proofs.Common.{◌≡◌, ◌∙◌, ◌⊎◌, inl, inr, refl, sym, ap, subst, ℕ, ◌≤◌, List, [], ◌∷◌, ◌++◌, Option, Some, None, Ok, Err, cond, append-nil, arith}
 use Rattle.std.proofs.lemmas.Grind.{flat_map-append}
 use Rattle.tree_core.proofs.GainedLemmas.{Gained-then}
-use Rattle.std.specs.Option.{ForSome}
-use Rattle.tree_core.specs.Content.{Content}
 use Rattle.tree_core.specs.Faults.{Rose, Gained, GainedPrefix}
 use Rattle.tree_core.specs.Script.{to_out, to_err, Script, FaultCounts, Written, Gains, IsCut, LineWritten, RefusedBy, is_target, text_for}
 use Rattle.tree_core.specs.Script as script
@@ -24,20 +22,17 @@ use Rattle.deny_run.specs.Counts.{summary_of}
 use Rattle.print_core.specs.declared.printer.PrintError.{PrintError}
 use Rattle.print_core.specs.declared.printer.PrintError.TheVariants as print
 use Rattle.load_core.specs.Print.{HasReasonSince}
-use Rattle.deny_run.specs.Error.{cause_of, error_of, error_of_load, error_of_print, fault_line, FreeOr}
+use Rattle.deny_run.specs.Error.{cause_of, error_of, error_of_load, error_of_print, fault_line}
 use Rattle.deny_run.specs.Given.{Given}
-use Rattle.deny_run.specs.Report.{IsReport}
-use Rattle.deny_run.specs.Script.{Begins, IsReportTold, TellsLoad, TextWritten, Writes, WritesFirst, WritesLoad, findings_text, load_script, script_of}
+use Rattle.deny_run.specs.Heard.{IsRunHearing, calls_of}
+use Rattle.deny_run.specs.Hearing.{MadeOn, RunHearing, TreeSeen, crates_heard}
+use Rattle.deny_run.specs.Report.{AreChecking, IsGivenUp, IsReport}
+use Rattle.deny_run.proofs.FoundLemmas.{found_of-from_Asks}
+use Rattle.deny_run.specs.Script.{Begins, TellsLoad, TextWritten, Writes, WritesFirst, WritesLoad, findings_text, load_script, script_of}
 use Rattle.deny_run.specs.Steps.{IsAfterLoad}
-use Rattle.deny_run.proofs.AnswerLemmas.{Refused}
+use Rattle.deny_run.proofs.AnswerLemmas.{IsFree, given_up}
 
 -- ---- what is told of the load
-
--- a refusal comes of a hearing by which this is told
-pub refused_tells : (given : Given) (content : Content) (begun after : ℕ) (error : Error) (text : List ℕ) → Refused given content begun after error text
-    → TellsLoad given content begun after (Err error) text
-refused_tells given content begun after error text refused =
-    record { hearing = refused.hearing; heard = refused.heard; answers = refused.refuses; is = refused.tells }
 
 gained-nil : (held : Option (List ℕ)) → Gained held held []
 gained-nil None = refl
@@ -106,29 +101,29 @@ err_alone out err_old err_new text gained = record { out = gained-nil out; err =
 
 -- ---- before the summary
 
-module _ (given : Given) (content : Option Content) (counts : FaultCounts) (out err_old err_new : Option (List ℕ)) where
-  first_by : (error : Error) (text : List ℕ) → ForSome content (λ one. TellsLoad given one counts.tree_before counts.tree_after (Err error) text)
+module _ (given : Given) (tree : TreeSeen) (counts : FaultCounts) (out err_old err_new : Option (List ℕ)) where
+  first_by : (error : Error) (text : List ℕ) → TellsLoad given tree (Err error) text
       → (cause : Cause) → cause_of error ≡ cause → TextWritten text err_old err_new counts.err_before counts.err_after cause
-      → WritesFirst given content counts (record { out = out; err = err_old }) (record { out = out; err = err_new }) (Err error)
+      → WritesFirst given tree counts (record { out = out; err = err_old }) (record { out = out; err = err_new }) (Err error)
   first_by error text tells no_memory is written = record {
     text = text;
     tells = tells;
     begun = load_script written.front;
-    begins = subst (Begins given content counts text (load_script written.front)) (sym is) (inl (record { front = written.front; rest = written.rest; parts = written.parts; is = refl }));
+    begins = subst (Begins given tree counts text (load_script written.front)) (sym is) (inl (record { front = written.front; rest = written.rest; parts = written.parts; is = refl }));
     gains = err_alone out err_old err_new written.front written.gained;
   }
   first_by error text tells causes.told is written = record {
     text = text;
     tells = tells;
     begun = load_script text;
-    begins = subst (Begins given content counts text (load_script text)) (sym is) refl;
+    begins = subst (Begins given tree counts text (load_script text)) (sym is) refl;
     gains = err_alone out err_old err_new text written;
   }
   first_by error text tells (failed_read first last) is written = record {
     text = text;
     tells = tells;
     begun = load_script text;
-    begins = subst (Begins given content counts text (load_script text)) (sym is) refl;
+    begins = subst (Begins given tree counts text (load_script text)) (sym is) refl;
     gains = err_alone out err_old err_new text written;
   }
   first_by error text tells (refused_write first last) is written =
@@ -137,7 +132,7 @@ module _ (given : Given) (content : Option Content) (counts : FaultCounts) (out 
         text = text;
         tells = tells;
         begun = load_script front.front;
-        begins = subst (Begins given content counts text (load_script front.front)) (sym is) (inl (record {
+        begins = subst (Begins given tree counts text (load_script front.front)) (sym is) (inl (record {
           earlier = [];
           target = to_err;
           front = front.front;
@@ -151,27 +146,45 @@ module _ (given : Given) (content : Option Content) (counts : FaultCounts) (out 
       }
 
   pub first_refused : (error : Error)
-      → WritesLoad given content counts.tree_before counts.tree_after err_old err_new counts.err_before counts.err_after (Err error)
-      → WritesFirst given content counts (record { out = out; err = err_old }) (record { out = out; err = err_new }) (Err error)
+      → WritesLoad given tree err_old err_new counts.err_before counts.err_after (Err error)
+      → WritesFirst given tree counts (record { out = out; err = err_old }) (record { out = out; err = err_new }) (Err error)
   first_refused error writes = first_by error writes.text writes.tells (cause_of error) refl writes.written
 
 -- ---- with what was found, and the summary
 
-module _ (given : Given) (content : Option Content) (counts : FaultCounts) (old : Written) (middle : Option (List ℕ)) (first last : ℕ) (report : Report)
-    (asked : ForSome content (λ one. IsReport given one counts.tree_before counts.tree_after report))
-    (writes : WritesLoad given content counts.tree_before counts.tree_after old.err middle first last (Ok report)) where
-  is_told : IsReportTold given content counts writes.text report
-  is_told = record { asked = asked; text_of = writes.tells }
-
+module _ (given : Given) (tree : TreeSeen) (counts : FaultCounts) (old : Written) (middle : Option (List ℕ)) (first last : ℕ) (report : Report)
+    (writes : WritesLoad given tree old.err middle first last (Ok report)) where
   -- what was told of the load, and then a text
   err_both : (new : Option (List ℕ)) (text : List ℕ) → Gained middle new text → Gained old.err new (writes.text ++ (text ++ []))
   err_both new text gained = Gained-then old.err middle new writes.text (text ++ []) writes.written (gained-append_nil middle new text gained)
 
-  -- a refusal that comes of the report's hearing
-  freely_told : (error : Error) → ((P : Type 0) → FreeOr (cause_of error) P) → ForSome content (λ one. TellsLoad given one counts.tree_before counts.tree_after (Err error) writes.text)
-  freely_told error free = λ one e. let own = writes.tells one e in record { hearing = own.hearing; heard = own.heard; answers = free _; is = own.is }
+  -- the crates that are checked by what was heard have all had their turns
+  all_turns : (hearing : RunHearing) → IsReport given hearing report → AreChecking given hearing []
+  all_turns hearing is = record {
+    found = record { request = is.asked.request; policy = is.asked.policy; graph = is.asked.graph };
+    is = found_of-from_Asks given hearing is.asked is.asks;
+    policy = report.policy;
+    ordered = is.gives.policy;
+    checked = is.asked.crates;
+    selected = is.asks.selected;
+    turns = record { earlier = hearing.crates; own = is.own; ends = inl (refl, refl); among = ([], sym is.gives.crates ∙ sym (append-nil (crates_heard hearing))) };
+  }
 
-  pub first_reported : (new : Written) → Gained middle new.err (findings_text report) → Gained old.out new.out (summary_of report.stats) → WritesFirst given content counts old new (Ok report)
+  report_up : (hearing : RunHearing) → IsRunHearing given tree hearing → IsReport given hearing report → IsGivenUp given tree hearing
+  report_up hearing heard is = record {
+    begun = heard.begun;
+    lost = [];
+    made = subst (MadeOn tree) (sym (append-nil (calls_of given hearing))) heard.made;
+    front = inr (all_turns hearing is);
+  }
+
+  -- a refusal that comes behind the report
+  freely_told : (error : Error) → IsFree (cause_of error) → TellsLoad given tree (Err error) writes.text
+  freely_told error free =
+      let own = writes.tells in
+      record { hearing = own.hearing; answers = given_up given tree own.hearing error (report_up own.hearing own.answers.0 own.answers.1) free; is = own.is }
+
+  pub first_reported : (new : Written) → Gained middle new.err (findings_text report) → Gained old.out new.out (summary_of report.stats) → WritesFirst given tree counts old new (Ok report)
   first_reported new found gained = record {
     text = writes.text;
     tells = writes.tells;
@@ -183,14 +196,14 @@ module _ (given : Given) (content : Option Content) (counts : FaultCounts) (old 
   -- a summary that was cut
   pub first_cut : (new : Written) (before after : ℕ) → Gained middle new.err (findings_text report)
       → GainedPrefix old.out new.out (summary_of report.stats) → before ≡ counts.out_before → after ≡ counts.out_after → Rose counts.out_before counts.out_after
-      → WritesFirst given content counts old new (Err (WriteFault before after))
+      → WritesFirst given tree counts old new (Err (WriteFault before after))
   first_cut new before after found front one other rose = record {
     text = writes.text;
-    tells = freely_told (WriteFault before after) (λ P. tt);
+    tells = freely_told (WriteFault before after) tt;
     begun = (to_err, writes.text) ∷ (to_err, findings_text report) ∷ (to_out, front.front) ∷ [];
     begins = inr (record {
       report = report;
-      is = is_told;
+      is = writes.tells;
       cut = record {
         earlier = (to_err, writes.text) ∷ (to_err, findings_text report) ∷ [];
         target = to_out;
@@ -207,14 +220,14 @@ module _ (given : Given) (content : Option Content) (counts : FaultCounts) (old 
 
   -- findings that were cut
   pub found_cut : (new : Option (List ℕ)) (before after : ℕ) → GainedPrefix middle new (findings_text report) → before ≡ counts.err_before → after ≤ counts.err_after → Rose before after
-      → WritesFirst given content counts old (record { out = old.out; err = new }) (Err (WriteFault before after))
+      → WritesFirst given tree counts old (record { out = old.out; err = new }) (Err (WriteFault before after))
   found_cut new before after front one other rose = record {
     text = writes.text;
-    tells = freely_told (WriteFault before after) (λ P. tt);
+    tells = freely_told (WriteFault before after) tt;
     begun = (to_err, writes.text) ∷ (to_err, front.front) ∷ [];
     begins = inr (record {
       report = report;
-      is = is_told;
+      is = writes.tells;
       cut = record {
         earlier = (to_err, writes.text) ∷ [];
         target = to_err;
@@ -230,18 +243,18 @@ module _ (given : Given) (content : Option Content) (counts : FaultCounts) (old 
   }
 
   -- findings for which memory was wanting
-  pub found_begun : (new : Option (List ℕ)) → GainedPrefix middle new (findings_text report) → WritesFirst given content counts old (record { out = old.out; err = new }) (Err Memory)
+  pub found_begun : (new : Option (List ℕ)) → GainedPrefix middle new (findings_text report) → WritesFirst given tree counts old (record { out = old.out; err = new }) (Err Memory)
   found_begun new front = record {
     text = writes.text;
-    tells = freely_told Memory (λ P. tt);
+    tells = freely_told Memory tt;
     begun = (to_err, writes.text) ∷ (to_err, front.front) ∷ [];
-    begins = inr (record { report = report; is = is_told; front = front.front; rest = front.rest; parts = front.parts; begun_is = refl });
+    begins = inr (record { report = report; is = writes.tells; front = front.front; rest = front.rest; parts = front.parts; begun_is = refl });
     gains = record { out = gained-nil old.out; err = err_both new front.front front.gained };
   }
 
   -- findings that were not all printed
   pub found_refused : (new : Option (List ℕ)) (refused : PrintError) → GainedPrefix middle new (findings_text report) → HasReasonSince counts.err_before counts.err_after refused
-      → WritesFirst given content counts old (record { out = old.out; err = new }) (Err (error_of_print refused))
+      → WritesFirst given tree counts old (record { out = old.out; err = new }) (Err (error_of_print refused))
   found_refused new print.Memory front reason = found_begun new front
   found_refused new (print.WriteFault before after) front reason =
       found_cut new before after front reason.0 (let e : after ≤ counts.err_after = omega (arith, reason.1) in e)
@@ -284,7 +297,7 @@ with_err counts err_after = record {
   err_after = err_after;
 }
 
-module _ (given : Given) (content : Option Content) (counts : FaultCounts) (err_after : ℕ) (first_later : counts.err_before ≤ counts.err_after) (later : counts.err_after ≤ err_after) where
+module _ (given : Given) (tree : TreeSeen) (counts : FaultCounts) (err_after : ℕ) (first_later : counts.err_before ≤ counts.err_after) (later : counts.err_after ≤ err_after) where
   wider : Rose counts.err_after err_after → Rose counts.err_before err_after
   wider (inl less) = inl (omega arith)
   wider (inr last) = inr last
@@ -301,20 +314,20 @@ module _ (given : Given) (content : Option Content) (counts : FaultCounts) (err_
     refused = further counts (with_err counts err_after) refl refl refl later cut.target before after cut.refused;
   }
 
-  begins_further : (text : List ℕ) (begun : Script) (cause : Cause) → Begins given content counts text begun cause → Begins given content (with_err counts err_after) text begun cause
+  begins_further : (text : List ℕ) (begun : Script) (cause : Cause) → Begins given tree counts text begun cause → Begins given tree (with_err counts err_after) text begun cause
   begins_further text begun no_memory (inl front) = inl front
   begins_further text begun no_memory (inr own) =
-      inr (record { report = own.report; is = record { asked = own.is.asked; text_of = own.is.text_of }; front = own.front; rest = own.rest; parts = own.parts; begun_is = own.begun_is })
+      inr (record { report = own.report; is = own.is; front = own.front; rest = own.rest; parts = own.parts; begun_is = own.begun_is })
   begins_further text begun causes.told begins = begins
   begins_further text begun (failed_read before after) begins = begins
   begins_further text begun (refused_write before after) (inl cut) = inl (cut_further before after (load_script text) begun cut)
   begins_further text begun (refused_write before after) (inr cut) =
-      inr (record { report = cut.report; is = record { asked = cut.is.asked; text_of = cut.is.text_of }; cut = cut_further before after (script_of text cut.report) begun cut.cut })
+      inr (record { report = cut.report; is = cut.is; cut = cut_further before after (script_of text cut.report) begun cut.cut })
 
   -- after a refusal stand what was begun and the line of the refusal, or a front of it
-  pub Writes-from_line : (old mid new : Written) (error : Error) → WritesFirst given content counts old mid (Err error) → new.out ≡ mid.out
+  pub Writes-from_line : (old mid new : Written) (error : Error) → WritesFirst given tree counts old mid (Err error) → new.out ≡ mid.out
       → LineWritten mid.err new.err counts.err_after err_after (fault_line error)
-      → Writes given content (with_err counts err_after) old new (Err error)
+      → Writes given tree (with_err counts err_after) old new (Err error)
   Writes-from_line old mid new error first out (inl gained) = record {
     text = first.text;
     tells = first.tells;
@@ -335,7 +348,7 @@ module _ (given : Given) (content : Option Content) (counts : FaultCounts) (err_
   }
 
 -- after a report nothing comes behind
-pub Writes-from_report : (given : Given) (content : Option Content) (counts : FaultCounts) (old new : Written) (report : Report)
-    → WritesFirst given content counts old new (Ok report) → Writes given content counts old new (Ok report)
-Writes-from_report given content counts old new report first =
+pub Writes-from_report : (given : Given) (tree : TreeSeen) (counts : FaultCounts) (old new : Written) (report : Report)
+    → WritesFirst given tree counts old new (Ok report) → Writes given tree counts old new (Ok report)
+Writes-from_report given tree counts old new report first =
     record { text = first.text; tells = first.tells; begun = first.begun; begins = first.begins; script = first.begun; ends = refl; gains = first.gains }

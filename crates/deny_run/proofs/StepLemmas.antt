@@ -2,6 +2,9 @@
 use Rattle.std.proofs.Common.{ℕ, ◌≤◌, inl, inr, arith}
 use Rattle.tree_core.specs.Faults.{Rose}
 use Rattle.heard_core.specs.Cause.{Cause, no_memory, told, failed_read, refused_write, ReadCounts}
+use Rattle.print_core.specs.declared.printer.PrintError.{PrintError}
+use Rattle.print_core.specs.declared.printer.PrintError.TheVariants as print
+use Rattle.deny_run.specs.Error.{cause_of, error_of_print}
 
 -- ---- counts
 
@@ -15,3 +18,8 @@ since_begun begun before after no_memory first counts = tt
 since_begun begun before after told first counts = tt
 since_begun begun before after (failed_read one other) first counts = (counts.0, counts.1, rose_wider begun before after first counts.2)
 since_begun begun before after (refused_write one other) first counts = tt
+
+-- what was not printed comes of no read
+pub print_counts : (begun before after : ℕ) (refused : PrintError) → ReadCounts begun before after (cause_of (error_of_print refused))
+print_counts begun before after print.Memory = tt
+print_counts begun before after (print.WriteFault first last) = tt

@@ -1,31 +1,38 @@
--- What is heard of the files, and what the words and the files ask to check.
-use Rattle.std.specs.Prelude.{◌≡◌, ℕ, List, [], ◌∷◌, codes, Option, Some, None, option_map, Result, Ok, Err, ⊤}
+-- What is heard of the files, what the words and the files ask to check, and which calls that takes.
+use Rattle.std.specs.Prelude.{◌≡◌, ◌≢◌, ℕ, List, [], ◌∷◌, ◌++◌, codes, Option, Some, None, option_map, Result, Ok, Err}
+use Rattle.std.specs.Option.{option_and_then}
 use Rattle.deny_text.specs.Path.{join_of}
-use Rattle.tree_core.specs.Hearing.{metadata}
+use Rattle.tree_core.specs.Call.{Call}
+use Rattle.tree_core.specs.Trace.{faults_after}
+use Rattle.catalog_core.specs.Catalog.{CatalogLists}
 use Rattle.spdx_core.specs.Reading.{ExpressionView}
 use Rattle.graph_core.specs.Metadata.{Graph}
 use Rattle.heard_core.specs.declared.fault.ReadFault.{ReadFault}
 use Rattle.heard_core.specs.declared.fault.ReadFault.TheVariants.{Failed}
-use Rattle.heard_core.specs.Heard.{text_heard}
-use Rattle.search_core.specs.Search.{candidates, first_existing}
+use Rattle.search_core.specs.Search.{candidates}
 use Rattle.search_core.specs.declared.search.Sought.TheVariants.{Exceptions}
 use Rattle.workspace_core.specs.declared.error.KratesError.{KratesError}
 use Rattle.workspace_core.specs.Krates.{graph_in}
-use Rattle.pack_core.specs.Ears.{Ears, ears_of}
+use Rattle.pack_core.specs.Ears.{ears_by}
 use Rattle.expression_core.specs.Scanned.{Scanner}
-use Rattle.priority_core.specs.Priority.{Answer, folder_of, priority_of}
-use Rattle.diag_core.specs.File.{File}
-use Rattle.location_core.specs.Location.{manifest_heard}
+use Rattle.priority_core.specs.Priority.{Answer, priority_of}
+use Rattle.diag_core.specs.File.{File, id_at}
 use Rattle.valid_policy.specs.declared.policy.ValidConfig.{ValidConfig}
+use Rattle.gather_core.specs.Calls as gather
+use Rattle.gather_core.specs.Calls.{CrateReads, calls_of_all, turn_by}
 use Rattle.gather_core.specs.Entries.{clarifications_of, entries_of}
 use Rattle.gather_core.specs.Gathered.{threshold_of}
-use Rattle.gather_core.specs.Taken.{turn_with}
-use Rattle.gather_core.specs.Turns.{Turn, files_behind, findings_in, info_in, notes_in, records_in}
+use Rattle.gather_core.specs.Turns.{Turn, files_behind, findings_in, info_in, notes_in}
 use Rattle.check_core.specs.Summary.{told_in}
 use Rattle.check_core.specs.Turns.{Asked as LookedAt}
+use Rattle.policy_config.specs.declared.root.RootConfig.{RootConfig}
 use Rattle.policy_core.specs.Policy.{PolicyFound}
-use Rattle.load_core.specs.Heard.{load_heard}
-use Rattle.load_core.specs.Load.{Loaded, load_of}
+use Rattle.policy_text.specs.Config.{config_told}
+use Rattle.policy_text.specs.Text.{text_told}
+use Rattle.policy_text.specs.declared.error.ConfigError.{ConfigError}
+use Rattle.policy_text.specs.declared.text.ConfigText.{ConfigText}
+use Rattle.load_core.specs.Heard.{LoadHeard}
+use Rattle.load_core.specs.Load.{Loaded, load_of, with_policy}
 use Rattle.load_core.specs.declared.error.LoadError.{LoadError}
 use Rattle.load_core.specs.declared.loading.PolicyPaths.{PolicyPaths}
 use Rattle.deny_run.specs.declared.error.Part.TheVariants.{Words}
@@ -34,7 +41,7 @@ use Rattle.deny_run.specs.declared.error.Error.TheVariants.{ConfigRead, NotYet}
 use Rattle.deny_run.specs.declared.words.Request.{Request}
 use Rattle.deny_run.specs.Error.{error_of_krates, error_of_load}
 use Rattle.deny_run.specs.Given.{Given}
-use Rattle.deny_run.specs.Hearing.{Looks, look_failed, all_told, CrateHeard, RunHearing}
+use Rattle.deny_run.specs.Hearing.{Looks, look_failed, nowhere, at, unended, RunHearing, TreeSeen, MadeOn, IsReadWhereDue, count_behind, look_calls, looks_by, read_calls, text_by}
 use Rattle.deny_run.specs.Words.{request_of}
 
 -- the next step, where the one before was not refused
@@ -48,17 +55,63 @@ abbrev pub or_refused : {X : Type 0} → Error → Option X → Result X Error
 or_refused error None = Err error
 or_refused error (Some value) = Ok value
 
+-- the value of what was not refused
+abbrev pub unless_refused : {X : Type 0} → Result X Error → Option X
+unless_refused (Ok value) = Some value
+unless_refused (Err error) = None
+
+abbrev pub request_asked : Given → Result Request Error
+request_asked given = or_refused (NotYet Words) (request_of given.words given.cwd)
+
+-- ---- the looks for an exceptions file
+
 -- the manifest of a run
 abbrev pub manifest_in : List ℕ → List ℕ
 manifest_in cwd = join_of cwd (codes "Cargo.toml")
 
--- where the exceptions file is: at the first of the paths at which something stands
-abbrev pub exceptions_by : Looks → Option (List ℕ) → Result (Option (List ℕ)) Error
-exceptions_by (look_failed before after) found = Err (ConfigRead (Failed before after))
-exceptions_by all_told found = Ok found
+-- the paths at which one is looked for: none where the words ask for nothing that is built
+abbrev pub looked_for : Option Request → List ℕ → List (List ℕ)
+looked_for None cwd = []
+looked_for (Some request) cwd = candidates Exceptions (manifest_in cwd)
 
-abbrev pub exceptions_in : RunHearing → List (List ℕ) → Result (Option (List ℕ)) Error
-exceptions_in hearing paths = exceptions_by hearing.looks (first_existing hearing.files.content paths)
+abbrev pub paths_looked : Given → List (List ℕ)
+paths_looked given = looked_for (request_of given.words given.cwd) given.cwd
+
+-- the tree's count of faults behind the looks, and behind each read
+abbrev pub count_looked : Given → RunHearing → ℕ
+count_looked given hearing = faults_after hearing.begun (look_calls (paths_looked given) hearing.looks)
+
+abbrev pub count_policy : Given → RunHearing → ℕ
+count_policy given hearing = count_behind (count_looked given hearing) hearing.policy
+
+abbrev pub count_exceptions : Given → RunHearing → ℕ
+count_exceptions given hearing = count_behind (count_policy given hearing) hearing.exceptions
+
+abbrev pub count_metadata : Given → RunHearing → ℕ
+count_metadata given hearing = count_behind (count_exceptions given hearing) hearing.metadata
+
+-- where the exceptions file is, by what the looks came to between two counts
+abbrev pub exceptions_by : ℕ → ℕ → Looks → Result (Option (List ℕ)) Error
+exceptions_by begun after look_failed = Err (ConfigRead (Failed begun after))
+exceptions_by begun after nowhere = Ok None
+exceptions_by begun after (at path) = Ok (Some path)
+exceptions_by begun after unended = Ok None
+
+abbrev pub exceptions_in : Given → RunHearing → Result (Option (List ℕ)) Error
+exceptions_in given hearing = exceptions_by hearing.begun (count_looked given hearing) (looks_by (paths_looked given) hearing.looks)
+
+-- ---- what is found
+
+-- What is heard of the policy's file, of the exceptions file and of the metadata. A failed read of the first and of the last is told
+-- with the count when the run began.
+abbrev pub load_heard : Given → RunHearing → LoadHeard
+load_heard given hearing = record {
+  policy = text_by hearing.begun (count_policy given hearing) hearing.policy;
+  exceptions = text_by (count_policy given hearing) (count_exceptions given hearing) hearing.exceptions;
+}
+
+abbrev pub metadata_heard : Given → RunHearing → Result (List ℕ) ReadFault
+metadata_heard given hearing = text_by hearing.begun (count_metadata given hearing) hearing.metadata
 
 -- the crates and the edges between them, from what was heard of the metadata's file
 abbrev pub or_error : Result Graph KratesError → Result Graph Error
@@ -71,12 +124,12 @@ graph_heard heard = or_error (graph_in heard)
 -- where the two files of the policy are
 abbrev pub paths_of : Given → RunHearing → Request → Result PolicyPaths Error
 paths_of given hearing request = do
-  exceptions ← exceptions_in hearing (candidates Exceptions (manifest_in given.cwd))
+  exceptions ← exceptions_in given hearing
   Ok (record { policy = Some request.config_path; exceptions = exceptions })
 
 -- what comes of the load of the policy at these paths; no file is known before it
 abbrev pub load_at : Given → RunHearing → PolicyPaths → Loaded
-load_at given hearing paths = load_of given.lists [] paths (load_heard hearing.files paths)
+load_at given hearing paths = load_of given.lists [] paths (load_heard given hearing)
 
 abbrev pub or_load_error : Result PolicyFound LoadError → Result PolicyFound Error
 or_load_error (Ok found) = Ok found
@@ -88,22 +141,89 @@ pub record Found : Type 0 where
   pub policy : PolicyFound
   pub graph : Graph
 
--- What comes of the load, or the first refusal before it: of the words, of the looks for an exceptions file.
+-- the paths of the policy's files, or the first refusal before: of the words, of the looks
+abbrev pub paths_found : Given → RunHearing → Result PolicyPaths Error
+paths_found given hearing = do
+  request ← request_asked given
+  paths_of given hearing request
+
+-- what comes of the load, or the first refusal before it
 abbrev pub loaded_of : Given → RunHearing → Result Loaded Error
 loaded_of given hearing = do
-  request ← or_refused (NotYet Words) (request_of given.words given.cwd)
-  paths ← paths_of given hearing request
+  paths ← paths_found given hearing
   Ok (load_at given hearing paths)
+
+-- where the metadata is, or the first refusal before its read
+abbrev pub metadata_found : Given → RunHearing → Result (List ℕ) Error
+metadata_found given hearing = do
+  request ← request_asked given
+  paths ← paths_of given hearing request
+  policy ← or_load_error (load_at given hearing paths).answer
+  Ok request.metadata_path
 
 -- What is found by the words and in the files, or the first refusal: of the words, of the looks, of the policy, of the
 -- metadata.
 abbrev pub found_of : Given → RunHearing → Result Found Error
 found_of given hearing = do
-  request ← or_refused (NotYet Words) (request_of given.words given.cwd)
+  request ← request_asked given
   paths ← paths_of given hearing request
   policy ← or_load_error (load_at given hearing paths).answer
-  graph ← graph_heard (text_heard hearing.files metadata request.metadata_path)
+  graph ← graph_heard (metadata_heard given hearing)
   Ok (record { request = request; policy = policy; graph = graph })
+
+-- ---- which files are read
+
+-- the policy, where the words ask for a check and no look failed
+abbrev pub policy_due : Given → RunHearing → Option (List ℕ)
+policy_due given hearing = option_and_then (λ (paths : PolicyPaths). paths.policy) (unless_refused (paths_found given hearing))
+
+-- a file that is found by the path is the policy, and is not read for a second time
+abbrev pub unless_known : Option ℕ → List ℕ → Option (List ℕ)
+unless_known None path = Some path
+unless_known (Some id) path = None
+
+abbrev pub due_at : List File → Option (List ℕ) → Option (List ℕ)
+due_at files None = None
+due_at files (Some path) = unless_known (id_at files path) path
+
+-- an exceptions file is read where the policy has its shape
+abbrev pub due_behind : List File → Option (List ℕ) → Result RootConfig ConfigError → Option (List ℕ)
+due_behind files path (Ok root) = due_at files path
+due_behind files path (Err refused) = None
+
+abbrev pub due_by_text : CatalogLists → PolicyPaths → Result ConfigText ConfigError → Option (List ℕ)
+due_by_text lists paths (Ok text) = due_behind (with_policy [] paths text) paths.exceptions (config_told lists text.text)
+due_by_text lists paths (Err refused) = None
+
+abbrev pub exceptions_due : Given → RunHearing → Option (List ℕ)
+exceptions_due given hearing =
+    option_and_then (λ paths. due_by_text given.lists paths (text_told (load_heard given hearing).policy)) (unless_refused (paths_found given hearing))
+
+-- the metadata, where the policy was loaded
+abbrev pub metadata_due : Given → RunHearing → Option (List ℕ)
+metadata_due given hearing = unless_refused (metadata_found given hearing)
+
+-- The calls of a hearing, in order: the looks; the policy, the exceptions file and the metadata, each where it is due and was read; and
+-- crate after crate its reads.
+abbrev pub calls_of : Given → RunHearing → List Call
+calls_of given hearing =
+    look_calls (paths_looked given) hearing.looks
+    ++ read_calls (policy_due given hearing) hearing.policy
+    ++ read_calls (exceptions_due given hearing) hearing.exceptions
+    ++ read_calls (metadata_due given hearing) hearing.metadata
+    ++ calls_of_all hearing.crates
+
+-- each look and each read that was due was made, and something is heard by it
+pub record HearsAllDue (given : Given) (hearing : RunHearing) : Type 0 where
+  pub looks : looks_by (paths_looked given) hearing.looks ≢ unended
+  pub policy : IsReadWhereDue (policy_due given hearing) hearing.policy
+  pub exceptions : IsReadWhereDue (exceptions_due given hearing) hearing.exceptions
+  pub metadata : IsReadWhereDue (metadata_due given hearing) hearing.metadata
+
+-- a run on a tree made the calls of this hearing, and no other
+pub record IsRunHearing (given : Given) (tree : TreeSeen) (hearing : RunHearing) : Type 0 where
+  pub begun : hearing.begun ≡ tree.count_before
+  pub made : MadeOn tree (calls_of given hearing)
 
 -- ---- the expression of a crate
 
@@ -111,15 +231,11 @@ found_of given hearing = do
 abbrev pub scanner_in : Given → ValidConfig → Scanner
 scanner_in given policy = record { lists = given.lists; match_of = given.match_of; threshold = threshold_of policy.confidence_threshold }
 
--- what is heard of a crate's files: what the content holds, but for those of the crate's own reads that failed
-abbrev pub ears_heard : RunHearing → CrateHeard → Ears
-ears_heard hearing one = ears_of hearing.files.content (folder_of one.krate) one.reads
-
--- What has priority of a crate: a clarification of the policy whose files have their hashes, else the crate's field, else what
--- its licence files are identified as, else nothing.
-abbrev pub priority_heard : Given → ValidConfig → RunHearing → CrateHeard → Option Answer
-priority_heard given policy hearing one =
-    priority_of (scanner_in given policy) (clarifications_of one.krate (entries_of policy)) one.krate (ears_heard hearing one)
+-- What has priority of a crate, by what the answers to its own reads let hear: a clarification of the policy whose files have their
+-- hashes, else the crate's field, else what its licence files are identified as, else nothing.
+abbrev pub priority_heard : Given → ValidConfig → CrateReads → Option Answer
+priority_heard given policy one =
+    priority_of (scanner_in given policy) (clarifications_of one.krate (entries_of policy)) one.krate (ears_by one.reads)
 
 -- its expression
 abbrev pub expression_in : Option Answer → Option ExpressionView
@@ -136,24 +252,17 @@ abbrev pub files_loaded : Given → RunHearing → List File
 files_loaded given hearing = files_in (loaded_of given hearing)
 
 -- the turn of a crate, by its own reads, with the table that the crates before have left
-abbrev pub turn_heard : Given → ValidConfig → RunHearing → List File → CrateHeard → Turn
-turn_heard given policy hearing files one =
-    turn_with (scanner_in given policy) policy.file_id (clarifications_of one.krate (entries_of policy)) one.krate (ears_heard hearing one)
-    (manifest_heard hearing.files.content one.krate.manifest_path one.reads) files
+abbrev pub turn_heard : Given → ValidConfig → List File → CrateReads → Turn
+turn_heard given policy files one = turn_by (scanner_in given policy) policy.file_id (entries_of policy) files one
 
 -- the table behind all crates
-abbrev pub files_behind_all : Given → ValidConfig → RunHearing → List File → List CrateHeard → List File
-files_behind_all given policy hearing files [] = files
-files_behind_all given policy hearing files (one ∷ crates) =
-    files_behind_all given policy hearing (files_behind (turn_heard given policy hearing files one)) crates
+abbrev pub files_behind_all : Given → ValidConfig → List File → List CrateReads → List File
+files_behind_all given policy files crates = gather.files_behind_all (scanner_in given policy) policy.file_id (entries_of policy) files crates
 
 -- Crate after crate, the records of its reads are those that its turn asks for: by its clarifications, its field and its files,
 -- and of its manifest where the field is to be located.
-abbrev pub AreOwnReads : Given → ValidConfig → RunHearing → List File → List CrateHeard → Type 0
-AreOwnReads given policy hearing files [] = ⊤
-AreOwnReads given policy hearing files (one ∷ crates) =
-    (one.reads ≡ records_in (turn_heard given policy hearing files one))
-    × AreOwnReads given policy hearing (files_behind (turn_heard given policy hearing files one)) crates
+abbrev pub AreOwnReads : Given → ValidConfig → List File → List CrateReads → Type 0
+AreOwnReads given policy files crates = gather.AreOwnReads (scanner_in given policy) policy.file_id (entries_of policy) files crates
 
 -- ---- what the check looks at
 
@@ -161,8 +270,8 @@ AreOwnReads given policy hearing files (one ∷ crates) =
 abbrev pub looked_at : Turn → LookedAt
 looked_at turn = record { krate = turn.krate; told = told_in (info_in turn); gathered = findings_in turn; notes = notes_in turn }
 
-abbrev pub all_looked_at : Given → ValidConfig → RunHearing → List File → List CrateHeard → List LookedAt
-all_looked_at given policy hearing files [] = []
-all_looked_at given policy hearing files (one ∷ crates) =
-    looked_at (turn_heard given policy hearing files one)
-    ∷ all_looked_at given policy hearing (files_behind (turn_heard given policy hearing files one)) crates
+abbrev pub all_looked_at : Given → ValidConfig → List File → List CrateReads → List LookedAt
+all_looked_at given policy files [] = []
+all_looked_at given policy files (one ∷ crates) =
+    looked_at (turn_heard given policy files one)
+    ∷ all_looked_at given policy (files_behind (turn_heard given policy files one)) crates

@@ -1,53 +1,119 @@
--- What is heard in a run.
-use Rattle.std.specs.Prelude.{ℕ, ◌≡◌, List, [], map}
-use Rattle.std.specs.List.{flat_map}
+-- What is heard in a run, by what each of its calls was answered.
+use Rattle.std.specs.Prelude.{◌≡◌, ℕ, Bool, true, false, List, [], ◌∷◌, map, is_some, Option, Some, None, unwrap_or, Result, Err}
+use Rattle.tree_core.specs.Call as call
+use Rattle.tree_core.specs.Call.{Answered, Call}
 use Rattle.tree_core.specs.Content.{Content}
-use Rattle.tree_core.specs.Faults.{Rose}
-use Rattle.tree_core.specs.Hearing.{Hearing, IsHearing}
-use Rattle.tree_core.specs.declared.reads.ReadRecord.{ReadRecord}
+use Rattle.tree_core.specs.Hearing.{Made}
+use Rattle.tree_core.specs.Trace.{fault_behind}
 use Rattle.graph_core.specs.Krate.{Record}
-use Rattle.reads_core.specs.Rising.{RiseInOrder}
+use Rattle.heard_core.specs.Heard.{read_of, text_answered}
+use Rattle.heard_core.specs.declared.fault.ReadFault.{ReadFault}
+use Rattle.heard_core.specs.declared.fault.ReadFault.TheVariants.{Absent}
+use Rattle.search_core.specs.Looked.{look_of}
+use Rattle.gather_core.specs.Calls.{CrateReads}
 
--- what the looks for an exceptions file come to
-pub data Looks : Type 0 where
-  -- one of them failed; the tree's counts of faults when the run began and after that
-  look_failed : ℕ → ℕ → Looks
-  -- each tells whether something stands there
-  all_told : Looks
-
--- a crate whose files are heard, and the records of its reads
-pub record CrateHeard : Type 0 where
-  pub krate : Record
-  pub reads : List ReadRecord
-
--- What is heard in a run: by the looks, of the policy's files and the metadata, and of the files of each crate, in the order
--- of the crates. A crate's files are heard by its own reads alone.
+-- What is heard in a run: the tree's count of faults when it began, and what its calls were answered: the looks for an exceptions file,
+-- path after path; the reads of the policy, of the exceptions file and of the metadata, each where it was made; and of each crate, in
+-- order, the reads of its files.
 pub record RunHearing : Type 0 where
-  pub looks : Looks
-  pub files : Hearing
-  pub crates : List CrateHeard
+  pub begun : ℕ
+  pub looks : List Answered
+  pub policy : Option Answered
+  pub exceptions : Option Answered
+  pub metadata : Option Answered
+  pub crates : List CrateReads
+
+-- what a tree told before a run and behind it: its content, its count of faults, and its calls
+pub record TreeSeen : Type 0 where
+  pub told : Option Content
+  pub tells : Option Content
+  pub count_before : ℕ
+  pub count_after : ℕ
+  pub calls_before : List Call
+  pub calls_after : List Call
+
+abbrev pub seen : Option Content → Option Content → ℕ → ℕ → List Call → List Call → TreeSeen
+seen told tells before after old new =
+    record { told = told; tells = tells; count_before = before; count_after = after; calls_before = old; calls_after = new }
+
+-- these calls were made on it, and no other
+abbrev pub MadeOn : TreeSeen → List Call → Type 0
+MadeOn tree calls = Made tree.told tree.tells tree.count_before tree.count_after tree.calls_before tree.calls_after calls
 
 abbrev pub crates_heard : RunHearing → List Record
-crates_heard hearing = map (λ one. one.krate) hearing.crates
+crates_heard hearing = map (λ (one : CrateReads). one.krate) hearing.crates
 
--- the reads of all crates, in the order of the calls
-abbrev pub reads_of : List CrateHeard → List ReadRecord
-reads_of crates = flat_map (λ one. one.reads) crates
+-- ---- the looks
 
--- A look that failed ends the run, in which the count rose.
-abbrev pub LooksRise : ℕ → ℕ → Looks → Type 0
-LooksRise begun after (look_failed first last) = (first ≡ begun) × (last ≡ after) × Rose begun after
-LooksRise begun after all_told = Unit {0}
+-- what looks come to
+pub data Looks : Type 0 where
+  -- one of them failed
+  look_failed : Looks
+  -- at no path stands anything
+  nowhere : Looks
+  -- something stands at this one
+  at : List ℕ → Looks
+  -- memory was wanting, or not all were made that were due
+  unended : Looks
 
--- What was heard in a run on a tree with this content, between these counts of faults: the failed reads of crates come behind
--- those of the other files, one crate after another.
-pub record IsRunHearing (told : Content) (before after : ℕ) (hearing : RunHearing) : Type 0 where
-  pub looks : LooksRise before after hearing.looks
-  pub middle : ℕ
-  pub files : IsHearing told before middle hearing.files
-  pub crates : RiseInOrder middle (reads_of hearing.crates) after
+-- by what the look at a path was answered, and what those at the paths behind it come to
+abbrev pub look_by : Answered → List ℕ → Looks → Looks
+look_by (call.bytes items) path rest = unended
+look_by (call.entries items) path rest = unended
+look_by (call.told true) path rest = at path
+look_by (call.told false) path rest = rest
+look_by call.absent path rest = unended
+look_by call.wrong_kind path rest = unended
+look_by call.failed path rest = look_failed
+look_by call.no_memory path rest = unended
 
--- what is heard where no look and no read failed
-abbrev pub all_heard : Content → ℕ → RunHearing
-all_heard content begun =
-    record { looks = all_told; files = record { content = content; begun = begun; failed = [] }; crates = [] }
+-- looks at these paths in order, up to the first that is not told that nothing stands there
+abbrev pub looks_by : List (List ℕ) → List Answered → Looks
+looks_by [] answers = nowhere
+looks_by (path ∷ paths) [] = unended
+looks_by (path ∷ paths) (answer ∷ answers) = look_by answer path (looks_by paths answers)
+
+-- the calls behind a look
+abbrev pub looks_behind : Answered → List Call → List Call
+looks_behind (call.bytes items) rest = []
+looks_behind (call.entries items) rest = []
+looks_behind (call.told true) rest = []
+looks_behind (call.told false) rest = rest
+looks_behind call.absent rest = []
+looks_behind call.wrong_kind rest = []
+looks_behind call.failed rest = []
+looks_behind call.no_memory rest = []
+
+-- their calls
+abbrev pub look_calls : List (List ℕ) → List Answered → List Call
+look_calls [] answers = []
+look_calls (path ∷ paths) [] = []
+look_calls (path ∷ paths) (answer ∷ answers) = look_of path answer ∷ looks_behind answer (look_calls paths answers)
+
+-- ---- the read of a file
+
+-- the call of a read that is due, where it was made
+abbrev pub read_calls : Option (List ℕ) → Option Answered → List Call
+read_calls None answer = []
+read_calls (Some path) None = []
+read_calls (Some path) (Some answer) = read_of path answer ∷ []
+
+-- the count of faults behind it
+abbrev pub count_behind : ℕ → Option Answered → ℕ
+count_behind count None = count
+count_behind count (Some answer) = fault_behind count answer
+
+-- What its answer lets hear, between two counts. Where none was made, and where memory was wanting, nothing is there.
+abbrev pub text_by : ℕ → ℕ → Option Answered → Result (List ℕ) ReadFault
+text_by begun after None = Err Absent
+text_by begun after (Some answer) = unwrap_or (text_answered begun after answer) (Err Absent)
+
+-- something is heard by it
+abbrev pub is_heard : Option Answered → Bool
+is_heard None = false
+is_heard (Some answer) = is_some (text_answered 0 0 answer)
+
+-- a read that is due was made, and something is heard by its answer; one that is not due was not made
+abbrev pub IsReadWhereDue : Option (List ℕ) → Option Answered → Type 0
+IsReadWhereDue None answer = answer ≡ None
+IsReadWhereDue (Some path) answer = is_heard answer ≡ true

@@ -1,4 +1,3 @@
-pub mod BySome
 pub mod Counts
 pub mod Error
 pub mod Given

@@ -1,7 +1,5 @@
 -- What a run writes to its two sinks.
-use Rattle.std.specs.Prelude.{◌≡◌, ◌⊎◌, ℕ, List, [], ◌∷◌, ◌++◌, map, Option, Result, Ok, Err}
-use Rattle.std.specs.Option.{ForSome}
-use Rattle.tree_core.specs.Content.{Content}
+use Rattle.std.specs.Prelude.{◌≡◌, ◌⊎◌, ℕ, List, [], ◌∷◌, ◌++◌, Option, Result, Ok, Err}
 use Rattle.tree_core.specs.Faults.{Rose, Gained, GainedPrefix}
 use Rattle.tree_core.specs.Script.{to_out, to_err, Script, FaultCounts, Written, Gains, IsCut, IsLineOrFront}
 use Rattle.diag_core.specs.declared.severity.LevelFilter.TheVariants.{Warn}
@@ -15,12 +13,11 @@ use Rattle.load_core.specs.Print.{printed_findings, printed_packs}
 use Rattle.deny_run.specs.declared.error.Error.{Error}
 use Rattle.deny_run.specs.declared.report.Report.{Report}
 use Rattle.deny_run.specs.Counts.{summary_of}
-use Rattle.deny_run.specs.Error.{cause_of, fault_line, FreeOr}
+use Rattle.deny_run.specs.Error.{cause_of, fault_line}
 use Rattle.deny_run.specs.Given.{Given}
-use Rattle.deny_run.specs.Heard.{found_of, loaded_of}
-use Rattle.deny_run.specs.Hearing.{all_told, RunHearing, IsRunHearing}
-use Rattle.deny_run.specs.Report.{IsReport, reads_told}
-use Rattle.deny_run.specs.Selection.{Refuses}
+use Rattle.deny_run.specs.Heard.{loaded_of}
+use Rattle.deny_run.specs.Hearing.{RunHearing, TreeSeen}
+use Rattle.deny_run.specs.Report.{IsAnsweredBy}
 
 -- how many faults a tree and two sinks have counted so far
 pub record Faults : Type 0 where
@@ -52,17 +49,10 @@ told_of (Err error) = []
 abbrev pub told_before : Given → RunHearing → List ℕ
 told_before given hearing = told_of (loaded_of given hearing)
 
--- what is heard where a run answers so: no failed read but those that the report lists, or what the refusal comes of
-abbrev pub IsAnsweredBy : Given → RunHearing → Result Report Error → Type 0
-IsAnsweredBy given hearing (Ok report) =
-    (hearing.looks ≡ all_told) × (hearing.files.failed ≡ []) × (map (λ one. one.reads) hearing.crates ≡ reads_told report)
-IsAnsweredBy given hearing (Err error) = FreeOr (cause_of error) (Refuses (found_of given hearing) error)
-
--- the text is what is told of the load in a run that answers so
-pub record TellsLoad (given : Given) (content : Content) (before after : ℕ) (answer : Result Report Error) (text : List ℕ) : Type 0 where
+-- the text is what is told of the load, by what was heard in a run on a tree that answers so
+pub record TellsLoad (given : Given) (tree : TreeSeen) (answer : Result Report Error) (text : List ℕ) : Type 0 where
   pub hearing : RunHearing
-  pub heard : IsRunHearing content before after hearing
-  pub answers : IsAnsweredBy given hearing answer
+  pub answers : IsAnsweredBy given tree hearing answer
   pub is : text ≡ told_before given hearing
 
 -- what is told of the load, on `err`
@@ -77,21 +67,20 @@ findings_text report = printed_packs plain_log report.files report.findings
 abbrev pub script_of : List ℕ → Report → Script
 script_of text report = (to_err, text) ∷ (to_err, findings_text report) ∷ (to_out, summary_of report.stats) ∷ []
 
--- a report that is asked for, of which nothing is told but what was written: by it the text is what is told of the load
-pub record IsReportTold (given : Given) (told : Option Content) (counts : FaultCounts) (text : List ℕ) (report : Report) : Type 0 where
-  pub asked : ForSome told (λ content. IsReport given content counts.tree_before counts.tree_after report)
-  pub text_of : ForSome told (λ content. TellsLoad given content counts.tree_before counts.tree_after (Ok report) text)
+-- a report that is asked for, of which nothing is told but what was written: by what was heard the text is what is told of the load
+abbrev pub IsReportTold : Given → TreeSeen → List ℕ → Report → Type 0
+IsReportTold given tree text report = TellsLoad given tree (Ok report) text
 
 -- the script of such a report was cut
-pub record CutsReport (given : Given) (told : Option Content) (counts : FaultCounts) (text : List ℕ) (before after : ℕ) (begun : Script) : Type 0 where
+pub record CutsReport (given : Given) (tree : TreeSeen) (counts : FaultCounts) (text : List ℕ) (before after : ℕ) (begun : Script) : Type 0 where
   pub report : Report
-  pub is : IsReportTold given told counts text report
+  pub is : IsReportTold given tree text report
   pub cut : IsCut counts before after (script_of text report) begun
 
 -- all that is told of the load was written, and then a front of what such a report found
-pub record FrontsReport (given : Given) (told : Option Content) (counts : FaultCounts) (text : List ℕ) (begun : Script) : Type 0 where
+pub record FrontsReport (given : Given) (tree : TreeSeen) (text : List ℕ) (begun : Script) : Type 0 where
   pub report : Report
-  pub is : IsReportTold given told counts text report
+  pub is : IsReportTold given tree text report
   pub front : List ℕ
   pub rest : List ℕ
   pub parts : findings_text report ≡ front ++ rest
@@ -106,16 +95,16 @@ pub record IsFront (text : List ℕ) (begun : Script) : Type 0 where
 
 -- What was begun before a refusal: where memory was wanting a front of what is told of the load, or all of that and a front of
 -- what was found; where a write was refused a cut of what is told of the load, or of a report; else all that is told of the load.
-abbrev pub Begins : Given → Option Content → FaultCounts → List ℕ → Script → Cause → Type 0
-Begins given told counts text begun no_memory = IsFront text begun ⊎ FrontsReport given told counts text begun
-Begins given told counts text begun (refused_write before after) =
-    IsCut counts before after (load_script text) begun ⊎ CutsReport given told counts text before after begun
-Begins given told counts text begun _ = begun ≡ load_script text
+abbrev pub Begins : Given → TreeSeen → FaultCounts → List ℕ → Script → Cause → Type 0
+Begins given tree counts text begun no_memory = IsFront text begun ⊎ FrontsReport given tree text begun
+Begins given tree counts text begun (refused_write before after) =
+    IsCut counts before after (load_script text) begun ⊎ CutsReport given tree counts text before after begun
+Begins given tree counts text begun _ = begun ≡ load_script text
 
 -- what was written before a fault line, if there is one
-abbrev pub HasBegun : Given → Option Content → FaultCounts → List ℕ → Script → Result Report Error → Type 0
-HasBegun given told counts text begun (Ok report) = begun ≡ script_of text report
-HasBegun given told counts text begun (Err error) = Begins given told counts text begun (cause_of error)
+abbrev pub HasBegun : Given → TreeSeen → FaultCounts → List ℕ → Script → Result Report Error → Type 0
+HasBegun given tree counts text begun (Ok report) = begun ≡ script_of text report
+HasBegun given tree counts text begun (Err error) = Begins given tree counts text begun (cause_of error)
 
 -- a fault line behind it, or a front of the line
 pub record HasLine (counts : FaultCounts) (error : Error) (begun script : Script) : Type 0 where
@@ -128,20 +117,20 @@ abbrev pub EndsIn : FaultCounts → Script → Script → Result Report Error �
 EndsIn counts begun script (Ok report) = script ≡ begun
 EndsIn counts begun script (Err error) = HasLine counts error begun script
 
--- what a run wrote before a fault line: the text is what is told of the load, by what was heard where the tree tells its content
-pub record WritesFirst (given : Given) (told : Option Content) (counts : FaultCounts) (old new : Written) (answer : Result Report Error) : Type 0 where
+-- what a run on a tree wrote before a fault line: the text is what is told of the load, by what was heard
+pub record WritesFirst (given : Given) (tree : TreeSeen) (counts : FaultCounts) (old new : Written) (answer : Result Report Error) : Type 0 where
   pub text : List ℕ
-  pub tells : ForSome told (λ content. TellsLoad given content counts.tree_before counts.tree_after answer text)
+  pub tells : TellsLoad given tree answer text
   pub begun : Script
-  pub begins : HasBegun given told counts text begun answer
+  pub begins : HasBegun given tree counts text begun answer
   pub gains : Gains old new begun
 
--- what a run wrote
-pub record Writes (given : Given) (told : Option Content) (counts : FaultCounts) (old new : Written) (answer : Result Report Error) : Type 0 where
+-- what a run on a tree wrote
+pub record Writes (given : Given) (tree : TreeSeen) (counts : FaultCounts) (old new : Written) (answer : Result Report Error) : Type 0 where
   pub text : List ℕ
-  pub tells : ForSome told (λ content. TellsLoad given content counts.tree_before counts.tree_after answer text)
+  pub tells : TellsLoad given tree answer text
   pub begun : Script
-  pub begins : HasBegun given told counts text begun answer
+  pub begins : HasBegun given tree counts text begun answer
   pub script : Script
   pub ends : EndsIn counts begun script answer
   pub gains : Gains old new script
@@ -160,8 +149,8 @@ abbrev pub cause_in : Result Report Error → Cause
 cause_in (Ok report) = causes.told
 cause_in (Err error) = cause_of error
 
--- what is told of the load was written to `err`, between these counts of the tree and of `err`
-pub record WritesLoad (given : Given) (content : Option Content) (tree_before tree_after : ℕ) (old new : Option (List ℕ)) (err_before err_after : ℕ) (answer : Result Report Error) : Type 0 where
+-- what is told of the load was written to `err`, between these counts of `err`
+pub record WritesLoad (given : Given) (tree : TreeSeen) (old new : Option (List ℕ)) (err_before err_after : ℕ) (answer : Result Report Error) : Type 0 where
   pub text : List ℕ
-  pub tells : ForSome content (λ one. TellsLoad given one tree_before tree_after answer text)
+  pub tells : TellsLoad given tree answer text
   pub written : TextWritten text old new err_before err_after (cause_in answer)

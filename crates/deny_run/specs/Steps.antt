@@ -1,29 +1,35 @@
 -- What the steps of a run answer, one by one.
-use Rattle.std.specs.Prelude.{◌≡◌, ℕ, ◌≤◌, List, [], ◌∷◌, map, Option, Some, None, Result, Ok, Err, All}
-use Rattle.tree_core.specs.Content.{Content}
+use Rattle.std.specs.Prelude.{◌≡◌, ◌⊎◌, ℕ, List, [], ◌∷◌, ◌++◌, map, Option, Some, None, Result, Ok, Err, All}
+use Rattle.tree_core.specs.Call.{Answered, Call}
+use Rattle.tree_core.specs.Trace.{fault_behind}
 use Rattle.catalog_core.specs.Catalog.{CatalogLists}
 use Rattle.catalog_core.specs.declared.identifier.Match.{Match}
 use Rattle.spdx_core.specs.Reading.{ExpressionView}
+use Rattle.graph_core.specs.Krate.{Record}
 use Rattle.graph_core.specs.Metadata.{Graph}
 use Rattle.diag_core.specs.File.{File}
-use Rattle.heard_core.specs.Heard.{IsHeard}
+use Rattle.reads_core.specs.Read.{AreReads}
+use Rattle.heard_core.specs.Heard.{read_of, text_answered}
 use Rattle.heard_core.specs.declared.fault.ReadFault.{ReadFault}
-use Rattle.search_core.specs.Search.{candidates, first_existing}
+use Rattle.search_core.specs.Looked.{Looked}
+use Rattle.search_core.specs.Search.{candidates}
 use Rattle.search_core.specs.declared.search.Sought.TheVariants.{Exceptions}
 use Rattle.selection_core.specs.Choice.{Choice}
 use Rattle.selection_core.specs.Listed.{IsListOf}
 use Rattle.selection_core.specs.Roots.{HasRoot}
 use Rattle.selection_core.specs.Walks.{Selected}
-use Rattle.workspace_core.specs.Krates.{Gathers, IsCarried, graph_in}
+use Rattle.workspace_core.specs.Krates.{AreFrom, IsCarried, graph_in}
+use Rattle.workspace_core.specs.declared.error.KratesError.{KratesError}
+use Rattle.workspace_core.specs.declared.error.KratesError.TheVariants as krates
+use Rattle.expression_core.specs.Scanned.{Scanner}
 use Rattle.valid_policy.specs.View.{policy_of}
 use Rattle.valid_policy.specs.declared.policy.ValidConfig.{ValidConfig}
-use Rattle.reads_core.specs.Rising.{RiseInOrder}
-use Rattle.expression_core.specs.Scanned.{Scanner}
 use Rattle.gather_core.specs.declared.license.LicenseInfo.{LicenseInfo}
 use Rattle.gather_core.specs.declared.license.LicenseInfo.TheVariants.{SpdxExpression}
 use Rattle.gather_core.specs.declared.license.LicenseInfo.TheVariants as license_info
+use Rattle.gather_core.specs.Calls.{AreTurnsBy, CrateReads, calls_of_all, reads_of_all}
 use Rattle.gather_core.specs.Entries.{entries_of}
-use Rattle.gather_core.specs.Gathered.{AreCutOut, ArePriorities, AreTurns, all_reads, krate_of, threshold_of}
+use Rattle.gather_core.specs.Gathered.{krate_of, threshold_of}
 use Rattle.gather_core.specs.declared.summary.KrateLicense.{KrateLicense}
 use Rattle.policy_core.specs.declared.load.LoadedPolicy.{LoadedPolicy}
 use Rattle.load_core.specs.declared.loading.PolicyPaths.{PolicyPaths}
@@ -38,7 +44,8 @@ use Rattle.check_core.specs.Summary.{all_asked}
 use Rattle.deny_run.specs.declared.report.Report.{Report}
 use Rattle.deny_run.specs.Counts.{counts_of}
 use Rattle.deny_run.specs.Heard.{manifest_in}
-use Rattle.deny_run.specs.Report.{paths_at, source_of}
+use Rattle.deny_run.specs.Hearing.{MadeOn, TreeSeen, read_calls}
+use Rattle.deny_run.specs.Report.{HaveTurns, source_of}
 use Rattle.deny_run.specs.Selection.{choice_by, included_by}
 
 -- ---- one crate after another
@@ -92,22 +99,39 @@ report_with checked files = record {
 abbrev pub scanner_by : CatalogLists → (List ℕ → Match) → ValidConfig → Scanner
 scanner_by lists match_of policy = record { lists = lists; match_of = match_of; threshold = threshold_of policy.confidence_threshold }
 
--- the licences of the crates that are checked, what they were settled by, turn after turn from a file table on to the one that
--- is left, and the check of them
-pub record IsChecked (scanner : Scanner) (policy : ValidConfig) (content : Content) (files last : List File) (before after : ℕ) (graph : Graph) (choice : Choice)
-    (checked : CheckedCrates) : Type 0 where
+-- ---- over a tree
+
+-- where the two files of a policy are: the policy at this path, and the exceptions file where looks found it
+pub record ArePathsAt (cwd path : List ℕ) (old new : List Call) (paths : PolicyPaths) : Type 0 where
+  pub policy : paths.policy ≡ Some path
+  pub looked : Looked (candidates Exceptions (manifest_in cwd)) old new paths.exceptions
+
+-- The licences of the crates that are checked, which these reads settled, turn after turn from a file table on to the one that is
+-- left, and the check of them.
+pub record IsChecked (scanner : Scanner) (policy : ValidConfig) (files last : List File) (graph : Graph) (choice : Choice) (crates : List CrateReads) (checked : CheckedCrates) : Type 0 where
   pub licenses : List KrateLicense
   pub selected : IsListOf graph (Selected graph choice (included_by policy)) (map krate_of licenses)
-  pub priorities : ArePriorities scanner (entries_of policy) content licenses
-  pub turns : AreTurns scanner policy.file_id (entries_of policy) content files licenses last
-  pub cuts : AreCutOut scanner policy.file_id (entries_of policy) content files licenses last
-  pub rises : RiseInOrder before (all_reads licenses) after
+  pub turns : AreTurnsBy scanner policy.file_id (entries_of policy) files crates licenses last
   pub check : IsCheckOf policy licenses checked
   pub points : All (VerdictPoints last (policy_of policy)) (all_asked licenses)
 
--- where the two files of a policy are, where the policy's path is given
-abbrev pub paths_by : Content → List ℕ → List ℕ → PolicyPaths
-paths_by content cwd path = paths_at path (first_existing content (candidates Exceptions (manifest_in cwd)))
+-- The same over a tree, on which the calls of these reads were made, and no other.
+pub record IsCheckedOn (scanner : Scanner) (policy : ValidConfig) (tree : TreeSeen) (files last : List File) (graph : Graph) (choice : Choice) (checked : CheckedCrates) : Type 0 where
+  pub crates : List CrateReads
+  pub made : MadeOn tree (calls_of_all crates)
+  pub records : AreReads tree.count_before (reads_of_all crates)
+  pub is : IsChecked scanner policy files last graph choice crates checked
+
+-- memory was wanting, and the first ones of the crates that are checked had their turns
+pub record IsCheckCut (scanner : Scanner) (policy : ValidConfig) (tree : TreeSeen) (files : List File) (graph : Graph) (choice : Choice) : Type 0 where
+  pub crates : List CrateReads
+  pub lost : List Call
+  pub made : MadeOn tree (calls_of_all crates ++ lost)
+  pub checked : List Record
+  pub selected : IsListOf graph (Selected graph choice (included_by policy)) checked
+  pub turns : HaveTurns scanner policy files checked crates lost
+
+-- ---- behind the load
 
 -- the refusal is one that comes behind the load
 abbrev pub IsAfterLoad : Refusal → Type 0
@@ -115,20 +139,55 @@ IsAfterLoad Memory = Unit {0}
 IsAfterLoad (Krates error) = IsCarried error
 IsAfterLoad _ = ⊥
 
--- what was heard of the metadata's file, the graph that it tells, and then the check of its crates
-pub record IsCheckedAt (scanner : Scanner) (policy : LoadedPolicy) (content : Content) (files last : List File) (begun : ℕ) (path : List ℕ) (before after : ℕ) (made : CheckedCrates) : Type 0 where
+-- the metadata that was heard tells of this graph, and a root of it is left
+pub record TellsGraph (tree : TreeSeen) (begun : ℕ) (policy : LoadedPolicy) (answer : Answered) (graph : Graph) : Type 0 where
   pub heard : Result (List ℕ) ReadFault
-  pub middle : ℕ
-  pub first : before ≤ middle
-  pub hears : IsHeard content begun path before middle heard
-  pub graph : Graph
+  pub hears : text_answered begun (fault_behind tree.count_before answer) answer ≡ Some heard
   pub tells : graph_in heard ≡ Ok graph
   pub rooted : HasRoot graph (choice_by policy.graph.exclude)
-  pub checked : IsChecked scanner policy.licenses content files last middle after graph (choice_by policy.graph.exclude) made
 
--- the same, or why there are no crates, unless memory was refused
-abbrev pub ChecksAt : Scanner → LoadedPolicy → Content → List File → List File → ℕ → List ℕ → ℕ → ℕ → Result CheckedCrates Refusal → Type 0
-ChecksAt scanner policy content files last begun path before after (Ok checked) = IsCheckedAt scanner policy content files last begun path before after checked
-ChecksAt scanner policy content files last begun path before after (Err (Krates error)) =
-    Gathers (choice_by policy.graph.exclude) content begun path before after (Err error)
-ChecksAt scanner policy content files last begun path before after (Err _) = Unit {0}
+-- The metadata's file was read, and then the files of its crates, and no other call was made; and the check of these crates.
+pub record IsCheckedAt (scanner : Scanner) (policy : LoadedPolicy) (tree : TreeSeen) (files last : List File) (begun : ℕ) (path : List ℕ) (checked : CheckedCrates) : Type 0 where
+  pub answer : Answered
+  pub crates : List CrateReads
+  pub made : MadeOn tree (read_of path answer ∷ calls_of_all crates)
+  pub graph : Graph
+  pub tells : TellsGraph tree begun policy answer graph
+  pub records : AreReads (fault_behind tree.count_before answer) (reads_of_all crates)
+  pub is : IsChecked scanner policy.licenses files last graph (choice_by policy.graph.exclude) crates checked
+
+-- why there are no crates, by what was heard of the metadata's file, which was the one call
+pub record HasNoCrates (policy : LoadedPolicy) (tree : TreeSeen) (begun : ℕ) (path : List ℕ) (error : KratesError) : Type 0 where
+  pub answer : Answered
+  pub heard : Result (List ℕ) ReadFault
+  pub made : MadeOn tree (read_of path answer ∷ [])
+  pub hears : text_answered begun (fault_behind tree.count_before answer) answer ≡ Some heard
+  pub from : AreFrom (choice_by policy.graph.exclude) heard (Err error)
+
+-- the metadata's file was read, and the first ones of its crates had their turns
+pub record AreCheckedInPart (scanner : Scanner) (policy : LoadedPolicy) (tree : TreeSeen) (files : List File) (begun : ℕ) (path : List ℕ) : Type 0 where
+  pub answer : Answered
+  pub crates : List CrateReads
+  pub lost : List Call
+  pub made : MadeOn tree (read_of path answer ∷ calls_of_all crates ++ lost)
+  pub graph : Graph
+  pub tells : TellsGraph tree begun policy answer graph
+  pub checked : List Record
+  pub selected : IsListOf graph (Selected graph (choice_by policy.graph.exclude) (included_by policy.licenses)) checked
+  pub turns : HaveTurns scanner policy.licenses files checked crates lost
+
+-- memory was wanting: no call was made, or the metadata's read, whatever was answered, or crates had their turns behind it
+abbrev pub IsCheckGivenUp : Scanner → LoadedPolicy → TreeSeen → List File → ℕ → List ℕ → Type 0
+IsCheckGivenUp scanner policy tree files begun path =
+    ((answer : Option Answered) × MadeOn tree (read_calls (Some path) answer)) ⊎ AreCheckedInPart scanner policy tree files begun path
+
+-- want of memory, else the refusal that has its cause
+abbrev pub NoCratesBy : Scanner → LoadedPolicy → TreeSeen → List File → ℕ → List ℕ → KratesError → Type 0
+NoCratesBy scanner policy tree files begun path krates.Memory = IsCheckGivenUp scanner policy tree files begun path
+NoCratesBy scanner policy tree files begun path error = HasNoCrates policy tree begun path error
+
+abbrev pub ChecksAt : Scanner → LoadedPolicy → TreeSeen → List File → List File → ℕ → List ℕ → Result CheckedCrates Refusal → Type 0
+ChecksAt scanner policy tree files last begun path (Ok checked) = IsCheckedAt scanner policy tree files last begun path checked
+ChecksAt scanner policy tree files last begun path (Err Memory) = IsCheckGivenUp scanner policy tree files begun path
+ChecksAt scanner policy tree files last begun path (Err (Krates error)) = NoCratesBy scanner policy tree files begun path error
+ChecksAt scanner policy tree files last begun path (Err _) = ⊥

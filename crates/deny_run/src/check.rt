@@ -1,7 +1,5 @@
 //! The licences of all crates, and the check of them.
-ghost use Rattle.std.specs.Prelude.{◌≡◌, ◌<◌, [], None, All, IfOk, OnOk};
-ghost use Rattle.std.specs.Option.{ForSome};
-ghost use Rattle.tree_core.specs.Hearing.{KeepsTree};
+ghost use Rattle.std.specs.Prelude.{◌≡◌, ◌<◌, ◌≤◌, [], None, All, IfOk, OnOk, OnErr};
 ghost use Rattle.graph_core.specs.Metadata.{Graph};
 ghost use Rattle.selection_core.specs.Choice.{Choice};
 ghost use Rattle.selection_core.specs.Listed.{IsChosen};
@@ -12,8 +10,8 @@ ghost use Rattle.unused_core.specs.Laws.{EntriesLie};
 ghost use Rattle.check_core.specs.Check.{AreVerdicts, findings_of};
 ghost use Rattle.check_core.specs.Labels.{PackLies, VerdictPoints};
 ghost use Rattle.check_core.specs.Summary.{all_asked};
-ghost use Rattle.deny_run.specs.BySome.{IsFoundBySome};
-ghost use Rattle.deny_run.specs.Steps.{IsCheckOf, IsChecked, all_reported, reported, scanner_by};
+ghost use Rattle.deny_run.specs.Hearing.{seen};
+ghost use Rattle.deny_run.specs.Steps.{IsCheckCut, IsCheckOf, IsCheckedOn, all_reported, reported, scanner_by};
 
 use crate::report::CrateReport;
 use check_core::check::check;
@@ -181,17 +179,18 @@ pub(crate) fn check_all<T: Tree, C: Catalog, I: Identifier>(
 ) -> Result<CheckedCrates, AllocError>
     requires { PolicyStands files.old policy }
     // of each graph and choice that the crates are of
-    ensures checked { ForSome (T.content tree.old) (λ c.
-        (graph : Graph) (choice : Choice) → IsChosen graph choice krates.now
-        → IfOk result (IsChecked (scanner_by (C.lists catalog.now) (I.match_of identifier.now) policy) policy c
-        files.old files.new (T.fault_count tree.old) (T.fault_count tree.new) graph choice)) }
-    // over any tree, by something that is heard
-    ensures by_some { IfOk result (λ checked.
-        IsFoundBySome (C.lists catalog.now) (I.match_of identifier.now) files.old files.new
-        checked.policy checked.crates checked.findings) }
+    ensures checked { IfOk result (λ checked. (graph : Graph) (choice : Choice) → IsChosen graph choice krates.now
+        → IsCheckedOn (scanner_by (C.lists catalog.now) (I.match_of identifier.now) policy) policy
+        (seen (T.content tree.old) (T.content tree.new) (T.fault_count tree.old) (T.fault_count tree.new)
+        (T.trace tree.old) (T.trace tree.new))
+        files.old files.new graph choice checked) }
+    ensures cut { OnErr result ((graph : Graph) (choice : Choice) → IsChosen graph choice krates.now
+        → IsCheckCut (scanner_by (C.lists catalog.now) (I.match_of identifier.now) policy) policy
+        (seen (T.content tree.old) (T.content tree.new) (T.fault_count tree.old) (T.fault_count tree.new)
+        (T.trace tree.old) (T.trace tree.new))
+        files.old graph choice) }
     ensures labels { IfOk result (λ checked. All (PackLies files.new) checked.findings) }
-    ensures kept { KeepsTree (T.content tree.old) (T.content tree.new)
-        (T.fault_count tree.old) (T.fault_count tree.new) }
+    ensures later { T.fault_count tree.old ≤ T.fault_count tree.new }
 {
     let gatherer: Gatherer<'_, I> = Gatherer::default();
     let gatherer = gatherer

@@ -2,16 +2,16 @@
 ghost use Rattle.std.specs.Prelude.{◌≡◌, ◌≢◌, ◌≤◌, ◌↔◌, IfErr, OnOk, OnErr};
 ghost use Rattle.std.specs.Option.{ForSome};
 ghost use Rattle.tree_core.specs.Faults.{Gained, GainedPrefix, IsCounted};
-ghost use Rattle.tree_core.specs.Hearing.{KeepsTree};
+ghost use Rattle.tree_core.specs.Hearing.{MadeSome};
 ghost use Rattle.tree_core.specs.Script.{LineWritten};
 ghost use Rattle.deny_run.specs.declared.error.Part.{Part};
 ghost use Rattle.heard_core.specs.declared.fault.ReadFault.{ReadFault};
 ghost use Rattle.heard_core.specs.Cause.{ReadCounts};
-ghost use Rattle.deny_run.specs.BySome.{IsReportBySome};
 ghost use Rattle.deny_run.specs.Counts.{status_of, summary_of};
 ghost use Rattle.deny_run.specs.Error.{cause_of, fault_line};
 ghost use Rattle.deny_run.specs.Given.{given_of};
-ghost use Rattle.deny_run.specs.Headline.{Headline};
+ghost use Rattle.deny_run.specs.Headline.{Headline, HeadlineRead};
+ghost use Rattle.deny_run.specs.Hearing.{seen};
 ghost use Rattle.deny_run.specs.Report.{IsAnswer, LabelsLie};
 ghost use Rattle.deny_run.specs.Steps.{report_with};
 ghost use Rattle.deny_run.specs.Run.{answer_from, answer_of, exit_status};
@@ -69,23 +69,17 @@ fn report<T: Tree, E: Sink, C: Catalog, I: Identifier>(
     catalog: &C,
     identifier: &I,
 ) -> Result<Report, Refusal>
-    ensures answer { ForSome (T.content tree.old) (λ c. IsAnswer
-        (given_of (C.lists catalog.now) (I.match_of identifier.now) words.now cwd.now) c
-        (T.fault_count tree.old) (T.fault_count tree.new) (answer_from result)) }
     ensures words { (answer_from result ≡ Err (Error.NotYet Part.Words))
         ↔ (request_of (texts words.now) cwd.now ≡ None) }
     ensures policy { answer_from result ≢ Err (Error.ConfigRead ReadFault.Absent) }
-    ensures kept { KeepsTree (T.content tree.old) (T.content tree.new)
-        (T.fault_count tree.old) (T.fault_count tree.new) }
     ensures counts { IfErr (answer_from result) (λ error. ReadCounts
         (T.fault_count tree.old) (T.fault_count tree.old) (T.fault_count tree.new) (cause_of error)) }
     ensures written { WritesLoad
         (given_of (C.lists catalog.now) (I.match_of identifier.now) words.now cwd.now)
-        (T.content tree.old) (T.fault_count tree.old) (T.fault_count tree.new)
+        (seen (T.content tree.old) (T.content tree.new) (T.fault_count tree.old) (T.fault_count tree.new)
+        (T.trace tree.old) (T.trace tree.new))
         (E.written err.old) (E.written err.new) (E.fault_count err.old) (E.fault_count err.new)
         (answer_from result) }
-    ensures by_some { IsReportBySome
-        (given_of (C.lists catalog.now) (I.match_of identifier.now) words.now cwd.now) (answer_from result) }
     ensures labels { LabelsLie (answer_from result) }
     ensures later { E.fault_count err.old ≤ E.fault_count err.new }
 {
@@ -149,26 +143,21 @@ fn check<T: Tree, O: Sink, E: Sink, C: Catalog, I: Identifier>(
     catalog: &C,
     identifier: &I,
 ) -> Result<Report, Error>
-    ensures answer { ForSome (T.content tree.old) (λ c. IsAnswer
-        (given_of (C.lists catalog.now) (I.match_of identifier.now) words.now cwd.now) c
-        (T.fault_count tree.old) (T.fault_count tree.new) result) }
     ensures words { (result ≡ Err (Error.NotYet Part.Words)) ↔ (request_of (texts words.now) cwd.now ≡ None) }
     ensures policy { result ≢ Err (Error.ConfigRead ReadFault.Absent) }
-    ensures kept { KeepsTree (T.content tree.old) (T.content tree.new)
-        (T.fault_count tree.old) (T.fault_count tree.new) }
     ensures counts { IfErr result (λ error.
         ReadCounts (T.fault_count tree.old) (T.fault_count tree.old) (T.fault_count tree.new)
         (cause_of error)) }
     ensures written { WritesFirst
-        (given_of (C.lists catalog.now) (I.match_of identifier.now) words.now cwd.now) (T.content tree.old)
+        (given_of (C.lists catalog.now) (I.match_of identifier.now) words.now cwd.now)
+        (seen (T.content tree.old) (T.content tree.new) (T.fault_count tree.old) (T.fault_count tree.new)
+        (T.trace tree.old) (T.trace tree.new))
         (between
         (record { tree = T.fault_count tree.old; out = O.fault_count out.old; err = E.fault_count err.old })
         (record { tree = T.fault_count tree.new; out = O.fault_count out.new; err = E.fault_count err.new }))
         (record { out = O.written out.old; err = E.written err.old })
         (record { out = O.written out.new; err = E.written err.new })
         result }
-    ensures by_some { IsReportBySome
-        (given_of (C.lists catalog.now) (I.match_of identifier.now) words.now cwd.now) result }
     ensures labels { LabelsLie result }
     ensures out_later { O.fault_count out.old ≤ O.fault_count out.new }
     ensures err_later { E.fault_count err.old ≤ E.fault_count err.new }
@@ -227,24 +216,29 @@ pub fn run<T: Tree, O: Sink, E: Sink, C: Catalog, I: Identifier>(
     catalog: &C,
     identifier: &I,
 ) -> Outcome
-    // What the content of the tree asks for is answered, and nothing else: each refusal by its cause.
-    ensures answer { ForSome (T.content tree.old) (λ c. IsAnswer
-        (given_of (C.lists catalog.now) (I.match_of identifier.now) words.now cwd.now) c
-        (T.fault_count tree.old) (T.fault_count tree.new) (answer_of result.ended)) }
+    // What was read asks for is answered, whatever the tree tells of its content, and nothing else was read: each
+    // refusal is the first one, by its cause.
+    ensures answer { IsAnswer
+        (given_of (C.lists catalog.now) (I.match_of identifier.now) words.now cwd.now)
+        (seen (T.content tree.old) (T.content tree.new) (T.fault_count tree.old) (T.fault_count tree.new)
+        (T.trace tree.old) (T.trace tree.new))
+        (answer_of result.ended) }
     ensures words { (answer_of result.ended ≡ Err (Error.NotYet Part.Words))
         ↔ (request_of (texts words.now) cwd.now ≡ None) }
     ensures policy { answer_of result.ended ≢ Err (Error.ConfigRead ReadFault.Absent) }
 
-    // The tree stays as it was, and a failed read has a cause.
-    ensures kept { KeepsTree (T.content tree.old) (T.content tree.new)
-        (T.fault_count tree.old) (T.fault_count tree.new) }
+    // Calls were made on the tree, and nothing else came of it; a failed read has a cause.
+    ensures made { MadeSome (T.content tree.old) (T.content tree.new) (T.fault_count tree.old)
+        (T.fault_count tree.new) (T.trace tree.old) (T.trace tree.new) }
     ensures counts { IfErr (answer_of result.ended) (λ error.
         ReadCounts (T.fault_count tree.old) (T.fault_count tree.old) (T.fault_count tree.new)
         (cause_of error)) }
 
     // What was written, and when a write was refused.
     ensures written { Writes
-        (given_of (C.lists catalog.now) (I.match_of identifier.now) words.now cwd.now) (T.content tree.old)
+        (given_of (C.lists catalog.now) (I.match_of identifier.now) words.now cwd.now)
+        (seen (T.content tree.old) (T.content tree.new) (T.fault_count tree.old) (T.fault_count tree.new)
+        (T.trace tree.old) (T.trace tree.new))
         (between
         (record { tree = T.fault_count tree.old; out = O.fault_count out.old; err = E.fault_count err.old })
         (record { tree = T.fault_count tree.new; out = O.fault_count out.new; err = E.fault_count err.new }))
@@ -254,16 +248,22 @@ pub fn run<T: Tree, O: Sink, E: Sink, C: Catalog, I: Identifier>(
     ensures out_later { O.fault_count out.old ≤ O.fault_count out.new }
     ensures err_later { E.fault_count err.old ≤ E.fault_count err.new }
 
-    // Over any tree a report is that of something that is heard, and each label of each finding lies in the text of
-    // its file, between characters.
-    ensures by_some { IsReportBySome
-        (given_of (C.lists catalog.now) (I.match_of identifier.now) words.now cwd.now) (answer_of result.ended) }
+    // Each label of each finding lies in the text of its file, between characters.
     ensures labels { LabelsLie (answer_of result.ended) }
 
     // The status is that of the counts.
     ensures status { result.status ≡ exit_status (answer_of result.ended) }
 
-    // The headline, in the words of policies, records and verdicts.
+    // The headline, in the words of policies, records and verdicts: by what was read, and by the content where the tree
+    // tells it.
+    ensures headline_read { HeadlineRead
+        (given_of (C.lists catalog.now) (I.match_of identifier.now) words.now cwd.now)
+        (seen (T.content tree.old) (T.content tree.new) (T.fault_count tree.old) (T.fault_count tree.new)
+        (T.trace tree.old) (T.trace tree.new))
+        (between
+        (record { tree = T.fault_count tree.old; out = O.fault_count out.old; err = E.fault_count err.old })
+        (record { tree = T.fault_count tree.new; out = O.fault_count out.new; err = E.fault_count err.new }))
+        result }
     ensures headline { ForSome (T.content tree.old) (λ c. Headline
         (given_of (C.lists catalog.now) (I.match_of identifier.now) words.now cwd.now) c
         (between

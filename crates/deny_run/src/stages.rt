@@ -1,18 +1,19 @@
 //! The stages of a run before its verdicts: where the policy's files are, and the crates that are checked.
 ghost use Rattle.std.specs.Prelude.{◌≡◌, ◌≤◌, ◌++◌, map, All, IfErr, IfOk, OnOk};
 ghost use Rattle.std.specs.List.{filter_map};
-ghost use Rattle.std.specs.Option.{ForSome};
-ghost use Rattle.tree_core.specs.Hearing.{KeepsTree};
+ghost use Rattle.tree_core.specs.Hearing.{MadeSome};
 ghost use Rattle.heard_core.specs.Cause.{ReadCounts};
-ghost use Rattle.search_core.specs.Search.{search_cause};
+ghost use Rattle.search_core.specs.Looked.{LookedUntil};
+ghost use Rattle.search_core.specs.Search.{candidates, search_cause};
 ghost use Rattle.selection_core.specs.Choice.{choice_of, spec_of, spec_read};
 ghost use Rattle.context_core.specs.Asked.{read_one};
 ghost use Rattle.policy_core.specs.Places.{PolicyStands};
 ghost use Rattle.check_core.specs.Labels.{PackLies};
-ghost use Rattle.deny_run.specs.BySome.{IsFoundBySome};
 ghost use Rattle.deny_run.specs.Error.{cause_of, error_of};
+ghost use Rattle.deny_run.specs.Heard.{manifest_in};
+ghost use Rattle.deny_run.specs.Hearing.{seen};
 ghost use Rattle.deny_run.specs.Selection.{choice_by};
-ghost use Rattle.deny_run.specs.Steps.{ChecksAt, IsAfterLoad, paths_by, scanner_by};
+ghost use Rattle.deny_run.specs.Steps.{ArePathsAt, ChecksAt, IsAfterLoad, scanner_by};
 
 use crate::check::{CheckedCrates, check_all};
 use crate::error::Refusal;
@@ -36,10 +37,12 @@ pub(crate) fn policy_paths<T: Tree>(
     begun: u64,
 ) -> Result<PolicyPaths, SearchError>
     requires { begun ≤ T.fault_count tree.old }
-    ensures answer { ForSome (T.content tree.old) (λ c.
-        IfOk result (λ paths. paths ≡ paths_by c cwd.now config_path)) }
-    ensures kept { KeepsTree (T.content tree.old) (T.content tree.new)
-        (T.fault_count tree.old) (T.fault_count tree.new) }
+    ensures paths { IfOk result (ArePathsAt cwd.now config_path (T.trace tree.old) (T.trace tree.new)) }
+    ensures given_up { IfErr result (LookedUntil (candidates Sought.Exceptions (manifest_in cwd.now))
+        (T.trace tree.old) (T.trace tree.new)) }
+    ensures made { MadeSome (T.content tree.old) (T.content tree.new) (T.fault_count tree.old)
+        (T.fault_count tree.new) (T.trace tree.old) (T.trace tree.new) }
+    ensures later { T.fault_count tree.old ≤ T.fault_count tree.new }
     ensures counts { IfErr result (λ error.
         ReadCounts begun (T.fault_count tree.old) (T.fault_count tree.new) (search_cause error)) }
 {
@@ -98,16 +101,14 @@ pub(crate) fn check_crates<T: Tree, C: Catalog, I: Identifier>(
 ) -> Result<CheckedCrates, Refusal>
     requires begun { begun ≤ T.fault_count tree.old }
     requires places { PolicyStands files.old policy.licenses }
-    ensures answer { ForSome (T.content tree.old) (λ c. ChecksAt
-        (scanner_by (C.lists catalog.now) (I.match_of identifier.now) policy.licenses) policy c files.old files.new
-        begun metadata_path.now (T.fault_count tree.old) (T.fault_count tree.new) result) }
-    ensures by_some { IfOk result (λ checked.
-        IsFoundBySome (C.lists catalog.now) (I.match_of identifier.now) files.old files.new
-        checked.policy checked.crates checked.findings) }
+    ensures checks { ChecksAt
+        (scanner_by (C.lists catalog.now) (I.match_of identifier.now) policy.licenses) policy
+        (seen (T.content tree.old) (T.content tree.new) (T.fault_count tree.old) (T.fault_count tree.new)
+        (T.trace tree.old) (T.trace tree.new))
+        files.old files.new begun metadata_path.now result }
     ensures labels { IfOk result (λ checked. All (PackLies files.new) checked.findings) }
     ensures cause { IfErr result IsAfterLoad }
-    ensures kept { KeepsTree (T.content tree.old) (T.content tree.new)
-        (T.fault_count tree.old) (T.fault_count tree.new) }
+    ensures later { T.fault_count tree.old ≤ T.fault_count tree.new }
     ensures counts { IfErr result (λ refusal. ReadCounts begun
         (T.fault_count tree.old) (T.fault_count tree.new) (cause_of (error_of refusal))) }
 {

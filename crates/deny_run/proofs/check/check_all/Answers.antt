@@ -1,18 +1,25 @@
-use Rattle.std.proofs.Common.{◌≡◌, ◌∙◌, ap, subst, rules}
+use Rattle.std.proofs.Common.{◌≡◌, ◌∙◌, ◌⊎◌, ap, subst, rules, []}
 use Rattle.std.proofs.lemmas.Int.{to_z-of_z}
-use Rattle.std.proofs.lemmas.Result.{IfOk-weaker}
+use Rattle.std.proofs.lemmas.Result.{IfOk-weaker, err_from_is_err_and}
 use mir.Syntax.{w64}
 use mir.Val.{SFits}
 use Rattle.std.specs.Prelude.{All}
+use Rattle.graph_core.specs.Metadata.{Graph}
+use Rattle.selection_core.specs.Choice.{Choice}
+use Rattle.selection_core.specs.Listed.{IsChosen, selected_in}
+use Rattle.tree_core.specs.Hearing.{Made}
 use Rattle.valid_policy.specs.View.{policy_of}
-use Rattle.check_core.specs.Labels.{PackLies, VerdictPoints}
+use Rattle.check_core.specs.Labels.{VerdictPoints}
 use Rattle.check_core.specs.Summary.{all_asked}
-use Rattle.deny_run.proofs.CheckLemmas.{both_of, found_by_some}
+use Rattle.deny_run.proofs.CheckLemmas.{both_of, of_failure}
+use Rattle.deny_run.proofs.StageLemmas.{check_cut, checked_on, gather_cut}
 use Rattle.expression_core.specs.Scanned.{Scanner}
+use Rattle.gather_core.specs.Calls.{AreTurnsByReads, StarvesGathering}
 use Rattle.gather_core.specs.Entries.{entries_of}
-use Rattle.gather_core.specs.Gathered.{AreCutOut, ArePriorities, AreTurns, AreTurnsBySome, scanner_of, threshold_of}
-use Rattle.deny_run.specs.BySome.{IsFoundBySome}
-use Rattle.deny_run.specs.Steps.{IsCheckOf, IsChecked, scanner_by}
+use Rattle.gather_core.specs.Gathered.{scanner_of, threshold_of}
+use Rattle.deny_run.specs.Hearing.{seen}
+use Rattle.deny_run.specs.Selection.{included_by}
+use Rattle.deny_run.specs.Steps.{IsCheckOf, IsCheckedOn, scanner_by}
 use Rattle.placed_policy.proofs.PlaceLemmas.{are_placed, entries_lie}
 use Rattle.deny_run.proofs.check.check_all.Goals as goal
 
@@ -24,34 +31,10 @@ pub check_summary-requires-clause-entries : goal.check_summary-requires-clause-e
 check_summary-requires-clause-entries g c = entries_lie c.args.files.now c.gather.new.files c.args.policy c.requires c.gather.ensures.grows
 
 pub returns-clause-checked : goal.returns-clause-checked
-returns-clause-checked g c = λ content told. λ graph choice chosen.
+returns-clause-checked g c =
     let policy = c.args.policy in
     let lists = g.C.Catalog.lists c.args.catalog.now in
     let own = scanner_by lists (g.I.Identifier.match_of c.args.identifier.now) policy in
-    let nfos = c.in_ok-summary.summary.nfos in
-    let fits : SFits w64 c.args.policy.confidence_threshold = search rules in
-    let cut = simp to_z-of_z at c.with_confidence_threshold-gatherer.ensures in
-    let same : ◌≡◌ {A = Scanner} (scanner_of lists g.I.Identifier.match_of c.with_confidence_threshold-gatherer.result) own =
-    ap (scanner_of lists g.I.Identifier.match_of) cut
-    ∙ ap (λ one. scanner_of lists g.I.Identifier.match_of (record one { threshold = threshold_of policy.confidence_threshold })) c.with_store.ensures in
-    let is_checked = IsChecked own policy content c.args.files.now c.gather.new.files (g.T.Tree.fault_count c.args.tree.now) (g.T.Tree.fault_count c.gather.new.tree) graph choice in
-    IfOk-weaker c.check_summary.result (λ checked. IsCheckOf policy nfos checked × All (VerdictPoints c.gather.new.files (policy_of policy)) (all_asked nfos)) is_checked (λ checked both. record {
-      licenses = nfos;
-      selected = c.in_ok-summary.ensures.listed graph choice chosen;
-      priorities = subst (λ scanner. ArePriorities scanner (entries_of policy) content nfos) same (c.in_ok-summary.ensures.answers content told);
-      turns = subst (λ scanner. AreTurns scanner policy.file_id (entries_of policy) content c.args.files.now nfos c.gather.new.files) same (c.in_ok-summary.ensures.turns content told);
-      cuts = subst (λ scanner. AreCutOut scanner policy.file_id (entries_of policy) content c.args.files.now nfos c.gather.new.files) same (c.in_ok-summary.ensures.cuts content told);
-      rises = c.in_ok-summary.ensures.rises;
-      check = both.0;
-      points = both.1;
-    }) (both_of c.check_summary.result (IsCheckOf policy nfos) (λ _. All (VerdictPoints c.gather.new.files (policy_of policy)) (all_asked nfos)) c.check_summary.ensures.check c.check_summary.ensures.terms)
-
-pub returns-clause-by_some : goal.returns-clause-by_some
-returns-clause-by_some g c =
-    let policy = c.args.policy in
-    let lists = g.C.Catalog.lists c.args.catalog.now in
-    let match_of = g.I.Identifier.match_of c.args.identifier.now in
-    let own = scanner_by lists match_of policy in
     let nfos = c.in_ok-summary.summary.nfos in
     let last = c.gather.new.files in
     let fits : SFits w64 c.args.policy.confidence_threshold = search rules in
@@ -59,10 +42,57 @@ returns-clause-by_some g c =
     let same : ◌≡◌ {A = Scanner} (scanner_of lists g.I.Identifier.match_of c.with_confidence_threshold-gatherer.result) own =
     ap (scanner_of lists g.I.Identifier.match_of) cut
     ∙ ap (λ one. scanner_of lists g.I.Identifier.match_of (record one { threshold = threshold_of policy.confidence_threshold })) c.with_store.ensures in
-    let turns = subst (λ scanner. AreTurnsBySome scanner policy.file_id (entries_of policy) c.args.files.now nfos last) same c.in_ok-summary.ensures.by_some in
-    let Points = All (VerdictPoints last (policy_of policy)) (all_asked nfos) in
-    IfOk-weaker c.check_summary.result (λ checked. IsCheckOf policy nfos checked × (Points × All (PackLies last) checked.findings))
-    (λ checked. IsFoundBySome lists match_of c.args.files.now last checked.policy checked.crates checked.findings)
-    (λ checked all. found_by_some lists match_of c.args.files.now last policy nfos checked turns all.0 all.1.0 all.1.1)
-    (both_of c.check_summary.result (IsCheckOf policy nfos) (λ checked. Points × All (PackLies last) checked.findings) c.check_summary.ensures.check
-    (both_of c.check_summary.result (λ _. Points) (λ checked. All (PackLies last) checked.findings) c.check_summary.ensures.terms c.check_summary.ensures.labels))
+    let told = g.T.Tree.content c.args.tree.now in
+    let tells = g.T.Tree.content c.gather.new.tree in
+    let before = g.T.Tree.fault_count c.args.tree.now in
+    let after = g.T.Tree.fault_count c.gather.new.tree in
+    let old = g.T.Tree.trace c.args.tree.now in
+    let new = g.T.Tree.trace c.gather.new.tree in
+    let reads = subst (λ scanner. AreTurnsByReads told tells before after old new scanner policy.file_id (entries_of policy) c.args.files.now nfos last) same c.in_ok-summary.ensures.answered in
+    IfOk-weaker c.check_summary.result (λ checked. IsCheckOf policy nfos checked × All (VerdictPoints last (policy_of policy)) (all_asked nfos))
+    (λ checked. (graph : Graph) (choice : Choice) → IsChosen graph choice c.args.krates.now → IsCheckedOn own policy (seen told tells before after old new) c.args.files.now last graph choice checked)
+    (λ checked both graph choice chosen. checked_on own policy (seen told tells before after old new) c.args.files.now last graph choice nfos (c.in_ok-summary.ensures.listed graph choice chosen) reads checked both.0 both.1)
+    (both_of c.check_summary.result (IsCheckOf policy nfos) (λ _. All (VerdictPoints last (policy_of policy)) (all_asked nfos)) c.check_summary.ensures.check c.check_summary.ensures.terms)
+
+pub returns-clause-cut : goal.returns-clause-cut
+returns-clause-cut g c =
+    let policy = c.args.policy in
+    let lists = g.C.Catalog.lists c.args.catalog.now in
+    let own = scanner_by lists (g.I.Identifier.match_of c.args.identifier.now) policy in
+    let nfos = c.in_ok-summary.summary.nfos in
+    let last = c.gather.new.files in
+    let fits : SFits w64 c.args.policy.confidence_threshold = search rules in
+    let cut = simp to_z-of_z at c.with_confidence_threshold-gatherer.ensures in
+    let same : ◌≡◌ {A = Scanner} (scanner_of lists g.I.Identifier.match_of c.with_confidence_threshold-gatherer.result) own =
+    ap (scanner_of lists g.I.Identifier.match_of) cut
+    ∙ ap (λ one. scanner_of lists g.I.Identifier.match_of (record one { threshold = threshold_of policy.confidence_threshold })) c.with_store.ensures in
+    let told = g.T.Tree.content c.args.tree.now in
+    let tells = g.T.Tree.content c.gather.new.tree in
+    let before = g.T.Tree.fault_count c.args.tree.now in
+    let after = g.T.Tree.fault_count c.gather.new.tree in
+    let old = g.T.Tree.trace c.args.tree.now in
+    let new = g.T.Tree.trace c.gather.new.tree in
+    let reads = subst (λ scanner. AreTurnsByReads told tells before after old new scanner policy.file_id (entries_of policy) c.args.files.now nfos last) same c.in_ok-summary.ensures.answered in
+    of_failure c.check_summary.result _
+    (λ graph choice chosen. check_cut own policy (seen told tells before after old new) c.args.files.now last graph choice nfos (c.in_ok-summary.ensures.listed graph choice chosen) reads)
+
+pub returns-in_err-summary-clause-cut : goal.returns-in_err-summary-clause-cut
+returns-in_err-summary-clause-cut g c =
+    let policy = c.args.policy in
+    let lists = g.C.Catalog.lists c.args.catalog.now in
+    let own = scanner_by lists (g.I.Identifier.match_of c.args.identifier.now) policy in
+    let fits : SFits w64 c.args.policy.confidence_threshold = search rules in
+    let cut = simp to_z-of_z at c.with_confidence_threshold-gatherer.ensures in
+    let same : ◌≡◌ {A = Scanner} (scanner_of lists g.I.Identifier.match_of c.with_confidence_threshold-gatherer.result) own =
+    ap (scanner_of lists g.I.Identifier.match_of) cut
+    ∙ ap (λ one. scanner_of lists g.I.Identifier.match_of (record one { threshold = threshold_of policy.confidence_threshold })) c.with_store.ensures in
+    let told = g.T.Tree.content c.args.tree.now in
+    let tells = g.T.Tree.content c.gather.new.tree in
+    let before = g.T.Tree.fault_count c.args.tree.now in
+    let after = g.T.Tree.fault_count c.gather.new.tree in
+    let old = g.T.Tree.trace c.args.tree.now in
+    let new = g.T.Tree.trace c.gather.new.tree in
+    let starves = subst (λ scanner. Made told tells before after old new [] ⊎ StarvesGathering told tells before after old new scanner policy.file_id (entries_of policy) c.args.files.now (selected_in (included_by policy) c.args.krates.now))
+    same c.in_err-summary.ensures.no_memory in
+    let p = err_from_is_err_and c.from_residual.result c.from_residual.ensures.1 in
+    rw p.1 (λ graph choice chosen. gather_cut own policy (seen told tells before after old new) c.args.files.now graph choice c.args.krates.now chosen starves)

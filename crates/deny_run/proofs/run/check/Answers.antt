@@ -1,19 +1,22 @@
-use Rattle.std.proofs.Common.{Err, Ok, sym, subst}
+use Rattle.std.proofs.Common.{Err, sym, subst}
 use Rattle.std.proofs.lemmas.Result.{err_from_is_err_and}
 use Rattle.tree_core.specs.Faults.{Gained, GainedPrefix}
 use Rattle.tree_core.specs.Script.{FaultCounts, Written}
 use Rattle.load_core.specs.Print.{HasReasonSince, printed_packs}
 use Rattle.deny_run.specs.Error.{error_of}
 use Rattle.deny_run.specs.Given.{given_of}
+use Rattle.deny_run.specs.Hearing.{seen}
 use Rattle.deny_run.specs.Script.{WritesFirst, plain_log}
 use Rattle.deny_run.proofs.ScriptLemmas.{first_cut, first_refused, first_reported, found_refused}
+use Rattle.deny_run.proofs.StepLemmas.{print_counts}
 use Rattle.deny_run.proofs.run.check.Goals as goal
 
 -- a refusal before what was found: what is told of the load, or a front of it, stands on `err`
 pub returns-in-Err-clause-written : goal.returns-in-Err-clause-written
 returns-in-Err-clause-written g c =
     let given = given_of (g.C.Catalog.lists c.args.catalog.now) (g.I.Identifier.match_of c.args.identifier.now) c.args.words.now c.args.cwd.now in
-    let content = g.T.Tree.content c.args.tree.now in
+    let tree = seen (g.T.Tree.content c.args.tree.now) (g.T.Tree.content c.report.new.tree) (g.T.Tree.fault_count c.args.tree.now) (g.T.Tree.fault_count c.report.new.tree)
+    (g.T.Tree.trace c.args.tree.now) (g.T.Tree.trace c.report.new.tree) in
     let counts : FaultCounts = record {
       tree_before = g.T.Tree.fault_count c.args.tree.now;
       tree_after = g.T.Tree.fault_count c.report.new.tree;
@@ -25,14 +28,15 @@ returns-in-Err-clause-written g c =
     let out = g.O.Sink.written c.args.out.now in
     let old = g.E.Sink.written c.args.err.now in
     let new = g.E.Sink.written c.report.new.err in
-    subst (λ error. WritesFirst given content counts (record { out = out; err = old }) (record { out = out; err = new }) (Err error)) (sym c.from.ensures)
-    (first_refused given content counts out old new (error_of c.in-Err.refusal) c.in-Err.ensures.written)
+    subst (λ error. WritesFirst given tree counts (record { out = out; err = old }) (record { out = out; err = new }) (Err error)) (sym c.from.ensures)
+    (first_refused given tree counts out old new (error_of c.in-Err.refusal) c.in-Err.ensures.written)
 
 -- what was found was printed in part
 pub returns-in_err-print_packs-clause-written : goal.returns-in_err-print_packs-clause-written
 returns-in_err-print_packs-clause-written g c =
     let given = given_of (g.C.Catalog.lists c.args.catalog.now) (g.I.Identifier.match_of c.args.identifier.now) c.args.words.now c.args.cwd.now in
-    let content = g.T.Tree.content c.args.tree.now in
+    let tree = seen (g.T.Tree.content c.args.tree.now) (g.T.Tree.content c.report.new.tree) (g.T.Tree.fault_count c.args.tree.now) (g.T.Tree.fault_count c.report.new.tree)
+    (g.T.Tree.trace c.args.tree.now) (g.T.Tree.trace c.report.new.tree) in
     let counts : FaultCounts = record {
       tree_before = g.T.Tree.fault_count c.args.tree.now;
       tree_after = g.T.Tree.fault_count c.report.new.tree;
@@ -52,13 +56,14 @@ returns-in_err-print_packs-clause-written g c =
     let reason = subst (λ begun. HasReasonSince begun counts.err_after refused) c.faults-begun.ensures c.in_err-print_packs.ensures.reason in
     let p = err_from_is_err_and c.from_residual.result c.from_residual.ensures.1 in
     rw (p.1, p.2)
-    (found_refused given content counts old middle counts.err_before (g.E.Sink.fault_count c.report.new.err) report c.in-Ok.ensures.answer c.in-Ok.ensures.written new refused front reason)
+    (found_refused given tree counts old middle counts.err_before (g.E.Sink.fault_count c.report.new.err) report c.in-Ok.ensures.written new refused front reason)
 
 -- all was written
 pub returns-in-Ok-write_summary-clause-written : goal.returns-in-Ok-write_summary-clause-written
 returns-in-Ok-write_summary-clause-written g c =
     let given = given_of (g.C.Catalog.lists c.args.catalog.now) (g.I.Identifier.match_of c.args.identifier.now) c.args.words.now c.args.cwd.now in
-    let content = g.T.Tree.content c.args.tree.now in
+    let tree = seen (g.T.Tree.content c.args.tree.now) (g.T.Tree.content c.report.new.tree) (g.T.Tree.fault_count c.args.tree.now) (g.T.Tree.fault_count c.report.new.tree)
+    (g.T.Tree.trace c.args.tree.now) (g.T.Tree.trace c.report.new.tree) in
     let counts : FaultCounts = record {
       tree_before = g.T.Tree.fault_count c.args.tree.now;
       tree_after = g.T.Tree.fault_count c.report.new.tree;
@@ -74,14 +79,15 @@ returns-in-Ok-write_summary-clause-written g c =
     let found =
     subst (λ packs. Gained middle new.err (printed_packs plain_log report.files packs)) c.items.ensures
     (subst (λ log. Gained middle new.err (printed_packs log report.files c.items.result.now)) c.plain_log.ensures c.in_ok-print_packs.ensures.ok) in
-    first_reported given content counts old middle counts.err_before (g.E.Sink.fault_count c.report.new.err) report c.in-Ok.ensures.answer c.in-Ok.ensures.written
+    first_reported given tree counts old middle counts.err_before (g.E.Sink.fault_count c.report.new.err) report c.in-Ok.ensures.written
     new found c.in-Ok-write_summary.ensures.ok
 
 -- the summary was cut
 pub returns-in-Err-write_summary-clause-written : goal.returns-in-Err-write_summary-clause-written
 returns-in-Err-write_summary-clause-written g c =
     let given = given_of (g.C.Catalog.lists c.args.catalog.now) (g.I.Identifier.match_of c.args.identifier.now) c.args.words.now c.args.cwd.now in
-    let content = g.T.Tree.content c.args.tree.now in
+    let tree = seen (g.T.Tree.content c.args.tree.now) (g.T.Tree.content c.report.new.tree) (g.T.Tree.fault_count c.args.tree.now) (g.T.Tree.fault_count c.report.new.tree)
+    (g.T.Tree.trace c.args.tree.now) (g.T.Tree.trace c.report.new.tree) in
     let counts : FaultCounts = record {
       tree_before = g.T.Tree.fault_count c.args.tree.now;
       tree_after = g.T.Tree.fault_count c.report.new.tree;
@@ -97,5 +103,13 @@ returns-in-Err-write_summary-clause-written g c =
     let found =
     subst (λ packs. Gained middle new.err (printed_packs plain_log report.files packs)) c.items.ensures
     (subst (λ log. Gained middle new.err (printed_packs log report.files c.items.result.now)) c.plain_log.ensures c.in_ok-print_packs.ensures.ok) in
-    first_cut given content counts old middle counts.err_before (g.E.Sink.fault_count c.report.new.err) report c.in-Ok.ensures.answer c.in-Ok.ensures.written
+    first_cut given tree counts old middle counts.err_before (g.E.Sink.fault_count c.report.new.err) report c.in-Ok.ensures.written
     new c.faults-before.result c.faults.result found c.in-Err-write_summary.ensures.err c.faults-before.ensures c.faults.ensures c.in-Err-write_summary.ensures.cause.rose
+
+-- ---- the counts
+
+pub returns-in_err-print_packs-clause-counts : goal.returns-in_err-print_packs-clause-counts
+returns-in_err-print_packs-clause-counts g c =
+    let p = err_from_is_err_and c.from_residual.result c.from_residual.ensures.1 in
+    rw (p.1, p.2)
+    (print_counts (g.T.Tree.fault_count c.args.tree.now) (g.T.Tree.fault_count c.args.tree.now) (g.T.Tree.fault_count c.report.new.tree) c.in_err-print_packs.field-0.0)
