@@ -1,5 +1,5 @@
 -- The answer of a run, from the answers of its steps.
-use Rattle.std.proofs.Common.{◌≡◌, ◌∙◌, inl, refl, sym, ap, subst, ℕ, List, [], append-nil, map, Option, Some, Result, Ok, Err}
+use Rattle.std.proofs.Common.{◌≡◌, ◌∙◌, refl, sym, ap, subst, ℕ, List, [], append-nil, map, Option, Some, Result, Ok, Err}
 use Rattle.std.specs.Prelude.{All}
 use Rattle.tree_core.specs.Hearing.{MadeSome}
 use Rattle.tree_core.proofs.MadeLemmas.{some_made}
@@ -27,7 +27,7 @@ use Rattle.deny_run.specs.Error.{cause_of}
 use Rattle.deny_run.specs.Given.{Given}
 use Rattle.deny_run.specs.Heard.{AreOwnReads, HearsAllDue, IsRunHearing, all_looked_at, calls_of, count_metadata, exceptions_in, files_behind_all, files_loaded, found_of, graph_heard, load_at, load_heard, metadata_heard, scanner_in}
 use Rattle.deny_run.specs.Hearing.{MadeOn, RunHearing, TreeSeen}
-use Rattle.deny_run.specs.Report.{AreLabelsCut, AreSourcesTold, IsAnsweredBy, IsGivenUp, IsRefusal, IsRefusedBy, IsReport, TellsFindings, paths_at, verdicts_told}
+use Rattle.deny_run.specs.Report.{AreLabelsCut, AreSourcesTold, IsAnsweredBy, IsGivenUp, IsRefusal, IsRefusedBy, IsReport, StopsAt, TellsFindings, paths_at, verdicts_told}
 use Rattle.deny_run.specs.Selection.{choice_in, included_by, included_in, Refuses}
 use Rattle.deny_run.specs.Steps.{IsChecked, checked_by, report_with}
 use Rattle.deny_run.specs.Words.{request_of}
@@ -76,13 +76,13 @@ some_made_by given tree hearing (Err error) answers = some_by (cause_of error) a
     some_by (failed_read before after) refused = some_made refused.0.made
     some_by (refused_write before after) up = some_made up.made
 
--- a hearing without crates whose calls were made, and no other
-pub up_without : (given : Given) (tree : TreeSeen) (hearing : RunHearing) → hearing.begun ≡ tree.count_before → MadeOn tree (calls_of given hearing) → hearing.crates ≡ [] → IsGivenUp given tree hearing
-up_without given tree hearing begun made none = record {
+-- the calls of what was heard up to some place were made, and no other
+pub up_without : (given : Given) (tree : TreeSeen) (hearing : RunHearing) → hearing.begun ≡ tree.count_before → MadeOn tree (calls_of given hearing) → StopsAt given hearing [] → IsGivenUp given tree hearing
+up_without given tree hearing begun made stops = record {
   begun = begun;
   lost = [];
   made = subst (MadeOn tree) (sym (append-nil (calls_of given hearing))) made;
-  front = inl (none, refl);
+  stops = stops;
 }
 
 -- the first refusal

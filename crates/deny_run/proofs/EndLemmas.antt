@@ -90,7 +90,7 @@ module _ (given : Given) (request : Request) (asked : request_of given.words giv
       let all = made_as (sym part.calls_are) (made_joined made_first (made_these loaded made)) in
       record {
         text = told_before given hearing;
-        tells = record { hearing = hearing; answers = given_up given tree hearing Memory (up_without given tree hearing refl all refl) tt; is = refl };
+        tells = record { hearing = hearing; answers = given_up given tree hearing Memory (up_without given tree hearing refl all part.stops) tt; is = refl };
         written = subst (λ held. TextWritten (told_before given hearing) err_old held err_before err_after no_memory) (sym same)
             (silent err_old err_before err_after (told_before given hearing) no_memory (inl refl));
       }

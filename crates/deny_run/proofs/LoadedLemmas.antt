@@ -20,7 +20,7 @@ use Rattle.deny_run.specs.declared.words.Request.{Request}
 use Rattle.deny_run.specs.Given.{Given}
 use Rattle.deny_run.specs.Heard.{HearsAllDue, calls_of, count_exceptions, count_looked, count_metadata, count_policy, due_behind, due_by_text, exceptions_by, exceptions_due, exceptions_in, load_at, load_heard, manifest_in, metadata_due, metadata_heard, paths_looked, policy_due}
 use Rattle.deny_run.specs.Hearing.{unended, IsReadWhereDue, RunHearing, count_behind, look_calls, looks_by, read_calls, text_by}
-use Rattle.deny_run.specs.Report.{paths_at}
+use Rattle.deny_run.specs.Report.{StopsAt, at_exceptions, at_metadata, at_policy, paths_at}
 use Rattle.deny_run.specs.Words.{request_of}
 use Rattle.deny_run.proofs.CallLemmas.{heard_where, looks_found, text_heard_by}
 use Rattle.deny_run.proofs.FoundLemmas.{calls-due, exceptions-are, exceptions-is, looked-at, policy-is}
@@ -91,6 +91,7 @@ pub record LoadEnded (given : Given) (request : Request) (exceptions : Option (L
   pub sought : (metadata : Option Answered) (crates : List CrateReads) → exceptions_in given (hears metadata crates) ≡ Ok exceptions
   pub loads : (metadata : Option Answered) (crates : List CrateReads)
       → load_at given (hears metadata crates) (paths_at request.config_path exceptions) ≡ load_of given.lists [] (paths_at request.config_path exceptions) heard
+  pub stops : (metadata : Option Answered) → StopsAt given (hears metadata []) []
   pub due : (metadata : Option Answered) (crates : List CrateReads) → IsReadWhereDue (metadata_due given (hears metadata crates)) metadata → HearsAllDue given (hears metadata crates)
   pub calls_are : (metadata : Option Answered) (crates : List CrateReads) (at : Option (List ℕ)) → metadata_due given (hears metadata crates) ≡ at
       → calls_of given (hears metadata crates) ≡ calls ++ read_calls at metadata ++ calls_of_all crates
@@ -200,6 +201,7 @@ module _ (given : Given) (request : Request) (asked : request_of given.words giv
     crates_are = λ metadata crates. refl;
     sought = sought_at;
     loads = load_same;
+    stops = λ metadata. at_metadata (looks_at_end metadata []) (policy_where_due metadata []) (exceptions_where_due metadata []) refl refl;
     due = λ metadata crates is. record {
       looks = looks_at_end metadata crates;
       policy = policy_where_due metadata crates;
@@ -218,6 +220,7 @@ pub record LoadsInPart (given : Given) (begun : ℕ) (looks : List Answered) (ca
   pub policy : Option Answered
   pub exceptions : Option Answered
   pub calls_are : calls_of given (record { begun = begun; looks = looks; policy = policy; exceptions = exceptions; metadata = None; crates = [] }) ≡ calls
+  pub stops : StopsAt given (record { begun = begun; looks = looks; policy = policy; exceptions = exceptions; metadata = None; crates = [] }) []
 
 module _ (given : Given) (request : Request) (asked : request_of given.words given.cwd ≡ Some request) (begun : ℕ) (looks : List Answered) (exceptions : Option (List ℕ))
     (by : looks_by (candidates Exceptions (manifest_in given.cwd)) looks ≡ looks_found exceptions) where
@@ -250,6 +253,7 @@ module _ (given : Given) (request : Request) (asked : request_of given.words giv
             in_part answer None (exceptions_due given own) refl
             ∙ ap (λ rest. look_calls (candidates Exceptions (manifest_in given.cwd)) looks ++ read_calls (Some request.config_path) answer ++ rest) (nothing (exceptions_due given own))
             ∙ append-nil (look_calls (candidates Exceptions (manifest_in given.cwd)) looks ++ read_calls (Some request.config_path) answer);
+        stops = at_policy (looks_ended given request asked begun looks exceptions by answer None None []) refl refl refl refl;
       }
     where
       nothing : (due : Option (List ℕ)) → read_calls due None ≡ []
@@ -279,6 +283,10 @@ module _ (given : Given) (request : Request) (asked : request_of given.words giv
           calls_are =
               in_part (Some read.answer) may.answer due due_is
               ∙ append_assoc (look_calls (candidates Exceptions (manifest_in given.cwd)) looks) (read_of request.config_path read.answer ∷ []) (read_calls due may.answer);
+          stops = at_exceptions (looks_ended given request asked begun looks exceptions by (Some read.answer) may.answer None [])
+              (subst (λ own. IsReadWhereDue own (Some read.answer)) (sym (policy_is_due given request asked begun looks exceptions by (Some read.answer) may.answer None []))
+              (heard_where read.answer begun both.mid both.heard read.hears))
+              refl refl refl;
         },
         may.made ∙ ap (λ before. before ++ read_calls due may.answer) read.made ∙ append_assoc calls (read_of request.config_path read.answer ∷ []) (read_calls due may.answer),
       )

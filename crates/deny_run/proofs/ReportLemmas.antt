@@ -47,6 +47,7 @@ use Rattle.deny_run.specs.Given.{Given}
 use Rattle.deny_run.specs.Heard.{HearsAllDue, calls_of, count_looked, exceptions_due, exceptions_in, files_loaded, graph_heard, load_at, manifest_in, metadata_due, metadata_heard, or_error, paths_looked, policy_due, scanner_in}
 use Rattle.deny_run.specs.Hearing.{Looks, look_failed, nowhere, at, unended, IsReadWhereDue, MadeOn, RunHearing, TreeSeen, is_heard, look_calls, looks_by, read_calls, seen}
 use Rattle.deny_run.specs.Report.{HaveTurns, IsAnsweredBy, IsGivenUp, IsRefusal, paths_at}
+use Rattle.deny_run.specs.Report.{at_crates, at_looks}
 use Rattle.deny_run.specs.Script.{WritesLoad, plain_log, told_before, told_of}
 use Rattle.deny_run.specs.Selection.{choice_by, choice_in, included_by, included_in, Refuses}
 use Rattle.deny_run.specs.Steps.{AreCheckedInPart, ChecksAt, HasNoCrates, IsAfterLoad, IsCheckGivenUp, IsChecked, IsCheckedAt, report_with}
@@ -106,7 +107,7 @@ module _ (given : Given) (told : Option Content) (count : ℕ) (calls : List Cal
       let made = made_as (sym (calls-looked given count [] ∙ no_looks (paths_looked given))) (made_none told count calls) in
       record {
         text = told_before given hearing;
-        tells = record { hearing = hearing; answers = given_up given tree hearing Memory (up_without given tree hearing refl made refl) tt; is = refl };
+        tells = record { hearing = hearing; answers = given_up given tree hearing Memory (up_without given tree hearing refl made (at_looks refl refl refl refl refl)) tt; is = refl };
         written = silent held err_before err_after (told_before given hearing) no_memory (inl refl);
       }
 
@@ -150,7 +151,7 @@ module _ (given : Given) (request : Request) (asked : request_of given.words giv
       let hearing = looked_alone count looks.looks in
       record {
         text = told_before given hearing;
-        tells = record { hearing = hearing; answers = given_up given tree hearing Memory (up_without given tree hearing refl (made_looks looks.looks looks.made) refl) tt; is = refl };
+        tells = record { hearing = hearing; answers = given_up given tree hearing Memory (up_without given tree hearing refl (made_looks looks.looks looks.made) (at_looks refl refl refl refl refl)) tt; is = refl };
         written = silent held err_before err_after (told_before given hearing) no_memory (inl refl);
       }
 
@@ -237,7 +238,7 @@ module _ (given : Given) (request : Request) (asked : request_of given.words giv
   load_given_up : (error : Error) → IsFree (cause_of error) → IsAnsweredBy given (seen told middle begun mid old between) (ended.hears None []) (Err error)
   load_given_up error free =
       given_up given (seen told middle begun mid old between) (ended.hears None []) error
-      (up_without given (seen told middle begun mid old between) (ended.hears None []) (ended.begun_is None []) unread_made (ended.crates_are None [])) free
+      (up_without given (seen told middle begun mid old between) (ended.hears None []) (ended.begun_is None []) unread_made (ended.stops None)) free
 
   load_answered : (error : LoadError) → Answers loaded.answer (Err error) → IsAnsweredBy given (seen told middle begun mid old between) (ended.hears None []) (Err (error_of_load error))
   load_answered load.Memory answers = load_given_up Memory tt
@@ -301,7 +302,7 @@ module _ (given : Given) (request : Request) (asked : request_of given.words giv
     unread_up : (metadata : Option Answered) → Made middle tells mid after between more (read_calls (Some request.metadata_path) metadata) → IsGivenUp given whole (ended.hears metadata [])
     unread_up metadata then =
         up_without given whole (ended.hears metadata []) (ended.begun_is metadata [])
-        (made_all metadata [] (made_as (sym (append-nil (read_calls (Some request.metadata_path) metadata))) then)) (ended.crates_are metadata [])
+        (made_all metadata [] (made_as (sym (append-nil (read_calls (Some request.metadata_path) metadata))) then)) (ended.stops metadata)
 
     in_part_up : (part : AreCheckedInPart (scanner_in given policy.licenses) policy (seen middle tells mid after between more) loaded.files begun request.metadata_path)
         → IsGivenUp given whole (ended.hears (Some part.answer) part.crates)
@@ -311,7 +312,7 @@ module _ (given : Given) (request : Request) (asked : request_of given.words giv
           begun = ended.begun_is (Some part.answer) part.crates;
           lost = part.lost;
           made = made_behind (Some part.answer) part.crates part.lost part.made;
-          front = inr (record {
+          stops = at_crates (due_at part.answer part.crates (heard_where part.answer begun (fault_behind mid part.answer) part.tells.heard part.tells.hears)) (record {
             found = record { request = request; policy = found; graph = part.graph };
             is = found-graph given request asked hearing exceptions (ended.sought (Some part.answer) part.crates) found (loads_found (Some part.answer) part.crates) (Ok part.graph)
                 (drawn_at part.answer part.crates part.tells.heard part.graph part.tells.hears part.tells.tells);

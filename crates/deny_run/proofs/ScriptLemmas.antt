@@ -26,7 +26,7 @@ use Rattle.deny_run.specs.Error.{cause_of, error_of, error_of_load, error_of_pri
 use Rattle.deny_run.specs.Given.{Given}
 use Rattle.deny_run.specs.Heard.{IsRunHearing, calls_of}
 use Rattle.deny_run.specs.Hearing.{MadeOn, RunHearing, TreeSeen, crates_heard}
-use Rattle.deny_run.specs.Report.{AreChecking, IsGivenUp, IsReport}
+use Rattle.deny_run.specs.Report.{AreChecking, IsGivenUp, IsReport, at_crates}
 use Rattle.deny_run.proofs.FoundLemmas.{found_of-from_Asks}
 use Rattle.deny_run.specs.Script.{Begins, TellsLoad, TextWritten, Writes, WritesFirst, WritesLoad, findings_text, load_script, script_of}
 use Rattle.deny_run.specs.Steps.{IsAfterLoad}
@@ -175,7 +175,7 @@ module _ (given : Given) (tree : TreeSeen) (counts : FaultCounts) (old : Written
     begun = heard.begun;
     lost = [];
     made = subst (MadeOn tree) (sym (append-nil (calls_of given hearing))) heard.made;
-    front = inr (all_turns hearing is);
+    stops = at_crates is.due (all_turns hearing is);
   }
 
   -- a refusal that comes behind the report

@@ -213,11 +213,22 @@ calls_of given hearing =
     ++ read_calls (metadata_due given hearing) hearing.metadata
     ++ calls_of_all hearing.crates
 
+-- the looks were all made that were due
+abbrev pub LooksEnd : Given → RunHearing → Type 0
+LooksEnd given hearing = looks_by (paths_looked given) hearing.looks ≢ unended
+
+-- the policy was read where that was due, and something is heard by its answer; the same of the exceptions file
+abbrev pub HearsPolicy : Given → RunHearing → Type 0
+HearsPolicy given hearing = IsReadWhereDue (policy_due given hearing) hearing.policy
+
+abbrev pub HearsExceptions : Given → RunHearing → Type 0
+HearsExceptions given hearing = IsReadWhereDue (exceptions_due given hearing) hearing.exceptions
+
 -- each look and each read that was due was made, and something is heard by it
 pub record HearsAllDue (given : Given) (hearing : RunHearing) : Type 0 where
-  pub looks : looks_by (paths_looked given) hearing.looks ≢ unended
-  pub policy : IsReadWhereDue (policy_due given hearing) hearing.policy
-  pub exceptions : IsReadWhereDue (exceptions_due given hearing) hearing.exceptions
+  pub looks : LooksEnd given hearing
+  pub policy : HearsPolicy given hearing
+  pub exceptions : HearsExceptions given hearing
   pub metadata : IsReadWhereDue (metadata_due given hearing) hearing.metadata
 
 -- a run on a tree made the calls of this hearing, and no other

@@ -41,7 +41,7 @@ use Rattle.deny_run.specs.declared.words.Request.{Request}
 use Rattle.deny_run.specs.Counts.{counts_of}
 use Rattle.deny_run.specs.Error.{cause_of}
 use Rattle.deny_run.specs.Given.{Given}
-use Rattle.deny_run.specs.Heard.{AreOwnReads, Found, HearsAllDue, IsRunHearing, all_looked_at, calls_of, count_metadata, exceptions_in, expression_in, files_behind_all, files_loaded, found_of, load_heard, metadata_heard, priority_heard, scanner_in, turn_heard}
+use Rattle.deny_run.specs.Heard.{AreOwnReads, Found, HearsAllDue, HearsExceptions, HearsPolicy, IsRunHearing, LooksEnd, all_looked_at, calls_of, count_metadata, exceptions_in, expression_in, files_behind_all, files_loaded, found_of, load_heard, metadata_heard, priority_heard, scanner_in, turn_heard}
 use Rattle.deny_run.specs.Hearing.{MadeOn, RunHearing, TreeSeen, crates_heard}
 use Rattle.deny_run.specs.Policy.{IsPolicyAt}
 use Rattle.deny_run.specs.Selection.{choice_in, AreSelected, Refuses}
@@ -193,12 +193,21 @@ pub record AreChecking (given : Given) (hearing : RunHearing) (lost : List Call)
   pub selected : AreSelected found.policy found.graph checked
   pub turns : HaveTurns (scanner_in given policy) policy (files_loaded given hearing) checked hearing.crates lost
 
+-- Where a run was given up, what was heard before is all that was due there, and nothing was read behind: among the looks, at the read of
+-- the policy, of the exceptions file or of the metadata, or among the crates, perhaps in a call that found no memory.
+pub data StopsAt (given : Given) (hearing : RunHearing) (lost : List Call) : Type 0 where
+  at_looks : hearing.policy ≡ None → hearing.exceptions ≡ None → hearing.metadata ≡ None → hearing.crates ≡ [] → lost ≡ [] → StopsAt given hearing lost
+  at_policy : LooksEnd given hearing → hearing.exceptions ≡ None → hearing.metadata ≡ None → hearing.crates ≡ [] → lost ≡ [] → StopsAt given hearing lost
+  at_exceptions : LooksEnd given hearing → HearsPolicy given hearing → hearing.metadata ≡ None → hearing.crates ≡ [] → lost ≡ [] → StopsAt given hearing lost
+  at_metadata : LooksEnd given hearing → HearsPolicy given hearing → HearsExceptions given hearing → hearing.crates ≡ [] → lost ≡ [] → StopsAt given hearing lost
+  at_crates : HearsAllDue given hearing → AreChecking given hearing lost → StopsAt given hearing lost
+
 -- The calls that are due by what was heard, up to some place, and perhaps one more, which found no memory.
 pub record IsGivenUp (given : Given) (tree : TreeSeen) (hearing : RunHearing) : Type 0 where
   pub begun : hearing.begun ≡ tree.count_before
   pub lost : List Call
   pub made : MadeOn tree (calls_of given hearing ++ lost)
-  pub front : ((hearing.crates ≡ []) × (lost ≡ [])) ⊎ AreChecking given hearing lost
+  pub stops : StopsAt given hearing lost
 
 -- want of memory and a refused write may come at any place, and nothing else may
 abbrev pub IsRefusedBy : Given → TreeSeen → RunHearing → Error → Cause → Type 0
