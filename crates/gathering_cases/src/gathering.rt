@@ -8,7 +8,7 @@ use diag_core::{Diag, Files, Label, LabelStyle};
 use expression_core::{joined, scan_pack};
 use gather_core::{Gatherer, KrateLicense, LicenseExprSource, LicenseInfo, Summary};
 use location_core::{Located, locate};
-use pack_core::Pack;
+use pack_core::{Pack, Tried};
 use priority_core::FileRef;
 use reads_core::{FolderHeard, list_folder, listing_record, read_file};
 use records_core::records;
@@ -136,23 +136,28 @@ fn gathered<'k>(
         .ok()
 }
 
-/// The licence of each crate of a case, what is found of each, or the text of the second file of the table.
+/// Puts the licence of each crate, what is found of each, or the text of the second file of the table.
+fn put_of(out: &mut Shown, key: &str, files: &Files, licences: &[KrateLicense<'_>]) {
+    match key {
+        "gathered" => put_licences(out, licences),
+        "found" => {
+            for license in licences {
+                put_findings(out, files, license.diags.items());
+                put_place(out, files, &license.lic_info);
+            }
+        }
+        _ => out.put(files.source(1).unwrap_or("no file")),
+    }
+}
+
+/// Puts what a key names of what is gathered in a case.
 pub fn put(alloc: Global, case: &Case<'_>, key: &str, out: &mut Shown) -> Option<()> {
     let krates = krates(alloc, case)?;
     let policy = policy_of(alloc, case)?;
     let mut world = world_of(alloc, case)?;
     let threshold = case.word("threshold").parse::<i64>().unwrap_or(80);
     let summary = gathered(alloc, &krates, &mut world, &policy, threshold)?;
-    match key {
-        "gathered" => put_licences(out, summary.nfos.items()),
-        "found" => {
-            for license in summary.nfos.items() {
-                put_findings(out, &world.files, license.diags.items());
-                put_place(out, &world.files, &license.lic_info);
-            }
-        }
-        _ => out.put(world.files.source(1).unwrap_or("no file")),
-    }
+    put_of(out, key, &world.files, summary.nfos.items());
     Some(())
 }
 
@@ -176,36 +181,49 @@ fn put_located(out: &mut Shown, located: &Located, files: &Files) {
     if let Some(read) = &located.read {
         write!(out, "; {} {:?}", read.path, read.answer);
     }
-    let count = (0..4).filter(|id| files.name(*id).is_ok()).count();
+    let mut count: usize = 0;
+    for id in 0..4 {
+        if files.name(id).is_ok() {
+            count = count.saturating_add(1);
+        }
+    }
     write!(out, "; {count} files\n");
+}
+
+fn put_read(alloc: Global, out: &mut Shown, tree: &mut MemTree, path: &str) -> Option<()> {
+    let heard = read_file(alloc, tree, "/w", path).ok()?;
+    match &heard {
+        Ok(text) => write!(out, "{path}: {:?}\n", text.as_str()),
+        Err(error) => write!(out, "{path}: {error:?}\n"),
+    }
+    Some(())
+}
+
+fn put_listed(alloc: Global, out: &mut Shown, tree: &mut MemTree, path: &str) -> Option<()> {
+    let heard = list_folder(alloc, tree, path).ok()?;
+    let record = listing_record(alloc, path, &heard).ok()?;
+    put_folder(out, path, &heard, &record);
+    Some(())
+}
+
+/// Puts where the field stands that is written behind a path.
+fn put_field(alloc: Global, out: &mut Shown, world: &mut World, words: &str) -> Option<()> {
+    let (path, field) = first_word(words);
+    let path = PathBuf::copy(alloc, path).ok()?;
+    let located = locate(alloc, &mut world.tree, &mut world.files, &path, field).ok()?;
+    put_located(out, &located, &world.files);
+    Some(())
 }
 
 /// Reads, lists or looks for what an entry names.
 fn put_entry(alloc: Global, out: &mut Shown, world: &mut World, entry: &Entry) -> Option<()> {
-    let path = entry.word.as_str();
-    let tree = &mut world.tree;
+    let words = entry.word.as_str();
     match entry.key.as_str() {
-        "read" => {
-            let heard = read_file(alloc, tree, "/w", path).ok()?;
-            match &heard {
-                Ok(text) => write!(out, "{path}: {:?}\n", text.as_str()),
-                Err(error) => write!(out, "{path}: {error:?}\n"),
-            }
-        }
-        "list" => {
-            let heard = list_folder(alloc, tree, path).ok()?;
-            let record = listing_record(alloc, path, &heard).ok()?;
-            put_folder(out, path, &heard, &record);
-        }
-        "locate" => {
-            let (path, field) = first_word(path);
-            let path = PathBuf::copy(alloc, path).ok()?;
-            let located = locate(alloc, tree, &mut world.files, &path, field).ok()?;
-            put_located(out, &located, &world.files);
-        }
-        _ => {}
+        "read" => put_read(alloc, out, &mut world.tree, words),
+        "list" => put_listed(alloc, out, &mut world.tree, words),
+        "locate" => put_field(alloc, out, world, words),
+        _ => Some(()),
     }
-    Some(())
 }
 
 /// What is heard of each file by the key `read` and of each folder by the key `list`, and where each field by the key `locate` stands.
@@ -240,19 +258,39 @@ fn paths(alloc: Global, entries: &[Entry]) -> Option<Vec<PathBuf>> {
     Some(paths)
 }
 
+/// The files at some paths, each with the hash of one LF.
+fn files_at(alloc: Global, paths: &[PathBuf]) -> Option<Vec<FileRef<'_>>> {
+    let span = Span { start: 0, end: 0 };
+    let mut files = Vec::new(alloc);
+    for path in paths {
+        files.push(FileRef::new(path, OF_FEED, span)).ok()?;
+    }
+    Some(files)
+}
+
+fn tried(alloc: Global, case: &Case<'_>, files: &[FileRef<'_>]) -> Option<Tried> {
+    let mut world = world_of(alloc, case)?;
+    let pack = pack(alloc, &mut world.tree, case)?;
+    pack.tries(alloc, &mut world.tree, files).ok()
+}
+
 /// Whether a clarification, whose files have the hash of one LF, holds by the crate's pack, and each read.
 pub fn put_tried(alloc: Global, case: &Case<'_>, out: &mut Shown) -> Option<()> {
     let paths = paths(alloc, case.own)?;
-    let span = Span { start: 0, end: 0 };
-    let mut files = Vec::new(alloc);
-    for path in paths.iter() {
-        files.push(FileRef::new(path, OF_FEED, span)).ok()?;
-    }
-    let mut world = world_of(alloc, case)?;
-    let pack = pack(alloc, &mut world.tree, case)?;
-    let tried = pack.tries(alloc, &mut world.tree, &files).ok()?;
+    let files = files_at(alloc, &paths)?;
+    let tried = tried(alloc, case, &files)?;
     out.put(if tried.holds { "holds" } else { "differs" });
     put_reads(out, tried.pack.into_reads().items());
+    Some(())
+}
+
+fn put_names(alloc: Global, pack: &Pack, threshold: u8, out: &mut Shown) -> Option<()> {
+    let files = scan_pack(alloc, Some(&Named), threshold, pack, &Table).ok()?;
+    let joined = joined(alloc, files.items(), &Table).ok()?;
+    match &joined {
+        Some(read) => out.put(read.as_ref()),
+        None => out.put("none"),
+    }
     Some(())
 }
 
@@ -261,11 +299,5 @@ pub fn put_joined(alloc: Global, case: &Case<'_>, out: &mut Shown) -> Option<()>
     let mut world = world_of(alloc, case)?;
     let pack = pack(alloc, &mut world.tree, case)?;
     let threshold = case.word("threshold").parse::<u8>().unwrap_or(80);
-    let files = scan_pack(alloc, Some(&Named), threshold, &pack, &Table).ok()?;
-    let joined = joined(alloc, files.items(), &Table).ok()?;
-    match &joined {
-        Some(read) => out.put(read.as_ref()),
-        None => out.put("none"),
-    }
-    Some(())
+    put_names(alloc, &pack, threshold, out)
 }

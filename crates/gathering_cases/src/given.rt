@@ -85,15 +85,18 @@ pub fn texts(alloc: Global, words: &str) -> Option<Texts> {
 
 /// A crate of version 1.0.0 in the folder `/w`.
 pub fn krate(alloc: Global, id: &str, name: &str) -> Option<Krate> {
+    let id = Text::copy(alloc, id).ok()?;
+    let name = Text::copy(alloc, name).ok()?;
+    let manifest_path = PathBuf::copy(alloc, "/w/Cargo.toml").ok()?;
     Some(Krate {
-        name: Text::copy(alloc, name).ok()?,
-        id: Text::copy(alloc, id).ok()?,
+        name,
+        id,
         version: Version::new(1, 0, 0),
         source: None,
         authors: Texts::new(alloc),
         repository: None,
         description: None,
-        manifest_path: PathBuf::copy(alloc, "/w/Cargo.toml").ok()?,
+        manifest_path,
         license: None,
         license_file: None,
         features: TextMap::new(alloc),
@@ -105,15 +108,24 @@ pub fn krate(alloc: Global, id: &str, name: &str) -> Option<Krate> {
 /// The table of a case: the files of its base, and then its own, by the key `table`.
 pub fn table(alloc: Global, case: &Case<'_>) -> Option<Files> {
     let mut files = Files::new(alloc);
-    for entry in case.base.iter().chain(case.own.iter()) {
-        if entry.key.as_str() == "table" {
-            let bytes = text_of(alloc, case, entry).ok()?;
-            let text = Text::copy(alloc, str::from_utf8(&bytes).ok()?).ok()?;
-            let path = PathBuf::copy(alloc, entry.word.as_str()).ok()?;
-            files.add(path, text).ok()?;
+    for entries in [case.base, case.own] {
+        for entry in entries {
+            if entry.key.as_str() == "table" {
+                add_file(alloc, &mut files, case, entry)?;
+            }
         }
     }
     Some(files)
+}
+
+fn add_file(alloc: Global, files: &mut Files, case: &Case<'_>, entry: &Entry) -> Option<()> {
+    let bytes = text_of(alloc, case, entry).ok()?;
+    let text = Text::copy(alloc, str::from_utf8(&bytes).ok()?).ok()?;
+    let path = PathBuf::copy(alloc, entry.word.as_str()).ok()?;
+    match files.add(path, text) {
+        Ok(_) => Some(()),
+        Err(_) => None,
+    }
 }
 
 /// What a case stands in.
@@ -125,15 +137,13 @@ pub struct World {
 
 /// The tree and the table of a case. By the key `fail` that call of the tree fails, counted from 1.
 pub fn world_of(alloc: Global, case: &Case<'_>) -> Option<World> {
+    let files = table(alloc, case)?;
     let mut tree = tree_of(alloc, case).ok()?;
     let failing = number(case.word("fail")) as u64;
     if failing > 0 {
         tree.fail_call(failing).ok()?;
     }
-    Some(World {
-        tree,
-        files: table(alloc, case)?,
-    })
+    Some(World { tree, files })
 }
 
 /// The level of a lint; a warning where none is written.
@@ -170,18 +180,25 @@ fn spec(alloc: Global, word: &str) -> Option<PackageSpec> {
     })
 }
 
-/// With a semicolon between two: a crate behind the number of its file, which may be left out, and what it allows.
+/// A crate behind the number of its file, which may be left out, and what it allows.
+fn exception(alloc: Global, words: &str) -> Option<ValidException> {
+    let (krate, names) = words.split_once(':').unwrap_or((words, ""));
+    let krate = krate.trim();
+    let (file, krate) = krate.split_once(' ').unwrap_or(("0", krate));
+    let spec = spec(alloc, krate)?;
+    let allowed = licensees(alloc, names)?;
+    Some(ValidException {
+        spec,
+        allowed,
+        file_id: number(file),
+    })
+}
+
+/// Exceptions, with a semicolon between two.
 fn exceptions(alloc: Global, words: &str) -> Option<ValidExceptions> {
     let mut exceptions = ValidExceptions::new(alloc);
     for words in words.split_terminator(';') {
-        let (krate, names) = words.split_once(':').unwrap_or((words, ""));
-        let krate = krate.trim();
-        let (file, krate) = krate.split_once(' ').unwrap_or(("0", krate));
-        let exception = ValidException {
-            spec: spec(alloc, krate)?,
-            allowed: licensees(alloc, names)?,
-            file_id: number(file),
-        };
+        let exception = exception(alloc, words)?;
         exceptions.push(exception).ok()?;
     }
     Some(exceptions)
@@ -198,46 +215,62 @@ fn sources(alloc: Global, paths: &str) -> Option<FileSources> {
     Some(sources)
 }
 
-/// By the key `clarify`: a crate, an expression, and files with the hash of one LF.
+/// A crate, an expression, and files with the hash of one LF.
+fn clarification(alloc: Global, words: &str) -> Option<ValidClarification> {
+    let (name, rest) = first_word(words);
+    let (text, paths) = first_word(rest);
+    let spec = spec(alloc, name)?;
+    let expression = expression(alloc, text)?;
+    let license_files = sources(alloc, paths)?;
+    Some(ValidClarification {
+        spec,
+        expr_offset: OFFSET,
+        whole: None,
+        expression,
+        license_files,
+    })
+}
+
+/// The clarifications, by the key `clarify`.
 fn clarifications(alloc: Global, entries: &[Entry]) -> Option<ValidClarifications> {
     let mut clarifications = ValidClarifications::new(alloc);
     for entry in entries {
         if entry.key.as_str() == "clarify" {
-            let (name, rest) = first_word(entry.word.as_str());
-            let (text, paths) = first_word(rest);
-            let clarification = ValidClarification {
-                spec: spec(alloc, name)?,
-                expr_offset: OFFSET,
-                whole: None,
-                expression: expression(alloc, text)?,
-                license_files: sources(alloc, paths)?,
-            };
+            let clarification = clarification(alloc, entry.word.as_str())?;
             clarifications.push(clarification).ok()?;
         }
     }
     Some(clarifications)
 }
 
+/// The addresses of private crates.
+fn addresses(alloc: Global) -> Option<Urls> {
+    let mut addresses = Urls::new(alloc);
+    let address = Url::parse(alloc, "https://h/a").ok()?;
+    addresses.push(address).ok()?;
+    Some(addresses)
+}
+
 /// The allowed licences, and the exceptions. Private crates are passed over: those of the registries `mine` and `ours` and of
 /// the address `https://h/a`.
 pub fn policy(alloc: Global, allow: &str, excepted: &str) -> Option<ValidConfig> {
-    let mut ignore_sources = Urls::new(alloc);
-    let address = Url::parse(alloc, "https://h/a").ok()?;
-    ignore_sources.push(address).ok()?;
-    let private = Private {
-        ignore: true,
-        ignore_sources: SpannedTexts::new(alloc),
-        registries: texts(alloc, "mine ours")?,
-    };
+    let ignore_sources = addresses(alloc)?;
+    let registries = texts(alloc, "mine ours")?;
+    let allowed = licensees(alloc, allow)?;
+    let exceptions = exceptions(alloc, excepted)?;
     Some(ValidConfig {
         file_id: 0,
-        private,
+        private: Private {
+            ignore: true,
+            ignore_sources: SpannedTexts::new(alloc),
+            registries,
+        },
         unused_allowed_license: LintLevel::Warn,
         unused_license_exception: LintLevel::Warn,
         confidence_threshold: 80,
-        allowed: licensees(alloc, allow)?,
+        allowed,
         clarifications: ValidClarifications::new(alloc),
-        exceptions: exceptions(alloc, excepted)?,
+        exceptions,
         ignore_sources,
         include_dev: false,
         include_build: true,
@@ -246,8 +279,9 @@ pub fn policy(alloc: Global, allow: &str, excepted: &str) -> Option<ValidConfig>
 
 /// The policy of a case, with its clarifications by the key `clarify`.
 pub fn policy_of(alloc: Global, case: &Case<'_>) -> Option<ValidConfig> {
+    let clarifications = clarifications(alloc, case.own)?;
     let mut policy = policy(alloc, case.word("allow"), case.word("exceptions"))?;
-    policy.clarifications = clarifications(alloc, case.own)?;
+    policy.clarifications = clarifications;
     policy.unused_allowed_license = level(case.word("unused-allowed-license"));
     policy.unused_license_exception = level(case.word("unused-license-exception"));
     Some(policy)

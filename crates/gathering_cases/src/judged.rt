@@ -93,18 +93,30 @@ pub fn put_verdict(alloc: Global, text: &str, out: &mut Shown) -> Option<()> {
     asked_twice::<Brand>(alloc, out, &expression, &krate, &policy, Blank::new(1)).ok()
 }
 
-/// A crate that may be published to any registry, to none, or to these. Behind the bar stands its source.
+/// Any registry, none, or these.
+fn registries(alloc: Global, words: &str) -> Option<Option<Texts>> {
+    match words {
+        "anywhere" => Some(None),
+        "nowhere" => Some(Some(Texts::new(alloc))),
+        _ => Some(Some(texts(alloc, words)?)),
+    }
+}
+
+fn source_of(alloc: Global, from: &str) -> Option<Option<Source>> {
+    match from {
+        "" => Some(None),
+        _ => Some(Some(Source::from_metadata(alloc, from, None, "index").ok()?)),
+    }
+}
+
+/// A crate that may be published to these registries. Behind the bar stands its source.
 fn published(alloc: Global, text: &str) -> Option<Krate> {
     let (words, from) = beside_bar(text);
+    let publish = registries(alloc, words)?;
+    let source = source_of(alloc, from)?;
     let mut krate = krate(alloc, "a", "a")?;
-    krate.publish = match words {
-        "anywhere" => None,
-        "nowhere" => Some(Texts::new(alloc)),
-        _ => Some(texts(alloc, words)?),
-    };
-    if !from.is_empty() {
-        krate.source = Some(Source::from_metadata(alloc, from, None, "index").ok()?);
-    }
+    krate.publish = publish;
+    krate.source = source;
     Some(krate)
 }
 
@@ -177,17 +189,21 @@ fn labels_of(alloc: Global, words: &str) -> Option<Labels> {
     Some(labels)
 }
 
-/// Warnings that were gathered: for each its code and its label, and its message below.
+/// A warning that was gathered: its code and its label, and its message below.
+fn warning(alloc: Global, entry: &Entry) -> Option<Diag> {
+    let (code, words) = first_word(entry.word.as_str());
+    let code = Code::from_str(code).ok()?;
+    let message = str::from_utf8(&entry.text).ok()?;
+    let labels = labels_of(alloc, words)?;
+    let notes = Notes::new(alloc);
+    finding(alloc, Severity::Warning, code, message, labels, notes).ok()
+}
+
 fn warnings(alloc: Global, entries: &[Entry]) -> Option<Vec<Diag>> {
     let mut warnings = Vec::new(alloc);
     for entry in entries {
         if entry.key.as_str() == "gathered" {
-            let (code, words) = first_word(entry.word.as_str());
-            let code = Code::from_str(code).ok()?;
-            let message = str::from_utf8(&entry.text).ok()?;
-            let labels = labels_of(alloc, words)?;
-            let notes = Notes::new(alloc);
-            let warning = finding(alloc, Severity::Warning, code, message, labels, notes).ok()?;
+            let warning = warning(alloc, entry)?;
             warnings.push(warning).ok()?;
         }
     }
@@ -229,14 +245,16 @@ fn krate_pack(alloc: Global, case: &Case<'_>) -> Option<Pack> {
 }
 
 /// The pack of the policy, after each crate of a case that is not passed over.
-fn last_of(alloc: Global, policy: &ValidConfig, entries: &[Entry]) -> Option<Pack> {
-    let mut encountered = Encountered::of(alloc, policy).ok()?;
-    for entry in entries {
+fn policy_pack(alloc: Global, case: &Case<'_>) -> Option<Pack> {
+    let policy = policy_of(alloc, case)?;
+    let mut encountered = Encountered::of(alloc, &policy).ok()?;
+    for entry in case.own {
         if entry.key.as_str() == "crate" {
-            encountered.mark_all(&hits_of(alloc, entry.word.as_str())?);
+            let hits = hits_of(alloc, entry.word.as_str())?;
+            encountered.mark_all(&hits);
         }
     }
-    last_pack(alloc, policy, &encountered).ok()
+    last_pack(alloc, &policy, &encountered).ok()
 }
 
 /// A line for each finding with the crates that it is about.
@@ -249,14 +267,10 @@ fn put_about(out: &mut Shown, pack: &Pack) {
     }
 }
 
-/// What is printed of a pack, or else the crates that it is about.
-fn put_pack(alloc: Global, out: &mut Shown, key: &str, pack: &Pack, files: &Files) {
+/// What is printed of a pack.
+fn put_printed(alloc: Global, out: &mut Shown, format: Format, pack: &Pack, files: &Files) {
     let context = LogContext {
-        format: match key {
-            "human" => Format::Human,
-            "json" => Format::Json,
-            _ => return put_about(out, pack),
-        },
+        format,
         color: Color::Auto,
         log_level: LevelFilter::Info,
     };
@@ -274,15 +288,24 @@ fn put_pack(alloc: Global, out: &mut Shown, key: &str, pack: &Pack, files: &File
     out.put(str::from_utf8(sink.written()).unwrap_or("no UTF-8"));
 }
 
+/// What is printed of a pack, or else the crates that it is about.
+fn put_pack(alloc: Global, out: &mut Shown, key: &str, pack: &Pack, files: &Files) {
+    match key {
+        "human" => put_printed(alloc, out, Format::Human, pack, files),
+        "json" => put_printed(alloc, out, Format::Json, pack, files),
+        _ => put_about(out, pack),
+    }
+}
+
 /// What is told of the crate, where the case has a verdict on it, and of the policy, where it has one.
 pub fn put_told(alloc: Global, case: &Case<'_>, key: &str, out: &mut Shown) -> Option<()> {
     let files = table(alloc, case)?;
     if case.entry("verdict").is_some() {
-        put_pack(alloc, out, key, &krate_pack(alloc, case)?, &files);
+        let pack = krate_pack(alloc, case)?;
+        put_pack(alloc, out, key, &pack, &files);
     }
     if case.entry("allow").is_some() {
-        let policy = policy_of(alloc, case)?;
-        let pack = last_of(alloc, &policy, case.own)?;
+        let pack = policy_pack(alloc, case)?;
         put_pack(alloc, out, key, &pack, &files);
     }
     Some(())

@@ -52,7 +52,11 @@ const TOLD: CrateCases = CrateCases {
 
 impl Cases for CrateCases {
     fn is_given(&self, key: &str) -> bool {
-        self.given.split_whitespace().any(|given| given == key)
+        let mut is_given = false;
+        for given in self.given.split_whitespace() {
+            is_given = is_given | (given == key);
+        }
+        is_given
     }
 
     fn told(&self, alloc: Global, case: &Case<'_>, key: &str, out: &mut Shown) -> Answered {

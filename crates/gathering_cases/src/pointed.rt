@@ -6,7 +6,7 @@ use crate::gathering::put_findings;
 use crate::given::{World, file_told, first_word, krate, span, table, value, world_of};
 use case_files::{Case, Entry, Shown};
 use deny_text::{ListOf, PathBuf, Text};
-use diag_core::{Coord, Diag};
+use diag_core::{Coord, Diag, Files};
 use expression_core::{Name, Scanned, ScannedFile};
 use finding_core::{Case as Unsettled, Points, SeenFiles, Settles, find, missing_file, read_field};
 use graph_core::Krate;
@@ -27,17 +27,12 @@ fn bad_read(word: &str) -> Option<BadRead> {
     }
 }
 
-fn scanned(alloc: Global, words: &str) -> Option<Scanned> {
-    let (how, hash, score, name) = file_told(words);
-    if let Some(error) = bad_read(how) {
-        return Some(Scanned::Bad(error));
-    }
+fn named(alloc: Global, how: &str, hash: u32, score: u8, name: &str) -> Option<Scanned> {
     let name = Name {
         name: Text::copy(alloc, name).ok()?,
         renamed: false,
     };
     Some(match how {
-        "unnamed" => Scanned::Unnamed { hash, score },
         "low" => Scanned::Low { hash, score, name },
         "unknown" => Scanned::Unknown { hash, score, name },
         _ => Scanned::Joined {
@@ -46,6 +41,15 @@ fn scanned(alloc: Global, words: &str) -> Option<Scanned> {
             deprecated: false,
         },
     })
+}
+
+fn scanned(alloc: Global, words: &str) -> Option<Scanned> {
+    let (how, hash, score, name) = file_told(words);
+    match bad_read(how) {
+        Some(error) => Some(Scanned::Bad(error)),
+        None if how == "unnamed" => Some(Scanned::Unnamed { hash, score }),
+        None => named(alloc, how, hash, score, name),
+    }
 }
 
 /// What comes of the crate's licence files, by the key `scanned`.
@@ -121,41 +125,39 @@ fn krate_of(alloc: Global, case: &Case<'_>) -> Option<Krate> {
     Some(krate)
 }
 
-fn put_points(
+fn put_found(out: &mut Shown, key: &str, files: &Files, findings: &[Diag]) {
+    match key {
+        "points" => put_findings(out, files, findings),
+        "messages" => put_messages(out, findings),
+        _ => out.put(files.source(0).unwrap_or("no file")),
+    }
+}
+
+fn put_of(
     alloc: Global,
-    world: &mut World,
+    case: &Case<'_>,
     krate: &Krate,
-    settles: Settles<'_>,
+    joined: Option<&str>,
     key: &str,
     out: &mut Shown,
 ) -> Option<()> {
-    let points = found(alloc, world, krate, settles)?;
-    match key {
-        "points" => put_findings(out, &world.files, points.findings.items()),
-        "messages" => put_messages(out, points.findings.items()),
-        _ => out.put(world.files.source(0).unwrap_or("no file")),
-    }
-    Some(())
-}
-
-fn put_of(alloc: Global, case: &Case<'_>, krate: &Krate, key: &str, out: &mut Shown) -> Option<()> {
-    let mut world = world_of(alloc, case)?;
     let scanned = scanned_files(alloc, case.own)?;
-    let names = value(case, "joined-names");
-    let text = Text::copy(alloc, names.unwrap_or("")).ok()?;
-    let joined = if names.is_some() {
-        Some(text.as_str())
-    } else {
-        None
-    };
+    let mut world = world_of(alloc, case)?;
     let settles = settles(case, scanned.items(), joined);
-    put_points(alloc, &mut world, krate, settles, key, out)
+    let points = found(alloc, &mut world, krate, settles)?;
+    put_found(out, key, &world.files, points.findings.items());
+    Some(())
 }
 
 /// The places that the findings of a case point at, their levels and messages, or the text of the first file of the table.
 pub fn put(alloc: Global, case: &Case<'_>, key: &str, out: &mut Shown) -> Option<()> {
     let krate = krate_of(alloc, case)?;
-    put_of(alloc, case, &krate, key, out)
+    let names = Text::copy(alloc, value(case, "joined-names").unwrap_or("")).ok()?;
+    let joined = match case.entry("joined-names") {
+        Some(_) => Some(names.as_str()),
+        None => None,
+    };
+    put_of(alloc, case, &krate, joined, key, out)
 }
 
 /// What is told of a file of a clarification that is not there, whose path stands at these bytes of the first file of the table.

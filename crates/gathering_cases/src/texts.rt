@@ -65,23 +65,31 @@ fn write_entry(alloc: Global, text: &mut Synthetic, entry: &Entry) -> Result<(),
     }
 }
 
-/// The text that the entries of a case write, the places that were kept in it, or what these cut out.
-pub fn put_written(alloc: Global, case: &Case<'_>, key: &str, out: &mut Shown) -> Option<()> {
+fn written(alloc: Global, entries: &[Entry]) -> Option<Synthetic> {
     let mut text = Synthetic::new(alloc);
-    for entry in case.own {
+    for entry in entries {
         write_entry(alloc, &mut text, entry).ok()?;
     }
-    if key == "text" {
-        out.put(text.into_text().as_str());
-        return Some(());
-    }
+    Some(text)
+}
+
+fn put_spans(out: &mut Shown, text: &Synthetic, is_cut: bool) {
     for span in text.spans() {
-        if key == "spans" {
-            write!(out, "{}..{}\n", span.start, span.end);
-        } else {
+        if is_cut {
             let cut = text.text().get(span.start..span.end);
             write!(out, "`{}`\n", cut.unwrap_or("no place"));
+        } else {
+            write!(out, "{}..{}\n", span.start, span.end);
         }
+    }
+}
+
+/// The text that the entries of a case write, the places that were kept in it, or what these cut out.
+pub fn put_written(alloc: Global, case: &Case<'_>, key: &str, out: &mut Shown) -> Option<()> {
+    let text = written(alloc, case.own)?;
+    match key {
+        "text" => out.put(text.into_text().as_str()),
+        _ => put_spans(out, &text, key == "cuts"),
     }
     Some(())
 }

@@ -1,8 +1,8 @@
 //! Cases of policies: as they are written, and as they are loaded out of a tree in memory.
 use crate::show::{
-    put_clarified, put_config, put_findings, put_licensees, put_refusal, put_root, put_texts,
+    put_all, put_clarified, put_config, put_findings, put_refusal, put_root, put_texts,
 };
-use case_files::cases::wanted;
+use case_files::cases::{is_among, wanted};
 use case_files::tree::{number, tree_of};
 use case_files::{Answered, Case, Cases, Shown};
 use deny_text::PathBuf;
@@ -28,7 +28,7 @@ fn put_key(out: &mut Shown, key: &str, root: &RootConfig) {
         "faults" | "whole-faults" => out.put("none"),
         "read" => {
             if let Some(config) = &root.licenses {
-                put_licensees(out, config.allow.items());
+                put_all(out, config.allow.items());
             }
             put_texts(out, "exclude", &root.graph.exclude);
         }
@@ -65,14 +65,14 @@ fn path_of(alloc: Global, word: &str) -> Result<Option<PathBuf>, AllocError> {
     Ok(Some(PathBuf::copy(alloc, word)?))
 }
 
-/// Loads the policy of a case over a tree, and prints what there is room for.
-fn ending_in(
-    alloc: Global,
-    case: &Case<'_>,
-    room: usize,
-    tree: &mut MemTree,
-) -> Result<Ending, AllocError> {
-    let context = LogContext {
+fn paths_of(alloc: Global, case: &Case<'_>) -> Result<PolicyPaths, AllocError> {
+    let policy = path_of(alloc, case.word("at"))?;
+    let exceptions = path_of(alloc, case.word("exceptions"))?;
+    Ok(PolicyPaths { policy, exceptions })
+}
+
+fn context_of(case: &Case<'_>) -> LogContext {
+    LogContext {
         format: Format::Human,
         color: Color::Auto,
         log_level: match case.word("level") {
@@ -80,12 +80,20 @@ fn ending_in(
             "error" => LevelFilter::Error,
             _ => LevelFilter::Warn,
         },
-    };
-    let policy = path_of(alloc, case.word("at"))?;
-    let exceptions = path_of(alloc, case.word("exceptions"))?;
+    }
+}
+
+/// Loads the policy of a case over a tree, and prints what there is room for.
+fn ending_in(
+    alloc: Global,
+    case: &Case<'_>,
+    room: usize,
+    tree: &mut MemTree,
+) -> Result<Ending, AllocError> {
+    let paths = paths_of(alloc, case)?;
+    let context = context_of(case);
     let mut sink = MemSink::new(alloc, room, 1000)?;
     let mut files = Files::new(alloc);
-    let paths = PolicyPaths { policy, exceptions };
     let answer = load(
         alloc, paths, &mut files, context, tree, &mut sink, &Table, 0,
     );
@@ -97,16 +105,32 @@ fn ending_in(
     })
 }
 
-/// Loads the policy of a case, for a second time where the case wants that: the first read of the tree fails in both then.
-fn ending_of(alloc: Global, case: &Case<'_>, room: usize) -> io::Result<Ending> {
+/// Loads the policy once, and then has the next call fail.
+fn load_first(
+    alloc: Global,
+    case: &Case<'_>,
+    room: usize,
+    tree: &mut MemTree,
+) -> Result<(), AllocError> {
+    let _ = ending_in(alloc, case, room, tree)?;
+    tree.fail_call(1)
+}
+
+/// The tree of a case, of which a call fails.
+fn failing_tree(alloc: Global, case: &Case<'_>) -> io::Result<MemTree> {
     let mut tree = tree_of(alloc, case)?;
     match number(case.word("fail")) {
         Some(call) if call > 0 => tree.fail_call(call)?,
         _ => {}
     }
+    Ok(tree)
+}
+
+/// Loads the policy of a case, for a second time where the case wants that: the first read of the tree fails in both then.
+fn ending_of(alloc: Global, case: &Case<'_>, room: usize) -> io::Result<Ending> {
+    let mut tree = failing_tree(alloc, case)?;
     if case.entry("twice").is_some() {
-        let _ = ending_in(alloc, case, room, &mut tree)?;
-        tree.fail_call(1)?;
+        load_first(alloc, case, room, &mut tree)?;
     }
     Ok(ending_in(alloc, case, room, &mut tree)?)
 }
@@ -156,16 +180,32 @@ fn printed(sink: &MemSink) -> &str {
     str::from_utf8(sink.written()).unwrap_or("no UTF-8")
 }
 
-/// What a load came to whose findings found too little room, and whether it printed as much of them as there was room for.
-fn cut_at(alloc: Global, case: &Case<'_>, whole: &str, room: usize) -> io::Result<String> {
-    let ending = ending_of(alloc, case, room)?;
+/// Puts what a load came to whose findings found too little room, and whether it printed as much of them as there was room for.
+fn shown_cut(
+    alloc: Global,
+    ending: &Ending,
+    whole: &str,
+    room: usize,
+) -> Result<String, AllocError> {
     let mut out = Shown::new(alloc);
     put_answer(&mut out, &ending.answer);
     out.put(", ");
     put_files(&mut out, &ending.files);
-    let is_front = printed(&ending.sink) == whole.get(..room).unwrap_or("no front");
+    let printed = printed(&ending.sink);
+    let is_front = printed.len() == room && whole.starts_with(printed);
     out.put(if is_front { " a front" } else { " no front" });
-    Ok(out.into_text()?)
+    out.into_text()
+}
+
+fn cut_at(alloc: Global, case: &Case<'_>, whole: &str, room: usize) -> io::Result<String> {
+    let ending = ending_of(alloc, case, room)?;
+    Ok(shown_cut(alloc, &ending, whole, room)?)
+}
+
+fn put_other(out: &mut Shown, room: usize, one: &str, first: &str) {
+    if one != first {
+        write!(out, "{room}: {one}; ");
+    }
 }
 
 /// Puts what comes of a load in each room that is smaller than what is printed: how many there are and what comes of the
@@ -174,55 +214,70 @@ fn put_cuts(alloc: Global, case: &Case<'_>, whole: &str, out: &mut Shown) -> io:
     let first = cut_at(alloc, case, whole, 0)?;
     for room in 0..whole.len() {
         let one = cut_at(alloc, case, whole, room)?;
-        if one.as_str() != first.as_str() {
-            write!(out, "{room}: {one}; ");
-        }
+        put_other(out, room, one.as_str(), first.as_str());
     }
     write!(out, "{} rooms: {first}", whole.len());
     Ok(())
 }
 
-/// Puts what a key names of the load of a case. A policy that is refused has no lists.
-fn put_load(alloc: Global, case: &Case<'_>, key: &str, out: &mut Shown) -> io::Result<Answered> {
-    let ending = ending_of(alloc, case, 1000)?;
-    let printed = printed(&ending.sink);
+/// Puts what a key names of a load. A policy that is refused has no lists.
+fn put_ending(key: &str, ending: &Ending, out: &mut Shown) -> Answered {
     match (key, &ending.answer) {
         ("answer", answer) => put_answer(out, answer),
         ("files", _) => put_files(out, &ending.files),
         ("failures", _) => write!(out, "{}", ending.failures),
-        ("cut", _) => put_cuts(alloc, case, printed, out)?,
         ("found", Err(LoadError::ConfigInvalid(found))) => put_findings(out, found),
-        ("printed" | "found", _) => out.put(printed),
-        ("allowed", Ok(loaded)) => put_licensees(out, loaded.licenses.allowed.items()),
+        ("printed" | "found", _) => out.put(printed(&ending.sink)),
+        ("allowed", Ok(loaded)) => put_all(out, loaded.licenses.allowed.items()),
         ("clarified", Ok(loaded)) => put_clarified(out, &loaded.licenses.clarifications),
         ("excepted", Ok(loaded)) => put_excepted(out, &loaded.licenses.exceptions),
         ("allowed" | "clarified" | "excepted", Err(_)) => {}
-        _ => return Ok(Answered::NoSuchKey),
+        _ => return Answered::NoSuchKey,
     }
-    Ok(Answered::Yes)
+    Answered::Yes
 }
+
+/// Puts what a key names of the load of a case.
+fn put_load(alloc: Global, case: &Case<'_>, key: &str, out: &mut Shown) -> io::Result<Answered> {
+    let ending = ending_of(alloc, case, 1000)?;
+    if key == "cut" {
+        put_cuts(alloc, case, printed(&ending.sink), out)?;
+        return Ok(Answered::Yes);
+    }
+    Ok(put_ending(key, &ending, out))
+}
+
+/// Puts the table `licenses` of a policy that has none.
+fn put_left_out(alloc: Global, out: &mut Shown) {
+    put_config(out, &Config::default(alloc));
+}
+
+/// The keys that say what is put in.
+const GIVEN: [&str; 7] = [
+    "policy",
+    "at",
+    "exceptions",
+    "file",
+    "level",
+    "fail",
+    "twice",
+];
 
 /// Cases of policies.
 pub struct PolicyCases;
 
 impl Cases for PolicyCases {
     fn is_given(&self, key: &str) -> bool {
-        matches!(
-            key,
-            "policy" | "at" | "exceptions" | "file" | "level" | "fail" | "twice"
-        )
+        is_among(key, &GIVEN)
     }
 
     fn told(&self, alloc: Global, case: &Case<'_>, key: &str, out: &mut Shown) -> Answered {
         match (key, case.entry("policy")) {
-            ("left-out", _) => put_config(out, &Config::default(alloc)),
+            ("left-out", _) => put_left_out(alloc, out),
             ("licenses" | "faults" | "whole" | "whole-faults" | "read", Some(policy)) => {
                 put_policy(alloc, key, wanted(policy), out);
             }
-            _ => match put_load(alloc, case, key, out) {
-                Ok(answered) => return answered,
-                Err(_) => return Answered::CantBeTried,
-            },
+            _ => return put_load(alloc, case, key, out).unwrap_or(Answered::CantBeTried),
         }
         Answered::Yes
     }

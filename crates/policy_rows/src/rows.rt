@@ -1,17 +1,15 @@
 //! Rows of the parts and entries of a policy, each a text that is one value, and of parts that are validated.
 use crate::cases::{put_policy, read_policy};
-use crate::show::{
-    put_at, put_clarification, put_clarified, put_exceptions, put_findings, put_graph, put_level,
-    put_licensees, put_output, put_private, put_refusal, put_spans,
-};
+use crate::show::{Fields, put_at, put_clarified, put_findings, put_refusal, put_spans};
 use case_files::{Rows, Shown};
 use deny_text::{Span, Spanned, Text};
 use diag_core::{Diagnostic, Files, Severity};
 use key_rows::{Spans, deprecated, finish};
 use load_core::{Diagnostics, LoadError};
 use policy_core::{
-    BlanketAgreement, ExceptionsFile, FileSource, Licensee, LintLevel, Reason, Scope, SpannedList,
-    UnvalidatedConfig, ValidationContext,
+    BlanketAgreement, Clarification, Config, Exception, ExceptionsFile, FileSource, GraphConfig,
+    Licensee, LintLevel, OutputConfig, Private, Reason, Scope, SpannedList, UnvalidatedConfig,
+    ValidConfig, ValidationContext,
 };
 use policy_text::{ConfigError, ConfigText, ReadFault};
 use policy_toml::{Deserialize, TableHelper, Value};
@@ -19,11 +17,24 @@ use spdx_core::Table;
 use std::alloc::{AllocError, Global};
 use toml_value::read_value;
 
+fn value_of(alloc: Global, text: &str) -> Result<Value<'_>, ConfigError> {
+    match read_value(alloc, text, 0, 0) {
+        Ok((value, _)) => Ok(value),
+        Err(error) => Err(ConfigError::from(error)),
+    }
+}
+
 /// What a type reads from a text that is one value.
 fn read<T: Deserialize<Table> + Drop>(alloc: Global, text: &str) -> Result<T, ConfigError> {
-    match read_value(alloc, text, 0, 0) {
-        Ok((mut value, _)) => Ok(T::deserialize(alloc, &mut value, &Table)?),
-        Err(error) => Err(ConfigError::from(error)),
+    let mut value = value_of(alloc, text)?;
+    Ok(T::deserialize(alloc, &mut value, &Table)?)
+}
+
+/// Puts what a type reads from a text that is one value, or why it is refused.
+fn put_as<T: Deserialize<Table> + Fields + Drop>(alloc: Global, text: &str, out: &mut Shown) {
+    match read::<T>(alloc, text) {
+        Ok(read) => read.put(out),
+        Err(error) => put_refusal(out, &LoadError::from(error)),
     }
 }
 
@@ -36,6 +47,15 @@ fn order(one: &Licensee, other: &Licensee) -> &'static str {
     } else {
         "greater"
     }
+}
+
+/// Puts how the first of two licensees beside a bar compares to the second.
+fn put_order(alloc: Global, text: &str, out: &mut Shown) -> Result<(), ConfigError> {
+    let (one, other) = text.split_once(" | ").unwrap_or((text, ""));
+    let one: Licensee = read(alloc, one)?;
+    let other: Licensee = read(alloc, other)?;
+    out.put(order(&one, &other));
+    Ok(())
 }
 
 /// The text of a policy's file, of which is heard what these words say.
@@ -53,6 +73,12 @@ fn heard(alloc: Global, words: &str) -> Result<ConfigText, ConfigError> {
     ConfigText::from_heard(alloc, heard)
 }
 
+fn put_heard(alloc: Global, words: &str, out: &mut Shown) -> Result<(), ConfigError> {
+    let found = heard(alloc, words)?;
+    write!(out, "{:?} {}", found.text, found.is_there);
+    Ok(())
+}
+
 /// Puts a reason, and whether its table has other keys, which go back.
 fn put_reason(alloc: Global, value: &mut Value<'_>, out: &mut Shown) {
     match Reason::deserialize(alloc, value, &Table) {
@@ -65,8 +91,8 @@ fn put_reason(alloc: Global, value: &mut Value<'_>, out: &mut Shown) {
 }
 
 /// Puts what a key `old` that holds a flag and is no longer used gives, where it stands, and what is told at the table's end.
-fn put_removed(alloc: Global, table: TableHelper<'_>, out: &mut Shown) -> Result<(), ConfigError> {
-    let mut table = table;
+fn put_removed(alloc: Global, value: &mut Value<'_>, out: &mut Shown) -> Result<(), ConfigError> {
+    let mut table = TableHelper::new(alloc, value)?;
     let mut spans = Spans::new(alloc);
     let flag: Option<bool> = deprecated(alloc, &mut table, "old", &mut spans, &())?;
     write!(out, "{flag:?};");
@@ -79,10 +105,31 @@ fn put_removed(alloc: Global, table: TableHelper<'_>, out: &mut Shown) -> Result
 
 /// Puts what a table comes to of which more is told than what its type reads.
 fn put_table(alloc: Global, group: &str, text: &str, out: &mut Shown) -> Result<(), ConfigError> {
-    match read_value(alloc, text, 0, 0) {
-        Ok((mut value, _)) if group == "reason" => Ok(put_reason(alloc, &mut value, out)),
-        Ok((mut value, _)) => put_removed(alloc, TableHelper::new(alloc, &mut value)?, out),
-        Err(error) => Err(ConfigError::from(error)),
+    let mut value = value_of(alloc, text)?;
+    if group == "reason" {
+        put_reason(alloc, &mut value, out);
+        return Ok(());
+    }
+    put_removed(alloc, &mut value, out)
+}
+
+/// The table `licenses` of a policy with an expression or an address.
+fn config_of(alloc: Global, group: &str, text: &str) -> Result<Option<Config>, ConfigError> {
+    let (before, behind) = match group {
+        "private addresses" => ("[licenses.private]\nignore-sources = [", "]\n"),
+        _ => (
+            "licenses.clarify = [{ name = \"a\", license-files = [], expression = ",
+            " }]\n",
+        ),
+    };
+    let policy = format!(in alloc; "{before}{text}{behind}")?;
+    Ok(read_policy(alloc, policy.as_str())?.licenses)
+}
+
+fn put_valid_lists(out: &mut Shown, valid: &ValidConfig) {
+    put_clarified(out, &valid.clarifications);
+    for address in valid.ignore_sources.items() {
+        write!(out, "{address};");
     }
 }
 
@@ -94,55 +141,68 @@ fn put_valid(
     context: ValidationContext<'_>,
     out: &mut Shown,
 ) -> Result<(), ConfigError> {
-    let (before, behind) = match group {
-        "private addresses" => ("[licenses.private]\nignore-sources = [", "]\n"),
-        _ => (
-            "licenses.clarify = [{ name = \"a\", license-files = [], expression = ",
-            " }]\n",
-        ),
-    };
-    let policy = format!(in alloc; "{before}{text}{behind}")?;
-    let root = read_policy(alloc, policy.as_str())?;
-    let licenses = root.licenses;
-    if let Some(config) = licenses {
-        let valid = config.validate(alloc, context, &Table)?;
-        put_clarified(out, &valid.clarifications);
-        for address in valid.ignore_sources.items() {
-            write!(out, "{address};");
+    match config_of(alloc, group, text)? {
+        Some(config) => {
+            let valid = config.validate(alloc, context, &Table)?;
+            put_valid_lists(out, &valid);
         }
+        None => out.put("no table"),
     }
     Ok(())
 }
 
-/// Appends the words of a text, which stand at 0, 1 and so on.
-fn put_words<'t>(list: &mut SpannedList<&'t str>, text: &'t str) -> Result<(), AllocError> {
+/// Puts what is valid of a policy, and all that is told. The policy has the number 3.
+fn put_told(alloc: Global, group: &str, text: &str, out: &mut Shown) -> Result<(), ConfigError> {
+    let mut files = Files::new(alloc);
+    let mut found = Diagnostics::new(alloc);
+    let context = ValidationContext {
+        cfg_id: 3,
+        files: &mut files,
+        diagnostics: &mut found,
+    };
+    put_valid(alloc, group, text, context, out)?;
+    put_findings(out, &found);
+    Ok(())
+}
+
+/// The words of a text, which stand at 0, 1 and so on.
+fn words_of(alloc: Global, text: &str) -> Result<SpannedList<&str>, AllocError> {
+    let mut list = SpannedList::new(alloc);
     let mut start: usize = 0;
     for value in text.split_whitespace() {
         let span = Span { start, end: start };
         list.push(Spanned { value, span })?;
         start = start.wrapping_add(1);
     }
-    Ok(())
+    Ok(list)
 }
 
-/// Puts what is valid of a policy, all that is told, and the words that are left. The policy has the number 3.
-fn put_told(alloc: Global, group: &str, text: &str, out: &mut Shown) -> Result<(), ConfigError> {
+/// The words of a text that are left where equal ones are told; or the text is the message of a finding.
+fn words_left<'t>(
+    alloc: Global,
+    group: &str,
+    text: &'t str,
+    found: &mut Diagnostics,
+) -> Result<SpannedList<&'t str>, AllocError> {
     let mut files = Files::new(alloc);
-    let mut found = Diagnostics::new(alloc);
-    let mut words = SpannedList::new(alloc);
     let mut context = ValidationContext {
         cfg_id: 3,
         files: &mut files,
-        diagnostics: &mut found,
+        diagnostics: found,
     };
-    match group {
-        "finding" => context.push(Diagnostic::new(alloc, Severity::Note).with_message(text)?)?,
-        "equal items" => {
-            put_words(&mut words, text)?;
-            context.dedup(alloc, &mut words)?;
-        }
-        _ => put_valid(alloc, group, text, context, out)?,
+    if group == "finding" {
+        context.push(Diagnostic::new(alloc, Severity::Note).with_message(text)?)?;
+        return Ok(SpannedList::new(alloc));
     }
+    let mut words = words_of(alloc, text)?;
+    context.dedup(alloc, &mut words)?;
+    Ok(words)
+}
+
+/// Puts all that is told of some words, and those that are left.
+fn put_left(alloc: Global, group: &str, text: &str, out: &mut Shown) -> Result<(), ConfigError> {
+    let mut found = Diagnostics::new(alloc);
+    let words = words_left(alloc, group, text, &mut found)?;
     put_findings(out, &found);
     for word in words.items() {
         write!(out, "{} at {};", word.value, word.span.start);
@@ -150,45 +210,21 @@ fn put_told(alloc: Global, group: &str, text: &str, out: &mut Shown) -> Result<(
     Ok(())
 }
 
-/// Puts what a text comes to in a group, and returns whether there is such a group.
-fn put_row(alloc: Global, group: &str, text: &str, out: &mut Shown) -> Result<bool, ConfigError> {
+/// Puts what a text comes to in a group of which several calls are made.
+fn put_called(alloc: Global, group: &str, text: &str, out: &mut Shown) -> Result<(), ConfigError> {
     match group {
-        "private crates" => put_private(out, &read(alloc, text)?),
-        "output" => put_output(out, read(alloc, text)?),
-        "licence file" => {
-            let file: FileSource = read(alloc, text)?;
-            put_at(out, &file.path);
-            write!(out, " {}", file.hash);
-        }
-        "graph" => put_graph(out, &read(alloc, text)?),
-        "reason" | "removed key" => put_table(alloc, group, text, out)?,
-        "scope" => out.put(read::<Scope>(alloc, text)?.as_str()),
-        "agreement" => write!(out, "{:?}", read::<BlanketAgreement>(alloc, text)?),
-        "lint level" => put_level(out, read(alloc, text)?),
-        "left out" if text == "agreement" => write!(out, "{:?}", BlanketAgreement::default()),
-        "left out" => put_level(out, LintLevel::default()),
-        "licensee" => put_licensees(out, &[read(alloc, text)?]),
-        "two licensees" => {
-            let (one, other) = text.split_once(" | ").unwrap_or((text, ""));
-            out.put(order(&read(alloc, one)?, &read(alloc, other)?));
-        }
-        "exception" => put_exceptions(out, &[read(alloc, text)?]),
-        "exceptions file" => {
-            let file: ExceptionsFile = read(alloc, text)?;
-            put_exceptions(out, file.exceptions.items());
-        }
-        "clarification" => put_clarification(out, &read(alloc, text)?),
-        "threshold" => put_policy(alloc, group, text, out),
-        "policy's file" => {
-            let found = heard(alloc, text)?;
-            write!(out, "{:?} {}", found.text, found.is_there);
-        }
-        "clarified expression" | "private addresses" | "equal items" | "finding" => {
-            put_told(alloc, group, text, out)?;
-        }
-        _ => return Ok(false),
+        "reason" | "removed key" => put_table(alloc, group, text, out),
+        "two licensees" => put_order(alloc, text, out),
+        "policy's file" => put_heard(alloc, text, out),
+        "equal items" | "finding" => put_left(alloc, group, text, out),
+        _ => put_told(alloc, group, text, out),
     }
-    Ok(true)
+}
+
+fn put_tried(alloc: Global, group: &str, text: &str, out: &mut Shown) {
+    if let Err(error) = put_called(alloc, group, text, out) {
+        put_refusal(out, &LoadError::from(error));
+    }
 }
 
 /// Rows of policies.
@@ -196,12 +232,33 @@ pub struct PolicyRows;
 
 impl Rows for PolicyRows {
     fn answer(&self, alloc: Global, group: &str, text: &str, out: &mut Shown) -> bool {
-        match put_row(alloc, group, text, out) {
-            Ok(is_known) => is_known,
-            Err(error) => {
-                put_refusal(out, &LoadError::from(error));
-                true
+        match group {
+            "private crates" => put_as::<Private>(alloc, text, out),
+            "output" => put_as::<OutputConfig>(alloc, text, out),
+            "licence file" => put_as::<FileSource>(alloc, text, out),
+            "graph" => put_as::<GraphConfig>(alloc, text, out),
+            "scope" => put_as::<Scope>(alloc, text, out),
+            "agreement" => put_as::<BlanketAgreement>(alloc, text, out),
+            "lint level" => put_as::<LintLevel>(alloc, text, out),
+            "left out" if text == "agreement" => BlanketAgreement::default().put(out),
+            "left out" => LintLevel::default().put(out),
+            "licensee" => put_as::<Licensee>(alloc, text, out),
+            "exception" => put_as::<Exception>(alloc, text, out),
+            "exceptions file" => put_as::<ExceptionsFile>(alloc, text, out),
+            "clarification" => put_as::<Clarification>(alloc, text, out),
+            "threshold" => put_policy(alloc, group, text, out),
+            "reason"
+            | "removed key"
+            | "two licensees"
+            | "policy's file"
+            | "equal items"
+            | "finding"
+            | "clarified expression"
+            | "private addresses" => {
+                put_tried(alloc, group, text, out);
             }
+            _ => return false,
         }
+        true
     }
 }

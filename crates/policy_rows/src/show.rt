@@ -4,8 +4,8 @@ use deny_text::{Span, Spanned, Texts};
 use diag_core::{Label, LabelStyle, Severity};
 use load_core::{Diagnostics, LoadError};
 use policy_core::{
-    Clarification, Config, Exception, GraphConfig, Licensee, LintLevel, OutputConfig, Private,
-    RootConfig, ValidClarifications,
+    BlanketAgreement, Clarification, Config, Exception, ExceptionsFile, FileSource, GraphConfig,
+    Licensee, LintLevel, OutputConfig, Private, RootConfig, Scope, ValidClarifications,
 };
 use std::fmt::Display;
 
@@ -33,79 +33,125 @@ pub fn put_texts(out: &mut Shown, name: &str, texts: &Texts) {
     }
 }
 
-/// Puts a level with how grave what it finds is.
-pub fn put_level(out: &mut Shown, level: LintLevel) {
-    write!(out, "{level:?} {:?}", Severity::from(level));
+/// What is shown by its fields.
+pub trait Fields {
+    fn put(&self, out: &mut Shown);
 }
 
-pub fn put_private(out: &mut Shown, private: &Private) {
-    write!(out, "ignore={} sources=", private.ignore);
-    for source in private.ignore_sources.items() {
-        put_at(out, source);
+/// A level, with how grave what it finds is.
+impl Fields for LintLevel {
+    fn put(&self, out: &mut Shown) {
+        let level = *self;
+        write!(out, "{level:?} {:?}", Severity::from(level));
+    }
+}
+
+impl Fields for BlanketAgreement {
+    fn put(&self, out: &mut Shown) {
+        let agreement = *self;
+        write!(out, "{agreement:?}");
+    }
+}
+
+impl Fields for Scope {
+    fn put(&self, out: &mut Shown) {
+        out.put(self.as_str());
+    }
+}
+
+impl Fields for FileSource {
+    fn put(&self, out: &mut Shown) {
+        put_at(out, &self.path);
+        write!(out, " {}", self.hash);
+    }
+}
+
+impl Fields for Private {
+    fn put(&self, out: &mut Shown) {
+        write!(out, "ignore={} sources=", self.ignore);
+        for source in self.ignore_sources.items() {
+            put_at(out, source);
+            out.put(";");
+        }
+        put_texts(out, "registries", &self.registries);
+    }
+}
+
+impl Fields for OutputConfig {
+    fn put(&self, out: &mut Shown) {
+        match self.feature_depth {
+            Some(depth) => write!(out, "depth {depth}"),
+            None => out.put("no depth"),
+        }
+    }
+}
+
+impl Fields for GraphConfig {
+    fn put(&self, out: &mut Shown) {
+        for target in self.targets.items() {
+            put_at(out, &target.filter);
+            put_texts(out, "with", &target.features);
+            out.put("; ");
+        }
+        write!(out, "all={}", self.all_features);
+        write!(out, " none={}", self.no_default_features);
+        write!(out, " dev={}", self.exclude_dev);
+        write!(out, " unpublished={}", self.exclude_unpublished);
+        put_texts(out, "exclude", &self.exclude);
+        put_texts(out, "features", &self.features);
+    }
+}
+
+impl Fields for Licensee {
+    fn put(&self, out: &mut Shown) {
+        put_at(out, &self.0);
         out.put(";");
     }
-    put_texts(out, "registries", &private.registries);
 }
 
-pub fn put_output(out: &mut Shown, output: OutputConfig) {
-    match output.feature_depth {
-        Some(depth) => write!(out, "depth {depth}"),
-        None => out.put("no depth"),
+impl Fields for Exception {
+    fn put(&self, out: &mut Shown) {
+        write!(out, "{}:", self.spec);
+        put_all(out, self.allow.items());
     }
 }
 
-pub fn put_graph(out: &mut Shown, graph: &GraphConfig) {
-    for target in graph.targets.items() {
-        put_at(out, &target.filter);
-        put_texts(out, "with", &target.features);
-        out.put("; ");
-    }
-    write!(out, "all={}", graph.all_features);
-    write!(out, " none={}", graph.no_default_features);
-    write!(out, " dev={}", graph.exclude_dev);
-    write!(out, " unpublished={}", graph.exclude_unpublished);
-    put_texts(out, "exclude", &graph.exclude);
-    put_texts(out, "features", &graph.features);
-}
-
-pub fn put_licensees(out: &mut Shown, licensees: &[Licensee]) {
-    for licensee in licensees {
-        put_at(out, &licensee.0);
-        out.put(";");
+impl Fields for ExceptionsFile {
+    fn put(&self, out: &mut Shown) {
+        put_all(out, self.exceptions.items());
     }
 }
 
-pub fn put_exceptions(out: &mut Shown, exceptions: &[Exception]) {
-    for exception in exceptions {
-        write!(out, "{}:", exception.spec);
-        put_licensees(out, exception.allow.items());
+impl Fields for Clarification {
+    fn put(&self, out: &mut Shown) {
+        write!(out, "{}: ", self.spec);
+        put_at(out, &self.expression);
+        write!(out, " {};", self.escapes);
+        for file in self.license_files.items() {
+            write!(out, "{} {};", file.path.value, file.hash);
+        }
     }
 }
 
-pub fn put_clarification(out: &mut Shown, clarification: &Clarification) {
-    write!(out, "{}: ", clarification.spec);
-    put_at(out, &clarification.expression);
-    write!(out, " {};", clarification.escapes);
-    for file in clarification.license_files.items() {
-        write!(out, "{} {};", file.path.value, file.hash);
+pub fn put_all<T: Fields>(out: &mut Shown, items: &[T]) {
+    for item in items {
+        item.put(out);
     }
 }
 
 pub fn put_config(out: &mut Shown, config: &Config) {
-    put_private(out, &config.private);
+    config.private.put(out);
     write!(out, "\nthreshold={}", config.confidence_threshold.0);
     write!(out, "\nunused_allowed={:?}", config.unused_allowed_license);
     let level = config.unused_license_exception;
     write!(out, " unused_exception={level:?}");
     write!(out, "\ndev={}", config.include_dev);
     write!(out, " build={}\nallow=", config.include_build);
-    put_licensees(out, config.allow.items());
+    put_all(out, config.allow.items());
     out.put("\nclarify=");
-    for clarification in config.clarify.items() {
-        put_clarification(out, clarification);
-    }
+    put_all(out, config.clarify.items());
     out.put("\nexceptions=");
-    put_exceptions(out, config.exceptions.items());
+    put_all(out, config.exceptions.items());
     out.put("\ndeprecated=");
     put_spans(out, config.deprecated_spans.items());
     out.put("\n");
@@ -114,11 +160,11 @@ pub fn put_config(out: &mut Shown, config: &Config) {
 /// Puts a policy, its table `licenses` by whether it is there.
 pub fn put_root(out: &mut Shown, root: &RootConfig) {
     write!(out, "licenses={}\n", root.licenses.is_some());
-    put_graph(out, &root.graph);
+    root.graph.put(out);
     out.put("\ndeprecated=");
     put_spans(out, root.graph_deprecated.items());
     out.put("\n");
-    put_output(out, root.output);
+    root.output.put(out);
     if let Some(span) = root.output_deprecated {
         out.put(" at ");
         put_span(out, span);

@@ -5,6 +5,7 @@ use case_files::escapes::unescaped;
 use case_files::told::Unread;
 use case_files::{Case, Shown};
 use std::alloc::{AllocError, Global};
+use std::fmt::Display;
 
 /// Whether there was memory for something.
 pub type Made = Result<(), AllocError>;
@@ -26,6 +27,14 @@ pub trait Called {
 /// A word, of which `''` has no letter.
 pub fn letters_of(word: &str) -> &str {
     if word == "''" { "" } else { word }
+}
+
+/// Puts a value that was made.
+pub fn put_made<D: Display + Drop>(out: &mut Shown, made: Result<D, AllocError>) {
+    match made {
+        Ok(value) => write!(out, "{value}"),
+        Err(_) => out.want_memory(),
+    }
 }
 
 pub fn number_in(text: &str) -> usize {

@@ -1,5 +1,5 @@
 //! Codes and levels of findings, what overrides make of them, and keys that are no longer wanted.
-use crate::calls::number_in;
+use crate::calls::{Made, number_in, put_made};
 use crate::paths::{pair_of, put_option};
 use case_files::Shown;
 use deny_text::{PathBuf, Span, Text};
@@ -65,47 +65,95 @@ fn deprecated(alloc: Global, name: &str) -> Result<Diagnostic, AllocError> {
     deprecated.into_diagnostic(alloc)
 }
 
-/// What words override: `CODE=LEVEL`, or `LEVEL>LEVEL`.
-fn overrides_of(alloc: Global, words: &str) -> Result<DiagnosticOverrides, AllocError> {
-    let mut codes = CodeMap::new(alloc);
-    let mut levels = LevelPairs::new(alloc);
-    for word in words.split(' ') {
-        if let Some((name, level)) = word.split_once('=') {
-            let _ = codes.insert(Text::copy(alloc, name)?, severity_named(level))?;
-        } else if let Some((input, output)) = word.split_once('>') {
-            let (input, output) = (severity_named(input), severity_named(output));
-            levels.push(LevelPair { input, output })?;
-        }
+/// Takes a word that overrides: `CODE=LEVEL`, or `LEVEL>LEVEL`.
+fn take(alloc: Global, overrides: &mut DiagnosticOverrides, word: &str) -> Made {
+    if let Some((name, level)) = word.split_once('=') {
+        let name = Text::copy(alloc, name)?;
+        let _ = overrides
+            .code_overrides
+            .insert(name, severity_named(level))?;
+    } else if let Some((input, output)) = word.split_once('>') {
+        let (input, output) = (severity_named(input), severity_named(output));
+        overrides.level_overrides.push(LevelPair { input, output })?;
     }
-    Ok(DiagnosticOverrides {
-        code_overrides: codes,
-        level_overrides: levels,
-    })
+    Ok(())
 }
 
-/// A sink with overrides, and the findings that were pushed to it: each `CODE LEVEL`, or `LEVEL` without a code.
-fn sink_of(alloc: Global, words: &str, findings: &str) -> Result<ErrorSink, AllocError> {
+/// What words override.
+fn overrides_of(alloc: Global, words: &str) -> Result<DiagnosticOverrides, AllocError> {
+    let mut overrides = DiagnosticOverrides {
+        code_overrides: CodeMap::new(alloc),
+        level_overrides: LevelPairs::new(alloc),
+    };
+    for word in words.split(' ') {
+        take(alloc, &mut overrides, word)?;
+    }
+    Ok(overrides)
+}
+
+/// A finding that stands as `CODE LEVEL`, or as `LEVEL` without a code.
+fn finding_of(alloc: Global, text: &str) -> Result<Diag, AllocError> {
+    let (name, level) = text.split_once(' ').unwrap_or(("", text));
+    let finding = Diagnostic::new(alloc, severity_named(level));
+    if name.is_empty() {
+        return Diag::new(finding, None);
+    }
+    Diag::new(finding.with_code(name)?, None)
+}
+
+fn pack_of(alloc: Global, findings: &str) -> Result<Pack, AllocError> {
     let mut pack = Pack::new(alloc, Check::Licenses);
     for text in findings.split(", ") {
-        let (name, level) = text.split_once(' ').unwrap_or(("", text));
-        let mut finding = Diagnostic::new(alloc, severity_named(level));
-        if !name.is_empty() {
-            finding = finding.with_code(name)?;
-        }
-        pack.push(Diag::new(finding, None)?)?;
+        let finding = finding_of(alloc, text)?;
+        pack.push(finding)?;
     }
-    let mut sink = ErrorSink::new(alloc, Some(overrides_of(alloc, words)?));
+    Ok(pack)
+}
+
+/// A sink with overrides, and the findings that were pushed to it.
+fn sink_of(alloc: Global, words: &str, findings: &str) -> Result<ErrorSink, AllocError> {
+    let overrides = overrides_of(alloc, words)?;
+    let mut sink = ErrorSink::new(alloc, Some(overrides));
+    let pack = pack_of(alloc, findings)?;
     sink.push(pack)?;
     Ok(sink)
 }
 
-/// Puts how many packs there are, and each finding's level.
-fn put_levels(out: &mut Shown, packs: &[Pack]) {
-    write!(out, "{}:", packs.len());
-    for pack in packs {
+/// Puts how many packs a sink has, and each finding's level.
+fn put_levels(out: &mut Shown, sink: &ErrorSink) {
+    write!(out, "{}:", sink.packs.items().len());
+    for pack in sink.packs.items() {
         for finding in pack.iter() {
             write!(out, " {:?}", finding.diag.severity);
         }
+    }
+}
+
+fn put_packs(out: &mut Shown, alloc: Global, words: &str, findings: &str) {
+    match &sink_of(alloc, words, findings) {
+        Ok(sink) => put_levels(out, sink),
+        Err(_) => out.want_memory(),
+    }
+}
+
+/// Puts the level that overrides give to a code and a level.
+fn put_level(out: &mut Shown, alloc: Global, words: &str, finding: &str) {
+    let (name, level) = finding.split_once(' ').unwrap_or((finding, ""));
+    match &overrides_of(alloc, words) {
+        Ok(overrides) => write!(out, "{:?}", overrides.get(name, severity_named(level))),
+        Err(_) => out.want_memory(),
+    }
+}
+
+/// Puts the level or the code of the finding on a deprecated key.
+fn put_deprecated(out: &mut Shown, alloc: Global, name: &str, is_level: bool) {
+    match &deprecated(alloc, name) {
+        Ok(finding) if is_level => write!(out, "{:?}", finding.severity),
+        Ok(finding) => match &finding.code {
+            Some(code) => write!(out, "{code}"),
+            None => out.put("none"),
+        },
+        Err(_) => out.want_memory(),
     }
 }
 
@@ -118,30 +166,50 @@ fn tree_error_named(name: &str) -> TreeError {
     }
 }
 
+/// Adds a file with the first text, and gives it the second one later, where that has letters.
+fn put_file(alloc: Global, files: &mut Files, first: &str, second: &str) -> Made {
+    let name = Text::copy(alloc, "named")?;
+    files.add_unnamed(name, Text::copy(alloc, first)?)?;
+    if !second.is_empty() {
+        files.update(0, Text::copy(alloc, second)?)?;
+    }
+    Ok(())
+}
+
 /// The file with a text, or with the one behind `, then `, which it is given later; none of the text `no file`.
 fn files_of(alloc: Global, text: &str) -> Result<Files, AllocError> {
     let (first, second) = text.split_once(", then ").unwrap_or((text, ""));
     let mut files = Files::new(alloc);
     if text != "no file" {
-        files.add_unnamed(Text::copy(alloc, "named")?, Text::copy(alloc, first)?)?;
-        if !second.is_empty() {
-            files.update(0, Text::copy(alloc, second)?)?;
-        }
+        put_file(alloc, &mut files, first, second)?;
     }
     Ok(files)
 }
 
-/// Puts what a file says of the byte or the line of that number.
+/// Puts what a file says of the byte or the line of that number, or else its name and its text.
 fn put_place(out: &mut Shown, group: &str, files: &Files, number: usize) {
     match group {
         "line and column" => match files.location(0, number) {
             Ok(place) => write!(out, "{}:{}", place.line, place.column),
             Err(error) => write!(out, "{error:?}"),
         },
+        "file that was updated" => {
+            let source = files.source(0).unwrap_or("no source");
+            write!(out, "{}: {source}", files.name(0).unwrap_or("no name"));
+        }
         _ => match files.line_range(0, number) {
             Ok(span) => write!(out, "{}..{}", span.start, span.end),
             Err(error) => write!(out, "{error:?}"),
         },
+    }
+}
+
+/// Puts what a file says that stands as `NUMBER in TEXT`, or as its text alone.
+fn put_in_file(out: &mut Shown, alloc: Global, group: &str, text: &str) {
+    let (number, source) = text.split_once(" in").unwrap_or(("1", text));
+    match &files_of(alloc, source.trim_start()) {
+        Ok(files) => put_place(out, group, files, number_in(number)),
+        Err(_) => out.want_memory(),
     }
 }
 
@@ -168,50 +236,28 @@ fn added(out: &mut Shown, alloc: Global, words: &str) -> Files {
     files
 }
 
-/// Puts what files by number and by path come to in a group, and returns whether there is such a group.
-fn put_of_files(
-    out: &mut Shown,
-    alloc: Global,
-    group: &str,
-    text: &str,
-) -> Result<bool, AllocError> {
-    let (number, source) = text.split_once(" in").unwrap_or(("1", text));
+/// Adds the files of some words, and puts the text of that with the path behind a bar, where one is looked for.
+fn put_added(out: &mut Shown, alloc: Global, text: &str, is_sought: bool) {
     let (words, path) = pair_of(text);
-    match group {
-        "last of some files" => {
-            let _ = added(out, alloc, words);
-        }
-        "file by its path" => {
-            let files = added(out, alloc, words);
-            put_option(out, files.source_by_path(path));
-        }
-        "line and column" | "bytes of a line" | "second line of it" => {
-            put_place(
-                out,
-                group,
-                &files_of(alloc, source.trim_start())?,
-                number_in(number),
-            )
-        }
-        "file that was updated" => {
-            let files = files_of(alloc, text)?;
-            let source = files.source(0).unwrap_or("no source");
-            write!(out, "{}: {source}", files.name(0).unwrap_or("no name"));
-        }
-        _ => return Ok(false),
+    let files = added(out, alloc, words);
+    if is_sought {
+        put_option(out, files.source_by_path(path));
     }
-    Ok(true)
 }
 
-/// Puts what a text comes to in a group, and returns whether there is such a group.
-pub fn put(out: &mut Shown, alloc: Global, group: &str, text: &str) -> Result<bool, AllocError> {
+fn put_qualified(out: &mut Shown, alloc: Global, name: &str) {
+    match code_named(name) {
+        Some(code) => put_made(out, code.qualified_str(alloc)),
+        None => out.put("none"),
+    }
+}
+
+/// Puts what a text comes to in a group of codes and levels, and returns whether there is such a group.
+fn put_of_codes(out: &mut Shown, alloc: Global, group: &str, text: &str) -> bool {
     let (one, other) = pair_of(text);
     match group {
         "codes in their order" | "place of a code" => put_code(out, text),
-        "qualified code" => match code_named(text) {
-            Some(code) => write!(out, "{}", code.qualified_str(alloc)?),
-            None => out.put("none"),
-        },
+        "qualified code" => put_qualified(out, alloc, text),
         "code before another" => write!(out, "{}", code_named(one) < code_named(other)),
         "level milder than another" => {
             write!(out, "{}", severity_named(one) < severity_named(other))
@@ -220,20 +266,27 @@ pub fn put(out: &mut Shown, alloc: Global, group: &str, text: &str) -> Result<bo
             Some(level) => write!(out, "{:?}", log_level_to_severity(level)),
             None => out.put("no level"),
         },
-        "why a key is deprecated" => write!(out, "{}", reason_named(text)),
-        "level of a deprecated key" => write!(out, "{:?}", deprecated(alloc, text)?.severity),
-        "code of a deprecated key" => match &deprecated(alloc, text)?.code {
-            Some(code) => write!(out, "{code}"),
-            None => out.put("none"),
-        },
-        "overridden" => {
-            let (name, level) = other.split_once(' ').unwrap_or((other, ""));
-            let level = overrides_of(alloc, one)?.get(name, severity_named(level));
-            write!(out, "{level:?}");
-        }
-        "overridden in packs" => put_levels(out, sink_of(alloc, one, other)?.packs.items()),
-        "failures of a tree" => write!(out, "{}", tree_error_named(text)),
-        _ => return put_of_files(out, alloc, group, text),
+        _ => return false,
     }
-    Ok(true)
+    true
+}
+
+/// Puts what a text comes to in a group, and returns whether there is such a group.
+pub fn put(out: &mut Shown, alloc: Global, group: &str, text: &str) -> bool {
+    let (one, other) = pair_of(text);
+    match group {
+        "why a key is deprecated" => write!(out, "{}", reason_named(text)),
+        "level of a deprecated key" => put_deprecated(out, alloc, text, true),
+        "code of a deprecated key" => put_deprecated(out, alloc, text, false),
+        "overridden" => put_level(out, alloc, one, other),
+        "overridden in packs" => put_packs(out, alloc, one, other),
+        "failures of a tree" => write!(out, "{}", tree_error_named(text)),
+        "last of some files" => put_added(out, alloc, text, false),
+        "file by its path" => put_added(out, alloc, text, true),
+        "line and column" | "bytes of a line" | "second line of it" | "file that was updated" => {
+            put_in_file(out, alloc, group, text)
+        }
+        _ => return put_of_codes(out, alloc, group, text),
+    }
+    true
 }

@@ -24,15 +24,11 @@ enum Subject {
 
 impl Rows for Subject {
     fn answer(&self, alloc: Global, group: &str, text: &str, out: &mut Shown) -> bool {
-        let put = match self {
+        match self {
             Subject::Paths => paths::put(out, alloc, group, text),
             Subject::Findings => findings::put(out, alloc, group, text),
             Subject::Words => words::put(out, alloc, group, text),
-        };
-        if put.is_err() {
-            out.want_memory();
         }
-        put.unwrap_or(true)
     }
 }
 

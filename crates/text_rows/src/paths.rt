@@ -1,5 +1,5 @@
 //! Paths, the folders above them, home folders, texts in normal form, and hashes.
-use crate::calls::number_in;
+use crate::calls::{number_in, put_made};
 use case_files::Shown;
 use deny_text::ancestors::ancestors;
 use deny_text::hash::hash;
@@ -20,13 +20,6 @@ pub fn put_option(out: &mut Shown, text: Option<&str>) {
     match text {
         Some(text) => write!(out, "{text:?}"),
         None => out.put("none"),
-    }
-}
-
-fn put_folder(out: &mut Shown, folder: &Result<PathBuf, HomeError>) {
-    match folder {
-        Ok(path) => write!(out, "{path}"),
-        Err(error) => write!(out, "{error}"),
     }
 }
 
@@ -55,40 +48,64 @@ fn sample(alloc: Global, length: usize) -> Result<Vec<u8>, AllocError> {
     Ok(bytes)
 }
 
-/// The variables of words `NAME=VALUE`.
-fn environment(alloc: Global, words: &str) -> Result<HomeEnv, AllocError> {
-    let mut environment = HomeEnv {
-        home: None,
-        cargo_home: None,
-    };
+/// What stands behind a name in words `NAME=VALUE`.
+fn value_of(alloc: Global, words: &str, name: &str) -> Result<Option<Text>, AllocError> {
     for word in words.split(' ') {
-        match word.split_once('=') {
-            Some(("HOME", value)) => environment.home = Some(Text::copy(alloc, value)?),
-            Some((_, value)) => environment.cargo_home = Some(Text::copy(alloc, value)?),
-            None => (),
+        let (key, value) = word.split_once('=').unwrap_or((word, ""));
+        if key == name {
+            return Ok(Some(Text::copy(alloc, value)?));
         }
     }
-    Ok(environment)
+    Ok(None)
+}
+
+/// The variables of words.
+fn environment(alloc: Global, words: &str) -> Result<HomeEnv, AllocError> {
+    let home = value_of(alloc, words, "HOME")?;
+    let cargo_home = value_of(alloc, words, "CARGO_HOME")?;
+    Ok(HomeEnv { home, cargo_home })
+}
+
+fn put_home(out: &mut Shown, alloc: Global, group: &str, words: &str) {
+    match folder(alloc, group, words) {
+        Ok(path) => write!(out, "{path}"),
+        Err(error) => write!(out, "{error}"),
+    }
+}
+
+/// The home folder that words give, or cargo's.
+fn folder(alloc: Global, group: &str, words: &str) -> Result<PathBuf, HomeError> {
+    let environment = environment(alloc, words)?;
+    match group {
+        "home" => home(alloc, &environment),
+        _ => cargo_home(alloc, &environment, "/w"),
+    }
+}
+
+fn put_sample(out: &mut Shown, alloc: Global, length: usize) {
+    match &sample(alloc, length) {
+        Ok(bytes) => write!(out, "{:08x}", hash(bytes)),
+        Err(_) => out.want_memory(),
+    }
 }
 
 /// Puts what a text comes to in a group, and returns whether there is such a group.
-pub fn put(out: &mut Shown, alloc: Global, group: &str, text: &str) -> Result<bool, AllocError> {
+pub fn put(out: &mut Shown, alloc: Global, group: &str, text: &str) -> bool {
     let (one, other) = pair_of(text);
     match group {
-        "join" => write!(out, "{}", join(alloc, one, other)?),
+        "join" => put_made(out, join(alloc, one, other)),
         "parent" => put_option(out, parent(text)),
         "file name" => put_option(out, file_name(text)),
         "parts of a path" => put_parts(out, text),
         "ends with" => write!(out, "{}", ends_with(one, other)),
         "is absolute" => write!(out, "{}", is_absolute(text)),
         "ancestors" => put_ancestors(out, text),
-        "normal form" => write!(out, "{}", normalize(alloc, text)?),
+        "normal form" => put_made(out, normalize(alloc, text)),
         "hash of a text" => write!(out, "{:08x}", hash(text.as_bytes())),
-        "hash of a sample" => write!(out, "{:08x}", hash(&sample(alloc, number_in(text))?)),
-        "home" => put_folder(out, &home(alloc, &environment(alloc, text)?)),
-        "home of cargo" => put_folder(out, &cargo_home(alloc, &environment(alloc, text)?, "/w")),
+        "hash of a sample" => put_sample(out, alloc, number_in(text)),
+        "home" | "home of cargo" => put_home(out, alloc, group, text),
         "home without memory" => write!(out, "{}", HomeError::Memory),
-        _ => return Ok(false),
+        _ => return false,
     }
-    Ok(true)
+    true
 }

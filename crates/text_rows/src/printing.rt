@@ -76,22 +76,38 @@ fn take(alloc: Global, findings: &mut Vec<Diagnostic>, entry: &Entry) -> Made {
     }
 }
 
-/// The findings of a case, those of its base first, about the crate that stands behind the key `pack`.
-fn pack_of(alloc: Global, case: &Case<'_>) -> Result<Pack, AllocError> {
+/// The findings of a case, those of its base first.
+fn findings_of(alloc: Global, case: &Case<'_>) -> Result<Vec<Diagnostic>, AllocError> {
     let mut findings = Vec::new(alloc);
     for entries in [case.base, case.own] {
         for entry in entries {
             take(alloc, &mut findings, entry)?;
         }
     }
-    let mut pack = match case.word("pack") {
-        "" => Pack::new(alloc, Check::Licenses),
-        id => Pack::with_kid(alloc, Check::Licenses, Text::copy(alloc, id)?),
-    };
-    for finding in findings {
+    Ok(findings)
+}
+
+/// A pack without findings, about the crate of that id, if it has letters.
+fn pack_about(alloc: Global, id: &str) -> Result<Pack, AllocError> {
+    match id {
+        "" => Ok(Pack::new(alloc, Check::Licenses)),
+        _ => Ok(Pack::with_kid(alloc, Check::Licenses, Text::copy(alloc, id)?)),
+    }
+}
+
+/// The findings of a case in a pack, about the crate that stands behind the key `pack`.
+fn pack_of(alloc: Global, case: &Case<'_>) -> Result<Pack, AllocError> {
+    let mut pack = pack_about(alloc, case.word("pack"))?;
+    for finding in findings_of(alloc, case)? {
         pack.push(Diag::new(finding, None)?)?;
     }
     Ok(pack)
+}
+
+fn put_file(alloc: Global, files: &mut Files, entry: &Entry) -> Result<(), AddError> {
+    let path = PathBuf::copy(alloc, entry.word.as_str())?;
+    files.add(path, Text::copy(alloc, text_of(entry))?)?;
+    Ok(())
 }
 
 /// The files of a case, those of its base first.
@@ -100,8 +116,7 @@ fn files_of(alloc: Global, case: &Case<'_>) -> Result<Files, AddError> {
     for entries in [case.base, case.own] {
         for entry in entries {
             if entry.key.as_str() == "file" {
-                let path = PathBuf::copy(alloc, entry.word.as_str())?;
-                files.add(path, Text::copy(alloc, text_of(entry))?)?;
+                put_file(alloc, &mut files, entry)?;
             }
         }
     }
@@ -172,37 +187,60 @@ impl Called for Files {
     }
 }
 
-/// Puts how many findings a pack has, whether it is empty, and what each has that is taken out of it.
-fn put_kept(out: &mut Shown, pack: Pack) {
-    write!(out, "{} {}", pack.len(), pack.is_empty());
-    for finding in pack {
-        let diag = &finding.diag;
-        write!(
-            out,
-            "; {}, {} labels",
-            diag.message,
-            diag.labels.items().len()
-        );
-        let crates = finding.graph_nodes.items().len();
-        write!(out, ", {} notes, {crates} crates", diag.notes.items().len());
-    }
+fn put_finding(out: &mut Shown, finding: &Diag) {
+    let diag = &finding.diag;
+    write!(
+        out,
+        "; {}, {} labels",
+        diag.message,
+        diag.labels.items().len()
+    );
+    let crates = finding.graph_nodes.items().len();
+    write!(out, ", {} notes, {crates} crates", diag.notes.items().len());
 }
 
-fn put(out: &mut Shown, alloc: Global, case: &Case<'_>, key: &str) -> Result<Answered, AddError> {
-    let mut files = files_of(alloc, case)?;
+/// Puts how many findings a pack has, whether it is empty, and what each has that is taken out of it.
+fn put_kept(out: &mut Shown, alloc: Global, case: &Case<'_>) -> Result<Answered, AddError> {
+    let pack = pack_of(alloc, case)?;
+    write!(out, "{} {}", pack.len(), pack.is_empty());
+    for finding in pack {
+        put_finding(out, &finding);
+    }
+    Ok(Answered::Yes)
+}
+
+/// Puts what a call that prints answers, or what is written.
+fn put_answer(
+    out: &mut Shown,
+    key: &str,
+    answer: &Option<Result<(), PrintError>>,
+    written: &[u8],
+) -> Answered {
+    match answer {
+        None => return Answered::CantBeTried,
+        Some(answer) if key == "answer" => write!(out, "{answer:?}"),
+        Some(_) => out.put(str::from_utf8(written).unwrap_or("no UTF-8")),
+    }
+    Answered::Yes
+}
+
+fn put_printed(
+    out: &mut Shown,
+    alloc: Global,
+    case: &Case<'_>,
+    key: &str,
+) -> Result<Answered, AddError> {
+    let files = files_of(alloc, case)?;
     let pack = pack_of(alloc, case)?;
     let room = number(case.word("room")).unwrap_or(1024);
     let mut sink = MemSink::new(alloc, room as usize, 7)?;
-    match key {
-        "inside" => put_answered(out, alloc, lines_of(case, key), &mut files),
-        "kept" => put_kept(out, pack),
-        "written" | "answer" => match print(alloc, case, &pack, &files, &mut sink) {
-            None => return Ok(Answered::CantBeTried),
-            Some(answer) if key == "answer" => write!(out, "{answer:?}"),
-            Some(_) => out.put(str::from_utf8(sink.written()).unwrap_or("no UTF-8")),
-        },
-        _ => return Ok(Answered::NoSuchKey),
-    }
+    let answer = print(alloc, case, &pack, &files, &mut sink);
+    Ok(put_answer(out, key, &answer, sink.written()))
+}
+
+fn put_inside(out: &mut Shown, alloc: Global, case: &Case<'_>) -> Result<Answered, AddError> {
+    let mut files = files_of(alloc, case)?;
+    put_answered(out, alloc, lines_of(case, "inside"), &mut files);
     Ok(Answered::Yes)
 }
 
@@ -212,6 +250,12 @@ impl Cases for Printing {
     }
 
     fn told(&self, alloc: Global, case: &Case<'_>, key: &str, out: &mut Shown) -> Answered {
-        put(out, alloc, case, key).unwrap_or(Answered::CantBeTried)
+        let put = match key {
+            "inside" => put_inside(out, alloc, case),
+            "kept" => put_kept(out, alloc, case),
+            "written" | "answer" => put_printed(out, alloc, case, key),
+            _ => Ok(Answered::NoSuchKey),
+        };
+        put.unwrap_or(Answered::CantBeTried)
     }
 }

@@ -37,16 +37,32 @@ fn are_many(entries: &[Entry]) -> bool {
     entries.len() == 300
 }
 
-fn put_bytes(out: &mut Shown, alloc: Global, bytes: &[u8]) -> Made {
-    let length = bytes.len();
-    if length > 100 && bytes == counted(alloc, length)?.as_slice() {
-        return Ok(write!(out, "counted {length}"));
-    }
+/// Puts bytes as a text, or how many there are.
+fn put_text(out: &mut Shown, bytes: &[u8]) {
     match str::from_utf8(bytes) {
         Ok(text) => write!(out, "{text:?}"),
-        Err(_) => write!(out, "{length} bytes"),
+        Err(_) => write!(out, "{} bytes", bytes.len()),
     }
-    Ok(())
+}
+
+fn put_bytes(out: &mut Shown, alloc: Global, bytes: &[u8]) {
+    let length = bytes.len();
+    if length <= 100 {
+        return put_text(out, bytes);
+    }
+    match &counted(alloc, length) {
+        Ok(counted) if bytes == counted.as_slice() => write!(out, "counted {length}"),
+        Ok(_) => put_text(out, bytes),
+        Err(_) => out.want_memory(),
+    }
+}
+
+fn put_read<T: Tree>(out: &mut Shown, alloc: Global, tree: &mut T, path: &str, is_length: bool) {
+    match &tree.read(alloc, path) {
+        Ok(bytes) if is_length => write!(out, "{}", bytes.items().len()),
+        Ok(bytes) => put_bytes(out, alloc, bytes.items()),
+        Err(error) => write!(out, "{error:?}"),
+    }
 }
 
 /// Puts the names of entries, each folder with a slash behind it.
@@ -65,23 +81,30 @@ fn put_entries(out: &mut Shown, entries: &[Entry]) {
     out.put("]");
 }
 
-fn put_one<T: Tree>(
-    out: &mut Shown,
-    alloc: Global,
-    tree: &mut T,
-    verb: &str,
-    path: &str,
-) -> Result<(), TreeError> {
+fn put_list<T: Tree>(out: &mut Shown, alloc: Global, tree: &mut T, path: &str) {
+    match &tree.list(alloc, path) {
+        Ok(entries) => put_entries(out, entries.items()),
+        Err(error) => write!(out, "{error:?}"),
+    }
+}
+
+fn put_whether(out: &mut Shown, whether: Result<bool, TreeError>) {
+    match whether {
+        Ok(is_so) => write!(out, "{is_so}"),
+        Err(error) => write!(out, "{error:?}"),
+    }
+}
+
+fn put_one<T: Tree>(out: &mut Shown, alloc: Global, tree: &mut T, verb: &str, path: &str) {
     match verb {
-        "read" => put_bytes(out, alloc, tree.read(alloc, path)?.items())?,
-        "length" => write!(out, "{}", tree.read(alloc, path)?.items().len()),
-        "list" => put_entries(out, tree.list(alloc, path)?.items()),
-        "is_file" => write!(out, "{}", tree.is_file(alloc, path)?),
-        "exists" => write!(out, "{}", tree.exists(alloc, path)?),
+        "read" => put_read(out, alloc, tree, path, false),
+        "length" => put_read(out, alloc, tree, path, true),
+        "list" => put_list(out, alloc, tree, path),
+        "is_file" => put_whether(out, tree.is_file(alloc, path)),
+        "exists" => put_whether(out, tree.exists(alloc, path)),
         "faults" => write!(out, "{}", tree.faults()),
         _ => out.put("no such call"),
     }
-    Ok(())
 }
 
 /// Puts what a call of any tree answers, or several of them.
@@ -95,9 +118,7 @@ fn put_asked<T: Tree>(out: &mut Shown, alloc: Global, tree: &mut T, call: Call<'
     out.put(" =>");
     for verb in verbs.split(' ') {
         out.put(" ");
-        if let Err(error) = put_one(out, alloc, tree, verb, call.path) {
-            write!(out, "{error:?}");
-        }
+        put_one(out, alloc, tree, verb, call.path);
     }
     if call.verb == "all" {
         write!(out, " {}", tree.faults().saturating_sub(before));

@@ -25,21 +25,26 @@ fn words_of(alloc: Global, name: &str, text: &str) -> Result<Vec<String>, AllocE
     Ok(words)
 }
 
-/// The answer to words in the folder `/w`.
-fn given(alloc: Global, words: &[String]) -> Result<Given, AllocError> {
-    read(alloc, words, "/w")
+/// The answer to the words of a text in the folder `/w`.
+fn given(alloc: Global, name: &str, text: &str) -> Result<Given, AllocError> {
+    let words = words_of(alloc, name, text)?;
+    read(alloc, &words, "/w")
 }
 
 /// Puts what words are answered with, or the text of it.
-fn put_given(out: &mut Shown, alloc: Global, name: &str, text: &str, is_text: bool) -> Made {
-    match &given(alloc, &words_of(alloc, name, text)?)? {
-        Given::Asked(request) => put_request(out, request),
-        Given::Shown(text) | Given::Usage(text) if is_text => out.put(text.as_str()),
-        Given::Shown(text) if text.as_str() == "cargo-deny 0.20.2\n" => out.put("version"),
-        Given::Shown(_) => out.put("help"),
-        Given::Usage(_) => out.put("usage"),
+fn put_answer(out: &mut Shown, given: &Result<Given, AllocError>, is_text: bool) {
+    match given {
+        Ok(Given::Asked(request)) => put_request(out, request),
+        Ok(Given::Shown(text) | Given::Usage(text)) if is_text => out.put(text.as_str()),
+        Ok(Given::Shown(text)) if text.as_str() == "cargo-deny 0.20.2\n" => out.put("version"),
+        Ok(Given::Shown(_)) => out.put("help"),
+        Ok(Given::Usage(_)) => out.put("usage"),
+        Err(_) => out.want_memory(),
     }
-    Ok(())
+}
+
+fn put_given(out: &mut Shown, alloc: Global, name: &str, text: &str, is_text: bool) {
+    put_answer(out, &given(alloc, name, text), is_text);
 }
 
 fn put_path(out: &mut Shown, name: &str, path: &Option<PathBuf>) {
@@ -125,8 +130,9 @@ fn put_list(out: &mut Shown, parsed: &Result<list::Args, ArgsError>) {
     }
 }
 
-fn put_listing(out: &mut Shown, alloc: Global, words: &[String]) -> Made {
-    match list::Args::cmd(alloc)?.try_get_matches_from(words) {
+fn put_listing(out: &mut Shown, alloc: Global, text: &str) -> Made {
+    let words = words_of(alloc, "cargo-deny", text)?;
+    match list::Args::cmd(alloc)?.try_get_matches_from(&words) {
         Ok(matches) => put_list(out, &list::Args::parse(alloc, &matches)),
         Err(_) => out.put("not taken"),
     }
@@ -168,14 +174,18 @@ fn put_option(out: &mut Shown, option: &str) {
 }
 
 /// Puts what a text comes to in a group, and returns whether there is such a group.
-pub fn put(out: &mut Shown, alloc: Global, group: &str, text: &str) -> Result<bool, AllocError> {
+pub fn put(out: &mut Shown, alloc: Global, group: &str, text: &str) -> bool {
     match group {
-        "words" => put_given(out, alloc, "cargo-deny", text, false)?,
-        "words without the program's name" => put_given(out, alloc, "", text, false)?,
-        "words behind list" => put_listing(out, alloc, &words_of(alloc, "cargo-deny", text)?)?,
+        "words" => put_given(out, alloc, "cargo-deny", text, false),
+        "words without the program's name" => put_given(out, alloc, "", text, false),
+        "words behind list" => {
+            if put_listing(out, alloc, text).is_err() {
+                out.want_memory();
+            }
+        }
         "names of an option that are read" => put_option(out, text),
-        "text" => put_given(out, alloc, "cargo-deny", text, true)?,
-        _ => return Ok(false),
+        "text" => put_given(out, alloc, "cargo-deny", text, true),
+        _ => return false,
     }
-    Ok(true)
+    true
 }
