@@ -1,34 +1,30 @@
 -- Equal ears, equal verdicts.
 use Rattle.std.proofs.Common.{◌≡◌, ◌∙◌, refl, sym, ap, ap₂, subst, ℕ, Bool, true, false, ◌&&◌, cond, List, [], ◌∷◌, ◌++◌, map, Option, Some, None}
-use Rattle.std.specs.Prelude.{All, filter, not, option_map, unwrap_or}
+use Rattle.std.specs.Prelude.{filter, not, option_map, unwrap_or}
 use Rattle.std.specs.List.{AllByRecursion, flat_map, fold}
 use Rattle.std.specs.Ordering.{is_lt}
-use Rattle.std.proofs.lemmas.List.Elements.{All-weaker, recursion_from_All}
+use Rattle.std.proofs.lemmas.List.Elements.{recursion_from_All}
 use Rattle.deny_text.specs.Path.{components_of, path_order}
-use Rattle.tree_core.specs.Content.{Content, Place, resolve}
-use Rattle.tree_core.specs.declared.reads.ReadKind.{ReadKind}
-use Rattle.tree_core.specs.declared.reads.ReadKind.TheVariants.{LicenseFile, Listing}
-use Rattle.tree_core.specs.declared.reads.ReadRecord.{ReadRecord}
 use Rattle.spdx_core.specs.Reading.{ExpressionView}
 use Rattle.graph_core.specs.Krate.{Record}
 use Rattle.certificate_core.specs.declared.verdict.Hit.{Hit}
 use Rattle.certificate_core.specs.declared.verdict.Verdict.{Verdict}
 use Rattle.certificate_core.specs.declared.verdict.Verdict.TheVariants.{Skipped, Unlicensed, Accepted, Rejected}
 use Rattle.certificate_core.specs.Certificates.{hit_at}
-use Rattle.reads_core.specs.Heard.{Heard, counts_in, failed_counts, heard, is_read, or_counts, or_there, place_of, there_heard}
-use Rattle.pack_core.specs.Ears.{Ears, ears_of, has_hash, holds, looked_of, matches, tried_of}
+use Rattle.reads_core.specs.Heard.{Heard, heard}
+use Rattle.pack_core.specs.Ears.{Ears, has_hash, holds, looked_of, matches, tried_of}
 use Rattle.pack_core.specs.NamedFile.{Named}
 use Rattle.pack_core.specs.Pack.{first_spellings, found_of, in_path_order, pack_of, placed, same_path, wanted_of}
 use Rattle.pack_core.specs.View.{is_listed, normal_heard}
 use Rattle.expression_core.specs.Scanned.{Scanner, file_scanned}
 use Rattle.priority_core.specs.Clarification.{Clarification, files_of, named_in}
-use Rattle.priority_core.specs.Priority.{Answer, answer_by, by_cases, field_of, files_scanned, folder_of, holding, priority_of}
+use Rattle.priority_core.specs.Priority.{Answer, answer_by, by_cases, field_of, files_scanned, holding, priority_of}
 use Rattle.gather_core.specs.Entries.{clarifications_of, entries_of}
 use Rattle.valid_policy.specs.Policy.{Policy}
 use Rattle.valid_policy.specs.View.{policy_of}
 use Rattle.evaluate_core.specs.Evaluation.{kept_of}
 use Rattle.check_core.proofs.LawLemmas.{same_test}
-use Rattle.check_core.specs.Own.{HearTheSame, HoldTheSame, NoneFailed, VerdictIsByEars, VerdictIsOwn, expression_by, file_there, listing_there, paths_around, paths_named}
+use Rattle.check_core.specs.Own.{HearTheSame, VerdictIsByEars, VerdictIsOwn, ears_there, expression_by, paths_around, paths_named}
 use Rattle.check_core.specs.Verdicts.{skipped, unlicensed, accepted, rejected, IsAnswered, IsShown, IsVerdict, is_skipped, judgement_in, verdict_of}
 
 -- ---- lists
@@ -176,39 +172,6 @@ module _ (one other : Ears) where
       ap₂ (λ held scanned. by_cases (option_map (λ (one : Clarification). one.expression) held) (field_of scanner.lists krate) (answer_by scanner.lists scanned))
       (same_holding clarifications each) scanned_same
 
--- ---- what contents let hear
-
-no_counts : (kind : ReadKind) (parts : List (List ℕ)) (reads : List ReadRecord) → AllByRecursion (λ read. counts_in read.answer ≡ None) reads → failed_counts kind parts reads ≡ None
-no_counts kind parts [] quiet = refl
-no_counts kind parts (read ∷ reads) quiet =
-    elim (is_read kind parts read) as (λ b. cond b (or_counts (counts_in read.answer) (failed_counts kind parts reads)) (failed_counts kind parts reads) ≡ None) [
-      | true ↦ ap (λ counts. or_counts counts (failed_counts kind parts reads)) quiet.0 ∙ no_counts kind parts reads quiet.1
-      | false ↦ no_counts kind parts reads quiet.1
-    ]
-
-heard_there : (content : Content) (base : Place) (kind : ReadKind) (parts : List (List ℕ)) (reads : List ReadRecord) → NoneFailed reads
-    → heard content base reads kind parts ≡ there_heard kind content (place_of kind base parts)
-heard_there content base kind parts reads quiet =
-    ap (λ counts. or_there counts (there_heard kind content (place_of kind base parts)))
-    (no_counts kind parts reads (recursion_from_All (λ read. counts_in read.answer ≡ None) reads quiet))
-
-same_ears : (clarifications : List Clarification) (krate : Record) (one other : Content) (reads more : List ReadRecord) → HoldTheSame clarifications krate one other
-    → NoneFailed reads → NoneFailed more → HearTheSame clarifications krate (ears_of one (folder_of krate) reads) (ears_of other (folder_of krate) more)
-same_ears clarifications krate one other reads more hold quiet still =
-    let base = resolve (folder_of krate) in
-    let folder = components_of (folder_of krate) in
-    let first : heard one base reads Listing folder ≡ listing_there krate one = heard_there one base Listing folder reads quiet in
-    let second : heard other base more Listing folder ≡ listing_there krate other = heard_there other base Listing folder more still in
-    record {
-      listing = first ∙ hold.listing ∙ sym second;
-      files = subst (λ (listing : Heard). All (λ path. heard one base reads LicenseFile (components_of path) ≡ heard other base more LicenseFile (components_of path))
-          (paths_around listing clarifications krate)) (sym first)
-          (All-weaker (λ path. file_there krate one path ≡ file_there krate other path)
-          (λ path. heard one base reads LicenseFile (components_of path) ≡ heard other base more LicenseFile (components_of path))
-          (λ path same. heard_there one base LicenseFile (components_of path) reads quiet ∙ same ∙ sym (heard_there other base LicenseFile (components_of path) more still))
-          (paths_around (listing_there krate one) clarifications krate) hold.files);
-    }
-
 -- ---- a crate has one verdict
 
 abbrev first_of : {A : Type 0} → A → List (Option A) → A
@@ -276,6 +239,4 @@ by_ears scanner policy krate one other first second hear is also =
     (subst (λ (e : Option ExpressionView). IsVerdict (policy_of policy) krate e second) (sym same) also)
 
 pub by_own : VerdictIsOwn
-by_own scanner policy krate one other reads more first second hold quiet still =
-    by_ears scanner policy krate (ears_of one (folder_of krate) reads) (ears_of other (folder_of krate) more) first second
-    (same_ears (clarifications_of krate (entries_of policy)) krate one other reads more hold quiet still)
+by_own scanner policy krate one other = by_ears scanner policy krate (ears_there krate one) (ears_there krate other)

@@ -1,15 +1,14 @@
 -- A verdict hangs on what is heard of the crate's own folder and files, and on nothing else of a tree.
-use Rattle.std.specs.Prelude.{◌≡◌, ℕ, List, ◌++◌, map, None, Option, option_map, All}
+use Rattle.std.specs.Prelude.{◌≡◌, ℕ, List, ◌++◌, map, Option, option_map, All}
 use Rattle.std.specs.List.{flat_map}
 use Rattle.deny_text.specs.Path.{components_of}
 use Rattle.tree_core.specs.Content.{Content, resolve}
 use Rattle.tree_core.specs.declared.reads.ReadKind.TheVariants.{LicenseFile}
-use Rattle.tree_core.specs.declared.reads.ReadRecord.{ReadRecord}
 use Rattle.spdx_core.specs.Reading.{ExpressionView}
 use Rattle.graph_core.specs.Krate.{Record}
 use Rattle.certificate_core.specs.declared.verdict.Verdict.{Verdict}
-use Rattle.reads_core.specs.Heard.{Heard, counts_in, listing_heard, place_of, there_heard}
-use Rattle.pack_core.specs.Ears.{Ears, ears_of}
+use Rattle.reads_core.specs.Heard.{Heard, listing_heard, place_of, there_heard}
+use Rattle.pack_core.specs.Ears.{Ears}
 use Rattle.pack_core.specs.Pack.{found_of}
 use Rattle.expression_core.specs.Scanned.{Scanner}
 use Rattle.priority_core.specs.Clarification.{Clarification, named_in}
@@ -39,20 +38,12 @@ pub record HearTheSame (clarifications : List Clarification) (krate : Record) (o
   pub listing : one.listing ≡ other.listing
   pub files : All (λ path. one.file (components_of path) ≡ other.file (components_of path)) (paths_around one.listing clarifications krate)
 
--- what a content says of the folder, and of the file at a path
-abbrev pub listing_there : Record → Content → Heard
-listing_there krate content = listing_heard content (resolve (folder_of krate))
-
-abbrev pub file_there : Record → Content → List ℕ → Heard
-file_there krate content path = there_heard LicenseFile content (place_of LicenseFile (resolve (folder_of krate)) (components_of path))
-
--- the same stands in its folder and in its files
-pub record HoldTheSame (clarifications : List Clarification) (krate : Record) (one other : Content) : Type 0 where
-  pub listing : listing_there krate one ≡ listing_there krate other
-  pub files : All (λ path. file_there krate one path ≡ file_there krate other path) (paths_around (listing_there krate one) clarifications krate)
-
-abbrev pub NoneFailed : List ReadRecord → Type 0
-NoneFailed reads = All (λ read. counts_in read.answer ≡ None) reads
+-- what a content has of a crate's folder and of its files, so what reads of them let hear that do not fail
+abbrev pub ears_there : Record → Content → Ears
+ears_there krate content = record {
+  listing = listing_heard content (resolve (folder_of krate));
+  file = λ parts. there_heard LicenseFile content (place_of LicenseFile (resolve (folder_of krate)) parts);
+}
 
 -- ---- laws
 
@@ -63,9 +54,9 @@ VerdictIsByEars = (scanner : Scanner) (policy : ValidConfig) (krate : Record) (o
     → IsVerdict (policy_of policy) krate (expression_by scanner policy krate one) first
     → IsVerdict (policy_of policy) krate (expression_by scanner policy krate other) second → first ≡ second
 
--- where no read failed, contents that hold the same there give equal verdicts
+-- contents that hold the same there give equal verdicts
 abbrev pub VerdictIsOwn : Type 0
-VerdictIsOwn = (scanner : Scanner) (policy : ValidConfig) (krate : Record) (one other : Content) (reads more : List ReadRecord) (first second : Verdict)
-    → HoldTheSame (clarifications_of krate (entries_of policy)) krate one other → NoneFailed reads → NoneFailed more
-    → IsVerdict (policy_of policy) krate (expression_by scanner policy krate (ears_of one (folder_of krate) reads)) first
-    → IsVerdict (policy_of policy) krate (expression_by scanner policy krate (ears_of other (folder_of krate) more)) second → first ≡ second
+VerdictIsOwn = (scanner : Scanner) (policy : ValidConfig) (krate : Record) (one other : Content) (first second : Verdict)
+    → HearTheSame (clarifications_of krate (entries_of policy)) krate (ears_there krate one) (ears_there krate other)
+    → IsVerdict (policy_of policy) krate (expression_by scanner policy krate (ears_there krate one)) first
+    → IsVerdict (policy_of policy) krate (expression_by scanner policy krate (ears_there krate other)) second → first ≡ second

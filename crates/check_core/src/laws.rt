@@ -20,7 +20,7 @@ pub fn verdict_is_by_ears()
     ensures { VerdictIsByEars }
 {}
 
-/// So it is over two trees that hold the same there, where no read of the crate failed.
+/// So it is by two contents that hold the same there.
 pub fn verdict_is_own()
     ensures { VerdictIsOwn }
 {}

@@ -3,7 +3,6 @@ use Rattle.std.specs.Prelude.{◌≡◌, ◌↔◌, ◌⊎◌, ℕ, ◌==◌, �
 use Rattle.std.specs.List.{filter_map, list_any}
 use Rattle.std.specs.Option.{option_to_list}
 use Rattle.tree_core.specs.Call.{Call}
-use Rattle.tree_core.specs.Content.{Content}
 use Rattle.request_core.specs.declared.context.KrateContext.{KrateContext}
 use Rattle.selection_core.specs.Choice.{Choice, Spec, spec_read}
 use Rattle.selection_core.specs.Listed.{Chosen}
@@ -11,7 +10,7 @@ use Rattle.workspace_core.specs.declared.error.KratesError.{KratesError}
 use Rattle.workspace_core.specs.declared.error.KratesError.TheVariants.{Memory, NotCarried}
 use Rattle.workspace_core.specs.declared.error.What.{What}
 use Rattle.workspace_core.specs.declared.error.What.TheVariants.{MetadataPath, ExcludeSpec}
-use Rattle.workspace_core.specs.Krates.{Gathers, GathersBy}
+use Rattle.workspace_core.specs.Krates.{GathersBy}
 
 -- ---- what is not carried
 
@@ -50,14 +49,6 @@ choice_asked context cfg_excludes = record {
 abbrev pub IsRefused : KrateContext → List (List ℕ) → Result Chosen KratesError → Type 0
 IsRefused context cfg_excludes result =
     (what : What) → (result ≡ Err (NotCarried what)) ↔ (uncarried context cfg_excludes ≡ Some what)
-
--- else the crates are those that are gathered from the file at its path, between two counts of faults
-abbrev pub IsAnswer : KrateContext → List (List ℕ) → Content → ℕ → ℕ → Result Chosen KratesError → Type 0
-IsAnswer context cfg_excludes content before after result =
-    (path : List ℕ) → context.metadata_path ≡ Some path → uncarried context cfg_excludes ≡ None
-    → Gathers (choice_asked context cfg_excludes) content before path before after result
-
--- ---- the same by what a tree answered, whatever it tells of its content
 
 -- where a part is not carried, no call is made
 abbrev pub IsUnasked : KrateContext → List (List ℕ) → List Call → List Call → Type 0

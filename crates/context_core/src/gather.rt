@@ -1,13 +1,12 @@
 //! The crates that a request looks at, from its metadata's file.
 ghost use Rattle.std.specs.Prelude.{◌≡◌, ◌++◌, map, IfErr, IfOk, OnOk};
 ghost use Rattle.std.specs.List.{filter_map, list_any};
-ghost use Rattle.std.specs.Option.{ForSome};
-ghost use Rattle.tree_core.specs.Hearing.{KeepsTree, MadeSome};
+ghost use Rattle.tree_core.specs.Hearing.{MadeSome};
 ghost use Rattle.selection_core.specs.Choice.{choice_of, spec_of, spec_read};
 ghost use Rattle.heard_core.specs.Cause.{ReadCounts};
 ghost use Rattle.workspace_core.specs.Krates.{krates_cause};
 ghost use Rattle.context_core.specs.Asked as spec;
-ghost use Rattle.context_core.specs.Asked.{IsAnswer, IsAnswerBy, IsUnasked, choice_asked};
+ghost use Rattle.context_core.specs.Asked.{IsAnswerBy, IsUnasked, choice_asked};
 
 use deny_text::{Text, Texts};
 use request_core::KrateContext;
@@ -94,16 +93,12 @@ pub fn gather_krates<T: Tree>(
     tree: &mut T,
     cfg_excludes: &Texts,
 ) -> Result<Krates, KratesError>
-    ensures answer { ForSome (T.content tree.old) (λ c. IsAnswer context cfg_excludes.now c
-        (T.fault_count tree.old) (T.fault_count tree.new) result) }
     ensures refused { spec.IsRefused context cfg_excludes.now result }
     ensures read { IsAnswerBy context cfg_excludes.now (T.fault_count tree.old)
         (T.fault_count tree.new) (T.trace tree.old) (T.trace tree.new) result }
     ensures unasked { IsUnasked context cfg_excludes.now (T.trace tree.old) (T.trace tree.new) }
     ensures made { MadeSome (T.content tree.old) (T.content tree.new) (T.fault_count tree.old)
         (T.fault_count tree.new) (T.trace tree.old) (T.trace tree.new) }
-    ensures kept { KeepsTree (T.content tree.old) (T.content tree.new)
-        (T.fault_count tree.old) (T.fault_count tree.new) }
     ensures counts { IfErr result (λ error. ReadCounts (T.fault_count tree.old)
         (T.fault_count tree.old) (T.fault_count tree.new) (krates_cause error)) }
 {

@@ -1,10 +1,8 @@
 //! Where a request's policy and exceptions file are.
-ghost use Rattle.std.specs.Prelude.{◌≡◌, ◌≤◌, IfErr, IfOk};
-ghost use Rattle.std.specs.Option.{ForSome};
-ghost use Rattle.tree_core.specs.Hearing.{KeepsTree, MadeSome};
+ghost use Rattle.std.specs.Prelude.{◌≤◌, IfErr, IfOk};
+ghost use Rattle.tree_core.specs.Hearing.{MadeSome};
 ghost use Rattle.heard_core.specs.Cause.{ReadCounts};
 ghost use Rattle.search_core.specs.Search.{search_cause};
-ghost use Rattle.context_core.specs.Paths.{config_path_of, exceptions_path_of};
 ghost use Rattle.context_core.specs.Paths.{IsConfigPath, IsExceptionsPath};
 ghost use Rattle.context_core.specs.Paths.{ConfigPathUntil, ExceptionsPathUntil};
 
@@ -24,14 +22,10 @@ pub fn config_path_since<T: Tree>(
     begun: u64,
 ) -> Result<Option<PathBuf>, SearchError>
     requires { begun ≤ T.fault_count tree.old }
-    ensures answer { ForSome (T.content tree.old) (λ c.
-        IfOk result (λ path. path ≡ config_path_of context.now c)) }
     ensures looked { IfOk result (IsConfigPath context.now (T.trace tree.old) (T.trace tree.new)) }
     ensures given_up { IfErr result (ConfigPathUntil context.now (T.trace tree.old) (T.trace tree.new)) }
     ensures made { MadeSome (T.content tree.old) (T.content tree.new) (T.fault_count tree.old)
         (T.fault_count tree.new) (T.trace tree.old) (T.trace tree.new) }
-    ensures kept { KeepsTree (T.content tree.old) (T.content tree.new)
-        (T.fault_count tree.old) (T.fault_count tree.new) }
     ensures counts { IfErr result (λ error.
         ReadCounts begun (T.fault_count tree.old) (T.fault_count tree.new) (search_cause error)) }
 {
@@ -53,14 +47,10 @@ pub fn get_config_path<T: Tree>(
     alloc: Global,
     tree: &mut T,
 ) -> Result<Option<PathBuf>, SearchError>
-    ensures answer { ForSome (T.content tree.old) (λ c.
-        IfOk result (λ path. path ≡ config_path_of context.now c)) }
     ensures looked { IfOk result (IsConfigPath context.now (T.trace tree.old) (T.trace tree.new)) }
     ensures given_up { IfErr result (ConfigPathUntil context.now (T.trace tree.old) (T.trace tree.new)) }
     ensures made { MadeSome (T.content tree.old) (T.content tree.new) (T.fault_count tree.old)
         (T.fault_count tree.new) (T.trace tree.old) (T.trace tree.new) }
-    ensures kept { KeepsTree (T.content tree.old) (T.content tree.new)
-        (T.fault_count tree.old) (T.fault_count tree.new) }
     ensures counts { IfErr result (λ error. ReadCounts (T.fault_count tree.old)
         (T.fault_count tree.old) (T.fault_count tree.new) (search_cause error)) }
 {
@@ -74,14 +64,10 @@ pub fn get_local_exceptions_path<T: Tree>(
     alloc: Global,
     tree: &mut T,
 ) -> Result<Option<PathBuf>, SearchError>
-    ensures answer { ForSome (T.content tree.old) (λ c.
-        IfOk result (λ path. path ≡ exceptions_path_of context.now c)) }
     ensures looked { IfOk result (IsExceptionsPath context.now (T.trace tree.old) (T.trace tree.new)) }
     ensures given_up { IfErr result (ExceptionsPathUntil context.now (T.trace tree.old) (T.trace tree.new)) }
     ensures made { MadeSome (T.content tree.old) (T.content tree.new) (T.fault_count tree.old)
         (T.fault_count tree.new) (T.trace tree.old) (T.trace tree.new) }
-    ensures kept { KeepsTree (T.content tree.old) (T.content tree.new)
-        (T.fault_count tree.old) (T.fault_count tree.new) }
     ensures counts { IfErr result (λ error. ReadCounts (T.fault_count tree.old)
         (T.fault_count tree.old) (T.fault_count tree.new) (search_cause error)) }
 {

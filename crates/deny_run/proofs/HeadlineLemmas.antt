@@ -224,7 +224,15 @@ module _ (given : Given) (tree : TreeSeen) (counts : FaultCounts) (old new : Wri
   -- and so by the content, where the tree tells it
   pub told_headline : (content : Content) → tree.told ≡ Some content → tree.count_before ≡ counts.tree_before → tree.count_after ≡ counts.tree_after → Headline given content counts outcome
   told_headline content told before after = record {
-    verdicts = λ report e. record { hearing = own; says = (reported report e).0.made.says content told; is = (reported report e).1 };
+    verdicts = λ report e.
+        let ran = (reported report e).0 in
+        record {
+          hearing = own;
+          begun = ran.begun ∙ before;
+          counts = sym after ∙ ran.made.counts ∙ ap (λ n. faults_after n (calls_of given own)) before;
+          says = ran.made.says content told;
+          is = (reported report e).1;
+        };
     status = clear;
     lawful = λ hearing asked heard asks quiet.
         let still : ¬ (Rose tree.count_before tree.count_after) =

@@ -17,7 +17,7 @@ use Rattle.std.specs.Prelude.{◌≡◌, ℕ, false, All}
 use Rattle.tree_core.specs.Call.{Call}
 use Rattle.tree_core.specs.Content.{Content}
 use Rattle.tree_core.specs.Script.{FaultCounts, IsWithoutFault}
-use Rattle.tree_core.specs.Trace.{Says, content_answer}
+use Rattle.tree_core.specs.Trace.{Says, content_answer, faults_after}
 use Rattle.deny_run.specs.declared.report.Report.{Report}
 use Rattle.deny_run.specs.declared.report.Ended.{Ended}
 use Rattle.deny_run.specs.declared.report.Ended.TheVariants.{Checked, Refused}
@@ -64,13 +64,16 @@ pub record IsHeardOf (given : Given) (content : Content) (count : ℕ) (hearing 
   pub due : HearsAllDue given hearing
   pub tells : All (Tells content) (calls_of given hearing)
 
--- the report is the one that is asked for by calls that say what the content has, but for those that failed
-pub record IsReportIn (given : Given) (content : Content) (report : Report) : Type 0 where
+-- the report is the one that is asked for by calls that say what the content has, but for those that failed, each of which raised the
+-- count of faults
+pub record IsReportIn (given : Given) (content : Content) (before after : ℕ) (report : Report) : Type 0 where
   pub hearing : RunHearing
+  pub begun : hearing.begun ≡ before
+  pub counts : after ≡ faults_after before (calls_of given hearing)
   pub says : All (Says content) (calls_of given hearing)
   pub is : IsReport given hearing report
 
 pub record Headline (given : Given) (content : Content) (counts : FaultCounts) (outcome : Outcome) : Type 0 where
-  pub verdicts : (report : Report) → outcome.ended ≡ Checked report → IsReportIn given content report
+  pub verdicts : (report : Report) → outcome.ended ≡ Checked report → IsReportIn given content counts.tree_before counts.tree_after report
   pub status : TellsAgainst outcome
   pub lawful : (hearing : RunHearing) (asked : Asked) → IsHeardOf given content counts.tree_before hearing → Asks given hearing asked → IsWithoutFault counts → EndsInReport outcome.ended

@@ -1,5 +1,5 @@
 -- Files as a list. The number of a file is its place in the list, from 0.
-use Rattle.std.specs.Prelude.{ℕ, zero, suc, ◌&&◌, Bool, List, [], ◌∷◌, slice_get, position, Option, Some, None, Result, Err}
+use Rattle.std.specs.Prelude.{◌≡◌, ℕ, zero, suc, ◌&&◌, Bool, List, [], ◌∷◌, ◌++◌, slice_get, position, Option, Some, None, Result, Err}
 use Rattle.std.specs.Option.{option_map}
 use Rattle.std.specs.Ordering.{eq_by_cmp}
 use Rattle.deny_text.specs.Path.{path_order}
@@ -37,6 +37,10 @@ is_at path file = file.has_path && eq_by_cmp path_order file.name path
 -- the number of the file that is found by the path
 abbrev pub id_at : List File → List ℕ → Option ℕ
 id_at files path = position (is_at path) files
+
+-- The files are those that were there, and others behind them: a file that is known keeps its number and its text.
+abbrev pub Grows : List File → List File → Type 0
+Grows files new = (more : List File) × (new ≡ files ++ more)
 
 -- what is asked of a text, asked of the file of that number
 abbrev pub asked_of_text : {T : Type 0} → Option (List ℕ) → (List ℕ → Result T FilesErr) → Result T FilesErr

@@ -1,7 +1,6 @@
 -- The file table grows.
 use Rattle.std.proofs.Common.{◌≡◌, ◌∙◌, List, [], ◌∷◌, ◌++◌, sym, append-nil}
-use Rattle.diag_core.specs.File.{File}
-use Rattle.finding_core.specs.Premises.{Grows}
+use Rattle.diag_core.specs.File.{File, Grows}
 
 pub grows_itself : (files : List File) → Grows files files
 grows_itself files = ([], sym (append-nil files))

@@ -1,5 +1,5 @@
--- What is asked of a crate's field: where it stands, and where its faults lie; and that the file table grows.
-use Rattle.std.specs.Prelude.{◌≡◌, ℕ, List, [], ◌++◌, IfSome, All, unwrap_or}
+-- What is asked of a crate's field: where it stands, and where its faults lie.
+use Rattle.std.specs.Prelude.{ℕ, List, [], IfSome, All, unwrap_or}
 use Rattle.term_core.specs.declared.error.ParseError.{ParseError}
 use Rattle.spdx_core.specs.Laws.{LiesIn}
 use Rattle.diag_core.specs.File.{File}
@@ -18,7 +18,3 @@ FaultsLie field faults = All (λ (fault : ParseError). LiesIn field fault.span) 
 pub record IsPlaced (case : CaseView) (files : List File) : Type 0 where
   pub located : IfSome case.location (λ at. PointsAt files at (field_of case))
   pub faults : FaultsLie (field_of case) case.faults
-
--- the files are those that were there, as they were, and others behind them
-abbrev pub Grows : List File → List File → Type 0
-Grows files new = (more : List File) × (new ≡ files ++ more)

@@ -1,6 +1,7 @@
 //! What is found of a crate whose licence no clarification settles.
 ghost use Rattle.std.specs.Prelude.{◌≡◌, ◌<◌, ◌+◌, ◌^◌, ◌++◌, [], None, Some, length, unwrap_or};
 ghost use Rattle.std.specs.Prelude.{IfOk, IfSome, OnOk, All, map, option_copied};
+ghost use Rattle.diag_core.specs.File.{Grows};
 ghost use Rattle.graph_core.specs.Krate.{record_of};
 ghost use Rattle.finding_core.specs.Findings as spec;
 ghost use Rattle.finding_core.specs.Findings.{by_field, by_files, failure_findings, field_mark};
@@ -8,7 +9,7 @@ ghost use Rattle.finding_core.specs.Findings.{field_place, files_by, joined_plac
 ghost use Rattle.finding_core.specs.Findings.{points_of, unlicensed_findings};
 ghost use Rattle.finding_core.specs.Cuts.{LabelLies, MarksLie, StandsAt, expression_text, labels_of};
 ghost use Rattle.finding_core.specs.Cuts.{text_under, texts_by};
-ghost use Rattle.finding_core.specs.Premises.{FaultsLie, Grows, IsPlaced};
+ghost use Rattle.finding_core.specs.Premises.{FaultsLie, IsPlaced};
 ghost use Rattle.finding_core.specs.Views.{case_view, seen_view};
 
 use crate::case::{Case, SeenFiles, Settles};

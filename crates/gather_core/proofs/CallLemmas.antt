@@ -8,7 +8,7 @@ use Rattle.tree_core.specs.Call.{Call}
 use Rattle.tree_core.specs.Content.{Content}
 use Rattle.tree_core.specs.declared.reads.ReadKind.TheVariants.{Manifest, Listing, LicenseFile}
 use Rattle.tree_core.specs.declared.reads.ReadRecord.{ReadRecord}
-use Rattle.diag_core.specs.File.{File, id_at}
+use Rattle.diag_core.specs.File.{File, Grows, id_at}
 use Rattle.graph_core.specs.Krate.{Record}
 use Rattle.reads_core.specs.Heard.{Heard, absent, is_kind, is_read}
 use Rattle.reads_core.specs.Read.{Read, first_heard, read_heard, records_in as recorded}
@@ -19,7 +19,6 @@ use Rattle.pack_core.specs.Pack.{reads_of}
 use Rattle.pack_core.specs.Steps.{file_record, records_by}
 use Rattle.pack_core.proofs.CallLemmas.{front_then}
 use Rattle.expression_core.specs.Scanned.{Scanner}
-use Rattle.finding_core.specs.Premises.{Grows}
 use Rattle.finding_core.proofs.GrowLemmas.{grows_same}
 use Rattle.location_core.specs.declared.location.Located.{Located}
 use Rattle.location_core.specs.Calls.{IsLocatedBy, StarvesLocating, manifest_by}

@@ -1,13 +1,9 @@
 pub mod CallLemmas
 pub mod GatheredLemmas
-pub mod HeardLemmas
 pub mod PickLemmas
 pub mod PlacedLemmas
-pub mod SameTurns
+pub mod RisingLemmas
 pub mod TakenLemmas
-pub mod ToldGathered
 pub mod ToldLemmas
-pub mod ToldReads
-pub mod ToldTurns
 pub mod TurnCalls
 pub mod TurnLemmas

@@ -1,28 +1,25 @@
 -- What is taken at a crate's turn, by whatever is heard.
-use Rattle.std.proofs.Common.{◌≡◌, ◌∙◌, ℕ, true, false, not, ◌&&◌, cond, List, [], ◌∷◌, ◌++◌, Option, None, Some, is_some, is_none, refl, sym, ap, subst}
+use Rattle.std.proofs.Common.{◌≡◌, ◌∙◌, ℕ, true, false, not, ◌&&◌, cond, List, [], ◌∷◌, ◌++◌, Option, None, Some, is_some, is_none, refl, sym, ap}
 use Rattle.std.specs.Option.{option_to_list}
 use Rattle.std.specs.Prelude.{option_map, unwrap_or}
 use Rattle.catalog_core.specs.Catalog.{CatalogLists}
-use Rattle.tree_core.specs.Content.{Content}
 use Rattle.tree_core.specs.declared.reads.ReadRecord.{ReadRecord}
 use Rattle.spdx_core.specs.Reading.{ExpressionView}
 use Rattle.diag_core.specs.File.{File}
 use Rattle.graph_core.specs.Krate.{Record}
 use Rattle.reads_core.specs.Heard.{Heard}
-use Rattle.pack_core.specs.Ears.{Ears, ears_of}
+use Rattle.pack_core.specs.Ears.{Ears}
 use Rattle.expression_core.specs.Scanned.{Scanner}
 use Rattle.location_core.specs.declared.location.Located.{Located}
-use Rattle.location_core.specs.Location.{IsLocated, files_after, located_of, manifest_heard}
+use Rattle.location_core.specs.Location.{IsLocated, files_after, located_of}
 use Rattle.priority_core.specs.declared.settle.Settled.{Settled}
 use Rattle.priority_core.specs.declared.settling.FilesSeen.{FilesSeen}
 use Rattle.priority_core.specs.declared.settling.Settling.{Settling}
 use Rattle.priority_core.specs.Clarification.{Clarification, held_in}
-use Rattle.priority_core.specs.Priority.{field_of, files_scanned, folder_of, holding, is_nothing, records_of}
+use Rattle.priority_core.specs.Priority.{field_of, files_scanned, holding, is_nothing, records_of}
 use Rattle.priority_core.specs.Settled.{IsSettledBy, by_seen, seen_by, settling_by, settling_of}
-use Rattle.gather_core.specs.declared.turn.Taken.{Taken}
 use Rattle.gather_core.specs.Taken.{IsLocatedWhere, IsTaken, is_clarified, turn_with}
 use Rattle.gather_core.specs.Turns.{asks_manifest, files_where, in_order, located_where, not_asked}
-use Rattle.gather_core.proofs.HeardLemmas.{ears_back, ears_front, manifest_back, manifest_front, of_manifests}
 
 -- a field that is there is located
 pub located_at : (krate : Record) (field : List ℕ) (old : List File) (manifest : Heard) (located : Located) (new : List File) → krate.license ≡ Some field
@@ -51,29 +48,6 @@ taken_first scanner policy [] krate ears manifest old located settled new reads 
   table = here.files_are;
 }
 taken_first scanner policy (one ∷ more) krate ears manifest old located settled new reads none here is behind = cc
-
--- what the content and all reads of the turn let hear
-pub told_first : (scanner : Scanner) (policy : ℕ) (clarifications : List Clarification) (krate : Record) (content : Content) (old : List File) (located : Located) (settled : Settled) (new : List File) (reads : List ReadRecord)
-    → is_nothing clarifications ≡ true
-    → IsLocatedWhere (is_some krate.license) krate old (manifest_heard content krate.manifest_path (option_to_list located.read)) located new
-    → IsSettledBy scanner clarifications krate (ears_of content (folder_of krate) settled.reads) settled
-    → reads ≡ option_to_list located.read ++ settled.reads
-    → IsTaken (turn_with scanner policy clarifications krate (ears_of content (folder_of krate) reads) (manifest_heard content krate.manifest_path reads) old)
-    (record { by = settled.by; missing = settled.missing; location = located.location; reads = reads }) new
-told_first scanner policy clarifications krate content old located settled new reads none here is behind =
-    let heard = manifest_heard content krate.manifest_path (option_to_list located.read) in
-    let read_is : option_to_list located.read ≡ option_to_list (located_where (is_some krate.license) krate old heard).read = ap (λ (l : Located). option_to_list l.read) here.located_is in
-    let ears : ears_of content (folder_of krate) settled.reads ≡ ears_of content (folder_of krate) reads =
-    sym (ears_front content (folder_of krate) (option_to_list (located_where (is_some krate.license) krate old heard).read) settled.reads (of_manifests (is_some krate.license) krate old heard))
-    ∙ ap (λ (front : List ReadRecord). ears_of content (folder_of krate) (front ++ settled.reads)) (sym read_is)
-    ∙ ap (ears_of content (folder_of krate)) (sym behind) in
-    let manifest : heard ≡ manifest_heard content krate.manifest_path reads =
-    sym (manifest_back content krate.manifest_path (option_to_list located.read) settled.reads scanner clarifications krate (ears_of content (folder_of krate) settled.reads) is.reads_are)
-    ∙ ap (manifest_heard content krate.manifest_path) (sym behind) in
-    let taken : Taken = record { by = settled.by; missing = settled.missing; location = located.location; reads = reads } in
-    subst (λ ears. IsTaken (turn_with scanner policy clarifications krate ears (manifest_heard content krate.manifest_path reads) old) taken new) ears
-    (subst (λ manifest. IsTaken (turn_with scanner policy clarifications krate (ears_of content (folder_of krate) settled.reads) manifest old) taken new) manifest
-    (taken_first scanner policy clarifications krate (ears_of content (folder_of krate) settled.reads) heard old located settled new reads none here is behind))
 
 -- ---- where a clarification is for the crate
 
@@ -108,26 +82,3 @@ taken_last scanner policy clarifications krate ears manifest old located settled
           ∙ sym (ap (λ b. in_order b (located_where (asks_manifest clarifications krate ears) krate old manifest).read (records_of scanner clarifications krate ears)) some);
       table = here.files_are ∙ ap (λ b. files_where b krate old manifest) asks;
     }
-
-pub told_last : (scanner : Scanner) (policy : ℕ) (clarifications : List Clarification) (krate : Record) (content : Content) (old : List File) (located : Located) (settled : Settled) (new : List File) (reads : List ReadRecord)
-    → is_nothing clarifications ≡ false
-    → IsSettledBy scanner clarifications krate (ears_of content (folder_of krate) settled.reads) settled
-    → IsLocatedWhere (not (is_clarified settled.by) && is_some krate.license) krate old (manifest_heard content krate.manifest_path (option_to_list located.read)) located new
-    → reads ≡ settled.reads ++ option_to_list located.read
-    → IsTaken (turn_with scanner policy clarifications krate (ears_of content (folder_of krate) reads) (manifest_heard content krate.manifest_path reads) old)
-    (record { by = settled.by; missing = settled.missing; location = located.location; reads = reads }) new
-told_last scanner policy clarifications krate content old located settled new reads some is here behind =
-    let asks = not (is_clarified settled.by) && is_some krate.license in
-    let heard = manifest_heard content krate.manifest_path (option_to_list located.read) in
-    let read_is : option_to_list located.read ≡ option_to_list (located_where asks krate old heard).read = ap (λ (l : Located). option_to_list l.read) here.located_is in
-    let ears : ears_of content (folder_of krate) settled.reads ≡ ears_of content (folder_of krate) reads =
-    sym (ears_back content (folder_of krate) settled.reads (option_to_list (located_where asks krate old heard).read) (of_manifests asks krate old heard))
-    ∙ ap (λ (back : List ReadRecord). ears_of content (folder_of krate) (settled.reads ++ back)) (sym read_is)
-    ∙ ap (ears_of content (folder_of krate)) (sym behind) in
-    let manifest : heard ≡ manifest_heard content krate.manifest_path reads =
-    sym (manifest_front content krate.manifest_path settled.reads (option_to_list located.read) scanner clarifications krate (ears_of content (folder_of krate) settled.reads) is.reads_are)
-    ∙ ap (manifest_heard content krate.manifest_path) (sym behind) in
-    let taken : Taken = record { by = settled.by; missing = settled.missing; location = located.location; reads = reads } in
-    subst (λ ears. IsTaken (turn_with scanner policy clarifications krate ears (manifest_heard content krate.manifest_path reads) old) taken new) ears
-    (subst (λ manifest. IsTaken (turn_with scanner policy clarifications krate (ears_of content (folder_of krate) settled.reads) manifest old) taken new) manifest
-    (taken_last scanner policy clarifications krate (ears_of content (folder_of krate) settled.reads) heard old located settled new reads some is here behind))

@@ -1,19 +1,9 @@
 -- What is told of a crate at its turn.
-use Rattle.std.proofs.Common.{◌≡◌, ◌∙◌, ℕ, List, ◌++◌, map, Option, Result, Ok, Err, sym, ap, subst}
-use Rattle.std.specs.Prelude.{IfOk, OnOk}
+use Rattle.std.proofs.Common.{◌≡◌, ◌∙◌, List, ◌++◌, map, Option, sym, ap, subst}
 use Rattle.std.specs.List.{All}
-use Rattle.std.specs.declared.alloc.AllocError.{AllocError}
 use Rattle.std.specs.Prelude.{unwrap_or}
 use Rattle.deny_text.specs.declared.span.Span.{Span}
 use Rattle.term_core.specs.declared.error.ParseError.{ParseError}
-use Rattle.tree_core.specs.Content.{Content}
-use Rattle.tree_core.specs.declared.reads.ReadRecord.{ReadRecord}
-use Rattle.graph_core.specs.Krate.{Record}
-use Rattle.reads_core.specs.Heard.{Heard}
-use Rattle.pack_core.specs.Ears.{Ears, ears_of}
-use Rattle.expression_core.specs.Scanned.{Scanner}
-use Rattle.location_core.specs.Location.{manifest_heard}
-use Rattle.priority_core.specs.Priority.{folder_of}
 use Rattle.diag_core.specs.declared.label.Coord.{Coord}
 use Rattle.diag_core.specs.File.{File}
 use Rattle.priority_core.specs.declared.settling.Settling.{Settling}
@@ -22,9 +12,7 @@ use Rattle.finding_core.specs.declared.outcome.Points.{Points}
 use Rattle.finding_core.specs.Cuts.{LabelLies, labels_of, text_under}
 use Rattle.gather_core.specs.declared.summary.KrateLicense.{KrateLicense}
 use Rattle.gather_core.specs.declared.turn.Taken.{Taken}
-use Rattle.gather_core.specs.Entries.{Entry, clarifications_of}
-use Rattle.gather_core.specs.Gathered.{IsTurnBySome, krate_of, own_turn}
-use Rattle.gather_core.specs.Taken.{IsTaken, turn_with}
+use Rattle.gather_core.specs.Taken.{IsTaken}
 use Rattle.gather_core.specs.Told.{info_by, notes_of, nowhere}
 use Rattle.gather_core.specs.Turns.{IsCutOut, IsTurn, Turn, faults_in, files_left, files_located, located_in, missing_findings, points_for, points_in, texts_for}
 
@@ -79,40 +67,3 @@ told_turn turn license faults taken points old new faults_are is found files_are
           ∙ ap (λ (files : List File). files_left turn.krate (faults_in turn.scanner turn.krate) (located_in turn).location files taken.by) is.table
           ∙ ap (λ (by : Settling). files_left turn.krate (faults_in turn.scanner turn.krate) (located_in turn).location (files_located turn) by) is.by;
     }
-
--- ---- by what the reads that are told let hear
-
-pub license_told : (scanner : Scanner) (policy : ℕ) (all : List Entry) (content : Content) (old new : List File) (krate : Record) (reads : List ReadRecord) (result : Result KrateLicense AllocError)
-    → IfOk result (λ license. krate_of license ≡ krate) → IfOk result (λ license. license.reads ≡ reads)
-    → IfOk result (λ license. IsTurn (turn_with scanner policy (clarifications_of krate all) krate (ears_of content (folder_of krate) reads) (manifest_heard content krate.manifest_path reads) old) license new)
-    → IfOk result (λ license. IsTurn (own_turn scanner policy all content old license) license new)
-license_told scanner policy all content old new krate reads (Ok license) krate_is reads_are is =
-    subst (λ (krate : Record). IsTurn (turn_with scanner policy (clarifications_of krate all) krate (ears_of content (folder_of krate) license.reads) (manifest_heard content krate.manifest_path license.reads) old) license new) (sym krate_is)
-    (subst (λ (reads : List ReadRecord). IsTurn (turn_with scanner policy (clarifications_of krate all) krate (ears_of content (folder_of krate) reads) (manifest_heard content krate.manifest_path reads) old) license new) (sym reads_are) is)
-license_told scanner policy all content old new krate reads (Err error) krate_is reads_are is = tt
-
-pub license_some : (scanner : Scanner) (policy : ℕ) (all : List Entry) (ears : Ears) (manifest : Heard) (old new : List File) (krate : Record) (result : Result KrateLicense AllocError)
-    → IfOk result (λ license. krate_of license ≡ krate)
-    → IfOk result (λ license. IsTurn (turn_with scanner policy (clarifications_of krate all) krate ears manifest old) license new)
-    → OnOk result (IsCutOut new (turn_with scanner policy (clarifications_of krate all) krate ears manifest old))
-    → IfOk result (λ license. IsTurnBySome scanner policy all old license new)
-license_some scanner policy all ears manifest old new krate (Ok license) krate_is is cut = (
-  ears,
-  (
-    manifest,
-    (
-      subst (λ (krate : Record). IsTurn (turn_with scanner policy (clarifications_of krate all) krate ears manifest old) license new) (sym krate_is) is,
-      subst (λ (krate : Record). IsCutOut new (turn_with scanner policy (clarifications_of krate all) krate ears manifest old)) (sym krate_is) cut,
-    ),
-  ),
-)
-license_some scanner policy all ears manifest old new krate (Err error) krate_is is cut = tt
-
-pub license_cut : (scanner : Scanner) (policy : ℕ) (all : List Entry) (content : Content) (old new : List File) (krate : Record) (reads : List ReadRecord) (result : Result KrateLicense AllocError)
-    → IfOk result (λ license. krate_of license ≡ krate) → IfOk result (λ license. license.reads ≡ reads)
-    → OnOk result (IsCutOut new (turn_with scanner policy (clarifications_of krate all) krate (ears_of content (folder_of krate) reads) (manifest_heard content krate.manifest_path reads) old))
-    → IfOk result (λ license. IsCutOut new (own_turn scanner policy all content old license))
-license_cut scanner policy all content old new krate reads (Ok license) krate_is reads_are is =
-    subst (λ (krate : Record). IsCutOut new (turn_with scanner policy (clarifications_of krate all) krate (ears_of content (folder_of krate) license.reads) (manifest_heard content krate.manifest_path license.reads) old)) (sym krate_is)
-    (subst (λ (reads : List ReadRecord). IsCutOut new (turn_with scanner policy (clarifications_of krate all) krate (ears_of content (folder_of krate) reads) (manifest_heard content krate.manifest_path reads) old)) (sym reads_are) is)
-license_cut scanner policy all content old new krate reads (Err error) krate_is reads_are is = tt

@@ -5,7 +5,7 @@ use Rattle.deny_text.specs.declared.span.Span.{Span}
 use Rattle.diag_core.specs.File.{File, source_of}
 use Rattle.location_core.specs.Location.{PointsAt}
 use Rattle.finding_core.specs.Cuts.{LabelLies, labels_of}
-pub use Rattle.finding_core.specs.Premises.{Grows}
+pub use Rattle.diag_core.specs.File.{Grows}
 use Rattle.priority_core.specs.declared.settling.Settling.{Settling}
 use Rattle.priority_core.specs.declared.settling.Settling.TheVariants.{Clarified, Field, Files}
 use Rattle.priority_core.specs.Clarification.{Clarification, PlacedFile}

@@ -1,15 +1,12 @@
 -- What is taken at a crate's turn.
 use Rattle.std.specs.Prelude.{◌≡◌, ℕ, Bool, true, false, List}
-use Rattle.tree_core.specs.Content.{Content}
 use Rattle.graph_core.specs.Krate.{Record}
 use Rattle.reads_core.specs.Heard.{Heard}
-use Rattle.pack_core.specs.Ears.{Ears, ears_of}
+use Rattle.pack_core.specs.Ears.{Ears}
 use Rattle.expression_core.specs.Scanned.{Scanner}
 use Rattle.diag_core.specs.File.{File}
 use Rattle.location_core.specs.declared.location.Located.{Located}
-use Rattle.location_core.specs.Location.{manifest_heard}
 use Rattle.priority_core.specs.Clarification.{Clarification}
-use Rattle.priority_core.specs.Priority.{folder_of}
 use Rattle.priority_core.specs.Settled.{missing_of}
 use Rattle.priority_core.specs.declared.settling.Settling.{Settling}
 use Rattle.priority_core.specs.declared.settling.Settling.TheVariants.{Clarified, Field, Files}
@@ -44,13 +41,3 @@ pub record IsTaken (turn : Turn) (taken : Taken) (files : List File) : Type 0 wh
   pub location : taken.location ≡ (located_in turn).location
   pub reads : taken.reads ≡ records_in turn
   pub table : files ≡ files_located turn
-
--- by what the content and all reads of the turn let hear
-abbrev pub IsTakenByOwn : Scanner → ℕ → List Clarification → Record → Content → List File → Taken → List File → Type 0
-IsTakenByOwn scanner policy clarifications krate content old taken new =
-    IsTaken (turn_with scanner policy clarifications krate (ears_of content (folder_of krate) taken.reads) (manifest_heard content krate.manifest_path taken.reads) old) taken new
-
--- over any tree, by something that is heard
-abbrev pub IsTakenBySome : Scanner → ℕ → List Clarification → Record → List File → Taken → List File → Type 0
-IsTakenBySome scanner policy clarifications krate old taken new =
-    (ears : Ears) × ((manifest : Heard) × IsTaken (turn_with scanner policy clarifications krate ears manifest old) taken new)

@@ -1,10 +1,9 @@
 //! Gathering.
-ghost use Rattle.std.specs.Prelude.{◌≡◌, ◌⊎◌, [], IfOk, OnErr, OnOk, All, map, None, Some};
-ghost use Rattle.std.specs.Option.{ForSome, option_map_or};
-ghost use Rattle.tree_core.specs.Hearing.{KeepsTree, Made};
+ghost use Rattle.std.specs.Prelude.{◌≡◌, ◌⊎◌, [], IfOk, OnErr, All, map, None, Some};
+ghost use Rattle.std.specs.Option.{option_map_or};
+ghost use Rattle.tree_core.specs.Hearing.{Made};
 ghost use Rattle.graph_core.specs.Krate.{record_of};
 ghost use Rattle.graph_core.specs.Metadata.{Graph};
-ghost use Rattle.reads_core.specs.Rising.{RiseInOrder};
 ghost use Rattle.priority_core.specs.Priority.{field_of, folder_of};
 ghost use Rattle.priority_core.specs.Settled.{scanner_with};
 ghost use Rattle.selection_core.specs.Choice.{Choice};
@@ -14,12 +13,10 @@ ghost use Rattle.finding_core.specs.Faults.{faults_of};
 ghost use Rattle.finding_core.specs.Premises.{FaultsLie};
 ghost use Rattle.gather_core.specs.Calls.{AreTurnsByReads, IsByOwnReads, IsTurnHeard, StarvesGathering, StarvesTaking};
 ghost use Rattle.gather_core.specs.Entries.{clarifications_of, entries_of};
-ghost use Rattle.gather_core.specs.Gathered.{AreCutOut, ArePriorities, AreTurns, AreTurnsBySome, IsTurnBySome};
-ghost use Rattle.gather_core.specs.Gathered.{all_reads, include_of, krate_of, own_turn};
-ghost use Rattle.gather_core.specs.Gathered.{scanner_of, threshold_of};
+ghost use Rattle.gather_core.specs.Gathered.{include_of, krate_of, scanner_of, threshold_of};
 ghost use Rattle.gather_core.specs.Premises.{ArePlacedIn, Grows, IsPlacedAt};
 ghost use Rattle.gather_core.specs.Taken.{turn_with};
-ghost use Rattle.gather_core.specs.Turns.{IsCutOut, IsTurn, field_text, records_in};
+ghost use Rattle.gather_core.specs.Turns.{field_text, records_in};
 
 use crate::clarifications::Clarifications;
 use crate::summary::{KrateLicense, KrateLicenses, Summary};
@@ -86,19 +83,7 @@ fn license_of<'k, T: Tree, I: Identifier, C: Catalog>(
     clarifications: &Clarifications<'_>,
     krate: &'k Krate,
 ) -> Result<KrateLicense<'k>, AllocError>
-    ensures kept { KeepsTree (T.content tree.old) (T.content tree.new)
-        (T.fault_count tree.old) (T.fault_count tree.new) }
     ensures krate { IfOk result (λ license. krate_of license ≡ record_of krate.now) }
-    ensures rises { IfOk result (λ license.
-        RiseInOrder (T.fault_count tree.old) license.reads (T.fault_count tree.new)) }
-    ensures told { ForSome (T.content tree.old) (λ c. IfOk result (λ license.
-        IsTurn (own_turn (scanner_with C.lists I.match_of scan.now) policy clarifications.now c files.old license)
-        license files.new)) }
-    ensures some { IfOk result (λ license.
-        IsTurnBySome (scanner_with C.lists I.match_of scan.now) policy clarifications.now files.old license
-        files.new) }
-    ensures cuts { ForSome (T.content tree.old) (λ c. IfOk result (λ license. IsCutOut files.new
-        (own_turn (scanner_with C.lists I.match_of scan.now) policy clarifications.now c files.old license))) }
     // over any tree, by the answers to the crate's own reads, which are all the calls
     ensures answered { IfOk result (λ license.
         IsByOwnReads (T.content tree.old) (T.content tree.new) (T.fault_count tree.old)
@@ -131,20 +116,7 @@ fn gather_all<'k, T: Tree, I: Identifier, C: Catalog>(
     clarifications: &Clarifications<'_>,
     krates: &[&'k Krate],
 ) -> Result<KrateLicenses<'k>, AllocError>
-    ensures kept { KeepsTree (T.content tree.old) (T.content tree.new)
-        (T.fault_count tree.old) (T.fault_count tree.new) }
     ensures krates { IfOk result (λ licenses. map krate_of licenses ≡ map record_behind krates.now) }
-    ensures rises { IfOk result (λ licenses.
-        RiseInOrder (T.fault_count tree.old) (all_reads licenses) (T.fault_count tree.new)) }
-    ensures told { ForSome (T.content tree.old) (λ c. IfOk result (λ licenses.
-        AreTurns (scanner_with C.lists I.match_of scan.now) policy clarifications.now c files.old licenses
-        files.new)) }
-    ensures some { IfOk result (λ licenses.
-        AreTurnsBySome (scanner_with C.lists I.match_of scan.now) policy clarifications.now files.old licenses
-        files.new) }
-    ensures cuts { ForSome (T.content tree.old) (λ c. IfOk result (λ licenses.
-        AreCutOut (scanner_with C.lists I.match_of scan.now) policy clarifications.now c files.old licenses
-        files.new)) }
     // over any tree, by the answers to each crate's own reads, which are all the calls, crate after crate
     ensures answered { IfOk result (λ licenses.
         AreTurnsByReads (T.content tree.old) (T.content tree.new) (T.fault_count tree.old)
@@ -203,28 +175,12 @@ impl<'i, I: Identifier> Gatherer<'i, I> {
         tree: &mut T,
         catalog: &C,
     ) -> Result<Summary<'k>, AllocError>
-        ensures kept { KeepsTree (T.content tree.old) (T.content tree.new)
-            (T.fault_count tree.old) (T.fault_count tree.new) }
         ensures krates { IfOk result (λ summary.
             map krate_of summary.nfos ≡ selected_in (include_of policy.now) krates.entry.now) }
         // of each graph and choice that the crates were built of
         ensures listed { (graph : Graph) (choice : Choice) → IsChosen graph choice krates.entry.now
             → IfOk result (λ summary. IsListOf graph (Selected graph choice (include_of policy.now))
             (map krate_of summary.nfos)) }
-        ensures answers { ForSome (T.content tree.old) (λ c. IfOk result (λ summary.
-            ArePriorities (scanner_of (C.lists catalog.now) I.match_of self.entry) (entries_of policy.now)
-            c summary.nfos)) }
-        ensures turns { ForSome (T.content tree.old) (λ c. IfOk result (λ summary.
-            AreTurns (scanner_of (C.lists catalog.now) I.match_of self.entry) policy.now.file_id
-            (entries_of policy.now) c files.old summary.nfos files.new)) }
-        // over any tree, by something that is heard, with what the labels cut out of the table that is left
-        ensures by_some { IfOk result (λ summary.
-            AreTurnsBySome (scanner_of (C.lists catalog.now) I.match_of self.entry) policy.now.file_id
-            (entries_of policy.now) files.old summary.nfos files.new) }
-        // by the crates' own reads the labels of what is found cut out what they say, in the table that is left
-        ensures cuts { ForSome (T.content tree.old) (λ c. IfOk result (λ summary.
-            AreCutOut (scanner_of (C.lists catalog.now) I.match_of self.entry) policy.now.file_id
-            (entries_of policy.now) c files.old summary.nfos files.new)) }
         // over any tree, by the answers to each crate's own reads, which are all the calls, crate after crate; with
         // what has priority by them, and what the labels cut out of the table that is left
         ensures answered { IfOk result (λ summary.
@@ -246,8 +202,6 @@ impl<'i, I: Identifier> Gatherer<'i, I> {
             → IfOk result (λ summary. All (IsPlacedAt files.new) summary.nfos) }
         // files that were there are as they were, also where memory is refused
         ensures grows { Grows files.old files.new }
-        ensures rises { IfOk result (λ summary.
-            RiseInOrder (T.fault_count tree.old) (all_reads summary.nfos) (T.fault_count tree.new)) }
     {
         let include = Include {
             dev: policy.include_dev,

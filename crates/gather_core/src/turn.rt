@@ -1,19 +1,16 @@
 //! What is taken at a crate's turn: what settles its licence, and where its field stands.
 ghost use Rattle.std.specs.Prelude.{◌≡◌, ◌++◌, ◌&&◌, ℕ, not, true, false, IfOk, IfSome, OnErr, is_some};
 ghost use Rattle.std.specs.Prelude.{map};
-ghost use Rattle.std.specs.Option.{ForSome, option_to_list};
-ghost use Rattle.tree_core.specs.Hearing.{KeepsTree};
+ghost use Rattle.std.specs.Option.{option_to_list};
 ghost use Rattle.graph_core.specs.Krate.{record_of};
-ghost use Rattle.reads_core.specs.Heard.{Heard};
-ghost use Rattle.reads_core.specs.Rising.{RiseInOrder};
-ghost use Rattle.location_core.specs.Location.{PointsAt, manifest_heard};
+ghost use Rattle.location_core.specs.Location.{PointsAt};
 ghost use Rattle.priority_core.specs.Clarification.{behind};
 ghost use Rattle.priority_core.specs.Priority as spec;
 ghost use Rattle.priority_core.specs.Priority.{field_of, folder_of};
 ghost use Rattle.priority_core.specs.Settled.{scanner_with};
 ghost use Rattle.gather_core.specs.Calls.{IsByOwnReads, StarvesTaking};
 ghost use Rattle.gather_core.specs.Premises.{Grows};
-ghost use Rattle.gather_core.specs.Taken.{IsLocatedWhere, IsTaken, IsTakenByOwn, IsTakenBySome, is_clarified, turn_with};
+ghost use Rattle.gather_core.specs.Taken.{IsLocatedWhere, IsTaken, is_clarified, turn_with};
 ghost use Rattle.gather_core.specs.Turns.{field_text, located_where, records_in};
 
 use catalog_core::Identifier;
@@ -64,16 +61,6 @@ fn locate_field<T: Tree>(
     files: &mut Files,
     krate: &Krate,
 ) -> Result<Located, AllocError>
-    ensures kept { KeepsTree (T.content tree.old) (T.content tree.new)
-        (T.fault_count tree.old) (T.fault_count tree.new) }
-    ensures rises { IfOk result (λ located.
-        RiseInOrder (T.fault_count tree.old) (option_to_list located.read) (T.fault_count tree.new)) }
-    ensures told { let krate = record_of krate.now in
-        ForSome (T.content tree.old) (λ c. IfOk result (λ located.
-        IsLocatedWhere (is_some krate.license) krate files.old
-        (manifest_heard c krate.manifest_path (option_to_list located.read)) located files.new)) }
-    ensures some { let krate = record_of krate.now in IfOk result (λ located. (manifest : Heard)
-        × IsLocatedWhere (is_some krate.license) krate files.old manifest located files.new) }
     // over any tree, by the answers to the reads that are made, which are all the calls
     ensures answered { let krate = record_of krate.now in IfOk result (λ located.
         IsByOwnReads (T.content tree.old) (T.content tree.new) (T.fault_count tree.old)
@@ -118,17 +105,6 @@ fn locate_unless_clarified<T: Tree>(
     krate: &Krate,
     by: &Settling,
 ) -> Result<Located, AllocError>
-    ensures kept { KeepsTree (T.content tree.old) (T.content tree.new)
-        (T.fault_count tree.old) (T.fault_count tree.new) }
-    ensures rises { IfOk result (λ located.
-        RiseInOrder (T.fault_count tree.old) (option_to_list located.read) (T.fault_count tree.new)) }
-    ensures told { let krate = record_of krate.now in
-        ForSome (T.content tree.old) (λ c. IfOk result (λ located.
-        IsLocatedWhere (not (is_clarified by.now) && is_some krate.license) krate files.old
-        (manifest_heard c krate.manifest_path (option_to_list located.read)) located files.new)) }
-    ensures some { let krate = record_of krate.now in IfOk result (λ located. (manifest : Heard)
-        × IsLocatedWhere (not (is_clarified by.now) && is_some krate.license) krate files.old manifest
-        located files.new) }
     // over any tree, by the answers to the reads that are made, which are all the calls
     ensures answered { let krate = record_of krate.now in IfOk result (λ located.
         IsByOwnReads (T.content tree.old) (T.content tree.new) (T.fault_count tree.old)
@@ -166,16 +142,6 @@ fn take_manifest_first<T: Tree, I: Identifier, C: Catalog>(
 ) -> Result<Taken, AllocError>
     requires nothing { spec.is_nothing (map behind clarifications.now) ≡ true }
     requires field { field ≡ field_of (C.lists scan.now.catalog.now) (record_of krate.now) }
-    ensures kept { KeepsTree (T.content tree.old) (T.content tree.new)
-        (T.fault_count tree.old) (T.fault_count tree.new) }
-    ensures rises { IfOk result (λ taken.
-        RiseInOrder (T.fault_count tree.old) taken.reads (T.fault_count tree.new)) }
-    ensures told { (policy : ℕ) → ForSome (T.content tree.old) (λ c. IfOk result (λ taken.
-        IsTakenByOwn (scanner_with C.lists I.match_of scan.now) policy (map behind clarifications.now)
-        (record_of krate.now) c files.old taken files.new)) }
-    ensures some { (policy : ℕ) → IfOk result (λ taken.
-        IsTakenBySome (scanner_with C.lists I.match_of scan.now) policy (map behind clarifications.now)
-        (record_of krate.now) files.old taken files.new) }
     // over any tree, by the answers to the turn's own reads, which are all the calls
     ensures answered { let krate = record_of krate.now in (policy : ℕ) → IfOk result (λ taken.
         IsByOwnReads (T.content tree.old) (T.content tree.new) (T.fault_count tree.old)
@@ -218,16 +184,6 @@ fn take_files_first<T: Tree, I: Identifier, C: Catalog>(
 ) -> Result<Taken, AllocError>
     requires some { spec.is_nothing (map behind clarifications.now) ≡ false }
     requires field { field ≡ field_of (C.lists scan.now.catalog.now) (record_of krate.now) }
-    ensures kept { KeepsTree (T.content tree.old) (T.content tree.new)
-        (T.fault_count tree.old) (T.fault_count tree.new) }
-    ensures rises { IfOk result (λ taken.
-        RiseInOrder (T.fault_count tree.old) taken.reads (T.fault_count tree.new)) }
-    ensures told { (policy : ℕ) → ForSome (T.content tree.old) (λ c. IfOk result (λ taken.
-        IsTakenByOwn (scanner_with C.lists I.match_of scan.now) policy (map behind clarifications.now)
-        (record_of krate.now) c files.old taken files.new)) }
-    ensures some { (policy : ℕ) → IfOk result (λ taken.
-        IsTakenBySome (scanner_with C.lists I.match_of scan.now) policy (map behind clarifications.now)
-        (record_of krate.now) files.old taken files.new) }
     // over any tree, by the answers to the turn's own reads, which are all the calls
     ensures answered { let krate = record_of krate.now in (policy : ℕ) → IfOk result (λ taken.
         IsByOwnReads (T.content tree.old) (T.content tree.new) (T.fault_count tree.old)
@@ -276,16 +232,6 @@ pub(crate) fn take<T: Tree, I: Identifier, C: Catalog>(
     field: Option<Expression>,
 ) -> Result<Taken, AllocError>
     requires { field ≡ field_of (C.lists scan.now.catalog.now) (record_of krate.now) }
-    ensures kept { KeepsTree (T.content tree.old) (T.content tree.new)
-        (T.fault_count tree.old) (T.fault_count tree.new) }
-    ensures rises { IfOk result (λ taken.
-        RiseInOrder (T.fault_count tree.old) taken.reads (T.fault_count tree.new)) }
-    ensures told { (policy : ℕ) → ForSome (T.content tree.old) (λ c. IfOk result (λ taken.
-        IsTakenByOwn (scanner_with C.lists I.match_of scan.now) policy (map behind clarifications.now)
-        (record_of krate.now) c files.old taken files.new)) }
-    ensures some { (policy : ℕ) → IfOk result (λ taken.
-        IsTakenBySome (scanner_with C.lists I.match_of scan.now) policy (map behind clarifications.now)
-        (record_of krate.now) files.old taken files.new) }
     // over any tree, by the answers to the turn's own reads, which are all the calls
     ensures answered { let krate = record_of krate.now in (policy : ℕ) → IfOk result (λ taken.
         IsByOwnReads (T.content tree.old) (T.content tree.new) (T.fault_count tree.old)

@@ -4,8 +4,7 @@ use Rattle.std.specs.Str.{is_utf8}
 use Rattle.std.specs.Str.Lossy.{utf8_valid_len}
 use Rattle.tree_core.specs.Call as call
 use Rattle.tree_core.specs.Call.{Answered, Call}
-use Rattle.tree_core.specs.Content.{Content, Node, file, folder}
-use Rattle.tree_core.specs.Hearing.{Kind, FailedRead, Hearing, Heard, read_failed, stands, heard}
+use Rattle.tree_core.specs.Content.{Node, file, folder}
 use Rattle.heard_core.specs.declared.fault.ReadFault.{ReadFault}
 use Rattle.heard_core.specs.declared.fault.ReadFault.TheVariants.{Failed, Absent, Folder, NotUtf8}
 
@@ -15,28 +14,7 @@ heard_of None = Err Absent
 heard_of (Some folder) = Err Folder
 heard_of (Some (file bytes)) = if is_utf8 bytes then Ok bytes else Err (NotUtf8 (utf8_valid_len bytes))
 
--- what is heard as a text; a failed read is told with the count at the start of the run
-abbrev pub text_in : ℕ → Heard → Result (List ℕ) ReadFault
-text_in begun (read_failed before after) = Err (Failed begun after)
-text_in begun (stands there) = heard_of there
-
--- what is heard of the file at a path
-abbrev pub text_heard : Hearing → Kind → List ℕ → Result (List ℕ) ReadFault
-text_heard hearing kind path = text_in hearing.begun (heard hearing kind path)
-
--- ---- one read
-
--- the hearing in which this read failed, if it is heard to have failed, and no other one did
-abbrev pub hearing_of : Content → ℕ → FailedRead → Result (List ℕ) ReadFault → Hearing
-hearing_of content begun read (Err (Failed before after)) = record { content = content; begun = begun; failed = read ∷ [] }
-hearing_of content begun read _ = record { content = content; begun = begun; failed = [] }
-
--- this is heard of the file at a path, whatever it is read for, between two counts of faults
-abbrev pub IsHeard : Content → ℕ → List ℕ → ℕ → ℕ → Result (List ℕ) ReadFault → Type 0
-IsHeard content begun path before after heard = (kind : Kind) →
-    text_heard (hearing_of content begun (record { kind = kind; path = path; before = before; after = after }) heard) kind path ≡ heard
-
--- ---- by what a tree answered, whatever it tells of its content
+-- ---- by what a tree answered
 
 -- What is heard by the answer of a read, where the tree's count of faults was the first number when the run began, and is the
 -- second behind the read. For want of memory nothing is heard, and a look or a listing answers no read.

@@ -1,10 +1,9 @@
 //! Reading a file as a text.
 ghost use Rattle.std.specs.Prelude.{◌≡◌, ◌≤◌, ◌++◌, [], ◌∷◌, Some, IfOk, OnErr};
-ghost use Rattle.std.specs.Option.{ForSome};
 ghost use Rattle.tree_core.specs.Content.{file};
-ghost use Rattle.tree_core.specs.Hearing.{KeepsTree, MadeSome};
+ghost use Rattle.tree_core.specs.Hearing.{MadeSome};
 ghost use Rattle.heard_core.specs.Cause.{ReadCounts, heard_cause};
-ghost use Rattle.heard_core.specs.Heard.{IsHeard, IsRead, heard_of, read_of};
+ghost use Rattle.heard_core.specs.Heard.{IsRead, heard_of, read_of};
 ghost use Rattle.tree_core.specs.Call.{no_memory};
 
 use crate::fault::ReadFault;
@@ -27,7 +26,8 @@ fn text_of(bytes: Bytes) -> Heard
     }
 }
 
-/// What is heard of the file at a path. `before` is the tree's count of faults when the run began.
+/// What is heard of the file at a path, by the answer of the one call that is made, the read of that path.
+/// `before` is the tree's count of faults when the run began.
 pub fn load<T: Tree>(
     alloc: Global,
     tree: &mut T,
@@ -35,15 +35,11 @@ pub fn load<T: Tree>(
     before: u64,
 ) -> Result<Heard, AllocError>
     requires { before ≤ T.fault_count tree.old }
-    ensures answer { ForSome (T.content tree.old) (λ c. IfOk result
-        (IsHeard c before path.now (T.fault_count tree.old) (T.fault_count tree.new))) }
     ensures read { IfOk result
         (IsRead before (T.fault_count tree.new) (T.trace tree.old) (T.trace tree.new) path.now) }
     ensures no_memory { OnErr result (T.trace tree.new ≡ T.trace tree.old ++ read_of path.now no_memory ∷ []) }
     ensures made { MadeSome (T.content tree.old) (T.content tree.new) (T.fault_count tree.old)
         (T.fault_count tree.new) (T.trace tree.old) (T.trace tree.new) }
-    ensures kept { KeepsTree (T.content tree.old) (T.content tree.new)
-        (T.fault_count tree.old) (T.fault_count tree.new) }
     ensures counts { IfOk result (λ heard.
         ReadCounts before (T.fault_count tree.old) (T.fault_count tree.new) (heard_cause heard)) }
 {

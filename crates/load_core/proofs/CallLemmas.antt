@@ -7,7 +7,7 @@ use Rattle.tree_core.specs.Content.{Content}
 use Rattle.tree_core.specs.Hearing.{MadeSome}
 use Rattle.tree_core.specs.Trace.{faults_after}
 use Rattle.tree_core.proofs.MadeLemmas.{made_these}
-use Rattle.diag_core.specs.File.{File}
+use Rattle.diag_core.specs.File.{File, Grows}
 use Rattle.diag_core.specs.declared.diagnostic.Diagnostic.{Diagnostic}
 use Rattle.heard_core.specs.Heard.{IsRead, read_of as call_of}
 use Rattle.heard_core.specs.declared.fault.ReadFault.{ReadFault}
@@ -19,7 +19,7 @@ use Rattle.policy_text.specs.Text.{text_told}
 use Rattle.policy_text.specs.declared.error.ConfigError.{ConfigError}
 use Rattle.policy_text.specs.declared.error.ConfigError.TheVariants as config
 use Rattle.policy_text.specs.declared.text.ConfigText.{ConfigText}
-use Rattle.policy_core.specs.Heard.{ExceptionsHeard, Grows, IsReadOf, MayReadOf, no_path}
+use Rattle.policy_core.specs.Heard.{ExceptionsHeard, IsReadOf, MayReadOf, no_path}
 use Rattle.policy_core.specs.Load.{LoadsPolicyBy}
 use Rattle.policy_core.specs.Policy.{absence_told}
 use Rattle.policy_core.specs.declared.load.LoadedPolicy.{LoadedPolicy}

@@ -1,9 +1,8 @@
 -- What the stages of a load answer, put together.
-use Rattle.std.proofs.Common.{◌≡◌, ◌∙◌, ◌⊎◌, refl, sym, ap, subst, inl, inr, ℕ, true, false, cond, List, [], ◌∷◌, ◌++◌, length, map, Option, Result, Ok, Err, append-nil, append_assoc}
+use Rattle.std.proofs.Common.{◌≡◌, ◌∙◌, refl, sym, ap, subst, ℕ, true, false, cond, List, [], ◌∷◌, ◌++◌, length, map, Option, Result, Ok, Err, append-nil, append_assoc}
 use Rattle.std.specs.List.{list_any}
 use Rattle.catalog_core.specs.Catalog.{CatalogLists}
 use Rattle.toml_shapes.specs.Shapes.{Fault}
-use Rattle.tree_core.specs.Content.{Content}
 use Rattle.tree_core.specs.Faults.{GainedPrefix}
 use Rattle.diag_core.specs.File.{File}
 use Rattle.diag_core.specs.declared.diagnostic.Diagnostic.{Diagnostic}
@@ -14,17 +13,17 @@ use Rattle.print_core.specs.declared.context.LogContext.{LogContext}
 use Rattle.print_core.specs.declared.printer.PrintError.{PrintError}
 use Rattle.print_core.specs.declared.printer.PrintError.TheVariants as print
 use Rattle.policy_config.specs.declared.root.RootConfig.{RootConfig}
-use Rattle.policy_text.specs.Config.{IsTold, config_told}
+use Rattle.policy_text.specs.Config.{config_told}
 use Rattle.policy_text.specs.Text.{text_told}
 use Rattle.policy_text.specs.declared.error.ConfigError.{ConfigError}
 use Rattle.policy_text.specs.declared.error.ConfigError.TheVariants as config
 use Rattle.policy_text.specs.declared.text.ConfigText.{ConfigText}
 use Rattle.policy_core.specs.Exceptions.{shape_told}
-use Rattle.policy_core.specs.Heard.{ExceptionsHeard, no_path, file_heard, read_of, IsHeardOf}
-use Rattle.policy_core.specs.Load.{Keeps, LoadsPolicy, numbers_at}
+use Rattle.policy_core.specs.Heard.{ExceptionsHeard, file_heard, read_of}
+use Rattle.policy_core.specs.Load.{Keeps, numbers_at}
 use Rattle.policy_core.specs.Policy.{PolicyFound, absence_told, policy_found}
 use Rattle.policy_core.specs.declared.load.LoadedPolicy.{LoadedPolicy}
-use Rattle.load_core.specs.Answer.{Answers, Comes, Ends, GainsFiles, IsOfText, IsPolicyOf, IsUnprinted, LoadsRoot, LoadsText, Prints, WhereRead, WriteCounts}
+use Rattle.load_core.specs.Answer.{Answers, Comes, Ends, GainsFiles, IsOfText, IsPolicyOf, Prints, WriteCounts}
 use Rattle.load_core.specs.Answer.{error_of_print, load_cause, refused_by, rooted_by}
 use Rattle.load_core.specs.Load.{Loaded, error_of_config, load_by_config, policy_file, refusal_findings, unless_error, with_policy}
 use Rattle.load_core.specs.Print.{HasReasonSince, is_error, printed_findings}
@@ -124,17 +123,6 @@ root_comes lists context file absence root exceptions old new found before behin
           (subst (λ one. Prints before behind (printed_findings context new one) result) keeps.found prints);
     }
 
-pub loads_root : (lists : CatalogLists) (context : LogContext) (file : ℕ) (absence : List Diagnostic) (root : RootConfig) (path : Option (List ℕ))
-    (content : Option Content) (mid after : ℕ) (old new : List File) (found : List Diagnostic) (before behind : Option (List ℕ)) (policy : LoadedPolicy) (result : Result LoadedPolicy LoadError)
-    → LoadsPolicy lists content mid after file absence root path (record { files = old; found = [] }) (record { files = new; found = found }) policy
-    → Ends policy found result → Prints before behind (printed_findings context new found) result
-    → LoadsRoot lists context file absence root path content mid after old new before behind result
-loads_root lists context file absence root path content mid after old new found before behind policy result loads ends prints = record {
-  exceptions = loads.hearing;
-  hears = loads.is;
-  comes = root_comes lists context file absence root loads.hearing old new found before behind policy result loads.keeps ends prints;
-}
-
 -- ---- behind the policy's file
 
 gains_behind : (old new more : List File) (file : File) (result : Result LoadedPolicy LoadError) → GainsFiles (old ++ file ∷ []) new more result → GainsFiles old new (file ∷ more) result
@@ -176,45 +164,6 @@ module _ (lists : CatalogLists) (context : LogContext) (paths : PolicyPaths) (te
   refused_text_comes refused exceptions result told comes =
       subst (λ one. Comes (load_by_config lists old paths exceptions text one) context old new before behind result) (sym told)
       (comes_behind (refused_by (length old) refused) context old new (policy_file paths.policy text.text) before behind result comes)
-
-module _ (lists : CatalogLists) (context : LogContext) (paths : PolicyPaths) (text : ConfigText) (content : Option Content) (mid after : ℕ)
-    (old new : List File) (before behind : Option (List ℕ)) where
-  root_text : (root : RootConfig) (result : Result LoadedPolicy LoadError) → config_told lists text.text ≡ Ok root
-      → LoadsRoot lists context (length old) (absence_told text.is_there paths.policy) root paths.exceptions content mid after (with_policy old paths text) new before behind result
-      → LoadsText lists context paths text content mid after old new before behind result
-  root_text root result told loads = record {
-    exceptions = loads.exceptions;
-    hears = subst (λ one. WhereRead one (IsHeardOf content mid after (with_policy old paths text) paths.exceptions loads.exceptions)) (sym told) loads.hears;
-    comes = root_text_comes lists context paths text old new before behind root loads.exceptions result told loads.comes;
-  }
-
-  -- a policy that has its shape
-  pub text_by_root : (root : RootConfig) (result : Result LoadedPolicy LoadError) → config_told lists text.text ≡ Ok root
-      → IsUnprinted before behind result
-      ⊎ LoadsRoot lists context (length old) (absence_told text.is_there paths.policy) root paths.exceptions content mid after (with_policy old paths text) new before behind result
-      → IsUnprinted before behind result ⊎ LoadsText lists context paths text content mid after old new before behind result
-  text_by_root root result told (inl unprinted) = inl unprinted
-  text_by_root root result told (inr loads) = inr (root_text root result told loads)
-
-  refused_text : (refused : ConfigError) (error : LoadError) → config_told lists text.text ≡ Err refused
-      → Comes (refused_by (length old) refused) context (with_policy old paths text) new before behind (Err error)
-      → LoadsText lists context paths text content mid after old new before behind (Err error)
-  refused_text refused error told comes = record {
-    exceptions = no_path;
-    hears = subst (λ one. WhereRead one (IsHeardOf content mid after (with_policy old paths text) paths.exceptions no_path)) (sym told) tt;
-    comes = refused_text_comes lists context paths text old new before behind refused no_path (Err error) told comes;
-  }
-
-  -- the refusal of a policy's text
-  pub text_by_refusal : (refused : ConfigError) (error : LoadError) → IsTold (config_told lists text.text) (Err refused)
-      → Comes (refused_by (length old) refused) context (with_policy old paths text) new before behind (Err error)
-      → (refused ≡ config.Memory → IsUnprinted before behind (Err error))
-      → IsUnprinted before behind (Err error) ⊎ LoadsText lists context paths text content mid after old new before behind (Err error)
-  text_by_refusal config.Memory error told comes quiet = inl (quiet refl)
-  text_by_refusal (config.ConfigRead fault) error told comes quiet = inr (refused_text (config.ConfigRead fault) error told comes)
-  text_by_refusal (config.ConfigSyntax fault) error told comes quiet = inr (refused_text (config.ConfigSyntax fault) error told comes)
-  text_by_refusal (config.ConfigShape faults) error told comes quiet = inr (refused_text (config.ConfigShape faults) error told comes)
-  text_by_refusal config.NotCarried error told comes quiet = inr (refused_text config.NotCarried error told comes)
 
 -- ---- causes
 

@@ -1,7 +1,6 @@
 -- What a call that loads a policy answers and leaves.
 use Rattle.std.specs.Prelude.{◌≡◌, ◌⊎◌, ℕ, true, false, List, [], ◌++◌, Option, Result, Ok, Err, ⊤}
 use Rattle.std.specs.List.{list_any}
-use Rattle.std.specs.Option.{ForSome}
 use Rattle.catalog_core.specs.Catalog.{CatalogLists}
 use Rattle.diag_core.specs.File.{File}
 use Rattle.diag_core.specs.declared.diagnostic.Diagnostic.{Diagnostic}
@@ -12,10 +11,9 @@ use Rattle.print_core.specs.declared.context.LogContext.{LogContext}
 use Rattle.print_core.specs.declared.printer.PrintError.{PrintError}
 use Rattle.print_core.specs.declared.printer.PrintError.TheVariants as print
 use Rattle.tree_core.specs.Call.{Call}
-use Rattle.tree_core.specs.Content.{Content}
 use Rattle.tree_core.specs.Faults.{Rose, Gained, GainedPrefix}
 use Rattle.tree_core.specs.Trace.{faults_after}
-use Rattle.policy_core.specs.Heard.{ExceptionsHeard, IsHeardOf, IsReadOf, MayReadOf, file_heard, read_of}
+use Rattle.policy_core.specs.Heard.{ExceptionsHeard, IsReadOf, MayReadOf, file_heard, read_of}
 use Rattle.policy_core.specs.Load.{numbers_at}
 use Rattle.policy_core.specs.Policy.{PolicyFound, policy_found}
 use Rattle.policy_config.specs.declared.root.RootConfig.{RootConfig}
@@ -25,7 +23,7 @@ use Rattle.policy_text.specs.declared.error.ConfigError.{ConfigError}
 use Rattle.policy_text.specs.declared.text.ConfigText.{ConfigText}
 use Rattle.policy_core.specs.declared.load.LoadedPolicy.{LoadedPolicy}
 use Rattle.validate_core.specs.Order.{PutsPolicyInOrder}
-use Rattle.load_core.specs.Heard.{LoadHeard, HearsFiles, IsPolicyRead, MayReadPolicy, exceptions_heard}
+use Rattle.load_core.specs.Heard.{LoadHeard, IsPolicyRead, MayReadPolicy, exceptions_heard}
 use Rattle.load_core.specs.Load.{Loaded, error_of_config, load_by_config, load_of, refusal_findings, unless_error, with_policy}
 use Rattle.load_core.specs.Print.{is_error, printed_findings}
 use Rattle.load_core.specs.declared.error.LoadError.{LoadError}
@@ -81,13 +79,6 @@ pub record Comes (it : Loaded) (context : LogContext) (old new : List File) (bef
   pub files : GainsFiles old new it.files result
   pub prints : Prints before behind (printed_findings context (old ++ it.files) it.findings) result
 
--- The load of a policy: what was heard of its files in the call, less the reads that failed in it, and what came of that.
-pub record Loads (lists : CatalogLists) (context : LogContext) (paths : PolicyPaths) (content : Option Content) (begun after : ℕ)
-    (old new : List File) (before behind : Option (List ℕ)) (result : Result LoadedPolicy LoadError) : Type 0 where
-  pub heard : LoadHeard
-  pub hears : ForSome content (HearsFiles paths begun after heard)
-  pub comes : Comes (load_of lists old paths heard) context old new before behind result
-
 -- ---- from the policy's text on
 
 -- memory was wanting, and nothing was printed
@@ -100,31 +91,12 @@ abbrev pub IsOfText : LoadError → Type 0
 IsOfText (ConfigRead fault) = ⊥
 IsOfText _ = ⊤
 
--- what holds where a policy has its shape, and the exceptions file is read
-abbrev pub WhereRead : Result RootConfig ConfigError → Type 0 → Type 0
-WhereRead (Ok root) P = P
-WhereRead (Err error) P = ⊤
-
--- the same where the policy's text was heard
-pub record LoadsText (lists : CatalogLists) (context : LogContext) (paths : PolicyPaths) (text : ConfigText) (content : Option Content)
-    (mid after : ℕ) (old new : List File) (before behind : Option (List ℕ)) (result : Result LoadedPolicy LoadError) : Type 0 where
-  pub exceptions : ExceptionsHeard
-  pub hears : WhereRead (config_told lists text.text) (IsHeardOf content mid after (with_policy old paths text) paths.exceptions exceptions)
-  pub comes : Comes (load_by_config lists old paths exceptions text (config_told lists text.text)) context old new before behind result
-
 -- what comes of a refusal of the policy's text, and of a policy that has its shape, where its file is known
 abbrev pub refused_by : ℕ → ConfigError → Loaded
 refused_by file refused = record { files = []; findings = refusal_findings file refused; answer = Err (error_of_config refused) }
 
 abbrev pub rooted_by : ExceptionsHeard → PolicyFound → Loaded
 rooted_by exceptions found = record { files = file_heard exceptions; findings = found.findings; answer = unless_error found }
-
--- the same where it has its shape, and its file is the one of that number
-pub record LoadsRoot (lists : CatalogLists) (context : LogContext) (file : ℕ) (absence : List Diagnostic) (root : RootConfig) (path : Option (List ℕ))
-    (content : Option Content) (mid after : ℕ) (old new : List File) (before behind : Option (List ℕ)) (result : Result LoadedPolicy LoadError) : Type 0 where
-  pub exceptions : ExceptionsHeard
-  pub hears : IsHeardOf content mid after old path exceptions
-  pub comes : Comes (rooted_by exceptions (policy_found lists (numbers_at file old) absence (read_of exceptions) root)) context old new before behind result
 
 -- the findings were printed, and then the policy was answered, or refused for an error
 abbrev pub Ends : LoadedPolicy → List Diagnostic → Result LoadedPolicy LoadError → Type 0
@@ -137,7 +109,7 @@ abbrev pub error_of_print : PrintError → LoadError
 error_of_print (print.WriteFault before after) = WriteFault before after
 error_of_print print.Memory = Memory
 
--- ---- by what a tree answered, whatever it tells of its content
+-- ---- by what a tree answered
 
 -- Where the text is that of a policy, a value of its shape whose specs are carried, one call is made, the read of the exceptions file,
 -- and its answer lets hear this; but none where there is no path, or where a known file has it. Where the text is refused, none is made.

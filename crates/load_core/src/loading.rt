@@ -3,19 +3,19 @@ ghost use Rattle.std.specs.Prelude.{◌≡◌, ◌≢◌, ◌≤◌, ◌⊎◌, 
 ghost use Rattle.std.specs.Prelude.{IfOk, IfErr, OnOk, OnErr};
 ghost use Rattle.std.specs.Option.{ForSome, option_and_then, option_copied};
 ghost use Rattle.tree_core.specs.Faults.{Gained, GainedPrefix};
-ghost use Rattle.tree_core.specs.Hearing.{KeepsTree, MadeSome};
+ghost use Rattle.tree_core.specs.Hearing.{MadeSome};
 ghost use Rattle.heard_core.specs.Cause.{ReadCounts, heard_cause};
 ghost use Rattle.heard_core.specs.declared.fault.ReadFault.{ReadFault};
-ghost use Rattle.diag_core.specs.File.{id_at};
+ghost use Rattle.diag_core.specs.File.{Grows, id_at};
 ghost use Rattle.policy_text.specs.Config as config;
 ghost use Rattle.policy_core.specs.Exceptions.{shape_told};
-ghost use Rattle.policy_core.specs.Heard.{Grows, IsFileText, MayReadOf};
+ghost use Rattle.policy_core.specs.Heard.{IsFileText, MayReadOf};
 ghost use Rattle.policy_core.specs.Places.{IsPlacedIn, PolicyStands};
 ghost use Rattle.policy_core.specs.Policy.{absence_told};
-ghost use Rattle.load_core.specs.Answer.{Comes, Ends, IsOfText, IsUnprinted, Loads, LoadsRoot, LoadsText};
+ghost use Rattle.load_core.specs.Answer.{Comes, Ends, IsOfText, IsUnprinted};
 ghost use Rattle.load_core.specs.Answer.{Prints, WriteCounts, load_cause, refused_by};
 ghost use Rattle.load_core.specs.Answer.{IsCutLoad, LoadsBy, LoadsRootBy, LoadsTextBy, MayReadFurther};
-ghost use Rattle.load_core.specs.Heard.{IsHeardAt, IsPolicyRead, MayReadPolicy};
+ghost use Rattle.load_core.specs.Heard.{IsPolicyRead, MayReadPolicy};
 ghost use Rattle.load_core.specs.Load.{policy_file, policy_name, refusal_findings, with_policy};
 ghost use Rattle.load_core.specs.Print.{AreInside, HasReasonSince, printed_findings};
 
@@ -47,15 +47,11 @@ fn hear<T: Tree>(
     begun: u64,
 ) -> Result<Heard, AllocError>
     requires { begun ≤ T.fault_count tree.old }
-    ensures answer { ForSome (T.content tree.old) (λ c. IfOk result (λ heard.
-        IsHeardAt begun path.now (T.fault_count tree.old) (T.fault_count tree.new) heard c)) }
     ensures read { IfOk result (IsPolicyRead begun (T.fault_count tree.new)
         (T.trace tree.old) (T.trace tree.new) path.now) }
     ensures no_memory { OnErr result (MayReadPolicy (T.trace tree.old) (T.trace tree.new) path.now) }
     ensures made { MadeSome (T.content tree.old) (T.content tree.new) (T.fault_count tree.old)
         (T.fault_count tree.new) (T.trace tree.old) (T.trace tree.new) }
-    ensures kept { KeepsTree (T.content tree.old) (T.content tree.new)
-        (T.fault_count tree.old) (T.fault_count tree.new) }
     ensures counts { IfOk result (λ heard.
         ReadCounts begun (T.fault_count tree.old) (T.fault_count tree.new) (heard_cause heard)) }
 {
@@ -198,10 +194,6 @@ fn load_root<T: Tree, S: Sink, C: Catalog>(
 ) -> Result<LoadedPolicy, LoadError>
     requires exceptions { ForSome (option_and_then (id_at files.old) paths.exceptions) (λ id. id ≡ file_id) }
     requires placed { IsPlacedIn files.old file_id root }
-    ensures loads { IsUnprinted (S.written sink.old) (S.written sink.new) result
-        ⊎ LoadsRoot (C.lists catalog.now) context file_id (absence_told is_there paths.policy) root
-        paths.exceptions (T.content tree.old) (T.fault_count tree.old) (T.fault_count tree.new)
-        files.old files.new (S.written sink.old) (S.written sink.new) result }
     ensures places { IfOk result (λ loaded. PolicyStands files.new loaded.licenses) }
     ensures reads { (IsUnprinted (S.written sink.old) (S.written sink.new) result
         × MayReadOf (T.trace tree.old) (T.trace tree.new) files.old paths.exceptions)
@@ -211,8 +203,6 @@ fn load_root<T: Tree, S: Sink, C: Catalog>(
     ensures made { MadeSome (T.content tree.old) (T.content tree.new) (T.fault_count tree.old)
         (T.fault_count tree.new) (T.trace tree.old) (T.trace tree.new) }
     ensures grows { Grows files.old files.new }
-    ensures kept { KeepsTree (T.content tree.old) (T.content tree.new)
-        (T.fault_count tree.old) (T.fault_count tree.new) }
     ensures of_text { IfErr result IsOfText }
     ensures writes { IfErr result (λ error.
         WriteCounts (S.fault_count sink.old) (S.fault_count sink.new) (load_cause error)) }
@@ -255,10 +245,6 @@ fn load_text<T: Tree, S: Sink, C: Catalog>(
 ) -> Result<LoadedPolicy, LoadError>
     requires policy { id_at files.old (policy_name paths.policy) ≡ None }
     requires exceptions { option_and_then (id_at files.old) paths.exceptions ≡ None }
-    ensures loads { IsUnprinted (S.written sink.old) (S.written sink.new) result
-        ⊎ LoadsText (C.lists catalog.now) context paths found (T.content tree.old)
-        (T.fault_count tree.old) (T.fault_count tree.new)
-        files.old files.new (S.written sink.old) (S.written sink.new) result }
     ensures places { IfOk result (λ loaded. PolicyStands files.new loaded.licenses) }
     ensures reads { (IsUnprinted (S.written sink.old) (S.written sink.new) result
         × MayReadFurther (T.trace tree.old) (T.trace tree.new) (with_policy files.old paths found)
@@ -269,8 +255,6 @@ fn load_text<T: Tree, S: Sink, C: Catalog>(
     ensures made { MadeSome (T.content tree.old) (T.content tree.new) (T.fault_count tree.old)
         (T.fault_count tree.new) (T.trace tree.old) (T.trace tree.new) }
     ensures grows { Grows files.old files.new }
-    ensures kept { KeepsTree (T.content tree.old) (T.content tree.new)
-        (T.fault_count tree.old) (T.fault_count tree.new) }
     ensures of_text { IfErr result IsOfText }
     ensures writes { IfErr result (λ error.
         WriteCounts (S.fault_count sink.old) (S.fault_count sink.new) (load_cause error)) }
@@ -307,14 +291,12 @@ pub fn load<T: Tree, S: Sink, C: Catalog>(
     requires begun { begun ≤ T.fault_count tree.old }
     requires policy { id_at files.old (policy_name paths.policy) ≡ None }
     requires exceptions { option_and_then (id_at files.old) paths.exceptions ≡ None }
-    // What is heard of the two files is answered, added and printed, and nothing else.
-    ensures loads { Loads (C.lists catalog.now) context paths (T.content tree.old) begun
-        (T.fault_count tree.new) files.old files.new (S.written sink.old) (S.written sink.new) result }
     ensures there { result ≢ Err (LoadError.ConfigRead ReadFault.Absent) }
     // Each place that the policy keeps lies in its file.
     ensures places { IfOk result (λ loaded. PolicyStands files.new loaded.licenses) }
 
-    // Its files were read, each where it was due, and no other call was made.
+    // Its files were read, each where it was due, and no other call was made; what the answers let hear is
+    // answered, added and printed, and nothing else.
     ensures reads { IsCutLoad (C.lists catalog.now) begun (T.trace tree.old) (T.trace tree.new) files.old
         paths (S.written sink.old) (S.written sink.new) result
         ⊎ LoadsBy (C.lists catalog.now) context paths begun (T.fault_count tree.old) (T.fault_count tree.new)
@@ -325,8 +307,6 @@ pub fn load<T: Tree, S: Sink, C: Catalog>(
     // The tree stays as it was, and a failed read or write has a cause.
     ensures made { MadeSome (T.content tree.old) (T.content tree.new) (T.fault_count tree.old)
         (T.fault_count tree.new) (T.trace tree.old) (T.trace tree.new) }
-    ensures kept { KeepsTree (T.content tree.old) (T.content tree.new)
-        (T.fault_count tree.old) (T.fault_count tree.new) }
     ensures counts { IfErr result (λ error. ReadCounts begun
         (T.fault_count tree.old) (T.fault_count tree.new) (load_cause error)) }
     ensures writes { IfErr result (λ error.

@@ -1,19 +1,18 @@
 -- The one call of locating a field.
 use Rattle.std.proofs.Common.{◌≡◌, ◌∙◌, ℕ, true, false, List, [], ◌∷◌, ◌++◌, append-nil, Option, None, Some, ◌⊎◌, inl, inr, Result, Ok, Err, OnErr, refl, sym, ap, subst, cond}
 use Rattle.std.specs.Prelude.{slice_index, ◌==◌}
-use Rattle.std.specs.Option.{option_map, option_to_list}
+use Rattle.std.specs.Option.{option_to_list}
 use Rattle.std.specs.Path.{path_join, slash}
 use Rattle.deny_text.specs.Path.{join_of}
 use Rattle.tree_core.specs.Call as call
 use Rattle.tree_core.specs.Call.{Call}
 use Rattle.tree_core.specs.Content.{Content}
-use Rattle.tree_core.specs.Hearing.{Made, MadeSome}
-use Rattle.tree_core.proofs.MadeLemmas.{made_none, made_these}
+use Rattle.tree_core.specs.Hearing.{MadeSome}
+use Rattle.tree_core.proofs.MadeLemmas.{made_these}
 use Rattle.tree_core.specs.declared.reads.ReadKind.TheVariants.{Manifest}
-use Rattle.tree_core.specs.declared.reads.ReadRecord.{ReadRecord}
 use Rattle.reads_core.specs.Answered.{IsRead, call_of}
-use Rattle.reads_core.specs.Heard.{Heard, absent, record_of}
-use Rattle.reads_core.specs.Read.{LackedMemory, MadeReads, Read}
+use Rattle.reads_core.specs.Heard.{Heard, absent}
+use Rattle.reads_core.specs.Read.{Read}
 use Rattle.reads_core.proofs.ReadLemmas.{heard_recorded, lacked_behind, no_reads, one_read, read_with}
 use Rattle.diag_core.specs.File.{File, id_at}
 use Rattle.location_core.specs.declared.location.Located.{Located}

@@ -2,12 +2,10 @@
 use Rattle.std.specs.Prelude.{◌≡◌, ℕ, ◌≤◌, List, [], ◌∷◌, ◌++◌, length, true, Option, Some, None, if◌then◌else◌}
 use Rattle.std.specs.Option.{option_and_then, option_map}
 use Rattle.std.specs.Str.{IsCharBoundary, bytes_eq}
-use Rattle.deny_text.specs.Path.{components_of}
 use Rattle.deny_text.specs.declared.span.Span.{Span}
-use Rattle.tree_core.specs.Content.{Content}
 use Rattle.tree_core.specs.declared.reads.ReadKind.TheVariants.{Manifest}
 use Rattle.tree_core.specs.declared.reads.ReadRecord.{ReadRecord}
-use Rattle.reads_core.specs.Heard.{Heard, failed, absent, wrong_kind, not_utf8, text, entries, heard, record_of}
+use Rattle.reads_core.specs.Heard.{Heard, failed, absent, wrong_kind, not_utf8, text, entries, record_of}
 use Rattle.diag_core.specs.declared.label.Coord.{Coord}
 use Rattle.diag_core.specs.File.{File, id_at, source_of}
 use Rattle.manifest_core.specs.SpanSearch.{license_span_of}
@@ -91,10 +89,6 @@ abbrev pub files_after : List ℕ → List ℕ → List File → Heard → List 
 files_after path field files manifest = files_by path field files manifest (id_at files path)
 
 -- ---- what locating answers
-
--- what a content and the reads of a crate let hear of its manifest
-abbrev pub manifest_heard : Content → List ℕ → List ReadRecord → Heard
-manifest_heard content path reads = heard content [] reads Manifest (components_of path)
 
 -- the field was located, and the table is what it is then, by what is heard of the manifest
 pub record IsLocated (path field : List ℕ) (old : List File) (manifest : Heard) (located : Located) (new : List File) : Type 0 where

@@ -1,20 +1,15 @@
 //! The location of a field, by the file table or by reading the manifest.
 ghost use Rattle.std.specs.Prelude.{◌≡◌, ◌⊎◌, ◌++◌, ℕ, List, [], ◌∷◌, length, IfOk, IfSome, OnOk, OnErr};
-ghost use Rattle.std.specs.Option.{ForSome, option_and_then, option_map, option_to_list};
-ghost use Rattle.deny_text.specs.Path.{components_of};
+ghost use Rattle.std.specs.Option.{option_and_then, option_map};
 ghost use Rattle.tree_core.specs.Call as call;
-ghost use Rattle.tree_core.specs.Hearing.{KeepsTree, MadeSome};
-ghost use Rattle.tree_core.specs.declared.reads.ReadKind.TheVariants.{Manifest};
+ghost use Rattle.tree_core.specs.Hearing.{MadeSome};
 ghost use Rattle.reads_core.specs.Answered.{IsRead, call_of};
-ghost use Rattle.reads_core.specs.Heard.{Heard, place_of, there_heard};
-ghost use Rattle.reads_core.specs.Rising.{RiseInOrder};
-ghost use Rattle.reads_core.specs.Told.{CarriesCounts, IsHeardOf};
 ghost use Rattle.reads_core.specs.Views.{heard_file};
 ghost use Rattle.diag_core.specs.File.{source_of};
 ghost use Rattle.location_core.specs.Calls.{IsLocatedBy, StarvesLocating};
 ghost use Rattle.location_core.specs.Location as spec;
-ghost use Rattle.location_core.specs.Location.{CutsOut, IsLocated, PointsAt, coord_at, files_heard};
-ghost use Rattle.location_core.specs.Location.{in_heard, in_table, joined_by, manifest_heard};
+ghost use Rattle.location_core.specs.Location.{CutsOut, PointsAt, coord_at, files_heard};
+ghost use Rattle.location_core.specs.Location.{in_heard, in_table, joined_by};
 
 use crate::search::span_in;
 use deny_text::{PathBuf, Span, Text};
@@ -65,13 +60,6 @@ fn read_manifest<T: Tree>(
     tree: &mut T,
     path: &PathBuf,
 ) -> Result<FileHeard, AllocError>
-    ensures told { ForSome (T.content tree.old) (λ c. IfOk result (λ heard.
-        let place = place_of Manifest [] (components_of path.now) in
-        IsHeardOf (there_heard Manifest c place) (heard_file heard))) }
-    ensures kept { KeepsTree (T.content tree.old) (T.content tree.new)
-        (T.fault_count tree.old) (T.fault_count tree.new) }
-    ensures counts { IfOk result (λ heard.
-        CarriesCounts (T.fault_count tree.old) (T.fault_count tree.new) (heard_file heard)) }
     ensures read { IfOk result (λ heard. IsRead (T.fault_count tree.old) (T.fault_count tree.new)
         (T.trace tree.old) (T.trace tree.new) path.now (heard_file heard)) }
     ensures no_memory { OnErr result ((T.trace tree.new ≡ T.trace tree.old)
@@ -169,16 +157,6 @@ pub fn locate<T: Tree>(
     path: &PathBuf,
     field: &str,
 ) -> Result<Located, AllocError>
-    ensures kept { KeepsTree (T.content tree.old) (T.content tree.new)
-        (T.fault_count tree.old) (T.fault_count tree.new) }
-    ensures rises { IfOk result (λ located.
-        RiseInOrder (T.fault_count tree.old) (option_to_list located.read) (T.fault_count tree.new)) }
-    ensures told { ForSome (T.content tree.old) (λ c. IfOk result (λ located.
-        IsLocated path.now field.now files.old
-        (manifest_heard c path.now (option_to_list located.read)) located files.new)) }
-    // over any tree, by something that is heard of the manifest
-    ensures some { IfOk result (λ located. (manifest : Heard)
-        × IsLocated path.now field.now files.old manifest located files.new) }
     // over any tree, by what the manifest's read was answered, which is its one call
     ensures answered { IfOk result (λ located. IsLocatedBy (T.content tree.old) (T.content tree.new) (T.fault_count tree.old)
         (T.fault_count tree.new) (T.trace tree.old) (T.trace tree.new)

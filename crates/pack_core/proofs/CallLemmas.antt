@@ -10,23 +10,20 @@ use Rattle.tree_core.specs.Call.{Answered, Call}
 use Rattle.tree_core.specs.Content.{Content}
 use Rattle.tree_core.specs.Hearing.{Made, MadeSome}
 use Rattle.tree_core.proofs.MadeLemmas.{made_as, made_these}
-use Rattle.tree_core.specs.declared.reads.ReadAnswer.{ReadAnswer}
-use Rattle.tree_core.specs.declared.reads.ReadKind.{ReadKind}
-use Rattle.tree_core.specs.declared.reads.ReadKind.TheVariants.{Manifest, Listing, LicenseFile}
+use Rattle.tree_core.specs.declared.reads.ReadKind.TheVariants.{Listing, LicenseFile}
 use Rattle.tree_core.specs.declared.reads.ReadRecord.{ReadRecord}
 use Rattle.reads_core.specs.Answered.{IsListed, IsRead, call_of}
 use Rattle.reads_core.specs.Heard.{Heard, absent, is_kind, is_read, record_of, same_parts}
 use Rattle.reads_core.specs.Read.{LackedMemory, MadeReads, Read, call_for, call_lost, calls_in, first_heard, kind_answered, read_heard, records_in}
 use Rattle.reads_core.proofs.ReadLemmas.{first_heard-skip, heard_recorded, lacked_behind, no_reads, one_read, read_with, reads_joined, reads_lacking, records_in-append}
 use Rattle.pack_core.specs.Calls.{IsMadeBy, GoesBy, IsFront, IsMadeOf, Starves, StarvesAmong, TakesIn, first_records, unread_file}
-use Rattle.pack_core.specs.Ears.{Ears, ears_by, looked_of}
-use Rattle.pack_core.specs.NamedFile.{Named}
+use Rattle.pack_core.specs.Ears.{Ears, ears_by}
 use Rattle.pack_core.specs.Pack.{found_of, same_path}
-use Rattle.pack_core.specs.Steps.{Agrees, file_record, records_by, with_file, with_path}
+use Rattle.pack_core.specs.Steps.{Agrees, Begins, file_record, records_by, with_file, with_path}
 use Rattle.pack_core.specs.Told.{told_of}
-use Rattle.pack_core.specs.View.{PackView, file_at, normal_heard, path_read, paths_read}
+use Rattle.pack_core.specs.View.{PackView, file_at, normal_heard, paths_read}
 use Rattle.pack_core.proofs.PackLemmas.{file_at-insert, from_cond, none_told, paths_read-push, records-with_file, stays-with_file}
-use Rattle.pack_core.proofs.PathLemmas.{parts_of_same, same_itself}
+use Rattle.pack_core.proofs.PathLemmas.{parts_of_same}
 
 -- ---- fronts
 
@@ -378,6 +375,15 @@ starves_with {told} {tells} {before} {after} {old} {new} folder pack wanted is m
 -- the records of a listing are by any ears that agree with its pack
 pub listing_records : (folder : List ℕ) (heard : Heard) (ears : Ears) → Agrees ears (listing_pack folder heard) → (listing_pack folder heard).reads ≡ records_by ears folder []
 listing_records folder heard ears agrees = sym (ap (λ (one : Heard). record_of Listing folder one ∷ []) agrees.listing)
+
+-- a pack begins, where it goes on from its listing by what is found
+pub begins_with : (folder : List ℕ) (license_file : Option (List ℕ)) (heard : Heard) (reads : List Read) (new : PackView) → TakesIn reads (listing_pack folder heard) new
+    → paths_read new.reads ≡ fold with_path [] (found_of heard license_file) → Begins folder license_file new
+begins_with folder license_file heard reads new takes paths = record {
+  folder_is = takes.folder;
+  records = λ ears agrees. takes.records ears agrees (listing_records folder heard ears (agrees_before reads (listing_pack folder heard) new ears takes agrees));
+  paths = paths ∙ ap (λ (one : Heard). fold with_path [] (found_of one license_file)) (sym takes.listing);
+}
 
 -- the files that are found, where these are by what is heard of the listing
 front_found : (folder : List ℕ) (heard : Heard) (license_file : Option (List ℕ)) (ears : Ears) → Agrees ears (listing_pack folder heard)

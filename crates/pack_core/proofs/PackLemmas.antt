@@ -3,36 +3,29 @@ use Rattle.std.proofs.lemmas.List.Elements.{filter_map-append}
 use Rattle.std.proofs.lemmas.List.{take_more}
 use Rattle.std.proofs.lemmas.List.Sums.{fold-append}
 use Rattle.std.proofs.lemmas.Map.Made.{lookup-map_values}
-use Rattle.std.proofs.Common.{◌≡◌, ℕ, ◌+◌, ◌<◌, ◌≤◌, get_or, length, take, Bool, true, false, ◌&&◌, ◌||◌, cond, List, [], ◌∷◌, ◌++◌, map, Option, None, Some, is_some, Result, Ok, Err, IfOk, refl, sym, ap, subst, ◌∙◌, arith}
+use Rattle.std.proofs.Common.{◌≡◌, ℕ, ◌+◌, ◌<◌, get_or, length, take, Bool, true, false, ◌&&◌, ◌||◌, cond, List, [], ◌∷◌, ◌++◌, map, Option, None, Some, is_some, Result, Ok, Err, IfOk, refl, sym, ap, subst, ◌∙◌}
 use Rattle.std.specs.BTreeMap.{is_at, insert_entry}
 use Rattle.std.specs.List.{fold, list_any}
 use Rattle.std.specs.Map.{lookup}
-use Rattle.std.specs.Option.{option_and_then, option_map}
+use Rattle.std.specs.Option.{option_map}
 use Rattle.std.specs.Ordering.{is_eq, is_lt, match_ordering}
 use Rattle.std.specs.declared.cmp.Ordering.TheVariants.{Less, Equal, Greater}
 use Rattle.std.specs.Cmp.Lexicographic.{slice_cmp}
-use Rattle.deny_text.proofs.NormalLemmas.{normal_is_normal}
 use Rattle.deny_text.specs.Path.{components_of, part_cmp, path_order}
-use Rattle.tree_core.specs.Content.{Content, resolve}
-use Rattle.tree_core.specs.Faults.{Rose}
 use Rattle.tree_core.specs.declared.reads.ReadAnswer.{ReadAnswer}
-use Rattle.tree_core.specs.declared.reads.ReadKind.{ReadKind}
 use Rattle.tree_core.specs.declared.reads.ReadKind.TheVariants.{Listing, LicenseFile}
 use Rattle.tree_core.specs.declared.reads.ReadRecord.{ReadRecord}
 use Rattle.reads_core.specs.declared.bad_read.BadRead.{BadRead}
 use Rattle.reads_core.specs.declared.bad_read.BadRead.TheVariants as bad
-use Rattle.reads_core.specs.Heard.{Heard, failed, absent, wrong_kind, not_utf8, text, entries, answer_of, counts_in, or_counts, failed_counts, is_read, or_there, place_of, there_heard, record_of}
-use Rattle.reads_core.specs.Rising.{RiseInOrder}
-use Rattle.reads_core.specs.Told.{CarriesCounts, IsHeardOf}
+use Rattle.reads_core.specs.Heard.{Heard, failed, absent, wrong_kind, not_utf8, text, entries, answer_of, record_of}
 use Rattle.reads_core.specs.Views.{heard_bad, heard_file}
-use Rattle.reads_core.proofs.RisingLemmas.{rises_compose, rises_widen}
-use Rattle.pack_core.specs.Ears.{Ears, ears_of, has_hash, is_absent, matches, missing_from, holds, looked_of}
+use Rattle.pack_core.specs.Ears.{Ears, has_hash, is_absent, matches, missing_from, holds, looked_of}
 use Rattle.pack_core.specs.NamedFile.{Named}
-use Rattle.pack_core.specs.Pack.{found_of, same_path, placed, in_path_order}
-use Rattle.pack_core.specs.Steps.{Advances, Agrees, Begins, IsHeardIn, file_record, records_by, with_file, with_path}
+use Rattle.pack_core.specs.Pack.{same_path, placed, in_path_order}
+use Rattle.pack_core.specs.Steps.{Agrees, file_record, records_by, with_file, with_path}
 use Rattle.pack_core.specs.Told.{tells_absent, tells_hash, told_of}
 use Rattle.pack_core.specs.declared.told.Told.{Told}
-use Rattle.pack_core.specs.View.{PackView, IsKept, counts_of, file_at, files_of, normal_heard, path_read, paths_of, paths_read, unlisted_of}
+use Rattle.pack_core.specs.View.{PackView, IsKept, file_at, files_of, normal_heard, path_read, paths_of, paths_read, unlisted_of}
 use Rattle.pack_core.proofs.PathLemmas.{parts_of_same, same_itself, list_any-in_path_order, in_path_order-push}
 
 pub by_test : {G : Type 0} (b : Bool) → (b ≡ true → G) → (b ≡ false → G) → G
@@ -107,25 +100,6 @@ file_at-insert (file ∷ files) path heard at none =
 
 -- ---- records
 
-or_counts-assoc : (a b c : Option (ℕ × ℕ)) → or_counts a (or_counts b c) ≡ or_counts (or_counts a b) c
-or_counts-assoc None b c = refl
-or_counts-assoc (Some x) b c = refl
-
-or_counts-none : (a : Option (ℕ × ℕ)) → or_counts a None ≡ a
-or_counts-none None = refl
-or_counts-none (Some x) = refl
-
-pub failed_counts-push : (kind : ReadKind) (parts : List (List ℕ)) (reads : List ReadRecord) (read : ReadRecord)
-    → failed_counts kind parts (reads ++ read ∷ []) ≡ or_counts (failed_counts kind parts reads) (failed_counts kind parts (read ∷ []))
-failed_counts-push kind parts [] read = refl
-failed_counts-push kind parts (first ∷ reads) read =
-    elim (is_read kind parts first) as (λ b.
-    cond b (or_counts (counts_in first.answer) (failed_counts kind parts (reads ++ read ∷ []))) (failed_counts kind parts (reads ++ read ∷ []))
-    ≡ or_counts (cond b (or_counts (counts_in first.answer) (failed_counts kind parts reads)) (failed_counts kind parts reads)) (failed_counts kind parts (read ∷ []))) [
-      | true ↦ ap (or_counts (counts_in first.answer)) (failed_counts-push kind parts reads read) ∙ or_counts-assoc (counts_in first.answer) (failed_counts kind parts reads) (failed_counts kind parts (read ∷ []))
-      | false ↦ failed_counts-push kind parts reads read
-    ]
-
 -- one more file
 pub paths_read-push : (reads : List ReadRecord) (path : List ℕ) (heard : Heard) → paths_read (reads ++ record_of LicenseFile path heard ∷ []) ≡ paths_read reads ++ path ∷ []
 paths_read-push reads path heard = filter_map-append path_read reads (record_of LicenseFile path heard ∷ [])
@@ -140,27 +114,7 @@ answer_of-normal not_utf8 = refl
 answer_of-normal (text bytes) = refl
 answer_of-normal (entries listed) = refl
 
-pub normal_twice : (heard : Heard) → normal_heard (normal_heard heard) ≡ normal_heard heard
-normal_twice (failed before after) = refl
-normal_twice absent = refl
-normal_twice wrong_kind = refl
-normal_twice not_utf8 = refl
-normal_twice (text bytes) = ap text (normal_is_normal bytes)
-normal_twice (entries listed) = refl
-
-pub normal_of_heard : (there heard : Heard) → IsHeardOf there heard → IsHeardOf (normal_heard there) (normal_heard heard)
-normal_of_heard there (failed before after) is = tt
-normal_of_heard there absent is = ap normal_heard is
-normal_of_heard there wrong_kind is = ap normal_heard is
-normal_of_heard there not_utf8 is = ap normal_heard is
-normal_of_heard there (text bytes) is = ap normal_heard is
-normal_of_heard there (entries listed) is = ap normal_heard is
-
 -- ---- the further file keeps the pack's form
-
-alone : (b : Bool) (counts : Option (ℕ × ℕ)) → cond b (or_counts counts None) None ≡ cond b counts None
-alone true counts = or_counts-none counts
-alone false counts = refl
 
 pub kept-with_file : (pack : PackView) (path : List ℕ) (heard : Heard) → IsKept pack → file_at pack.files path ≡ None → IsKept (with_file pack path heard)
 kept-with_file pack path heard kept none = record {
@@ -169,42 +123,9 @@ kept-with_file pack path heard kept none = record {
       ∙ ap (placed path) kept.paths
       ∙ sym (in_path_order-push (paths_read pack.reads) path)
       ∙ ap in_path_order (sym (paths_read-push pack.reads path heard));
-  files_failed = λ at.
-      let counts = counts_in (answer_of heard) in
-      let old = file_at pack.files at in
-      failed_counts-push LicenseFile (components_of at) pack.reads (record_of LicenseFile path heard)
-      ∙ ap (or_counts (failed_counts LicenseFile (components_of at) pack.reads)) (alone (same_path at path) counts)
-      ∙ ap (λ o. or_counts o (cond (same_path at path) counts None)) (kept.files_failed at)
-      ∙ by_test (same_path at path)
-      (λ same.
-      let gone : old ≡ None = file_at-parts pack.files at path (parts_of_same at path same) ∙ none in
-      ap (λ b. or_counts (option_and_then counts_of old) (cond b counts None)) same
-      ∙ ap (λ o. or_counts (option_and_then counts_of o) counts) gone
-      ∙ ap counts_in (sym (answer_of-normal heard))
-      ∙ sym (ap (λ b. option_and_then counts_of (cond b (Some (normal_heard heard)) old)) same))
-      (λ differs.
-      ap (λ b. or_counts (option_and_then counts_of old) (cond b counts None)) differs
-      ∙ or_counts-none (option_and_then counts_of old)
-      ∙ sym (ap (λ b. option_and_then counts_of (cond b (Some (normal_heard heard)) old)) differs))
-      ∙ ap (option_and_then counts_of) (sym (file_at-insert pack.files path (normal_heard heard) at none));
-  listing_failed =
-      failed_counts-push Listing (components_of pack.folder) pack.reads (record_of LicenseFile path heard)
-      ∙ or_counts-none (failed_counts Listing (components_of pack.folder) pack.reads)
-      ∙ kept.listing_failed;
 }
 
 -- ---- and goes on from it
-
-one_rises : (kind : ReadKind) (before after : ℕ) (path : List ℕ) (heard : Heard) → before ≤ after → CarriesCounts before after heard → RiseInOrder before (record_of kind path heard ∷ []) after
-one_rises kind before after path (failed low high) later counts =
-    let first = counts.0 in
-    let last = counts.1 in
-    (omega arith, record { later = omega arith; rose = subst (λ n. Rose n high) (sym first) (subst (λ n. Rose before n) (sym last) counts.2) }, omega arith)
-one_rises kind before after path absent later counts = later
-one_rises kind before after path wrong_kind later counts = later
-one_rises kind before after path not_utf8 later counts = later
-one_rises kind before after path (text bytes) later counts = later
-one_rises kind before after path (entries listed) later counts = later
 
 map-push : {A B : Type 0} (f : A → B) (xs : List A) (y : A) → map f (xs ++ y ∷ []) ≡ map f xs ++ f y ∷ []
 map-push f [] y = refl
@@ -237,62 +158,6 @@ records-with_file pack path heard none ears agrees old =
     ∙ ap (λ rest. record_of Listing pack.folder ears.listing ∷ rest) (sym (map-push (file_record ears) (paths_read pack.reads) path))
     ∙ ap (records_by ears pack.folder) (sym (paths_read-push pack.reads path heard))
 
-pub advances-with_file : (told : Option Content) (before after : ℕ) (pack : PackView) (path : List ℕ) (heard : Heard)
-    → file_at pack.files path ≡ None → before ≤ after → CarriesCounts before after heard
-    → ((content : Content) → told ≡ Some content → IsHeardOf (there_heard LicenseFile content (place_of LicenseFile (resolve pack.folder) (components_of path))) heard)
-    → Advances told before after pack (with_file pack path heard)
-advances-with_file told before after pack path heard none later counts tells = record {
-  folder = refl;
-  listing = refl;
-  stays = stays-with_file pack path heard none;
-  heard = λ content is old. record {
-    listing = old.listing;
-    files = λ at found there.
-        from_cond (λ found. IsHeardOf (normal_heard (there_heard LicenseFile content (place_of LicenseFile (resolve pack.folder) (components_of at)))) found)
-        (same_path at path) (normal_heard heard) (file_at pack.files at) found
-        (λ same. subst (λ parts. IsHeardOf (normal_heard (there_heard LicenseFile content (place_of LicenseFile (resolve pack.folder) parts))) (normal_heard heard))
-        (sym (parts_of_same at path same)) (normal_of_heard _ heard (tells content is)))
-        (λ differs was. old.files at found was)
-        (sym (file_at-insert pack.files path (normal_heard heard) at none) ∙ there);
-  };
-  normal = λ old at found is.
-      from_cond (λ found. normal_heard found ≡ found) (same_path at path) (normal_heard heard) (file_at pack.files at) found
-      (λ same. normal_twice heard) (λ differs was. old at found was)
-      (sym (file_at-insert pack.files path (normal_heard heard) at none) ∙ is);
-  rises = λ low old. rises_compose low before after pack.reads (record_of LicenseFile path heard ∷ []) old (one_rises LicenseFile before after path heard later counts);
-  records = records-with_file pack path heard none;
-}
-
--- ---- steps compose
-
-pub agrees_earlier : (told : Option Content) (before after : ℕ) (old new : PackView) (ears : Ears) → Advances told before after old new → Agrees ears new → Agrees ears old
-agrees_earlier told before after old new ears goes agrees = record {
-  listing = agrees.listing ∙ goes.listing;
-  files = λ path heard is. agrees.files path heard (goes.stays path heard is);
-}
-
-pub advances_itself : (told : Option Content) (before after : ℕ) (pack : PackView) → before ≤ after → Advances told before after pack pack
-advances_itself told before after pack later = record {
-  folder = refl;
-  listing = refl;
-  stays = λ path heard is. is;
-  heard = λ content is heard. heard;
-  normal = λ old. old;
-  rises = λ low rises. rises_widen low low before after pack.reads (omega arith) rises later;
-  records = λ ears agrees is. is;
-}
-
-pub advances_then : (told : Option Content) (first middle last : ℕ) (old mid new : PackView) → Advances told first middle old mid → Advances told middle last mid new → Advances told first last old new
-advances_then told first middle last old mid new one two = record {
-  folder = two.folder ∙ one.folder;
-  listing = two.listing ∙ one.listing;
-  stays = λ path heard is. two.stays path heard (one.stays path heard is);
-  heard = λ content is heard. two.heard content is (one.heard content is heard);
-  normal = λ old. two.normal (one.normal old);
-  rises = λ low rises. two.rises low (one.rises low rises);
-  records = λ ears agrees is. two.records ears agrees (one.records ears (agrees_earlier told middle last mid new ears two agrees) is);
-}
-
 -- ---- packs of equal parts
 
 pub same_pack : {f g : List ℕ} {l m : Heard} {xs ys : List (List ℕ × Heard)} {rs qs : List ReadRecord} → f ≡ g → l ≡ m → xs ≡ ys → rs ≡ qs
@@ -304,11 +169,7 @@ same_pack {f} {g} {l} {m} {xs} {ys} {rs} {qs} folder listing files reads =
     ∙ ap (λ (a : List ReadRecord). let p : PackView = record { folder = g; listing = m; files = ys; reads = a } in p) reads
 
 pub kept_of_listing : (folder : List ℕ) (heard : Heard) → IsKept (record { folder = folder; listing = heard; files = []; reads = record_of Listing folder heard ∷ [] })
-kept_of_listing folder heard = record {
-  paths = refl;
-  files_failed = λ at. refl;
-  listing_failed = ap (λ b. cond b (or_counts (counts_of heard) None) None) (same_itself folder) ∙ or_counts-none (counts_of heard);
-}
+kept_of_listing folder heard = record { paths = refl }
 
 -- ---- look-ups in what is kept
 
@@ -397,25 +258,6 @@ unlisted_by bad.WrongKind = refl
 unlisted_by bad.NotUtf8 = refl
 unlisted_by (bad.Failed before after) = refl
 
--- ---- a pack that begins
-
-pub begins_with : (told : Option Content) (before middle after : ℕ) (folder : List ℕ) (license_file : Option (List ℕ)) (heard : Heard) (new : PackView)
-    → before ≤ middle → CarriesCounts before middle heard
-    → ((content : Content) → told ≡ Some content → IsHeardOf (there_heard Listing content (resolve folder)) heard)
-    → Advances told middle after (record { folder = folder; listing = heard; files = []; reads = record_of Listing folder heard ∷ [] }) new
-    → paths_read new.reads ≡ fold with_path [] (found_of heard license_file)
-    → Begins told before after folder license_file new
-begins_with told before middle after folder license_file heard new later counts tells goes paths = record {
-  folder_is = goes.folder;
-  heard = λ content is. goes.heard content is (record { listing = tells content is; files = λ path found there. let bad : None ≡ Some found = there in cc });
-  normal = goes.normal (λ path found there. let bad : None ≡ Some found = there in cc);
-  rises = goes.rises before (one_rises Listing before middle folder heard later counts);
-  records = λ ears agrees.
-      let first : PackView = record { folder = folder; listing = heard; files = []; reads = record_of Listing folder heard ∷ [] } in
-      goes.records ears agrees (sym (ap (λ one. record_of Listing folder one ∷ []) (agrees_earlier told middle after first new ears goes agrees).listing));
-  paths = paths ∙ ap (λ listing. fold with_path [] (found_of listing license_file)) (sym goes.listing);
-}
-
 -- ---- a clarification, file by file
 
 pub holds_on : (ears : Ears) (named : Named) (rest : List Named) (here : Bool) → here ≡ matches ears named → here ≡ true → holds ears (named ∷ rest) ≡ holds ears rest
@@ -449,28 +291,3 @@ fold_more start paths place path inside is =
     ap (fold with_path start) (take_more paths place path inside)
     ∙ fold-append with_path start (take place paths) (get_or paths place path ∷ [])
     ∙ ap (with_path (fold with_path start (take place paths))) (sym is)
-
--- ---- by a crate's own reads
-
-settled : (there heard : Heard) (counts : Option (ℕ × ℕ)) → counts ≡ counts_of heard → IsHeardOf there heard → or_there counts there ≡ heard
-settled there (failed before after) counts is heard = ap (λ c. or_there c there) is
-settled there absent counts is heard = ap (λ c. or_there c there) is ∙ heard
-settled there wrong_kind counts is heard = ap (λ c. or_there c there) is ∙ heard
-settled there not_utf8 counts is heard = ap (λ c. or_there c there) is ∙ heard
-settled there (text bytes) counts is heard = ap (λ c. or_there c there) is ∙ heard
-settled there (entries listed) counts is heard = ap (λ c. or_there c there) is ∙ heard
-
-normal-or_there : (counts : Option (ℕ × ℕ)) (there : Heard) → normal_heard (or_there counts there) ≡ or_there counts (normal_heard there)
-normal-or_there None there = refl
-normal-or_there (Some counts) there = refl
-
--- what was heard of a content is what the content and the pack's records let hear
-pub agrees_by_reads : (content : Content) (pack : PackView) → IsKept pack → IsHeardIn content pack → Agrees (ears_of content pack.folder pack.reads) pack
-agrees_by_reads content pack kept heard = record {
-  listing = settled (there_heard Listing content (resolve pack.folder)) pack.listing (failed_counts Listing (components_of pack.folder) pack.reads) kept.listing_failed heard.listing;
-  files = λ path found is.
-      let there = there_heard LicenseFile content (place_of LicenseFile (resolve pack.folder) (components_of path)) in
-      let counts = failed_counts LicenseFile (components_of path) pack.reads in
-      normal-or_there counts there
-      ∙ settled (normal_heard there) found counts (kept.files_failed path ∙ ap (option_and_then counts_of) is) (heard.files path found is);
-}

@@ -1,6 +1,6 @@
 -- Over any tree, whatever it tells of its content: the calls that the steps of making a pack make, and what their answers let
 -- be heard.
-use Rattle.std.specs.Prelude.{◌≡◌, ℕ, List, [], ◌∷◌, ◌++◌, Option, Some}
+use Rattle.std.specs.Prelude.{◌≡◌, ℕ, List, [], ◌++◌, Option, Some}
 use Rattle.std.specs.List.{fold}
 use Rattle.std.specs.Option.{option_map, option_to_list}
 use Rattle.tree_core.specs.Call.{Call}

@@ -4,10 +4,8 @@ use Rattle.std.specs.List.{list_all}
 use Rattle.deny_text.specs.Hash.{xxh32_of}
 use Rattle.deny_text.specs.Normal.{normal_of}
 use Rattle.deny_text.specs.Path.{components_of}
-use Rattle.tree_core.specs.Content.{Content, resolve}
 use Rattle.tree_core.specs.declared.reads.ReadKind.TheVariants.{Listing, LicenseFile}
-use Rattle.tree_core.specs.declared.reads.ReadRecord.{ReadRecord}
-use Rattle.reads_core.specs.Heard.{Heard, failed, absent, wrong_kind, not_utf8, text, entries, heard, is_kind, is_read}
+use Rattle.reads_core.specs.Heard.{Heard, failed, absent, wrong_kind, not_utf8, text, entries, is_kind, is_read}
 use Rattle.reads_core.specs.Read.{Read, first_heard}
 use Rattle.pack_core.specs.NamedFile.{Named}
 
@@ -15,13 +13,6 @@ use Rattle.pack_core.specs.NamedFile.{Named}
 pub record Ears : Type 0 where
   pub listing : Heard
   pub file : List (List ℕ) → Heard
-
--- what a content and a crate's reads let hear, in a folder
-abbrev pub ears_of : Content → List ℕ → List ReadRecord → Ears
-ears_of content folder reads = record {
-  listing = heard content (resolve folder) reads Listing (components_of folder);
-  file = λ parts. heard content (resolve folder) reads LicenseFile parts;
-}
 
 -- What the answers to a crate's reads let hear: that of the first listing; of a file, that of the first read at a path of these
 -- parts. Where none was read, nothing is there.

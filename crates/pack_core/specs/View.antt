@@ -3,14 +3,13 @@ use Rattle.std.specs.Prelude.{◌≡◌, ℕ, Bool, List, map, Option, Some, Non
 use Rattle.std.specs.BTreeMap.{is_at}
 use Rattle.std.specs.List.{filter_map}
 use Rattle.std.specs.Map.{lookup}
-use Rattle.std.specs.Option.{option_and_then}
 use Rattle.deny_text.specs.Normal.{normal_of}
-use Rattle.deny_text.specs.Path.{components_of, path_order}
-use Rattle.tree_core.specs.declared.reads.ReadKind.TheVariants.{Listing, LicenseFile}
+use Rattle.deny_text.specs.Path.{path_order}
+use Rattle.tree_core.specs.declared.reads.ReadKind.TheVariants.{LicenseFile}
 use Rattle.tree_core.specs.declared.reads.ReadRecord.{ReadRecord}
 use Rattle.reads_core.specs.declared.bad_read.BadRead.{BadRead}
 use Rattle.reads_core.specs.declared.bad_read.BadRead.TheVariants as bad
-use Rattle.reads_core.specs.Heard.{Heard, failed, absent, wrong_kind, not_utf8, text, entries, is_kind, answer_of, counts_in, failed_counts}
+use Rattle.reads_core.specs.Heard.{Heard, failed, absent, wrong_kind, not_utf8, text, entries, is_kind}
 use Rattle.reads_core.specs.Views.{heard_file}
 use Rattle.pack_core.specs.Pack.{in_path_order}
 
@@ -49,10 +48,6 @@ path_read read = if is_kind LicenseFile read.kind then Some read.path else None
 abbrev pub paths_read : List ReadRecord → List (List ℕ)
 paths_read reads = filter_map path_read reads
 
--- every text among them is a normal form
-abbrev pub AreNormal : List (List ℕ × Heard) → Type 0
-AreNormal files = (path : List ℕ) (heard : Heard) → file_at files path ≡ Some heard → normal_heard heard ≡ heard
-
 -- why a listing is not heard as entries; a listing is never heard as a text
 abbrev pub unlisted_of : Heard → Option BadRead
 unlisted_of (failed before after) = Some (bad.Failed before after)
@@ -66,12 +61,6 @@ unlisted_of (entries listed) = None
 abbrev pub is_listed : Heard → Bool
 is_listed listing = is_none (unlisted_of listing)
 
--- the counts of a read that failed
-abbrev pub counts_of : Heard → Option (ℕ × ℕ)
-counts_of heard = counts_in (answer_of heard)
-
--- The files are those that were read, in path order; and by the records those reads failed that are heard to have failed.
+-- the files are those that were read, in path order
 pub record IsKept (pack : PackView) : Type 0 where
   pub paths : paths_of pack.files ≡ in_path_order (paths_read pack.reads)
-  pub files_failed : (path : List ℕ) → failed_counts LicenseFile (components_of path) pack.reads ≡ option_and_then counts_of (file_at pack.files path)
-  pub listing_failed : failed_counts Listing (components_of pack.folder) pack.reads ≡ counts_of pack.listing

@@ -5,17 +5,15 @@ ghost use Rattle.deny_text.specs.Path.{components_of};
 ghost use Rattle.std.specs.List.{fold, list_any};
 ghost use Rattle.std.specs.Iterator.{YieldsFirstBy, item_count};
 ghost use Rattle.std.specs.Option.{option_map};
-ghost use Rattle.tree_core.specs.Content.{Content};
-ghost use Rattle.tree_core.specs.Hearing.{KeepsTree};
 ghost use Rattle.tree_core.specs.declared.reads.ReadKind.TheVariants.{Listing};
 ghost use Rattle.reads_core.specs.Heard.{record_of};
 ghost use Rattle.reads_core.specs.Views.{heard_file, heard_folder};
 ghost use Rattle.reads_core.specs.Read.{Read, records_in};
 ghost use Rattle.pack_core.specs.Calls.{GoesBy, IsMadeBy, IsMadeOf, Starves, StarvesAmong, first_records};
 ghost use Rattle.pack_core.specs.Ears as spec;
-ghost use Rattle.pack_core.specs.Ears.{Ears, ears_by, ears_of, looked_of, missing_from};
+ghost use Rattle.pack_core.specs.Ears.{Ears, ears_by, looked_of, missing_from};
 ghost use Rattle.pack_core.specs.Pack.{in_path_order, same_path};
-ghost use Rattle.pack_core.specs.Steps.{Advances, Agrees, Begins, IsHeardIn, with_file, with_path};
+ghost use Rattle.pack_core.specs.Steps.{Agrees, Begins, with_file, with_path};
 ghost use Rattle.pack_core.specs.Told.{told_of};
 ghost use Rattle.pack_core.specs.View.{file_at, normal_heard, paths_of, paths_read, unlisted_of};
 
@@ -177,10 +175,6 @@ impl Pack {
         tree: &mut T,
         path: &PathBuf,
     ) -> Result<Looked, AllocError>
-        ensures kept { KeepsTree (T.content tree.old) (T.content tree.new)
-            (T.fault_count tree.old) (T.fault_count tree.new) }
-        ensures advances { IfOk result (λ looked.
-            Advances (T.content tree.old) (T.fault_count tree.old) (T.fault_count tree.new) self looked.pack) }
         ensures paths { IfOk result (λ looked.
             paths_read looked.pack.reads ≡ with_path (paths_read self.reads) path.now) }
         ensures told { IfOk result (λ looked.
@@ -209,10 +203,6 @@ impl Pack {
         tree: &mut T,
         file: &F,
     ) -> Result<Matched, AllocError>
-        ensures kept { KeepsTree (T.content tree.old) (T.content tree.new)
-            (T.fault_count tree.old) (T.fault_count tree.new) }
-        ensures advances { IfOk result (λ tried.
-            Advances (T.content tree.old) (T.fault_count tree.old) (T.fault_count tree.new) self tried.pack) }
         ensures paths { IfOk result (λ tried.
             paths_read tried.pack.reads ≡ with_path (paths_read self.reads) (F.named file.now).path) }
         ensures holds { IfOk result (λ tried. (ears : Ears) → Agrees ears tried.pack
@@ -241,10 +231,6 @@ impl Pack {
         tree: &mut T,
         files: &[F],
     ) -> Result<Tried, AllocError>
-        ensures kept { KeepsTree (T.content tree.old) (T.content tree.new)
-            (T.fault_count tree.old) (T.fault_count tree.new) }
-        ensures advances { IfOk result (λ tried.
-            Advances (T.content tree.old) (T.fault_count tree.old) (T.fault_count tree.new) self tried.pack) }
         // by whatever ears that agree with the pack that is left, so by those of the crate's own reads
         ensures paths { IfOk result (λ tried. (ears : Ears) → Agrees ears tried.pack
             → paths_read tried.pack.reads
@@ -287,10 +273,6 @@ impl Pack {
         tree: &mut T,
         paths: &[PathBuf],
     ) -> Result<Pack, AllocError>
-        ensures kept { KeepsTree (T.content tree.old) (T.content tree.new)
-            (T.fault_count tree.old) (T.fault_count tree.new) }
-        ensures advances { IfOk result (λ pack.
-            Advances (T.content tree.old) (T.fault_count tree.old) (T.fault_count tree.new) self pack) }
         ensures paths { IfOk result (λ pack.
             paths_read pack.reads ≡ fold with_path (paths_read self.reads) paths.now) }
         ensures goes { IfOk result (λ pack. GoesBy (T.content tree.old) (T.content tree.new) (T.fault_count tree.old)
@@ -315,10 +297,7 @@ impl Pack {
         folder: &str,
         license_file: Option<&PathBuf>,
     ) -> Result<Pack, AllocError>
-        ensures kept { KeepsTree (T.content tree.old) (T.content tree.new)
-            (T.fault_count tree.old) (T.fault_count tree.new) }
-        ensures begins { IfOk result (λ pack. Begins (T.content tree.old) (T.fault_count tree.old)
-            (T.fault_count tree.new) folder.now (option_copied license_file.entry) pack) }
+        ensures begins { IfOk result (λ pack. Begins folder.now (option_copied license_file.entry) pack) }
         // over any tree: the calls are those of the reads that the pack is made of
         ensures made { IfOk result (λ pack. IsMadeBy (T.content tree.old) (T.content tree.new) (T.fault_count tree.old)
             (T.fault_count tree.new) (T.trace tree.old) (T.trace tree.new)
@@ -355,13 +334,10 @@ impl Pack {
         }
     }
 
-    /// The records of the reads in the order of the calls. What was heard in them is what the content and
-    /// these records let hear.
+    /// The records of the reads in the order of the calls.
     pub fn into_reads(self) -> Reads
         ensures reads { result ≡ self.reads }
         ensures sorted { paths_of self.files ≡ in_path_order (paths_read result) }
-        ensures agrees { (content : Content) → IsHeardIn content self
-            → Agrees (ears_of content self.folder result) self }
         // over any tree: what the pack has is what the answers to the reads that it is made of let hear
         ensures answered { (reads : List Read) → IsMadeOf reads self
             → (records_in reads ≡ result) × Agrees (ears_by reads) self }

@@ -3,7 +3,7 @@ use Rattle.std.proofs.Common.{◌≡◌, sym, subst, ℕ, zero, suc, List, [], �
 use Rattle.std.specs.List.{AllByRecursion}
 use Rattle.std.proofs.lemmas.List.Elements.{All-from_recursion}
 use Rattle.deny_text.specs.declared.span.Span.{Span}
-use Rattle.diag_core.specs.File.{File, source_of}
+use Rattle.diag_core.specs.File.{File, Grows, source_of}
 use Rattle.policy_entries.specs.declared.licensee.Licensee.{Licensee}
 use Rattle.policy_parts.specs.declared.file_source.FileSource.{FileSource}
 use Rattle.valid_policy.specs.declared.policy.ValidClarification.{ValidClarification}
@@ -13,7 +13,7 @@ use Rattle.policy_core.specs.Places.{ClarificationStands, ExceptionStands, Expre
 use Rattle.priority_core.specs.Clarification.{PlacedFile}
 use Rattle.verdict_findings.specs.Places.{LiesIn}
 use Rattle.gather_core.specs.Entries.{Entry, clarification_of, entries_of, entry_of, placed_of}
-use Rattle.gather_core.specs.Premises.{ArePlacedIn, Grows, IsPlacedIn, PlaceLies, StandsIn}
+use Rattle.gather_core.specs.Premises.{ArePlacedIn, IsPlacedIn, PlaceLies, StandsIn}
 use Rattle.unused_core.specs.Laws.{EntriesLie}
 
 -- ---- as gathering asks

@@ -1,10 +1,10 @@
 -- What gathering and the check ask of a policy's places.
 use Rattle.std.specs.Prelude.{List}
-use Rattle.diag_core.specs.File.{File}
+use Rattle.diag_core.specs.File.{File, Grows}
 use Rattle.valid_policy.specs.declared.policy.ValidConfig.{ValidConfig}
 use Rattle.policy_core.specs.Places.{PolicyStands}
 use Rattle.gather_core.specs.Entries.{entries_of}
-use Rattle.gather_core.specs.Premises.{ArePlacedIn, Grows}
+use Rattle.gather_core.specs.Premises.{ArePlacedIn}
 use Rattle.unused_core.specs.Laws.{EntriesLie}
 
 -- what gathering asks of the table that is handed to it

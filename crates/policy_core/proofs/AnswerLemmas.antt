@@ -1,26 +1,23 @@
 -- The same where a call ends well, by its answer.
 use Rattle.std.proofs.Common.{◌≡◌, true, false, ℕ, List, [], ◌∷◌, ◌++◌, length, Option, Some, Ok, Err, Result}
 use Rattle.std.specs.Prelude.{is_some, OnErr, OnOk}
-use Rattle.std.specs.Option.{ForSome}
 use Rattle.std.specs.declared.alloc.AllocError.{AllocError}
 use Rattle.catalog_core.specs.Catalog.{CatalogLists, IsCatalog}
 use Rattle.diag_core.specs.File.{File, id_at}
 use Rattle.diag_core.specs.declared.diagnostic.Diagnostic.{Diagnostic}
-use Rattle.heard_core.specs.Cause.{ReadCounts, heard_cause}
-use Rattle.heard_core.specs.Heard.{IsHeard, IsRead}
+use Rattle.heard_core.specs.Heard.{IsRead}
 use Rattle.heard_core.specs.declared.fault.ReadFault.{ReadFault}
 use Rattle.toml_subset.specs.Reading.{read_text}
 use Rattle.tree_core.specs.Call.{Call}
-use Rattle.tree_core.specs.Content.{Content}
 use Rattle.valid_policy.specs.declared.policy.ValidConfig.{ValidConfig}
 use Rattle.valid_policy.specs.declared.policy.ValidException.{ValidException}
 use Rattle.policy_core.specs.Exceptions.{itself_told, unread_told}
 use Rattle.policy_core.specs.ExceptionsText.{Answer, IsAnswered, ReadsBy, kept_of, told_of}
-use Rattle.policy_core.specs.Heard.{IsFileText, LoadState, LoadsExceptions, LoadsExceptionsBy, after_exceptions, fault_words, heard}
+use Rattle.policy_core.specs.Heard.{IsFileText, LoadState, LoadsExceptionsBy, after_exceptions, fault_words, heard}
 use Rattle.policy_core.specs.Places.{PointInto, PolicyStands}
 use Rattle.policy_core.proofs.KeptLemmas.{exceptions_places}
 use Rattle.policy_core.proofs.PlaceLemmas.{exceptions_labels}
-use Rattle.policy_core.proofs.ExceptionLemmas.{text_taken, loads_itself, loads_text, loads_fault, reads_fault, reads_itself, reads_text}
+use Rattle.policy_core.proofs.ExceptionLemmas.{text_taken, reads_fault, reads_itself, reads_text}
 
 abbrev Done : Type 0
 Done = Result (Unit {0}) AllocError
@@ -35,42 +32,6 @@ pub taken : (result : Done) (lists : CatalogLists) (path text : List ℕ) (file 
 taken (Ok done) lists path text file answer policy files found exceptions more further is kept told reads number added =
     text_taken lists path text file answer policy files found exceptions more further reads is number kept added told
 taken (Err error) lists path text file answer policy files found exceptions more further is kept told reads number added = tt
-
-pub itself : (result : Done) (lists : CatalogLists) (content : Option Content) (count : ℕ) (path : List ℕ) (policy : ValidConfig) (files : List File) (found further : List Diagnostic)
-    → is_some (id_at files path) ≡ true → OnOk result (further ≡ found ++ itself_told path ∷ [])
-    → OnOk result (LoadsExceptions lists content count count (Some path) (record { policy = policy; files = files; found = found }) (record { policy = policy; files = files; found = further }))
-itself (Ok done) lists content count path policy files found further is tells = loads_itself lists content count path policy files found further is tells
-itself (Err error) lists content count path policy files found further is tells = tt
-
-pub heard_text : (result : Done) (lists : CatalogLists) (content : Option Content) (before after begun : ℕ) (path text : List ℕ) (old new : LoadState)
-    → OnOk result (new ≡ after_exceptions lists (heard path (Ok text)) old) → IsFileText text
-    → is_some (id_at old.files path) ≡ false → begun ≡ before
-    → ForSome content (λ c. IsHeard c begun path before after (Ok text))
-    → OnOk result (LoadsExceptions lists content before after (Some path) old new)
-heard_text (Ok done) lists content before after begun path text old new loads is_text is same answer = loads_text lists content before after begun path text old new is_text is same answer loads
-heard_text (Err error) lists content before after begun path text old new loads is_text is same answer = tt
-
-pub heard_fault : (result : Done) (lists : CatalogLists) (content : Option Content) (before after begun : ℕ) (path : List ℕ) (fault : ReadFault) (policy : ValidConfig) (files : List File) (found further : List Diagnostic)
-    → OnOk result (further ≡ found ++ unread_told path (fault_words fault) ∷ [])
-    → is_some (id_at files path) ≡ false → begun ≡ before
-    → ForSome content (λ c. IsHeard c begun path before after (Err fault)) → ReadCounts begun before after (heard_cause (Err fault))
-    → OnOk result (LoadsExceptions lists content before after (Some path) (record { policy = policy; files = files; found = found }) (record { policy = policy; files = files; found = further }))
-heard_fault (Ok done) lists content before after begun path fault policy files found further tells is same answer counts =
-    loads_fault lists content before after begun path fault policy files found further is same answer counts tells
-heard_fault (Err error) lists content before after begun path fault policy files found further tells is same answer counts = tt
-
--- what was loaded keeps places
-pub labels_of : (result : Done) (lists : CatalogLists) → IsCatalog lists → (content : Option Content) (before after : ℕ) (path : Option (List ℕ)) (old new : LoadState)
-    → OnOk result (LoadsExceptions lists content before after path old new) → OnOk result (PointInto old.files old.found → PointInto new.files new.found)
-labels_of (Ok done) lists laws content before after path old new loads = exceptions_labels lists laws content before after path old new loads
-labels_of (Err error) lists laws content before after path old new loads = tt
-
-pub places_of : (result : Done) (lists : CatalogLists) → IsCatalog lists → (content : Option Content) (before after : ℕ) (path : Option (List ℕ)) (old new : LoadState)
-    → OnOk result (LoadsExceptions lists content before after path old new) → OnOk result (PolicyStands old.files old.policy → PolicyStands new.files new.policy)
-places_of (Ok done) lists laws content before after path old new loads = exceptions_places lists laws content before after path old new loads
-places_of (Err error) lists laws content before after path old new loads = tt
-
--- ---- by the answer of the read
 
 pub itself_by : (result : Done) (lists : CatalogLists) (count : ℕ) (calls : List Call) (path : List ℕ) (policy : ValidConfig) (files : List File) (found further : List Diagnostic)
     → is_some (id_at files path) ≡ true → OnOk result (further ≡ found ++ itself_told path ∷ [])
@@ -91,6 +52,17 @@ pub fault_by : (result : Done) (lists : CatalogLists) (before after begun : ℕ)
     → OnOk result (LoadsExceptionsBy lists before after calls more (Some path) (record { policy = policy; files = files; found = found }) (record { policy = policy; files = files; found = further }))
 fault_by (Ok done) lists before after begun calls more path fault policy files found further tells is same read = reads_fault lists before after begun calls more path fault policy files found further is same read tells
 fault_by (Err error) lists before after begun calls more path fault policy files found further tells is same read = tt
+
+-- what was loaded keeps places
+pub labels_of : (result : Done) (lists : CatalogLists) → IsCatalog lists → (before after : ℕ) (calls more : List Call) (path : Option (List ℕ)) (old new : LoadState)
+    → OnOk result (LoadsExceptionsBy lists before after calls more path old new) → OnOk result (PointInto old.files old.found → PointInto new.files new.found)
+labels_of (Ok done) lists laws before after calls more path old new loads = exceptions_labels lists laws before after calls more path old new loads
+labels_of (Err error) lists laws before after calls more path old new loads = tt
+
+pub places_of : (result : Done) (lists : CatalogLists) → IsCatalog lists → (before after : ℕ) (calls more : List Call) (path : Option (List ℕ)) (old new : LoadState)
+    → OnOk result (LoadsExceptionsBy lists before after calls more path old new) → OnOk result (PolicyStands old.files old.policy → PolicyStands new.files new.policy)
+places_of (Ok done) lists laws before after calls more path old new loads = exceptions_places lists laws before after calls more path old new loads
+places_of (Err error) lists laws before after calls more path old new loads = tt
 
 -- what holds, holds of a refusal
 pub on_err : {X : Type 0} (result : Result X AllocError) (P : Type 0) → P → OnErr result P

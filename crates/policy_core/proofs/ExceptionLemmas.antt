@@ -1,25 +1,22 @@
 -- What an exceptions file leaves, by what was heard and read of it.
 use Rattle.std.proofs.Common.{◌≡◌, ◌∙◌, refl, sym, ap, subst, ℕ, true, false, List, [], ◌∷◌, ◌++◌, append-nil, length, map, Option, Some, None, Ok, Err, Result, inl, inr}
 use Rattle.std.specs.Prelude.{is_some}
-use Rattle.std.specs.Option.{ForSome}
 use Rattle.catalog_core.specs.Catalog.{CatalogLists}
 use Rattle.deny_text.specs.declared.span.Span.{Span}
-use Rattle.diag_core.specs.File.{File, id_at}
+use Rattle.diag_core.specs.File.{File, Grows, id_at}
 use Rattle.diag_core.specs.declared.diagnostic.Diagnostic.{Diagnostic}
-use Rattle.heard_core.specs.Cause.{ReadCounts, heard_cause}
-use Rattle.heard_core.specs.Heard.{IsHeard, IsRead, read_of as call_of}
+use Rattle.heard_core.specs.Heard.{IsRead, read_of as call_of}
 use Rattle.heard_core.specs.declared.fault.ReadFault.{ReadFault}
 use Rattle.toml_subset.specs.Answer.{Read}
 use Rattle.toml_subset.specs.Data.{Toml}
 use Rattle.toml_subset.specs.Reading.{read_text}
 use Rattle.toml_shapes.specs.Shaped.{faults_in}
 use Rattle.tree_core.specs.Call.{Answered, Call}
-use Rattle.tree_core.specs.Content.{Content}
 use Rattle.valid_policy.specs.declared.policy.ValidConfig.{ValidConfig}
 use Rattle.valid_policy.specs.declared.policy.ValidException.{ValidException}
 use Rattle.policy_core.specs.Exceptions.{exceptions_in, exceptions_kept, exceptions_told, with_exceptions, shape_told, syntax_told, itself_told, unread_told}
 use Rattle.policy_core.specs.ExceptionsText.{Answer, IsAnswered, ReadsBy, kept_of, told_of}
-use Rattle.policy_core.specs.Heard.{ExceptionsHeard, Grows, IsFileText, IsHeardAt, IsReadAt, IsReadOf, LoadState, LoadsExceptions, LoadsExceptionsBy, MayReadAt, MayReadOf, after_exceptions, fault_words, heard, the_policy, value_or_fault}
+use Rattle.policy_core.specs.Heard.{ExceptionsHeard, IsFileText, IsReadAt, IsReadOf, LoadState, LoadsExceptionsBy, MayReadAt, MayReadOf, after_exceptions, fault_words, heard, the_policy, value_or_fault}
 use Rattle.policy_core.specs.declared.exceptions_text.NoExceptions.TheVariants.{Syntax, Shape, Memory}
 
 -- what is kept of a text is what is kept of the answer
@@ -74,10 +71,6 @@ text_taken lists path text file answer policy files found exceptions more furthe
 same_policy : (policy : ValidConfig) → policy ≡ with_exceptions [] policy
 same_policy policy = ap (λ es. record policy { exceptions = es }) (sym (append-nil policy.exceptions))
 
-itself_heard : (told : Option Content) (count : ℕ) (at : Option ℕ) (path : List ℕ) → is_some at ≡ true → IsHeardAt told count count at path (the_policy path)
-itself_heard told count None path is = cc
-itself_heard told count (Some file) path is = (refl, refl)
-
 -- the state behind a file that is the policy, and behind one of which no text was heard
 itself_state : (lists : CatalogLists) (path : List ℕ) (policy : ValidConfig) (files : List File) (found further : List Diagnostic) → further ≡ found ++ itself_told path ∷ []
     → (let new : LoadState = record { policy = policy; files = files; found = further } in new) ≡ after_exceptions lists (the_policy path) (record { policy = policy; files = files; found = found })
@@ -90,55 +83,6 @@ fault_state lists path fault policy files found further tells =
     state_is policy (with_exceptions [] policy) files (files ++ []) further (found ++ unread_told path (fault_words fault) ∷ []) (same_policy policy) (sym (append-nil files)) tells
 
 -- the file is the policy
-pub loads_itself : (lists : CatalogLists) (told : Option Content) (count : ℕ) (path : List ℕ) (policy : ValidConfig) (files : List File) (found further : List Diagnostic)
-    → is_some (id_at files path) ≡ true → further ≡ found ++ itself_told path ∷ []
-    → LoadsExceptions lists told count count (Some path) (record { policy = policy; files = files; found = found }) (record { policy = policy; files = files; found = further })
-loads_itself lists told count path policy files found further is tells = record {
-  hearing = the_policy path;
-  is = itself_heard told count (id_at files path) path is;
-  text = tt;
-  loads = itself_state lists path policy files found further tells;
-}
-
-other_heard : (told : Option Content) (before after begun : ℕ) (at : Option ℕ) (path : List ℕ) (text : Result (List ℕ) ReadFault) → is_some at ≡ false → begun ≡ before
-    → ForSome told (λ content. IsHeard content begun path before after text) → ReadCounts begun before after (heard_cause text)
-    → IsHeardAt told before after at path (heard path text)
-other_heard told before after begun None path text is same answer counts = (
-  text,
-  refl,
-  subst (λ n. ForSome told (λ content. IsHeard content n path before after text)) same answer,
-  subst (λ n. ReadCounts n before after (heard_cause text)) same counts,
-)
-other_heard told before after begun (Some file) path text is same answer counts = cc
-
--- a text was heard
-pub loads_text : (lists : CatalogLists) (told : Option Content) (before after begun : ℕ) (path text : List ℕ) (old new : LoadState)
-    → IsFileText text → is_some (id_at old.files path) ≡ false → begun ≡ before
-    → ForSome told (λ content. IsHeard content begun path before after (Ok text))
-    → new ≡ after_exceptions lists (heard path (Ok text)) old
-    → LoadsExceptions lists told before after (Some path) old new
-loads_text lists told before after begun path text old new is_text is same answer loads = record {
-  hearing = heard path (Ok text);
-  is = other_heard told before after begun (id_at old.files path) path (Ok text) is same answer tt;
-  text = is_text;
-  loads = loads;
-}
-
--- no text was heard
-pub loads_fault : (lists : CatalogLists) (told : Option Content) (before after begun : ℕ) (path : List ℕ) (fault : ReadFault) (policy : ValidConfig) (files : List File) (found further : List Diagnostic)
-    → is_some (id_at files path) ≡ false → begun ≡ before
-    → ForSome told (λ content. IsHeard content begun path before after (Err fault)) → ReadCounts begun before after (heard_cause (Err fault))
-    → further ≡ found ++ unread_told path (fault_words fault) ∷ []
-    → LoadsExceptions lists told before after (Some path) (record { policy = policy; files = files; found = found }) (record { policy = policy; files = files; found = further })
-loads_fault lists told before after begun path fault policy files found further is same answer counts tells = record {
-  hearing = heard path (Err fault);
-  is = other_heard told before after begun (id_at files path) path (Err fault) is same answer counts;
-  text = tt;
-  loads = fault_state lists path fault policy files found further tells;
-}
-
--- ---- by the answer of the read
-
 itself_unread : (before after : ℕ) (calls : List Call) (at : Option ℕ) (path : List ℕ) → is_some at ≡ true → IsReadAt before after calls calls at path (the_policy path)
 itself_unread before after calls None path is = cc
 itself_unread before after calls (Some file) path is = (refl, refl)
@@ -158,6 +102,7 @@ other_read : (before after begun : ℕ) (calls more : List Call) (at : Option �
 other_read before after begun calls more None path text is same read = (text, refl, subst (λ n. IsRead n after calls more path text) same read)
 other_read before after begun calls more (Some file) path text is same read = cc
 
+-- a text was heard
 pub reads_text : (lists : CatalogLists) (before after begun : ℕ) (calls more : List Call) (path text : List ℕ) (old new : LoadState)
     → IsFileText text → is_some (id_at old.files path) ≡ false → begun ≡ before → IsRead begun after calls more path (Ok text)
     → new ≡ after_exceptions lists (heard path (Ok text)) old
@@ -169,6 +114,7 @@ reads_text lists before after begun calls more path text old new is_text is same
   loads = loads;
 }
 
+-- no text was heard
 pub reads_fault : (lists : CatalogLists) (before after begun : ℕ) (calls more : List Call) (path : List ℕ) (fault : ReadFault) (policy : ValidConfig) (files : List File) (found further : List Diagnostic)
     → is_some (id_at files path) ≡ false → begun ≡ before → IsRead begun after calls more path (Err fault)
     → further ≡ found ++ unread_told path (fault_words fault) ∷ []

@@ -34,15 +34,15 @@ use Rattle.toml_subset.proofs.Law.Whole.{text_sound}
 use Rattle.toml_subset.specs.Answer.{Read}
 use Rattle.toml_subset.specs.Data.{Toml}
 use Rattle.toml_subset.specs.Reading.{read_text}
-use Rattle.tree_core.specs.Content.{Content}
+use Rattle.tree_core.specs.Call.{Call}
 use Rattle.validate_core.specs.Order.{PutsFilesInOrder, PutsPolicyInOrder}
 use Rattle.validate_core.specs.Valid.{Judged, clarification_judged, clarification_judged_by, exception_in, kept_by, strict, valid_part}
 use Rattle.valid_policy.specs.declared.policy.ValidClarification.{ValidClarification}
 use Rattle.valid_policy.specs.declared.policy.ValidConfig.{ValidConfig}
 use Rattle.valid_policy.specs.declared.policy.ValidException.{ValidException}
 use Rattle.policy_core.specs.Exceptions.{exceptions_in, exceptions_kept, with_exceptions}
-use Rattle.policy_core.specs.Heard.{ExceptionsHeard, IsFileText, IsTextHeard, LoadState, LoadsExceptions, file_heard, heard, no_path, read_of, the_policy, value_or_fault}
-use Rattle.policy_core.specs.Load.{LoadsPolicy, Surroundings}
+use Rattle.policy_core.specs.Heard.{ExceptionsHeard, IsFileText, IsTextHeard, LoadState, LoadsExceptionsBy, file_heard, heard, no_path, read_of, the_policy, value_or_fault}
+use Rattle.policy_core.specs.Load.{LoadsPolicyBy, Surroundings}
 use Rattle.policy_core.specs.Places.{ClarificationStands, ExceptionStands, ExpressionStands, FileStands, IsPlacedIn, IsSpelledAt, LicenseeStands, LiesInFile, PolicyStands}
 use Rattle.policy_core.specs.Policy.{licences_in}
 use Rattle.policy_core.specs.declared.load.LoadedPolicy.{LoadedPolicy}
@@ -245,19 +245,19 @@ more_stand files more policy stands there = record {
 
 -- ---- what the calls leave
 
-pub exceptions_places : (lists : CatalogLists) → IsCatalog lists → (told : Option Content) (before after : ℕ) (path : Option (List ℕ)) (old new : LoadState)
-    → LoadsExceptions lists told before after path old new → PolicyStands old.files old.policy → PolicyStands new.files new.policy
-exceptions_places lists laws told before after path old new loads stands =
+pub exceptions_places : (lists : CatalogLists) → IsCatalog lists → (before after : ℕ) (calls more : List Call) (path : Option (List ℕ)) (old new : LoadState)
+    → LoadsExceptionsBy lists before after calls more path old new → PolicyStands old.files old.policy → PolicyStands new.files new.policy
+exceptions_places lists laws before after calls more path old new loads stands =
     let hearing = loads.hearing in
     let all = old.files ++ file_heard hearing in
     subst (λ (state : LoadState). PolicyStands state.files state.policy) (sym loads.loads)
     (more_stand all (exceptions_kept lists (length old.files) (read_of hearing)) old.policy (policy_more old.files (file_heard hearing) old.policy stands)
     (exceptions_stand lists laws old.files hearing loads.text))
 
-pub load_places : (lists : CatalogLists) → IsCatalog lists → (told : Option Content) (before after file : ℕ) (absence : List Diagnostic) (root : RootConfig)
-    (path : Option (List ℕ)) (old new : Surroundings) (loaded : LoadedPolicy) → LoadsPolicy lists told before after file absence root path old new loaded
+pub load_places : (lists : CatalogLists) → IsCatalog lists → (before after : ℕ) (calls others : List Call) (file : ℕ) (absence : List Diagnostic) (root : RootConfig)
+    (path : Option (List ℕ)) (old new : Surroundings) (loaded : LoadedPolicy) → LoadsPolicyBy lists before after calls others file absence root path old new loaded
     → IsPlacedIn old.files file root → PolicyStands new.files loaded.licenses
-load_places lists laws told before after file absence root path old new loaded loads placed =
+load_places lists laws before after calls others file absence root path old new loaded loads placed =
     let hearing = loads.hearing in
     let all = old.files ++ file_heard hearing in
     let source = source_more old.files (file_heard hearing) file placed.text placed.source in

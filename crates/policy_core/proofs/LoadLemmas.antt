@@ -4,7 +4,6 @@ use Rattle.catalog_core.specs.Catalog.{CatalogLists}
 use Rattle.diag_core.specs.File.{File}
 use Rattle.diag_core.specs.declared.diagnostic.Diagnostic.{Diagnostic}
 use Rattle.tree_core.specs.Call.{Call}
-use Rattle.tree_core.specs.Content.{Content}
 use Rattle.policy_config.specs.declared.config.Config.{Config}
 use Rattle.policy_config.specs.declared.root.RootConfig.{RootConfig}
 use Rattle.validate_core.specs.Order.{PutsPolicyInOrder}
@@ -13,8 +12,8 @@ use Rattle.valid_policy.specs.declared.policy.ValidConfig.{ValidConfig}
 use Rattle.valid_policy.specs.declared.policy.ValidException.{ValidException}
 use Rattle.policy_core.specs.Exceptions.{exceptions_kept, exceptions_told, with_exceptions}
 use Rattle.policy_core.specs.Findings.{targets_told, graph_keys_told, output_key_told}
-use Rattle.policy_core.specs.Heard.{ExceptionsHeard, LoadState, LoadsExceptions, LoadsExceptionsBy, MayReadOf, after_exceptions, read_of}
-use Rattle.policy_core.specs.Load.{Keeps, LoadsPolicy, LoadsPolicyBy, numbers_at}
+use Rattle.policy_core.specs.Heard.{ExceptionsHeard, LoadState, LoadsExceptionsBy, MayReadOf, after_exceptions, read_of}
+use Rattle.policy_core.specs.Load.{Keeps, LoadsPolicyBy, numbers_at}
 use Rattle.policy_core.specs.Policy.{licences_in, policy_found}
 
 -- further exceptions change nothing of what is put in order
@@ -66,23 +65,7 @@ keeps_policy lists hearing file absence root config valid licenses files more fo
           tells targets keys key;
     }
 
-pub loads_policy : (lists : CatalogLists) (told : Option Content) (before after file : ℕ) (absence : List Diagnostic) (root : RootConfig) (path : Option (List ℕ))
-    (config : Config) (valid licenses : ValidConfig) (files more : List File) (found with_absence checked heard all : List Diagnostic)
-    → config ≡ licences_in root
-    → with_absence ≡ found ++ absence
-    → PutsPolicyInOrder (valid_part lists file config) valid → checked ≡ with_absence ++ validation_findings lists file config
-    → LoadsExceptions lists told before after path (record { policy = valid; files = files; found = checked }) (record { policy = licenses; files = more; found = heard })
-    → all ≡ heard ++ targets_told file root ++ graph_keys_told file root ++ output_key_told file root
-    → LoadsPolicy lists told before after file absence root path (record { files = files; found = found }) (record { files = more; found = all })
-    (record { licenses = licenses; graph = root.graph; output = root.output })
-loads_policy lists told before after file absence root path config valid licenses files more found with_absence checked heard all is_config absent puts checks loads settles = record {
-  hearing = loads.hearing;
-  is = loads.is;
-  text = loads.text;
-  keeps = keeps_policy lists loads.hearing file absence root config valid licenses files more found with_absence checked heard all is_config absent puts checks loads.loads settles;
-}
-
--- the same by the answer of the exceptions file's read
+-- a policy is loaded, by the answer of the exceptions file's read
 pub reads_policy : (lists : CatalogLists) (before after : ℕ) (calls others : List Call) (file : ℕ) (absence : List Diagnostic) (root : RootConfig) (path : Option (List ℕ))
     (config : Config) (valid licenses : ValidConfig) (files more : List File) (found with_absence checked heard all : List Diagnostic)
     → config ≡ licences_in root

@@ -30,7 +30,7 @@ use Rattle.spdx_core.specs.Laws.{LiesIn}
 use Rattle.spdx_core.specs.Reading.{ExpressionView, expression_of}
 use Rattle.term_core.specs.Faults.{first_fault}
 use Rattle.term_core.specs.declared.error.ParseError.{ParseError}
-use Rattle.tree_core.specs.Content.{Content}
+use Rattle.tree_core.specs.Call.{Call}
 use Rattle.toml_faults.proofs.FirstFault.{first_fault as syntax_fault}
 use Rattle.toml_places.proofs.Texts.{text_placed}
 use Rattle.toml_places.specs.Placed.{LiesBetween}
@@ -43,8 +43,8 @@ use Rattle.url.specs.Parts.{Parts}
 use Rattle.validate_core.specs.Valid.{Judged, address_findings, address_judged, address_judged_by, clarification_findings, clarification_judged, clarification_judged_by, place_in, removed_findings, removed_key, strict, told_by, validation_findings}
 use Rattle.policy_core.specs.Exceptions.{exceptions_told, shape_told}
 use Rattle.policy_core.specs.Findings.{graph_keys_told, moved_told, output_key_told, target_told, targets_told}
-use Rattle.policy_core.specs.Heard.{ExceptionsHeard, IsFileText, IsTextHeard, LoadState, LoadsExceptions, file_heard, heard, no_path, read_of, the_policy, value_or_fault}
-use Rattle.policy_core.specs.Load.{LoadsPolicy, Surroundings}
+use Rattle.policy_core.specs.Heard.{ExceptionsHeard, IsFileText, IsTextHeard, LoadState, LoadsExceptionsBy, file_heard, heard, no_path, read_of, the_policy, value_or_fault}
+use Rattle.policy_core.specs.Load.{LoadsPolicyBy, Surroundings}
 use Rattle.policy_core.specs.Places.{IsPlacedIn, LabelPoints, LiesInFile, PointInto, PointsInto}
 use Rattle.policy_core.specs.Policy.{absence_told, licences_in}
 use Rattle.policy_core.specs.declared.load.LoadedPolicy.{LoadedPolicy}
@@ -203,9 +203,9 @@ exceptions_point lists laws files (heard path (Err fault)) text = (tt, tt)
 
 -- ---- what the calls leave
 
-pub exceptions_labels : (lists : CatalogLists) → IsCatalog lists → (told : Option Content) (before after : ℕ) (path : Option (List ℕ)) (old new : LoadState)
-    → LoadsExceptions lists told before after path old new → PointInto old.files old.found → PointInto new.files new.found
-exceptions_labels lists laws told before after path old new loads points =
+pub exceptions_labels : (lists : CatalogLists) → IsCatalog lists → (before after : ℕ) (calls more : List Call) (path : Option (List ℕ)) (old new : LoadState)
+    → LoadsExceptionsBy lists before after calls more path old new → PointInto old.files old.found → PointInto new.files new.found
+exceptions_labels lists laws before after calls more path old new loads points =
     let hearing = loads.hearing in
     subst (λ (state : LoadState). PointInto state.files state.found) (sym loads.loads)
     (both (PointsInto (old.files ++ file_heard hearing)) old.found (exceptions_told lists (length old.files) (read_of hearing))
@@ -216,11 +216,11 @@ absence_points files true path = tt
 absence_points files false (Some path) = (tt, tt)
 absence_points files false None = (tt, tt)
 
-pub load_labels : (lists : CatalogLists) → IsCatalog lists → (told : Option Content) (before after file : ℕ) (is_there : Bool) (at : Option (List ℕ)) (root : RootConfig)
+pub load_labels : (lists : CatalogLists) → IsCatalog lists → (before after : ℕ) (calls others : List Call) (file : ℕ) (is_there : Bool) (at : Option (List ℕ)) (root : RootConfig)
     (path : Option (List ℕ)) (old new : Surroundings) (loaded : LoadedPolicy)
-    → LoadsPolicy lists told before after file (absence_told is_there at) root path old new loaded
+    → LoadsPolicyBy lists before after calls others file (absence_told is_there at) root path old new loaded
     → IsPlacedIn old.files file root → PointInto old.files old.found → PointInto new.files new.found
-load_labels lists laws told before after file is_there at root path old new loaded loads placed points =
+load_labels lists laws before after calls others file is_there at root path old new loaded loads placed points =
     let hearing = loads.hearing in
     let all = old.files ++ file_heard hearing in
     let text = placed.text in

@@ -1,19 +1,16 @@
 -- What is heard of an exceptions file, and what a call that loads it leaves.
 use Rattle.std.specs.Prelude.{◌≡◌, ◌⊎◌, ℕ, ◌<◌, ◌^◌, true, List, [], ◌∷◌, ◌++◌, codes, length, Option, Some, None, Result, Ok, Err, ⊤}
-use Rattle.std.specs.Option.{ForSome}
 use Rattle.std.specs.Str.{IsUtf8}
 use Rattle.catalog_core.specs.Catalog.{CatalogLists}
 use Rattle.diag_core.specs.File.{File, id_at}
 use Rattle.diag_core.specs.declared.diagnostic.Diagnostic.{Diagnostic}
-use Rattle.heard_core.specs.Cause.{ReadCounts, heard_cause}
-use Rattle.heard_core.specs.Heard.{IsHeard, IsRead, read_of as call_of}
+use Rattle.heard_core.specs.Heard.{IsRead, read_of as call_of}
 use Rattle.heard_core.specs.declared.fault.ReadFault.{ReadFault}
 use Rattle.heard_core.specs.declared.fault.ReadFault.TheVariants.{Failed, Absent, Folder, NotUtf8}
 use Rattle.toml_subset.specs.Answer.{Read}
 use Rattle.toml_subset.specs.Data.{Toml}
 use Rattle.toml_subset.specs.Reading.{read_text}
 use Rattle.tree_core.specs.Call.{Answered, Call}
-use Rattle.tree_core.specs.Content.{Content}
 use Rattle.valid_policy.specs.declared.policy.ValidConfig.{ValidConfig}
 use Rattle.policy_core.specs.Exceptions.{ExceptionsRead, no_file, policy_itself, no_text, no_value, value, exceptions_kept, exceptions_told, with_exceptions}
 
@@ -62,19 +59,6 @@ IsTextHeard (the_policy path) = ⊤
 IsTextHeard (heard path (Ok text)) = IsFileText text
 IsTextHeard (heard path (Err fault)) = ⊤
 
--- Where a file is found by the path, it is the policy, and the tree's count of faults stays. Else what is heard is what the
--- content, where it is told, has there, or that the read failed, and then the count rose.
-abbrev pub IsHeardAt : Option Content → ℕ → ℕ → Option ℕ → List ℕ → ExceptionsHeard → Type 0
-IsHeardAt told before after (Some policy) path hearing = (hearing ≡ the_policy path) × (after ≡ before)
-IsHeardAt told before after None path hearing =
-    (text : Result (List ℕ) ReadFault) × (hearing ≡ heard path text)
-    × ForSome told (λ content. IsHeard content before path before after text) × ReadCounts before before after (heard_cause text)
-
--- the same where there may be no path
-abbrev pub IsHeardOf : Option Content → ℕ → ℕ → List File → Option (List ℕ) → ExceptionsHeard → Type 0
-IsHeardOf told before after files None hearing = (hearing ≡ no_path) × (after ≡ before)
-IsHeardOf told before after files (Some path) hearing = IsHeardAt told before after (id_at files path) path hearing
-
 -- a policy, the files that are known, and the findings so far
 pub record LoadState : Type 0 where
   pub policy : ValidConfig
@@ -90,14 +74,7 @@ after_exceptions lists hearing state = record {
   found = state.found ++ exceptions_told lists (length state.files) (read_of hearing);
 }
 
--- the exceptions file at a path was loaded, out of a tree with this content, between two counts of faults
-pub record LoadsExceptions (lists : CatalogLists) (told : Option Content) (before after : ℕ) (path : Option (List ℕ)) (old new : LoadState) : Type 0 where
-  pub hearing : ExceptionsHeard
-  pub is : IsHeardOf told before after old.files path hearing
-  pub text : IsTextHeard hearing
-  pub loads : new ≡ after_exceptions lists hearing old
-
--- ---- the same by what a tree answered, whatever it tells of its content
+-- ---- a call, by what the tree answered
 
 -- A file that is found by the path is the policy, and no call is made. Else one call is made, the read of the path, and its answer
 -- lets hear this.
@@ -120,15 +97,9 @@ abbrev pub MayReadOf : List Call → List Call → List File → Option (List �
 MayReadOf old new files None = new ≡ old
 MayReadOf old new files (Some path) = MayReadAt old new (id_at files path) path
 
--- the exceptions file at a path was loaded, by the answer of its read, between two counts of faults
+-- the exceptions file at a path was loaded, by the answer of its read, between two counts of the tree's faults
 pub record LoadsExceptionsBy (lists : CatalogLists) (before after : ℕ) (calls more : List Call) (path : Option (List ℕ)) (old new : LoadState) : Type 0 where
   pub hearing : ExceptionsHeard
   pub is : IsReadOf before after calls more old.files path hearing
   pub text : IsTextHeard hearing
   pub loads : new ≡ after_exceptions lists hearing old
-
--- ---- files
-
--- The files are those that were there, and others behind them: a file that is known keeps its number and its text.
-abbrev pub Grows : List File → List File → Type 0
-Grows files new = (more : List File) × (new ≡ files ++ more)

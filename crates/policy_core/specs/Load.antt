@@ -4,10 +4,9 @@ use Rattle.catalog_core.specs.Catalog.{CatalogLists}
 use Rattle.diag_core.specs.File.{File}
 use Rattle.diag_core.specs.declared.diagnostic.Diagnostic.{Diagnostic}
 use Rattle.tree_core.specs.Call.{Call}
-use Rattle.tree_core.specs.Content.{Content}
 use Rattle.policy_config.specs.declared.root.RootConfig.{RootConfig}
 use Rattle.validate_core.specs.Order.{PutsPolicyInOrder}
-use Rattle.policy_core.specs.Heard.{ExceptionsHeard, IsHeardOf, IsReadOf, IsTextHeard, file_heard, read_of}
+use Rattle.policy_core.specs.Heard.{ExceptionsHeard, IsReadOf, IsTextHeard, file_heard, read_of}
 use Rattle.policy_core.specs.Policy.{FileNumbers, PolicyFound, policy_found}
 use Rattle.policy_core.specs.declared.load.LoadedPolicy.{LoadedPolicy}
 
@@ -29,15 +28,8 @@ pub record Keeps (it : PolicyFound) (hearing : ExceptionsHeard) (old new : Surro
 abbrev pub numbers_at : ℕ → List File → FileNumbers
 numbers_at file files = record { policy = file; exceptions = length files }
 
--- The policy of this root in the file of this number was loaded, with its exceptions file, out of a tree with this content,
--- between two counts of faults.
-pub record LoadsPolicy (lists : CatalogLists) (told : Option Content) (before after : ℕ) (file : ℕ) (absence : List Diagnostic) (root : RootConfig) (exceptions_path : Option (List ℕ)) (old new : Surroundings) (loaded : LoadedPolicy) : Type 0 where
-  pub hearing : ExceptionsHeard
-  pub is : IsHeardOf told before after old.files exceptions_path hearing
-  pub text : IsTextHeard hearing
-  pub keeps : Keeps (policy_found lists (numbers_at file old.files) absence (read_of hearing) root) hearing old new loaded
-
--- the same by the answer of the exceptions file's read, whatever the tree tells of its content
+-- The policy of this root in the file of this number was loaded, with its exceptions file, by the answer of that file's read,
+-- between two counts of the tree's faults.
 pub record LoadsPolicyBy (lists : CatalogLists) (before after : ℕ) (calls more : List Call) (file : ℕ) (absence : List Diagnostic) (root : RootConfig) (exceptions_path : Option (List ℕ)) (old new : Surroundings) (loaded : LoadedPolicy) : Type 0 where
   pub hearing : ExceptionsHeard
   pub is : IsReadOf before after calls more old.files exceptions_path hearing

@@ -1,11 +1,11 @@
 //! The exceptions file.
 ghost use Rattle.std.specs.Prelude.{◌≡◌, ◌++◌, is_some, false, Ok, Some, OnErr, OnOk};
 ghost use Rattle.std.specs.Option.{ForSome};
-ghost use Rattle.diag_core.specs.File.{id_at};
-ghost use Rattle.tree_core.specs.Hearing.{KeepsTree, MadeSome};
+ghost use Rattle.diag_core.specs.File.{Grows, id_at};
+ghost use Rattle.tree_core.specs.Hearing.{MadeSome};
 ghost use Rattle.policy_core.specs.ExceptionsText.{IsAnswered, kept_of, told_of};
-ghost use Rattle.policy_core.specs.Heard.{LoadState, LoadsExceptions, after_exceptions, heard as heard_at};
-ghost use Rattle.policy_core.specs.Heard.{Grows, IsFileText, LoadsExceptionsBy, MayReadOf};
+ghost use Rattle.policy_core.specs.Heard.{LoadState, after_exceptions, heard as heard_at};
+ghost use Rattle.policy_core.specs.Heard.{IsFileText, LoadsExceptionsBy, MayReadOf};
 ghost use Rattle.policy_core.specs.Places.{PointInto, PolicyStands};
 
 use crate::exceptions_text::{NoExceptions, read_exceptions};
@@ -79,10 +79,6 @@ fn load_other<T: Tree, C: Catalog>(
     catalog: &C,
 ) -> Result<(), AllocError>
     requires { is_some (id_at files.old path) ≡ false }
-    ensures loads { OnOk result (LoadsExceptions (C.lists catalog.now) (T.content tree.old)
-        (T.fault_count tree.old) (T.fault_count tree.new) (Some path)
-        (record { policy = cfg.old; files = files.old; found = diags.old })
-        (record { policy = cfg.new; files = files.new; found = diags.new })) }
     ensures read { OnOk result (LoadsExceptionsBy (C.lists catalog.now) (T.fault_count tree.old)
         (T.fault_count tree.new) (T.trace tree.old) (T.trace tree.new) (Some path)
         (record { policy = cfg.old; files = files.old; found = diags.old })
@@ -92,8 +88,6 @@ fn load_other<T: Tree, C: Catalog>(
     ensures grows { Grows files.old files.new }
     ensures made { MadeSome (T.content tree.old) (T.content tree.new) (T.fault_count tree.old)
         (T.fault_count tree.new) (T.trace tree.old) (T.trace tree.new) }
-    ensures kept { KeepsTree (T.content tree.old) (T.content tree.new)
-        (T.fault_count tree.old) (T.fault_count tree.new) }
 {
     let begun = tree.faults();
     match load(alloc, tree, path.as_path(), begun)? {
@@ -119,10 +113,6 @@ pub fn load_exceptions<T: Tree, C: Catalog>(
     catalog: &C,
 ) -> Result<(), AllocError>
     requires { ForSome (id_at files.old path) (λ id. id ≡ cfg.old.file_id) }
-    ensures loads { OnOk result (LoadsExceptions (C.lists catalog.now) (T.content tree.old)
-        (T.fault_count tree.old) (T.fault_count tree.new) (Some path)
-        (record { policy = cfg.old; files = files.old; found = diags.old })
-        (record { policy = cfg.new; files = files.new; found = diags.new })) }
     ensures labels { OnOk result (PointInto files.old diags.old → PointInto files.new diags.new) }
     ensures places { OnOk result (PolicyStands files.old cfg.old → PolicyStands files.new cfg.new) }
     ensures read { OnOk result (LoadsExceptionsBy (C.lists catalog.now) (T.fault_count tree.old)
@@ -134,8 +124,6 @@ pub fn load_exceptions<T: Tree, C: Catalog>(
     ensures grows { Grows files.old files.new }
     ensures made { MadeSome (T.content tree.old) (T.content tree.new) (T.fault_count tree.old)
         (T.fault_count tree.new) (T.trace tree.old) (T.trace tree.new) }
-    ensures kept { KeepsTree (T.content tree.old) (T.content tree.new)
-        (T.fault_count tree.old) (T.fault_count tree.new) }
 {
     if files.id_for_path(path.as_path()).is_some() {
         return tell_itself(alloc, path.as_path(), diags);

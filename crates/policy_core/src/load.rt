@@ -1,15 +1,15 @@
 //! Policies that were read, and have their shape.
 ghost use Rattle.std.specs.Prelude.{◌≡◌, ◌++◌, map, unwrap_or, IfOk, OnErr, OnOk, codes};
 ghost use Rattle.std.specs.Option.{ForSome, option_copied, option_to_list, option_and_then};
-ghost use Rattle.diag_core.specs.File.{id_at};
-ghost use Rattle.tree_core.specs.Hearing.{KeepsTree, MadeSome};
+ghost use Rattle.diag_core.specs.File.{Grows, id_at};
+ghost use Rattle.tree_core.specs.Hearing.{MadeSome};
 ghost use Rattle.policy_config.specs.Config.{no_config};
 ghost use Rattle.validate_core.specs.Order.{PutsPolicyInOrder};
 ghost use Rattle.validate_core.specs.Valid.{valid_part, validation_findings};
 ghost use Rattle.policy_core.specs.Findings.{moved_told};
 ghost use Rattle.policy_core.specs.Findings.{targets_told, graph_keys_told, output_key_told};
-ghost use Rattle.policy_core.specs.Heard.{Grows, LoadsExceptions, LoadsExceptionsBy, MayReadOf};
-ghost use Rattle.policy_core.specs.Load.{LoadsPolicy, LoadsPolicyBy};
+ghost use Rattle.policy_core.specs.Heard.{LoadsExceptionsBy, MayReadOf};
+ghost use Rattle.policy_core.specs.Load.{LoadsPolicyBy};
 ghost use Rattle.policy_core.specs.Places.{IsPlacedIn, PointInto, PolicyStands};
 ghost use Rattle.policy_core.specs.Policy.{absence_told};
 
@@ -104,10 +104,6 @@ fn load_further<T: Tree, C: Catalog>(
     catalog: &C,
 ) -> Result<(), AllocError>
     requires { ForSome (option_and_then (id_at files.old) path) (λ id. id ≡ cfg.old.file_id) }
-    ensures loads { OnOk result (LoadsExceptions (C.lists catalog.now) (T.content tree.old)
-        (T.fault_count tree.old) (T.fault_count tree.new) path
-        (record { policy = cfg.old; files = files.old; found = diags.old })
-        (record { policy = cfg.new; files = files.new; found = diags.new })) }
     ensures read { OnOk result (LoadsExceptionsBy (C.lists catalog.now) (T.fault_count tree.old)
         (T.fault_count tree.new) (T.trace tree.old) (T.trace tree.new) path
         (record { policy = cfg.old; files = files.old; found = diags.old })
@@ -117,8 +113,6 @@ fn load_further<T: Tree, C: Catalog>(
     ensures grows { Grows files.old files.new }
     ensures made { MadeSome (T.content tree.old) (T.content tree.new) (T.fault_count tree.old)
         (T.fault_count tree.new) (T.trace tree.old) (T.trace tree.new) }
-    ensures kept { KeepsTree (T.content tree.old) (T.content tree.new)
-        (T.fault_count tree.old) (T.fault_count tree.new) }
 {
     match path {
         Some(path) => load_exceptions(alloc, cfg, path, tree, files, diags, catalog),
@@ -178,10 +172,6 @@ pub fn load_policy<T: Tree, C: Catalog>(
     catalog: &C,
 ) -> Result<LoadedPolicy, AllocError>
     requires { ForSome (option_and_then (id_at files.old) exceptions_path) (λ id. id ≡ source.now.file_id) }
-    ensures loads { IfOk result (LoadsPolicy (C.lists catalog.now) (T.content tree.old)
-        (T.fault_count tree.old) (T.fault_count tree.new) source.now.file_id
-        (absence_told source.now.is_there (option_copied source.now.path)) root exceptions_path
-        (record { files = files.old; found = found.old }) (record { files = files.new; found = found.new })) }
     ensures labels { OnOk result (IsPlacedIn files.old source.now.file_id root
         → PointInto files.old found.old → PointInto files.new found.new) }
     ensures places { IfOk result (λ loaded. IsPlacedIn files.old source.now.file_id root
@@ -195,8 +185,6 @@ pub fn load_policy<T: Tree, C: Catalog>(
     ensures grows { Grows files.old files.new }
     ensures made { MadeSome (T.content tree.old) (T.content tree.new) (T.fault_count tree.old)
         (T.fault_count tree.new) (T.trace tree.old) (T.trace tree.new) }
-    ensures kept { KeepsTree (T.content tree.old) (T.content tree.new)
-        (T.fault_count tree.old) (T.fault_count tree.new) }
 {
     let file = source.file_id;
     tell_absence(alloc, source, found)?;

@@ -1,5 +1,5 @@
 -- The calls that are made for a crate's licence, and what is asked for where memory is wanting.
-use Rattle.std.proofs.Common.{◌≡◌, ◌∙◌, ℕ, true, cond, List, [], ◌∷◌, ◌++◌, map, Option, None, Some, Result, Ok, Err, OnErr, refl, sym, ap, subst}
+use Rattle.std.proofs.Common.{◌≡◌, ◌∙◌, ℕ, true, cond, List, [], ◌∷◌, ◌++◌, map, Option, Result, Ok, Err, OnErr, refl, sym, ap, subst}
 use Rattle.std.specs.List.{flat_map, fold}
 use Rattle.std.specs.Option.{option_to_list}
 use Rattle.std.proofs.lemmas.List.{map-append}
@@ -110,7 +110,7 @@ starves_beginning {told} {tells} {before} {after} {old} {new} krate clarificatio
 
 -- memory was wanting as clarifications were tried
 pub starves_looking : {told mid tells : Option Content} {before middle after : ℕ} {old between new : List Call} (krate : Record) (clarifications : List Clarification) (begun : PackView)
-    → Begins told before middle (folder_of krate) krate.license_file begun → IsMadeBy told mid before middle old between (folder_of krate) begun
+    → Begins (folder_of krate) krate.license_file begun → IsMadeBy told mid before middle old between (folder_of krate) begun
     → Starves mid tells middle after between new begun (λ ears. looks ears (paths_read begun.reads) clarifications)
     → StarvesAmong told tells before after old new (folder_of krate) (records_with clarifications krate)
 starves_looking krate clarifications begun begins made starves =
@@ -123,7 +123,7 @@ starves_looking krate clarifications begun begins made starves =
 
 -- memory was wanting behind them
 pub starves_looked : {told tells : Option Content} {before after : ℕ} {old new : List Call} (krate : Record) (clarifications : List Clarification) (pack : PackView) (held : Option Held) (missing : List Span)
-    → IsLooked told before after krate clarifications pack held missing → IsMadeBy told tells before after old new (folder_of krate) pack
+    → IsLooked krate clarifications pack held missing → IsMadeBy told tells before after old new (folder_of krate) pack
     → StarvesAmong told tells before after old new (folder_of krate) (records_with clarifications krate)
 starves_looked krate clarifications pack held missing looked made =
     starves_with (folder_of krate) pack (λ ears. reads_of ears krate.license_file (files_of clarifications)) looked.folder made

@@ -1,20 +1,21 @@
 -- From what was looked at for a crate to what settles its licence.
 use Rattle.std.proofs.Common.{◌≡◌, ◌∙◌, ℕ, ◌++◌, true, false, cond, List, [], ◌∷◌, map, Option, None, Some, is_none, refl, sym, ap, subst}
-use Rattle.std.specs.Prelude.{option_map, unwrap_or}
+use Rattle.std.specs.Prelude.{option_map}
 use Rattle.std.specs.List.{flat_map, fold}
 use Rattle.std.proofs.lemmas.List.Sums.{fold-append}
 use Rattle.deny_text.specs.Path.{components_of}
 use Rattle.deny_text.specs.declared.span.Span.{Span}
-use Rattle.tree_core.specs.Content.{Content}
 use Rattle.spdx_core.specs.Reading.{ExpressionView}
 use Rattle.graph_core.specs.Krate.{Record}
-use Rattle.reads_core.specs.Heard.{Heard, absent}
+use Rattle.reads_core.specs.Heard.{Heard}
+use Rattle.reads_core.specs.Read.{Read}
+use Rattle.pack_core.specs.Calls.{TakesIn}
 use Rattle.pack_core.specs.Ears.{Ears, looked_of, tried_of}
 use Rattle.pack_core.specs.NamedFile.{Named}
 use Rattle.pack_core.specs.Pack.{found_of, in_path_order, pack_of, reads_of, wanted_of}
-use Rattle.pack_core.specs.Steps.{Advances, Agrees, Begins, records_by, with_path}
-use Rattle.pack_core.specs.View.{AreNormal, PackView, is_listed, normal_heard, paths_of, paths_read}
-use Rattle.pack_core.proofs.PackLemmas.{agrees_earlier}
+use Rattle.pack_core.specs.Steps.{Agrees, Begins, records_by, with_path}
+use Rattle.pack_core.specs.View.{PackView, is_listed, normal_heard, paths_of, paths_read}
+use Rattle.pack_core.proofs.CallLemmas.{agrees_before}
 use Rattle.pack_core.proofs.PathLemmas.{look_ups_keep_first_spellings}
 use Rattle.expression_core.specs.Scanned.{Scanner, file_scanned}
 use Rattle.priority_core.specs.declared.clarification.Held.{Held}
@@ -24,7 +25,7 @@ use Rattle.priority_core.specs.declared.settling.Settling.TheVariants.{Field}
 use Rattle.priority_core.specs.Clarification.{Clarification, files_of, held_in}
 use Rattle.priority_core.specs.Priority.{field_of, files_heard, files_scanned, folder_of, holding, is_nothing, looks_at_files, records_with}
 use Rattle.priority_core.specs.Settled.{IsSettledBy, answer_in, by_seen, missing_of, seen_by, settling_by, settling_of}
-use Rattle.priority_core.specs.Steps.{IsLooked, IsOrderedBy, ears_in, looked_at, seen_in}
+use Rattle.priority_core.specs.Steps.{IsLooked, IsOrderedBy, looked_at, seen_in}
 use Rattle.priority_core.proofs.ApartLemmas.{AreApart, apart_in_order, apart_spellings, heard_at_paths}
 use Rattle.priority_core.proofs.SeenLemmas.{answer_is}
 
@@ -40,26 +41,23 @@ paths_looked ears license_file clarifications listing begun last same begins loo
     ∙ ap (λ heard. fold with_path [] (found_of heard license_file ++ more)) (sym same)
     ∙ look_ups_keep_first_spellings (found_of ears.listing license_file ++ more)
 
-pub looked : (told : Option Content) (first middle last : ℕ) (krate : Record) (clarifications : List Clarification) (begun new : PackView) (held : Option Held) (missing : List Span)
-    → Begins told first middle (folder_of krate) krate.license_file begun
-    → Advances told middle last begun new
+pub looked : (krate : Record) (clarifications : List Clarification) (reads : List Read) (begun new : PackView) (held : Option Held) (missing : List Span)
+    → Begins (folder_of krate) krate.license_file begun
+    → TakesIn reads begun new
     → ((ears : Ears) → Agrees ears new → paths_read new.reads ≡ fold with_path (paths_read begun.reads) (flat_map (looked_of ears) (tried_of ears (files_of clarifications))))
     → ((ears : Ears) → Agrees ears new → held ≡ option_map held_in (holding ears clarifications))
     → ((ears : Ears) → Agrees ears new → missing ≡ missing_of ears clarifications)
-    → IsLooked told first last krate clarifications new held missing
-looked told first middle last krate clarifications begun new held missing begins goes paths holds lacks =
+    → IsLooked krate clarifications new held missing
+looked krate clarifications reads begun new held missing begins takes paths holds lacks =
     let read : (ears : Ears) → Agrees ears new → paths_read new.reads ≡ reads_of ears krate.license_file (files_of clarifications) =
     λ ears agrees. paths_looked ears krate.license_file (files_of clarifications) begun.listing (paths_read begun.reads) (paths_read new.reads)
-    (agrees_earlier told middle last begun new ears goes agrees).listing begins.paths (paths ears agrees) in
+    (agrees_before reads begun new ears takes agrees).listing begins.paths (paths ears agrees) in
     record {
-      folder = goes.folder ∙ begins.folder_is;
-      heard = λ content is. goes.heard content is (begins.heard content is);
-      normal = goes.normal begins.normal;
-      rises = goes.rises first begins.rises;
+      folder = takes.folder ∙ begins.folder_is;
       paths = read;
       reads = λ ears agrees.
-          goes.records ears agrees (begins.records ears (agrees_earlier told middle last begun new ears goes agrees))
-          ∙ ap (λ folder. records_by ears folder (paths_read new.reads)) (goes.folder ∙ begins.folder_is)
+          takes.records ears agrees (begins.records ears (agrees_before reads begun new ears takes agrees))
+          ∙ ap (λ folder. records_by ears folder (paths_read new.reads)) (takes.folder ∙ begins.folder_is)
           ∙ ap (records_by ears (folder_of krate)) (read ears agrees);
       held_is = holds;
       missing_is = lacks;
@@ -75,12 +73,12 @@ files_looked ears pack paths agrees sorted apart =
     ∙ ap (map (λ path. (path, normal_heard (ears.file (components_of path))))) sorted)
     ∙ ap (λ listing. cond (is_listed listing) (map (λ path. (path, normal_heard (ears.file (components_of path)))) (in_path_order paths)) []) (sym agrees.listing)
 
-pub ordered : (scanner : Scanner) (told : Option Content) (first last : ℕ) (krate : Record) (clarifications : List Clarification) (pack : PackView)
-    → (held : Option Held) (missing : List Span) (field : Option ExpressionView) (settled : Settled) (ears : Ears) → IsLooked told first last krate clarifications pack held missing
+pub ordered : (scanner : Scanner) (krate : Record) (clarifications : List Clarification) (pack : PackView)
+    → (held : Option Held) (missing : List Span) (field : Option ExpressionView) (settled : Settled) (ears : Ears) → IsLooked krate clarifications pack held missing
     → paths_of pack.files ≡ in_path_order (paths_read settled.reads) → field ≡ field_of scanner.lists krate
     → settled.by ≡ settling_by held field (by_seen scanner.lists (seen_in scanner pack)) → settled.missing ≡ missing → settled.reads ≡ pack.reads
     → Agrees ears pack → IsOrderedBy scanner clarifications krate ears settled
-ordered scanner told first last krate clarifications pack held missing field settled ears is sorted field_is by_is missing_is reads agrees =
+ordered scanner krate clarifications pack held missing field settled ears is sorted field_is by_is missing_is reads agrees =
     let wanted = wanted_of ears krate.license_file (files_of clarifications) in
     let files : looked_at pack ≡ files_heard ears (pack_of ears krate.license_file (files_of clarifications)) =
     files_looked ears pack (reads_of ears krate.license_file (files_of clarifications)) agrees (sorted ∙ ap (λ reads. in_path_order (paths_read reads)) reads ∙ ap in_path_order (is.paths ears agrees)) (apart_spellings wanted) in
@@ -96,13 +94,6 @@ ordered scanner told first last krate clarifications pack held missing field set
       missing = missing_is ∙ is.missing_is ears agrees;
       reads = reads ∙ is.reads ears agrees;
     }
-
--- the ears of a pack agree with it
-pub agrees_itself : (pack : PackView) → AreNormal pack.files → Agrees (ears_in pack) pack
-agrees_itself pack normal = record {
-  listing = refl;
-  files = λ path heard is. ap (λ (o : Option Heard). normal_heard (unwrap_or o absent)) is ∙ normal path heard is;
-}
 
 -- ---- the files were looked at, or were not
 

@@ -1,19 +1,17 @@
 //! The licence of one crate.
 ghost use Rattle.std.specs.Prelude.{◌≡◌, ◌++◌, IfOk, OnErr, OnOk, None, Some, [], map, option_map, option_and_then};
 ghost use Rattle.std.specs.List.{flat_map, fold};
-ghost use Rattle.std.specs.Option.{ForSome, option_to_list};
-ghost use Rattle.tree_core.specs.Hearing.{KeepsTree};
+ghost use Rattle.std.specs.Option.{option_to_list};
 ghost use Rattle.graph_core.specs.Krate.{record_of};
-ghost use Rattle.reads_core.specs.Rising.{RiseInOrder};
 ghost use Rattle.pack_core.specs.Calls.{GoesBy, IsMadeBy, Starves, StarvesAmong};
-ghost use Rattle.pack_core.specs.Ears.{Ears, ears_of, looked_of, tried_of};
-ghost use Rattle.pack_core.specs.Steps.{Advances, Agrees, with_path};
+ghost use Rattle.pack_core.specs.Ears.{Ears, looked_of, tried_of};
+ghost use Rattle.pack_core.specs.Steps.{Agrees, with_path};
 ghost use Rattle.pack_core.specs.View.{paths_read};
 ghost use Rattle.priority_core.specs.Calls.{IsByReads};
 ghost use Rattle.priority_core.specs.Clarification.{behind, files_of, held_in};
 ghost use Rattle.priority_core.specs.Priority as spec;
 ghost use Rattle.priority_core.specs.Priority.{field_of, folder_of, holding, records_of, records_with};
-ghost use Rattle.priority_core.specs.Settled.{IsSettledBy, missing_of, scanner_with, settling_by, span_at};
+ghost use Rattle.priority_core.specs.Settled.{IsSettledBy, missing_of, scanner_with, span_at};
 ghost use Rattle.priority_core.specs.Steps.{IsLooked, IsOrderedBy};
 
 use crate::clarification::{ClarificationRef, FileRef, Held};
@@ -91,10 +89,6 @@ fn try_all<T: Tree>(
     pack: Pack,
     clarifications: &[&ClarificationRef<'_>],
 ) -> Result<Clarified, AllocError>
-    ensures kept { KeepsTree (T.content tree.old) (T.content tree.new)
-        (T.fault_count tree.old) (T.fault_count tree.new) }
-    ensures advances { IfOk result (λ clarified.
-        Advances (T.content tree.old) (T.fault_count tree.old) (T.fault_count tree.new) pack clarified.pack) }
     ensures paths { IfOk result (λ clarified. (ears : Ears) → Agrees ears clarified.pack
         → paths_read clarified.pack.reads ≡ fold with_path (paths_read pack.reads)
         (flat_map (looked_of ears) (tried_of ears (files_of (map behind clarifications.now))))) }
@@ -140,11 +134,9 @@ fn look<T: Tree>(
     krate: &Krate,
     clarifications: &[&ClarificationRef<'_>],
 ) -> Result<Clarified, AllocError>
-    ensures kept { KeepsTree (T.content tree.old) (T.content tree.new)
-        (T.fault_count tree.old) (T.fault_count tree.new) }
     ensures looked { IfOk result (λ clarified.
-        IsLooked (T.content tree.old) (T.fault_count tree.old) (T.fault_count tree.new) (record_of krate.now)
-        (map behind clarifications.now) clarified.pack clarified.held clarified.missing) }
+        IsLooked (record_of krate.now) (map behind clarifications.now) clarified.pack clarified.held
+        clarified.missing) }
     ensures made { IfOk result (λ clarified. IsMadeBy (T.content tree.old) (T.content tree.new) (T.fault_count tree.old)
         (T.fault_count tree.new) (T.trace tree.old) (T.trace tree.new)
         (folder_of (record_of krate.now)) clarified.pack) }
@@ -178,17 +170,6 @@ fn settle_by_files<T: Tree, I: Identifier, C: Catalog>(
     field: Option<Expression>,
 ) -> Result<Settled, AllocError>
     requires { field ≡ field_of (C.lists scan.now.catalog.now) (record_of krate.now) }
-    ensures kept { KeepsTree (T.content tree.old) (T.content tree.new)
-        (T.fault_count tree.old) (T.fault_count tree.new) }
-    ensures rises { IfOk result (λ settled.
-        RiseInOrder (T.fault_count tree.old) settled.reads (T.fault_count tree.new)) }
-    ensures told { let krate = record_of krate.now in
-        ForSome (T.content tree.old) (λ c. IfOk result (λ settled.
-        IsOrderedBy (scanner_with C.lists I.match_of scan.now) (map behind clarifications.now) krate
-        (ears_of c (folder_of krate) settled.reads) settled)) }
-    ensures some { IfOk result (λ settled. (ears : Ears)
-        × IsOrderedBy (scanner_with C.lists I.match_of scan.now) (map behind clarifications.now)
-        (record_of krate.now) ears settled) }
     ensures answered { let krate = record_of krate.now in IfOk result (λ settled.
         IsByReads (T.content tree.old) (T.content tree.new) (T.fault_count tree.old)
         (T.fault_count tree.new) (T.trace tree.old) (T.trace tree.new)
@@ -225,18 +206,6 @@ pub fn settle_licence<T: Tree, I: Identifier, C: Catalog>(
     field: Option<Expression>,
 ) -> Result<Settled, AllocError>
     requires { field ≡ field_of (C.lists scan.now.catalog.now) (record_of krate.now) }
-    ensures kept { KeepsTree (T.content tree.old) (T.content tree.new)
-        (T.fault_count tree.old) (T.fault_count tree.new) }
-    ensures rises { IfOk result (λ settled.
-        RiseInOrder (T.fault_count tree.old) settled.reads (T.fault_count tree.new)) }
-    ensures told { let krate = record_of krate.now in
-        ForSome (T.content tree.old) (λ c. IfOk result (λ settled.
-        IsSettledBy (scanner_with C.lists I.match_of scan.now) (map behind clarifications.now) krate
-        (ears_of c (folder_of krate) settled.reads) settled)) }
-    // over any tree, by some ears
-    ensures some { IfOk result (λ settled. (ears : Ears)
-        × IsSettledBy (scanner_with C.lists I.match_of scan.now) (map behind clarifications.now)
-        (record_of krate.now) ears settled) }
     // over any tree, by the answers to the crate's own reads, which are all the calls
     ensures answered { let krate = record_of krate.now in IfOk result (λ settled.
         IsByReads (T.content tree.old) (T.content tree.new) (T.fault_count tree.old)

@@ -10,11 +10,10 @@ use Rattle.tree_core.specs.Call.{Answered}
 use Rattle.tree_core.specs.Content.{Content, Place, Node, file, folder, resolve, place_cmp, entry_in}
 use Rattle.tree_core.specs.declared.reads.ReadAnswer.TheVariants.{Failed}
 use Rattle.tree_core.specs.declared.reads.ReadKind.TheVariants.{Manifest, Listing, LicenseFile}
-use Rattle.tree_core.specs.declared.reads.ReadRecord.{ReadRecord}
 use Rattle.deny_text.specs.Path.{components_of}
 use Rattle.reads_core.specs.Answered.{call_of}
 use Rattle.reads_core.specs.Read.{Read, calls_in, first_heard, read_heard}
-use Rattle.reads_core.specs.Heard.{Heard, failed, absent, wrong_kind, not_utf8, text, entries, heard, file_heard, is_read, listing_by, listing_heard, failed_counts, or_there, place_of}
+use Rattle.reads_core.specs.Heard.{Heard, failed, absent, wrong_kind, not_utf8, text, entries, file_heard, is_read, listing_by, listing_heard, place_of, there_heard}
 
 -- `/w` holds the file `LICENSE` of one LF, the file `COPYING` of the byte FF, and the folder `LICENSES`; `/T` is a file
 abbrev stored : List (Place × Node)
@@ -30,68 +29,48 @@ stored =
 abbrev tree : Content
 tree = map.from_sorted stored
 
-abbrev hears : List ReadRecord → List ℕ → Heard
-hears reads path = heard tree (resolve (codes "/w")) reads LicenseFile (components_of path)
+-- what it has of a licence file of the crate in `/w`
+abbrev there : List ℕ → Heard
+there path = there_heard LicenseFile tree (place_of LicenseFile (resolve (codes "/w")) (components_of path))
 
 -- what stands there is what is stored
-looks : (reads : List ReadRecord) (path : List ℕ)
-    → hears reads path ≡ or_there (failed_counts LicenseFile (components_of path) reads) (file_heard (map.find place_cmp (place_of LicenseFile (resolve (codes "/w")) (components_of path)) stored))
-looks reads path =
-    ap (λ there. or_there (failed_counts LicenseFile (components_of path) reads) (file_heard there))
-    (map.get-from_sorted place_cmp stored (place_of LicenseFile (resolve (codes "/w")) (components_of path)) tt)
+looks : (path : List ℕ) → there path ≡ file_heard (map.find place_cmp (place_of LicenseFile (resolve (codes "/w")) (components_of path)) stored)
+looks path = ap file_heard (map.get-from_sorted place_cmp stored (place_of LicenseFile (resolve (codes "/w")) (components_of path)) tt)
 
 -- a file is a text
-a_text : hears [] (codes "LICENSE") ≡ text (10 ∷ [])
+a_text : there (codes "LICENSE") ≡ text (10 ∷ [])
 unfolding path_components path_names is_utf8 chars encode file_heard
-a_text = looks [] (codes "LICENSE")
+a_text = looks (codes "LICENSE")
 
 -- FF stands in no UTF-8
-no_utf8 : hears [] (codes "COPYING") ≡ not_utf8
+no_utf8 : there (codes "COPYING") ≡ not_utf8
 unfolding path_components path_names is_utf8 chars encode file_heard
-no_utf8 = looks [] (codes "COPYING")
+no_utf8 = looks (codes "COPYING")
 
-a_folder : hears [] (codes "LICENSES") ≡ wrong_kind
+a_folder : there (codes "LICENSES") ≡ wrong_kind
 unfolding path_components path_names is_utf8 chars encode file_heard
-a_folder = looks [] (codes "LICENSES")
+a_folder = looks (codes "LICENSES")
 
-nothing : hears [] (codes "NOTICE") ≡ absent
+nothing : there (codes "NOTICE") ≡ absent
 unfolding path_components path_names is_utf8 chars encode file_heard
-nothing = looks [] (codes "NOTICE")
+nothing = looks (codes "NOTICE")
 
 -- the empty path is the crate's folder
-empty_path : hears [] [] ≡ wrong_kind
+empty_path : there [] ≡ wrong_kind
 unfolding path_components path_names is_utf8 chars encode file_heard
-empty_path = looks [] []
+empty_path = looks []
 
 -- a path may leave the folder, or begin at the root
-above : hears [] (codes "../T") ≡ text (codes "t")
+above : there (codes "../T") ≡ text (codes "t")
 unfolding path_components path_names is_utf8 chars encode file_heard
-above = looks [] (codes "../T")
+above = looks (codes "../T")
 
-at_root : hears [] (codes "/T") ≡ text (codes "t")
+at_root : there (codes "/T") ≡ text (codes "t")
 unfolding path_components path_names is_utf8 chars encode file_heard
-at_root = looks [] (codes "/T")
-
-abbrev failed_read : ReadRecord
-failed_read = record { path = codes "./LICENSE"; kind = LicenseFile; answer = Failed 4 5 }
-
--- `./LICENSE` has a further part, so another path failed
-another_path : hears (failed_read ∷ []) (codes "LICENSE") ≡ text (10 ∷ [])
-unfolding path_components path_names is_utf8 chars encode file_heard
-another_path = looks (failed_read ∷ []) (codes "LICENSE")
-
--- `.//LICENSE` has the same parts
-same_path_failed : hears (failed_read ∷ []) (codes ".//LICENSE") ≡ failed 4 5
-unfolding path_components path_names is_utf8 chars encode file_heard
-same_path_failed = refl
-
--- a listing of the same path is another kind of read
-another_kind : hears (record { path = codes "LICENSE"; kind = Listing; answer = Failed 4 5 } ∷ []) (codes "LICENSE") ≡ text (10 ∷ [])
-unfolding path_components path_names is_utf8 chars encode file_heard
-another_kind = looks (record { path = codes "LICENSE"; kind = Listing; answer = Failed 4 5 } ∷ []) (codes "LICENSE")
+at_root = looks (codes "/T")
 
 -- a listing is found by the root, whatever folder the crate is in
-a_listing : heard tree (resolve (codes "/w")) [] Listing (components_of (codes "/w"))
+a_listing : there_heard Listing tree (place_of Listing (resolve (codes "/w")) (components_of (codes "/w")))
     ≡ entries ((codes "COPYING", true) ∷ (codes "LICENSE", true) ∷ (codes "LICENSES", false) ∷ [])
 unfolding path_components path_names listing_heard
 a_listing =

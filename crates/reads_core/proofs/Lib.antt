@@ -2,4 +2,5 @@ mod AnsweredLemmas
 mod Examples
 pub mod ReadLemmas
 pub mod RisingLemmas
-pub mod ToldLemmas
+pub mod TextLemmas
+mod ToldLemmas

@@ -1,5 +1,5 @@
--- What is heard of a crate's files: what the tree holds, but for the reads that failed.
-use Rattle.std.specs.Prelude.{ℕ, Bool, true, false, ◌&&◌, List, [], ◌∷◌, Option, Some, None, if◌then◌else◌}
+-- What is heard of a crate's files, and what a content has of them.
+use Rattle.std.specs.Prelude.{ℕ, Bool, true, false, ◌&&◌, List, [], Option, Some, None, if◌then◌else◌}
 use Rattle.std.specs.FinMap as map
 use Rattle.std.specs.List.{fold}
 use Rattle.std.specs.Ordering.{eq_by_cmp}
@@ -45,7 +45,7 @@ listing_by content place (Some (file bytes)) = wrong_kind
 unfoldable pub listing_heard : Content → Place → Heard
 listing_heard content place = listing_by content place (map.get content place)
 
--- ---- which of the reads failed
+-- ---- records of a kind and of a path
 
 abbrev pub is_kind : ReadKind → ReadKind → Bool
 is_kind Manifest Manifest = true
@@ -69,18 +69,7 @@ counts_in answer.WrongKind = None
 counts_in answer.NotUtf8 = None
 counts_in (answer.Failed before after) = Some (before, after)
 
-abbrev pub or_counts : Option (ℕ × ℕ) → Option (ℕ × ℕ) → Option (ℕ × ℕ)
-or_counts None more = more
-or_counts (Some counts) more = Some counts
-
--- the counts of the first read of this kind, at a path of these parts, that failed
-abbrev pub failed_counts : ReadKind → List (List ℕ) → List ReadRecord → Option (ℕ × ℕ)
-failed_counts kind parts [] = None
-failed_counts kind parts (read ∷ reads) =
-    if is_read kind parts read then or_counts (counts_in read.answer) (failed_counts kind parts reads)
-    else failed_counts kind parts reads
-
--- ---- what is heard
+-- ---- what stands where a read looks
 
 -- where a read looks: a licence file stands by the crate's folder, a manifest and a listing by the root
 abbrev pub place_of : ReadKind → Place → List (List ℕ) → Place
@@ -94,15 +83,10 @@ there_heard Manifest content place = file_heard (map.get content place)
 there_heard Listing content place = listing_heard content place
 there_heard LicenseFile content place = file_heard (map.get content place)
 
+-- what stands there, but for a failure
 abbrev pub or_there : Option (ℕ × ℕ) → Heard → Heard
 or_there None there = there
 or_there (Some counts) there = failed counts.0 counts.1
-
--- What is heard of a kind at a path of these parts, for a crate in this folder: that the read failed where it is among the
--- crate's reads as one that did, else what the content says.
-abbrev pub heard : Content → Place → List ReadRecord → ReadKind → List (List ℕ) → Heard
-heard content base reads kind parts =
-    or_there (failed_counts kind parts reads) (there_heard kind content (place_of kind base parts))
 
 -- ---- what a record tells of it
 

@@ -2,5 +2,4 @@ pub mod Answered
 pub mod Heard
 pub mod Read
 pub mod Rising
-pub mod Told
 pub mod Views

@@ -1,17 +1,18 @@
 -- Reads of a crate's files, each with the answer of its call.
 use Rattle.std.specs.Prelude.{◌≡◌, ℕ, Bool, List, [], ◌∷◌, ◌++◌, map, Option, Some, None, unwrap_or, if◌then◌else◌}
-use Rattle.deny_text.specs.Path.{join_of}
+use Rattle.std.specs.List.{All}
+use Rattle.deny_text.specs.Path.{components_of, join_of}
 use Rattle.tree_core.specs.Call as call
 use Rattle.tree_core.specs.Call.{Asked, Answered, Call}
-use Rattle.tree_core.specs.Content.{Content}
+use Rattle.tree_core.specs.Content.{Content, resolve}
 use Rattle.tree_core.specs.Hearing.{Made}
-use Rattle.tree_core.specs.Trace.{fault_behind, faults_after}
+use Rattle.tree_core.specs.Trace.{Says, fault_behind, faults_after}
 use Rattle.tree_core.specs.declared.reads.ReadAnswer.{ReadAnswer}
 use Rattle.tree_core.specs.declared.reads.ReadKind.{ReadKind}
 use Rattle.tree_core.specs.declared.reads.ReadKind.TheVariants.{Manifest, Listing, LicenseFile}
 use Rattle.tree_core.specs.declared.reads.ReadRecord.{ReadRecord}
 use Rattle.reads_core.specs.Answered.{call_of, file_answered, folder_answered}
-use Rattle.reads_core.specs.Heard.{Heard, absent, answer_of, counts_in}
+use Rattle.reads_core.specs.Heard.{Heard, absent, answer_of, counts_in, or_there, place_of, there_heard}
 use Rattle.reads_core.specs.Rising.{RiseInOrder}
 
 -- a record of a read, and what the tree answered to its call
@@ -89,6 +90,17 @@ AreReads before (read ∷ reads) = IsRecorded before read × AreReads (fault_beh
 -- reads whose records tell what their answers let hear rise one after the other, up to the count behind their calls
 abbrev pub ReadsRise : Type 0
 ReadsRise = (folder : List ℕ) (before : ℕ) (reads : List Read) → AreReads before reads → RiseInOrder before (records_in reads) (faults_after before (calls_in folder reads))
+
+-- ---- where content is told
+
+-- what the content has where a read looks is what the read lets hear, but for its failure
+abbrev pub HearsContent : Content → List ℕ → Read → Type 0
+HearsContent content folder read =
+    read_heard read ≡ or_there (counts_in read.recorded.answer) (there_heard read.recorded.kind content (place_of read.recorded.kind (resolve folder) (components_of read.recorded.path)))
+
+-- where each call says what a content has, and the records tell what the answers let hear, so does each read
+abbrev pub ReadsTellContent : Type 0
+ReadsTellContent = (content : Content) (folder : List ℕ) (before : ℕ) (reads : List Read) → AreReads before reads → All (Says content) (calls_in folder reads) → All (HearsContent content folder) reads
 
 -- ---- over a tree
 

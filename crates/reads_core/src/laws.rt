@@ -1,5 +1,5 @@
-//! Laws of the reads that failed.
-ghost use Rattle.reads_core.specs.Read.{ReadsRise};
+//! Laws of reads.
+ghost use Rattle.reads_core.specs.Read.{ReadsRise, ReadsTellContent};
 ghost use Rattle.reads_core.specs.Rising.{RisesCompose, RisesWiden};
 
 /// Reads that rise up to a count and reads that rise from it rise together.
@@ -15,4 +15,9 @@ pub fn rises_widen()
 /// Reads whose records tell what their answers let hear rise, up to the count behind their calls.
 pub fn reads_rise()
     ensures { ReadsRise }
+{}
+
+/// Where the calls say what a content has, each read lets hear what the content has at its path, but for a failure.
+pub fn reads_tell_content()
+    ensures { ReadsTellContent }
 {}

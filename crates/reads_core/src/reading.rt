@@ -1,21 +1,18 @@
 //! Reading a file, and listing a folder.
 ghost use Rattle.std.specs.Prelude.{◌≡◌, ◌++◌, ◌⊎◌, [], ◌∷◌, IfOk, OnErr, Some};
-ghost use Rattle.std.specs.Option.{ForSome};
-ghost use Rattle.deny_text.specs.Path.{components_of, join_of};
+ghost use Rattle.deny_text.specs.Path.{join_of};
 ghost use Rattle.tree_core.specs.Call as call;
-ghost use Rattle.tree_core.specs.Content.{file, node_at, resolve};
-ghost use Rattle.tree_core.specs.Hearing.{KeepsTree, MadeSome};
+ghost use Rattle.tree_core.specs.Content.{file};
+ghost use Rattle.tree_core.specs.Hearing.{MadeSome};
 ghost use Rattle.tree_core.specs.declared.reads.ReadKind.TheVariants.{Listing, LicenseFile};
 ghost use Rattle.reads_core.specs.Answered.{IsListed, IsRead, call_of};
-ghost use Rattle.reads_core.specs.Heard.{file_heard, place_of, record_of, there_heard};
-ghost use Rattle.reads_core.specs.Told.{CarriesCounts, IsHeardOf};
+ghost use Rattle.reads_core.specs.Heard.{file_heard, record_of};
 ghost use Rattle.reads_core.specs.Views.{heard_file, heard_folder};
 
 use crate::bad_read::BadRead;
 use deny_text::path::join;
 use deny_text::{Bytes, PathBuf, Text};
 use std::alloc::{AllocError, Global};
-use tree_core::laws::join_goes_on;
 use tree_core::{Entries, ReadAnswer, ReadKind, ReadRecord, Tree, TreeError};
 
 /// A file's text, or why there is none.
@@ -36,18 +33,12 @@ fn text_of(bytes: Bytes) -> FileHeard
 
 /// What is heard of the file at a path.
 fn read_at<T: Tree>(alloc: Global, tree: &mut T, path: &str) -> Result<FileHeard, AllocError>
-    ensures told { ForSome (T.content tree.old) (λ c. IfOk result (λ heard.
-        IsHeardOf (file_heard (node_at c path.now)) (heard_file heard))) }
     ensures read { IfOk result (λ heard. IsRead (T.fault_count tree.old) (T.fault_count tree.new)
         (T.trace tree.old) (T.trace tree.new) path.now (heard_file heard)) }
     ensures no_memory { OnErr result (T.trace tree.new
         ≡ T.trace tree.old ++ call_of call.read path.now call.no_memory ∷ []) }
     ensures made { MadeSome (T.content tree.old) (T.content tree.new) (T.fault_count tree.old)
         (T.fault_count tree.new) (T.trace tree.old) (T.trace tree.new) }
-    ensures kept { KeepsTree (T.content tree.old) (T.content tree.new)
-        (T.fault_count tree.old) (T.fault_count tree.new) }
-    ensures counts { IfOk result (λ heard.
-        CarriesCounts (T.fault_count tree.old) (T.fault_count tree.new) (heard_file heard)) }
 {
     let before = tree.faults();
     match tree.read(alloc, path) {
@@ -69,9 +60,6 @@ pub fn read_file<T: Tree>(
     folder: &str,
     path: &str,
 ) -> Result<FileHeard, AllocError>
-    ensures told { ForSome (T.content tree.old) (λ c. IfOk result (λ heard.
-        let place = place_of LicenseFile (resolve folder.now) (components_of path.now) in
-        IsHeardOf (there_heard LicenseFile c place) (heard_file heard))) }
     ensures read { IfOk result (λ heard. IsRead (T.fault_count tree.old) (T.fault_count tree.new)
         (T.trace tree.old) (T.trace tree.new) (join_of folder.now path.now) (heard_file heard)) }
     ensures no_memory { OnErr result ((T.trace tree.new ≡ T.trace tree.old)
@@ -79,12 +67,7 @@ pub fn read_file<T: Tree>(
         ++ call_of call.read (join_of folder.now path.now) call.no_memory ∷ [])) }
     ensures made { MadeSome (T.content tree.old) (T.content tree.new) (T.fault_count tree.old)
         (T.fault_count tree.new) (T.trace tree.old) (T.trace tree.new) }
-    ensures kept { KeepsTree (T.content tree.old) (T.content tree.new)
-        (T.fault_count tree.old) (T.fault_count tree.new) }
-    ensures counts { IfOk result (λ heard.
-        CarriesCounts (T.fault_count tree.old) (T.fault_count tree.new) (heard_file heard)) }
 {
-    join_goes_on();
     let joined = join(alloc, folder, path)?;
     read_at(alloc, tree, joined.as_path())
 }
@@ -95,18 +78,12 @@ pub fn list_folder<T: Tree>(
     tree: &mut T,
     folder: &str,
 ) -> Result<FolderHeard, AllocError>
-    ensures told { ForSome (T.content tree.old) (λ c. IfOk result (λ heard.
-        IsHeardOf (there_heard Listing c (resolve folder.now)) (heard_folder heard))) }
     ensures listed { IfOk result (λ heard. IsListed (T.fault_count tree.old) (T.fault_count tree.new)
         (T.trace tree.old) (T.trace tree.new) folder.now (heard_folder heard)) }
     ensures no_memory { OnErr result (T.trace tree.new
         ≡ T.trace tree.old ++ call_of call.list folder.now call.no_memory ∷ []) }
     ensures made { MadeSome (T.content tree.old) (T.content tree.new) (T.fault_count tree.old)
         (T.fault_count tree.new) (T.trace tree.old) (T.trace tree.new) }
-    ensures kept { KeepsTree (T.content tree.old) (T.content tree.new)
-        (T.fault_count tree.old) (T.fault_count tree.new) }
-    ensures counts { IfOk result (λ heard.
-        CarriesCounts (T.fault_count tree.old) (T.fault_count tree.new) (heard_folder heard)) }
 {
     let before = tree.faults();
     match tree.list(alloc, folder) {

@@ -1,47 +1,19 @@
--- What is found in a folder and those above it.
+-- The looks at the paths of a folder and of those above it.
 use Rattle.std.proofs.lemmas.List.{length-map}
-use Rattle.std.proofs.Common.{◌≡◌, ◌<◌, ◌+◌, cond, ℕ, zero, suc, true, false, List, [], ◌∷◌, ◌++◌, map, take, drop, get_or, append_assoc, arith, Option, Some, None, Result, Ok, Err, length, refl, ap, sym, subst, ◌∙◌, inl, inr}
+use Rattle.std.proofs.Common.{◌≡◌, ◌<◌, ◌+◌, ℕ, zero, suc, true, false, List, [], ◌∷◌, ◌++◌, map, take, drop, get_or, append_assoc, arith, Option, Some, None, Result, Ok, Err, length, refl, ap, sym, subst, ◌∙◌, inl, inr}
 use Rattle.tree_core.specs.Call.{Answered, Call, told}
 use Rattle.search_core.specs.Looked.{IsFront, IsHit, IsLast, Looked, LookedUntil, look_of, lost, misses}
 use Rattle.std.specs.Prelude.{is_some, IfErr}
 use Rattle.std.specs.Result.{IsErrAnd}
 use Rattle.std.proofs.Math.Numerals.{add-one}
 use Rattle.std.specs.List.{flat_map}
-use Rattle.std.specs.Option.{option_or}
-use Rattle.std.proofs.lemmas.List.Folds.{find-append}
 use Rattle.deny_text.specs.Path.{parent_of, join_of, ancestors_from}
 use Rattle.deny_text.proofs.PathLemmas.{ancestors_of-cons}
-use Rattle.tree_core.specs.Content.{Content}
-use Rattle.search_core.specs.Search.{names_of, paths_in, exists_at, first_existing}
+use Rattle.search_core.specs.Search.{names_of, paths_in}
 use Rattle.search_core.specs.declared.search.SearchError.{SearchError}
 use Rattle.search_core.specs.declared.search.SearchError.TheVariants.{Failed, Memory}
 use Rattle.search_core.specs.declared.search.Sought.{Sought}
 use Rattle.search_core.specs.declared.search.Sought.TheVariants.{Policy, Exceptions}
-
--- what is found in the folder, or else above it
-found_from : (content : Content) (names : List (List ℕ)) (here : List ℕ) →
-    first_existing content (flat_map (paths_in names) (ancestors_from (Some here)))
-    ≡ option_or (first_existing content (paths_in names here)) (first_existing content (flat_map (paths_in names) (ancestors_from (parent_of here))))
-found_from content names here =
-    ap (λ folders. first_existing content (flat_map (paths_in names) folders)) (ancestors_of-cons here)
-    ∙ find-append (exists_at content) (paths_in names here) (flat_map (paths_in names) (ancestors_from (parent_of here)))
-
-some_first : {T : Type 0} (first more : Option T) → is_some first ≡ true → option_or first more ≡ first
-some_first (Some found) more is = refl
-some_first None more is = absurd (cc)
-
-none_first : {T : Type 0} (first more : Option T) → is_some first ≡ false → option_or first more ≡ more
-none_first None more is = refl
-none_first (Some found) more is = absurd (cc)
-
-pub found_here : (content : Content) (names : List (List ℕ)) (here : List ℕ) → is_some (first_existing content (paths_in names here)) ≡ true →
-    first_existing content (flat_map (paths_in names) (ancestors_from (Some here))) ≡ first_existing content (paths_in names here)
-found_here content names here is = found_from content names here ∙ some_first (first_existing content (paths_in names here)) _ is
-
-pub found_above : (content : Content) (names : List (List ℕ)) (here : List ℕ) → is_some (first_existing content (paths_in names here)) ≡ false →
-    first_existing content (flat_map (paths_in names) (ancestors_from (Some here)))
-    ≡ first_existing content (flat_map (paths_in names) (ancestors_from (parent_of here)))
-found_above content names here is = found_from content names here ∙ none_first (first_existing content (paths_in names here)) _ is
 
 -- above a folder there is one folder less
 pub fewer_above : (here : List ℕ) → length (ancestors_from (Some here)) ≡ suc (length (ancestors_from (parent_of here)))
@@ -146,18 +118,6 @@ pub three_names : {X : Type 0} (f : X → List ℕ) (xs : List X) (sought : Soug
 three_names f xs sought i same lt = let long : length xs ≡ 3 = sym (length-map xs f) ∙ ap length same ∙ names_three sought in omega arith
 
 -- ---- one name after the other
-
--- a name at whose path nothing stands is passed over
-passed : {X : Type 0} (content : Content) (folder : List ℕ) (f : X → List ℕ) (xs : List X) (i : ℕ) (d : X) → i < length xs → exists_at content (join_of folder (f (get_or xs i d))) ≡ false →
-    first_existing content (paths_in (map f (drop i xs)) folder) ≡ first_existing content (paths_in (map f (drop (suc i) xs)) folder)
-passed content folder f [] i d lt missing = absurd (omega arith)
-passed content folder f (x ∷ xs) zero d lt missing = ap (λ b. cond b (Some (join_of folder (f x))) (first_existing content (paths_in (map f xs) folder))) missing
-passed content folder f (x ∷ xs) (suc i) d lt missing = passed content folder f xs i d (omega arith) missing
-
-pub passed_on : {X : Type 0} (content : Content) (folder : List ℕ) (f : X → List ℕ) (xs : List X) (i : ℕ) (d : X) (path : List ℕ) → i < length xs → path ≡ join_of folder (f (get_or xs i d)) → exists_at content path ≡ false →
-    first_existing content (paths_in (map f (drop i xs)) folder) ≡ first_existing content (paths_in (map f (drop (i + 1) xs)) folder)
-passed_on content folder f xs i d path lt is missing =
-    passed content folder f xs i d lt (ap (exists_at content) (sym is) ∙ missing) ∙ ap (λ n. first_existing content (paths_in (map f (drop n xs)) folder)) (sym (add-one i))
 
 taken_next : {X : Type 0} (g : List ℕ → List ℕ) (f : X → List ℕ) (xs : List X) (i : ℕ) (d : X) → i < length xs → map g (map f (take i xs)) ++ g (f (get_or xs i d)) ∷ [] ≡ map g (map f (take (suc i) xs))
 taken_next g f [] i d lt = absurd (omega arith)

@@ -1,5 +1,5 @@
--- The looks of a search, by what a tree answered, whatever it tells of its content.
-use Rattle.std.specs.Prelude.{◌≡◌, ℕ, ◌⊎◌, Bool, true, false, List, [], ◌∷◌, ◌++◌, map, Option, Some, None, Result, Ok, Err}
+-- The looks of a search, by what a tree answered.
+use Rattle.std.specs.Prelude.{◌≡◌, ℕ, ◌⊎◌, true, false, List, [], ◌∷◌, ◌++◌, map, Option, Some, None}
 use Rattle.tree_core.specs.Call as call
 use Rattle.tree_core.specs.Call.{Answered, Call}
 use Rattle.search_core.specs.declared.search.SearchError.{SearchError}

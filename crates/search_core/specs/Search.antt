@@ -1,8 +1,7 @@
 -- Where a policy and an exceptions file are looked for.
-use Rattle.std.specs.Prelude.{ℕ, Bool, List, [], ◌∷◌, map, codes, Option, find, is_some}
+use Rattle.std.specs.Prelude.{ℕ, List, [], ◌∷◌, map, codes}
 use Rattle.std.specs.List.{flat_map}
 use Rattle.deny_text.specs.Path.{parent_of, join_of, ancestors_from}
-use Rattle.tree_core.specs.Content.{Content, node_at}
 use Rattle.heard_core.specs.Cause.{Cause, no_memory, failed_read}
 use Rattle.search_core.specs.declared.search.Sought.{Sought}
 use Rattle.search_core.specs.declared.search.Sought.TheVariants.{Policy, Exceptions}
@@ -25,14 +24,6 @@ folders_of manifest = ancestors_from (parent_of manifest)
 -- the paths at which it is looked for: of each folder, from the manifest's upwards, each name
 abbrev pub candidates : Sought → List ℕ → List (List ℕ)
 candidates sought manifest = flat_map (paths_in (names_of sought)) (folders_of manifest)
-
--- whether a file or a folder stands at a path
-abbrev pub exists_at : Content → List ℕ → Bool
-exists_at content path = is_some (node_at content path)
-
--- the first of the paths at which something stands
-abbrev pub first_existing : Content → List (List ℕ) → Option (List ℕ)
-first_existing content paths = find (exists_at content) paths
 
 -- why a search is refused
 abbrev pub search_cause : SearchError → Cause

@@ -1,12 +1,10 @@
 //! The search for a file in a folder and those above it.
 ghost use Rattle.std.specs.Prelude.{◌≡◌, ◌≤◌, ◌++◌, [], ◌∷◌, map, IfErr, IfOk};
-ghost use Rattle.std.specs.Option.{ForSome};
-ghost use Rattle.tree_core.specs.Hearing.{KeepsTree, MadeSome};
+ghost use Rattle.tree_core.specs.Hearing.{MadeSome};
 ghost use Rattle.heard_core.specs.Cause.{ReadCounts};
 ghost use Rattle.tree_core.specs.Call.{told};
 ghost use Rattle.search_core.specs.Looked.{Looked, LookedUntil, look_of, lost};
-ghost use Rattle.search_core.specs.Search.{names_of, paths_in, candidates, exists_at};
-ghost use Rattle.search_core.specs.Search.{first_existing, search_cause};
+ghost use Rattle.search_core.specs.Search.{names_of, paths_in, candidates, search_cause};
 ghost use Rattle.search_core.specs.declared.search.SearchError.TheVariants.{Memory};
 
 use deny_text::PathBuf;
@@ -60,15 +58,12 @@ impl Sought {
 /// Whether something stands at a path.
 fn look<T: Tree>(alloc: Global, tree: &mut T, path: &str, begun: u64) -> Result<bool, SearchError>
     requires { begun ≤ T.fault_count tree.old }
-    ensures answer { ForSome (T.content tree.old) (λ c. IfOk result (λ there. there ≡ exists_at c path.now)) }
     ensures looked { IfOk result (λ there.
         T.trace tree.new ≡ T.trace tree.old ++ look_of path.now (told there) ∷ []) }
     ensures given_up { IfErr result (λ error.
         T.trace tree.new ≡ T.trace tree.old ++ look_of path.now (lost error) ∷ []) }
     ensures made { MadeSome (T.content tree.old) (T.content tree.new) (T.fault_count tree.old)
         (T.fault_count tree.new) (T.trace tree.old) (T.trace tree.new) }
-    ensures kept { KeepsTree (T.content tree.old) (T.content tree.new)
-        (T.fault_count tree.old) (T.fault_count tree.new) }
     ensures counts { IfErr result (λ error.
         ReadCounts begun (T.fault_count tree.old) (T.fault_count tree.new) (search_cause error)) }
 {
@@ -91,16 +86,12 @@ fn first_in<T: Tree>(
     begun: u64,
 ) -> Result<Option<PathBuf>, SearchError>
     requires { begun ≤ T.fault_count tree.old }
-    ensures answer { ForSome (T.content tree.old) (λ c.
-        IfOk result (λ found. found ≡ first_existing c (paths_in (names_of sought) folder.now))) }
     ensures looked { IfOk result
         (Looked (paths_in (names_of sought) folder.now) (T.trace tree.old) (T.trace tree.new)) }
     ensures given_up { IfErr result
         (LookedUntil (paths_in (names_of sought) folder.now) (T.trace tree.old) (T.trace tree.new)) }
     ensures made { MadeSome (T.content tree.old) (T.content tree.new) (T.fault_count tree.old)
         (T.fault_count tree.new) (T.trace tree.old) (T.trace tree.new) }
-    ensures kept { KeepsTree (T.content tree.old) (T.content tree.new)
-        (T.fault_count tree.old) (T.fault_count tree.new) }
     ensures counts { IfErr result (λ error.
         ReadCounts begun (T.fault_count tree.old) (T.fault_count tree.new) (search_cause error)) }
 {
@@ -125,16 +116,12 @@ pub fn find_upwards<T: Tree>(
     begun: u64,
 ) -> Result<Option<PathBuf>, SearchError>
     requires { begun ≤ T.fault_count tree.old }
-    ensures answer { ForSome (T.content tree.old) (λ c.
-        IfOk result (λ found. found ≡ first_existing c (candidates sought manifest_path.now))) }
     ensures looked { IfOk result
         (Looked (candidates sought manifest_path.now) (T.trace tree.old) (T.trace tree.new)) }
     ensures given_up { IfErr result
         (LookedUntil (candidates sought manifest_path.now) (T.trace tree.old) (T.trace tree.new)) }
     ensures made { MadeSome (T.content tree.old) (T.content tree.new) (T.fault_count tree.old)
         (T.fault_count tree.new) (T.trace tree.old) (T.trace tree.new) }
-    ensures kept { KeepsTree (T.content tree.old) (T.content tree.new)
-        (T.fault_count tree.old) (T.fault_count tree.new) }
     ensures counts { IfErr result (λ error.
         ReadCounts begun (T.fault_count tree.old) (T.fault_count tree.new) (search_cause error)) }
 {

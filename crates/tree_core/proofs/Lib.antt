@@ -1,6 +1,5 @@
 pub mod AddLemmas
 pub mod GainedLemmas
-pub mod HearingLemmas
 pub mod JoinLemmas
 pub mod ListingLemmas
 pub mod MadeLemmas

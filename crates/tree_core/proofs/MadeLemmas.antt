@@ -8,7 +8,7 @@ use Rattle.tree_core.specs.Call as call
 use Rattle.tree_core.specs.Call.{Answered, Call}
 use Rattle.tree_core.specs.Content.{Content, node_at, entries_in, resolve}
 use Rattle.tree_core.specs.Faults.{count_after, counted}
-use Rattle.tree_core.specs.Hearing.{KeepsTree, Made, MadeSome}
+use Rattle.tree_core.specs.Hearing.{Made, MadeSome}
 use Rattle.tree_core.specs.Trace.{Says, answered, exists_call, fault_behind, faults_after, file_call, list_answer, list_call, read_answer, read_call}
 use Rattle.tree_core.specs.declared.tree.TreeError.{TreeError}
 use Rattle.tree_core.specs.declared.tree.TreeError.TheVariants.{Absent, WrongKind, Failed, Memory}
@@ -134,9 +134,9 @@ made_joined {told} {mid} {tells} {before} {middle} {after} {old} {between} {new}
 pub made_as : {told tells : Option Content} {before after : ℕ} {old new calls others : List Call} → calls ≡ others → Made told tells before after old new calls → Made told tells before after old new others
 made_as {told} {tells} {before} {after} {old} {new} {calls} {others} is made = subst (λ those. Made told tells before after old new those) is made
 
--- calls keep a tree
-pub made-kept : {told tells : Option Content} {before after : ℕ} {old new calls : List Call} → Made told tells before after old new calls → KeepsTree told tells before after
-made-kept {told} {tells} {before} {after} {old} {new} {calls} made = record { content = made.content; later = subst (λ count. before ≤ count) (sym made.counts) (faults_after-later before calls) }
+-- the count does not fall behind calls
+pub made-later : {told tells : Option Content} {before after : ℕ} {old new calls : List Call} → Made told tells before after old new calls → before ≤ after
+made-later {told} {tells} {before} {after} {old} {new} {calls} made = subst (λ count. before ≤ count) (sym made.counts) (faults_after-later before calls)
 
 -- ---- some calls, whichever they were
 
@@ -149,6 +149,9 @@ some_none told count old = some_made (made_none told count old)
 pub some_joined : {told mid tells : Option Content} {before middle after : ℕ} {old between new : List Call} →
     MadeSome told mid before middle old between → MadeSome mid tells middle after between new → MadeSome told tells before after old new
 some_joined first then = some_made (made_joined first.made then.made)
+
+pub some-later : {told tells : Option Content} {before after : ℕ} {old new : List Call} → MadeSome told tells before after old new → before ≤ after
+some-later some = made-later some.made
 
 -- they are those that stand at the end of the trace
 pub made_these : {told tells : Option Content} {before after : ℕ} {old new calls : List Call} → MadeSome told tells before after old new → new ≡ old ++ calls → Made told tells before after old new calls

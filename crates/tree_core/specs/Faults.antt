@@ -1,5 +1,5 @@
 -- Faults that are counted, and what a sink has gained.
-use Rattle.std.specs.Prelude.{◌≡◌, ℕ, ◌+◌, ◌-◌, ◌^◌, min, max, ◌<◌, ◌≤◌, ◌⊎◌, List, ◌++◌, Option, Result, Ok, Err, IsErrOf, OnErr}
+use Rattle.std.specs.Prelude.{◌≡◌, ℕ, ◌+◌, ◌-◌, ◌^◌, min, max, ◌<◌, ◌≤◌, ◌⊎◌, List, ◌++◌, Option, Result, Ok, Err, OnErr}
 use Rattle.std.specs.Option.{option_map}
 use Rattle.tree_core.specs.declared.tree.TreeError.{TreeError}
 use Rattle.tree_core.specs.declared.tree.TreeError.TheVariants.{Absent, WrongKind, Failed, Memory}
@@ -8,11 +8,6 @@ use Rattle.tree_core.specs.declared.sink.SinkFailed.{SinkFailed}
 -- a count of faults went up, or stands at the last number of 64 bits
 abbrev pub Rose : ℕ → ℕ → Type 0
 Rose before after = (before < after) ⊎ (2 ^ 64 ≤ after + 1)
-
--- the count never falls, and `Failed` comes only where it rose
-pub record HasCause {T : Type 0} (before after : ℕ) (result : Result T TreeError) : Type 0 where
-  pub later : before ≤ after
-  pub rose : IsErrOf result Failed → Rose before after
 
 -- the count never falls, and a refusal comes only where it rose
 pub record IsCounted {T : Type 0} (before after : ℕ) (result : Result T SinkFailed) : Type 0 where

@@ -11,7 +11,7 @@ ghost use Rattle.std.specs.IoError.{error_kind};
 ghost use Rattle.std.specs.Ordering.{nat_cmp};
 ghost use Rattle.std.specs.Cmp.Lexicographic.{slice_cmp};
 ghost use Rattle.tree_core.specs.Answer.{FailsOrLacksMemory, IsInNameOrder};
-ghost use Rattle.tree_core.specs.Faults.{HasCause, count_after};
+ghost use Rattle.tree_core.specs.Faults.{count_after};
 ghost use Rattle.tree_core.specs.Trace.{read_call, list_call, file_call, exists_call};
 ghost use Rattle.tree_core.specs.Readable.{IsRead};
 ghost use Rattle.tree_core.specs.SystemNames.{TellsNames, names_entry, names_of, names_told};
@@ -82,8 +82,7 @@ impl<R: Files + AllocGlobal + Drop> FolderTree<R> {
 
     /// Counts a failure.
     fn count<T>(&mut self, answer: &Result<T, TreeError>)
-        ensures count { self.new ≡ record self.old { faults = count_after self.old.faults answer.now } }
-        ensures cause { HasCause self.old.faults self.new.faults answer.now }
+        ensures { self.new ≡ record self.old { faults = count_after self.old.faults answer.now } }
     {
         if matches!(answer, Err(TreeError::Failed)) {
             self.failed = self.failed.saturating_add(1);
@@ -99,7 +98,6 @@ impl<R: Files + AllocGlobal + Drop> Tree for FolderTree<R> {
     ghost trace = { λ t. t.calls };
 
     fn read(&mut self, alloc: Global, path: &str) -> Result<Bytes, TreeError>
-        ensures cause { HasCause self.old.faults self.new.faults result }
         ensures counts { self.new.faults ≡ count_after self.old.faults result }
         ensures traced { self.new.calls ≡ self.old.calls ++ read_call path.now result ∷ [] }
     {
@@ -111,7 +109,6 @@ impl<R: Files + AllocGlobal + Drop> Tree for FolderTree<R> {
 
     fn list(&mut self, alloc: Global, path: &str) -> Result<Entries, TreeError>
         ensures ordered { IfOk result IsInNameOrder }
-        ensures cause { HasCause self.old.faults self.new.faults result }
         ensures counts { self.new.faults ≡ count_after self.old.faults result }
         ensures traced { self.new.calls ≡ self.old.calls ++ list_call path.now result ∷ [] }
     {
@@ -123,7 +120,6 @@ impl<R: Files + AllocGlobal + Drop> Tree for FolderTree<R> {
 
     fn is_file(&mut self, _alloc: Global, path: &str) -> Result<bool, TreeError>
         ensures refusal { FailsOrLacksMemory result }
-        ensures cause { HasCause self.old.faults self.new.faults result }
         ensures counts { self.new.faults ≡ count_after self.old.faults result }
         ensures traced { self.new.calls ≡ self.old.calls ++ file_call path.now result ∷ [] }
     {
@@ -135,7 +131,6 @@ impl<R: Files + AllocGlobal + Drop> Tree for FolderTree<R> {
 
     fn exists(&mut self, _alloc: Global, path: &str) -> Result<bool, TreeError>
         ensures refusal { FailsOrLacksMemory result }
-        ensures cause { HasCause self.old.faults self.new.faults result }
         ensures counts { self.new.faults ≡ count_after self.old.faults result }
         ensures traced { self.new.calls ≡ self.old.calls ++ exists_call path.now result ∷ [] }
     {

@@ -5,7 +5,7 @@ ghost use Rattle.std.specs.FinMap.{get};
 ghost use Rattle.tree_core.specs.Content.{Content, IsRooted, entries_in, file, node_at, resolve};
 ghost use Rattle.tree_core.specs.Answer.{ReadAnswers, ListAnswers, FileAnswers, ExistsAnswers};
 ghost use Rattle.tree_core.specs.Answer.{FailsOrLacksMemory, IsInNameOrder, listed};
-ghost use Rattle.tree_core.specs.Faults.{HasCause, count_after};
+ghost use Rattle.tree_core.specs.Faults.{count_after};
 ghost use Rattle.tree_core.specs.Found.{found_node};
 ghost use Rattle.tree_core.specs.Trace.{read_call, list_call, file_call, exists_call};
 ghost use Rattle.tree_core.specs.TreeState.{root_alone, fails_next, begun, after_call, Clashes, Puts};
@@ -98,7 +98,6 @@ impl MemTree {
 
     /// Begins a call of the four: counts the waits down, and fails where the call was named.
     fn start_call(&mut self) -> Result<(), TreeError>
-        ensures cause { HasCause self.old.faults self.new.faults result }
         ensures answer { result ≡ (if fails_next self.old then Err TreeError.Failed else Ok tt) }
         ensures after { self.new ≡ begun self.old }
     {
@@ -140,7 +139,6 @@ impl MemTree {
     /// What `read` answers.
     fn answer_read(&mut self, alloc: Global, path: &str) -> Result<Bytes, TreeError>
         ensures answer { ReadAnswers (node_at self.old.content path.now) result }
-        ensures cause { HasCause self.old.faults self.new.faults result }
         ensures counts { self.new.faults ≡ count_after self.old.faults result }
         ensures fails { (result ≡ Err TreeError.Failed) ↔ IsTrue (fails_next self.old) }
         ensures after { self.new ≡ begun self.old }
@@ -160,7 +158,6 @@ impl MemTree {
     fn answer_list(&mut self, alloc: Global, path: &str) -> Result<Entries, TreeError>
         ensures answer { ListAnswers self.old.content path.now result }
         ensures ordered { IfOk result IsInNameOrder }
-        ensures cause { HasCause self.old.faults self.new.faults result }
         ensures counts { self.new.faults ≡ count_after self.old.faults result }
         ensures fails { (result ≡ Err TreeError.Failed) ↔ IsTrue (fails_next self.old) }
         ensures after { self.new ≡ begun self.old }
@@ -181,7 +178,6 @@ impl MemTree {
     fn answer_is_file(&mut self, alloc: Global, path: &str) -> Result<bool, TreeError>
         ensures answer { FileAnswers (node_at self.old.content path.now) result }
         ensures refusal { FailsOrLacksMemory result }
-        ensures cause { HasCause self.old.faults self.new.faults result }
         ensures counts { self.new.faults ≡ count_after self.old.faults result }
         ensures fails { (result ≡ Err TreeError.Failed) ↔ IsTrue (fails_next self.old) }
         ensures after { self.new ≡ begun self.old }
@@ -197,7 +193,6 @@ impl MemTree {
     fn answer_exists(&mut self, alloc: Global, path: &str) -> Result<bool, TreeError>
         ensures answer { ExistsAnswers (node_at self.old.content path.now) result }
         ensures refusal { FailsOrLacksMemory result }
-        ensures cause { HasCause self.old.faults self.new.faults result }
         ensures counts { self.new.faults ≡ count_after self.old.faults result }
         ensures fails { (result ≡ Err TreeError.Failed) ↔ IsTrue (fails_next self.old) }
         ensures after { self.new ≡ begun self.old }
@@ -219,7 +214,6 @@ impl Tree for MemTree {
 
     fn read(&mut self, alloc: Global, path: &str) -> Result<Bytes, TreeError>
         ensures answer { ReadAnswers (node_at self.old.content path.now) result }
-        ensures cause { HasCause self.old.faults self.new.faults result }
         ensures counts { self.new.faults ≡ count_after self.old.faults result }
         ensures traced { self.new.calls ≡ self.old.calls ++ read_call path.now result ∷ [] }
         ensures fails { (result ≡ Err TreeError.Failed) ↔ IsTrue (fails_next self.old) }
@@ -233,7 +227,6 @@ impl Tree for MemTree {
     fn list(&mut self, alloc: Global, path: &str) -> Result<Entries, TreeError>
         ensures answer { ListAnswers self.old.content path.now result }
         ensures ordered { IfOk result IsInNameOrder }
-        ensures cause { HasCause self.old.faults self.new.faults result }
         ensures counts { self.new.faults ≡ count_after self.old.faults result }
         ensures traced { self.new.calls ≡ self.old.calls ++ list_call path.now result ∷ [] }
         ensures fails { (result ≡ Err TreeError.Failed) ↔ IsTrue (fails_next self.old) }
@@ -247,7 +240,6 @@ impl Tree for MemTree {
     fn is_file(&mut self, alloc: Global, path: &str) -> Result<bool, TreeError>
         ensures answer { FileAnswers (node_at self.old.content path.now) result }
         ensures refusal { FailsOrLacksMemory result }
-        ensures cause { HasCause self.old.faults self.new.faults result }
         ensures counts { self.new.faults ≡ count_after self.old.faults result }
         ensures traced { self.new.calls ≡ self.old.calls ++ file_call path.now result ∷ [] }
         ensures fails { (result ≡ Err TreeError.Failed) ↔ IsTrue (fails_next self.old) }
@@ -261,7 +253,6 @@ impl Tree for MemTree {
     fn exists(&mut self, alloc: Global, path: &str) -> Result<bool, TreeError>
         ensures answer { ExistsAnswers (node_at self.old.content path.now) result }
         ensures refusal { FailsOrLacksMemory result }
-        ensures cause { HasCause self.old.faults self.new.faults result }
         ensures counts { self.new.faults ≡ count_after self.old.faults result }
         ensures traced { self.new.calls ≡ self.old.calls ++ exists_call path.now result ∷ [] }
         ensures fails { (result ≡ Err TreeError.Failed) ↔ IsTrue (fails_next self.old) }

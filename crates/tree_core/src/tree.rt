@@ -5,7 +5,7 @@ ghost use Rattle.tree_core.specs.Content.{Content, node_at};
 ghost use Rattle.tree_core.specs.Answer.{ReadAnswers, ListAnswers, FileAnswers, ExistsAnswers};
 ghost use Rattle.tree_core.specs.Answer.{FailsOrLacksMemory, IsInNameOrder};
 ghost use Rattle.tree_core.specs.Call.{Call};
-ghost use Rattle.tree_core.specs.Faults.{HasCause, count_after};
+ghost use Rattle.tree_core.specs.Faults.{count_after};
 ghost use Rattle.tree_core.specs.Trace.{read_call, list_call, file_call, exists_call};
 
 use deny_text::{Bytes, ListOf, Text};
@@ -64,7 +64,6 @@ pub trait Tree {
         ensures answer { ForSome (content self.old) (λ c. ReadAnswers (node_at c path.now) result) }
         ensures same { content self.new ≡ content self.old }
         ensures counts { fault_count self.new ≡ count_after (fault_count self.old) result }
-        ensures cause { HasCause (fault_count self.old) (fault_count self.new) result }
         ensures traced { trace self.new ≡ trace self.old ++ read_call path.now result ∷ [] };
 
     /// What stands right in a folder.
@@ -73,7 +72,6 @@ pub trait Tree {
         ensures ordered { IfOk result IsInNameOrder }
         ensures same { content self.new ≡ content self.old }
         ensures counts { fault_count self.new ≡ count_after (fault_count self.old) result }
-        ensures cause { HasCause (fault_count self.old) (fault_count self.new) result }
         ensures traced { trace self.new ≡ trace self.old ++ list_call path.now result ∷ [] };
 
     /// Whether a file stands at the path.
@@ -82,7 +80,6 @@ pub trait Tree {
         ensures refusal { FailsOrLacksMemory result }
         ensures same { content self.new ≡ content self.old }
         ensures counts { fault_count self.new ≡ count_after (fault_count self.old) result }
-        ensures cause { HasCause (fault_count self.old) (fault_count self.new) result }
         ensures traced { trace self.new ≡ trace self.old ++ file_call path.now result ∷ [] };
 
     /// Whether a file or a folder stands at the path.
@@ -91,7 +88,6 @@ pub trait Tree {
         ensures refusal { FailsOrLacksMemory result }
         ensures same { content self.new ≡ content self.old }
         ensures counts { fault_count self.new ≡ count_after (fault_count self.old) result }
-        ensures cause { HasCause (fault_count self.old) (fault_count self.new) result }
         ensures traced { trace self.new ≡ trace self.old ++ exists_call path.now result ∷ [] };
 
     /// How often a call has failed; it stops at the last number.

@@ -1,7 +1,6 @@
 -- The crates that metadata tells of, from what was heard of its file.
 use Rattle.std.specs.Prelude.{◌≡◌, ℕ, List, [], ◌∷◌, ◌++◌, codes, Option, Some, None, Result, Ok, Err}
 use Rattle.tree_core.specs.Call.{Answered, Call}
-use Rattle.tree_core.specs.Content.{Content}
 use Rattle.graph_core.specs.Metadata.{Graph}
 use Rattle.records_core.specs.declared.fault.MetaError.{MetaError}
 use Rattle.records_core.specs.declared.fault.MetaError.TheVariants as records
@@ -16,8 +15,8 @@ use Rattle.heard_core.specs.declared.fault.ReadFault.{ReadFault}
 use Rattle.heard_core.specs.declared.fault.ReadFault.TheVariants.{Failed}
 use Rattle.workspace_core.specs.declared.error.KratesError.{KratesError}
 use Rattle.workspace_core.specs.declared.error.KratesError.TheVariants.{Memory, NotCarried, MetadataRead, MetadataSyntax, MetadataShape, NoRoots}
-use Rattle.heard_core.specs.Cause.{Cause, no_memory, told, failed_read, heard_cause, ReadCounts}
-use Rattle.heard_core.specs.Heard.{IsHeard, IsRead, read_of}
+use Rattle.heard_core.specs.Cause.{Cause, no_memory, told, failed_read}
+use Rattle.heard_core.specs.Heard.{IsRead, read_of}
 
 -- why a refusal comes
 abbrev pub krates_cause : KratesError → Cause
@@ -86,21 +85,7 @@ AreOf choice asked (Err error) = asked ≡ Err error
 abbrev pub AreFrom : Choice → Result (List ℕ) ReadFault → Result Chosen KratesError → Type 0
 AreFrom choice heard result = AreOf choice (graph_in heard) result
 
--- ---- the crates that are gathered from a tree
-
--- what was heard of the file at the path, and the crates from it
-pub record AreHeard (choice : Choice) (content : Content) (begun : ℕ) (path : List ℕ) (before after : ℕ) (result : Result Chosen KratesError) : Type 0 where
-  pub heard : Result (List ℕ) ReadFault
-  pub hears : IsHeard content begun path before after heard
-  pub counts : ReadCounts begun before after (heard_cause heard)
-  pub from : AreFrom choice heard result
-
--- the same, unless memory was refused
-abbrev pub Gathers : Choice → Content → ℕ → List ℕ → ℕ → ℕ → Result Chosen KratesError → Type 0
-Gathers choice content begun path before after (Err Memory) = Unit {0}
-Gathers choice content begun path before after result = AreHeard choice content begun path before after result
-
--- ---- the same by what a tree answered, whatever it tells of its content
+-- ---- the crates that are gathered from a tree, by what it answered
 
 -- one call was made, the read of the path; what its answer lets hear, and the crates from it
 pub record AreRead (choice : Choice) (begun after : ℕ) (old new : List Call) (path : List ℕ) (result : Result Chosen KratesError) : Type 0 where

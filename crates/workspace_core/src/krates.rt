@@ -1,11 +1,10 @@
 //! The crates of a workspace, from the metadata's file.
 ghost use Rattle.std.specs.Prelude.{◌≡◌, ◌≤◌, IfErr};
-ghost use Rattle.std.specs.Option.{ForSome};
-ghost use Rattle.tree_core.specs.Hearing.{KeepsTree, MadeSome};
+ghost use Rattle.tree_core.specs.Hearing.{MadeSome};
 ghost use Rattle.selection_core.specs.Choice.{choice_of};
 ghost use Rattle.heard_core.specs.Cause.{ReadCounts};
 ghost use Rattle.workspace_core.specs.Krates.{krates_cause, graph_in, sparse_dir, IsCarried};
-ghost use Rattle.workspace_core.specs.Krates.{Gathers, GathersBy, AreFrom, TellsGraph};
+ghost use Rattle.workspace_core.specs.Krates.{GathersBy, AreFrom, TellsGraph};
 
 use crate::error::KratesError;
 use graph_core::Metadata;
@@ -55,15 +54,11 @@ pub fn krates_at<T: Tree>(
     begun: u64,
 ) -> Result<Krates, KratesError>
     requires { begun ≤ T.fault_count tree.old }
-    ensures answer { ForSome (T.content tree.old) (λ c. Gathers (choice_of selection.now) c begun path.now
-        (T.fault_count tree.old) (T.fault_count tree.new) result) }
     ensures carried { IfErr result IsCarried }
     ensures read { GathersBy (choice_of selection.now) begun (T.fault_count tree.new)
         (T.trace tree.old) (T.trace tree.new) path.now result }
     ensures made { MadeSome (T.content tree.old) (T.content tree.new) (T.fault_count tree.old)
         (T.fault_count tree.new) (T.trace tree.old) (T.trace tree.new) }
-    ensures kept { KeepsTree (T.content tree.old) (T.content tree.new)
-        (T.fault_count tree.old) (T.fault_count tree.new) }
     ensures counts { IfErr result (λ error.
         ReadCounts begun (T.fault_count tree.old) (T.fault_count tree.new) (krates_cause error)) }
 {

@@ -21,6 +21,7 @@ use Rattle.deny_run.specs.Hearing.{seen}
 use Rattle.deny_run.specs.Selection.{included_by}
 use Rattle.deny_run.specs.Steps.{IsCheckOf, IsCheckedOn, scanner_by}
 use Rattle.placed_policy.proofs.PlaceLemmas.{are_placed, entries_lie}
+use Rattle.deny_run.proofs.StepLemmas.{calls_later, gathering_later}
 use Rattle.deny_run.proofs.check.check_all.Goals as goal
 
 -- what the check asks of the files
@@ -96,3 +97,9 @@ returns-in_err-summary-clause-cut g c =
     same c.in_err-summary.ensures.no_memory in
     let p = err_from_is_err_and c.from_residual.result c.from_residual.ensures.1 in
     rw p.1 (λ graph choice chosen. gather_cut own policy (seen told tells before after old new) c.args.files.now graph choice c.args.krates.now chosen starves)
+
+pub returns-clause-later : goal.returns-clause-later
+returns-clause-later g c = calls_later c.in_ok-summary.ensures.answered.made
+
+pub returns-in_err-summary-clause-later : goal.returns-in_err-summary-clause-later
+returns-in_err-summary-clause-later g c = gathering_later c.in_err-summary.ensures.no_memory

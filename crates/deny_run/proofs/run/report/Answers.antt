@@ -10,7 +10,7 @@ use Rattle.deny_run.specs.Report.{LabelsLie}
 use Rattle.deny_run.specs.Script.{WritesLoad}
 use Rattle.deny_run.proofs.EndLemmas.{checks_at, counts_at, crates_end, ends_at, load_ends, report_ends}
 use Rattle.deny_run.proofs.ReportLemmas.{memory_before, search_writes, words_before}
-use Rattle.deny_run.proofs.StepLemmas.{since_begun}
+use Rattle.deny_run.proofs.StepLemmas.{made_later, since_begun}
 use Rattle.deny_run.proofs.run.report.Goals as goal
 
 -- ---- the words
@@ -132,11 +132,19 @@ returns-in_err-checked-clause-counts g c =
     let after = g.T.Tree.fault_count c.check_crates.new.tree in
     let refused = c.in_err-checked.field-0.0 in
     let early = c.in_ok-paths.ensures.later in
-    let then = c.in_ok-policy.ensures.kept.later in
+    let then = made_later c.in_ok-policy.ensures.made in
     let p = err_from_is_err_and c.from_residual-in_err-checked.result c.from_residual-in_err-checked.ensures.1 in
     rw (p.1, p.2)
     (since_begun begun middle after (cause_of (error_of refused)) (omega arith)
     (counts_at begun c.faults-begun.result middle after (cause_of (error_of refused)) c.faults-begun.ensures c.in_err-checked.ensures.counts))
+
+-- the count has not fallen since
+pub check_crates-requires-clause-begun : goal.check_crates-requires-clause-begun
+check_crates-requires-clause-begun g c =
+    let early = c.in_ok-paths.ensures.later in
+    let then = made_later c.in_ok-policy.ensures.made in
+    let start = c.faults-begun.ensures in
+    omega arith
 
 -- ---- labels
 

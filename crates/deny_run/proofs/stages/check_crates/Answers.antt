@@ -1,7 +1,9 @@
+use Rattle.std.proofs.Common.{arith}
 use Rattle.std.proofs.lemmas.Result.{err_from_is_err_and}
 use Rattle.selection_core.specs.Choice.{choice_of}
 use Rattle.deny_run.specs.Steps.{scanner_by}
 use Rattle.deny_run.proofs.StageLemmas.{checked_behind, cut_behind, no_crates_by}
+use Rattle.deny_run.proofs.StepLemmas.{made_later}
 use Rattle.deny_run.proofs.stages.check_crates.Goals as goal
 
 pub returns-clause-checks : goal.returns-clause-checks
@@ -32,3 +34,18 @@ returns-in_err-krates-clause-checks g c =
     (g.T.Tree.content c.args.tree.now) (g.T.Tree.content c.krates_at.new.tree) (g.T.Tree.fault_count c.args.tree.now) (g.T.Tree.fault_count c.krates_at.new.tree)
     (g.T.Tree.trace c.args.tree.now) (g.T.Tree.trace c.krates_at.new.tree) c.args.files.now c.args.begun c.args.metadata_path.now
     c.in_err-krates.ensures.made (choice_of c.in_ok-selection.selection) c.in_ok-selection.ensures c.in_err-krates.field-0.0 c.in_err-krates.ensures.carried c.in_err-krates.ensures.read)
+
+pub returns-clause-later : goal.returns-clause-later
+returns-clause-later g c =
+    let early = made_later c.in_ok-krates.ensures.made in
+    let then = c.in_ok-checked.ensures.later in
+    omega arith
+
+pub returns-in_err-checked-clause-later : goal.returns-in_err-checked-clause-later
+returns-in_err-checked-clause-later g c =
+    let early = made_later c.in_ok-krates.ensures.made in
+    let then = c.in_err-checked.ensures.later in
+    omega arith
+
+pub returns-in_err-krates-clause-later : goal.returns-in_err-krates-clause-later
+returns-in_err-krates-clause-later g c = made_later c.in_err-krates.ensures.made

@@ -1,18 +1,17 @@
-use Rattle.std.proofs.Common.{◌≤◌, ◌∷◌, [], ◌++◌, map, take, refl, sym, ap, subst, ◌∙◌, arith}
+use Rattle.std.proofs.Common.{◌∷◌, [], ◌++◌, map, take, sym, ap, subst, ◌∙◌}
 use Rattle.std.specs.List.{All}
 use Rattle.std.proofs.lemmas.List.{take_more}
 use Rattle.std.proofs.lemmas.List.Elements.{All-nil, All-push}
 use Rattle.graph_core.specs.Krate.{Record}
-use Rattle.reads_core.specs.Rising.{RiseInOrder}
 use Rattle.priority_core.specs.Settled.{scanner_with}
 use Rattle.selection_core.specs.Listed.{record_behind}
 use Rattle.pack_core.specs.Calls.{IsFront}
 use Rattle.finding_core.proofs.GrowLemmas.{grows_itself}
 use Rattle.gather_core.specs.Calls.{AreTurnsByReads}
-use Rattle.gather_core.specs.Gathered.{AreCutOut, AreTurns, AreTurnsBySome, all_reads, krate_of}
+use Rattle.gather_core.specs.Gathered.{krate_of}
 use Rattle.gather_core.specs.Premises.{Grows, IsPlacedAt}
 use Rattle.gather_core.proofs.CallLemmas.{on_err}
-use Rattle.gather_core.proofs.GatheredLemmas.{cuts_push, map_push, rises_push, turns_push, turns_push_some}
+use Rattle.gather_core.proofs.GatheredLemmas.{map_push}
 use Rattle.gather_core.proofs.PlacedLemmas.{entries_grown, grows_then, licenses_grown}
 use Rattle.gather_core.proofs.TurnCalls.{front_next, no_turns, starves_next, starves_told, turns_then}
 use Rattle.gather_core.proofs.gatherer.gather_all.Goals as goal
@@ -20,11 +19,6 @@ use Rattle.gather_core.proofs.gatherer.gather_all.Goals as goal
 pub krates-preserved : goal.krates-preserved
 krates-preserved g c =
     let so_far = c.krates.invariant in
-    let first = g.T.Tree.fault_count c.args.tree.now in
-    let middle = g.T.Tree.fault_count c.krates.tree in
-    let last = g.T.Tree.fault_count c.license_of.new.tree in
-    let before : first ≤ middle = so_far.kept.later in
-    let after : middle ≤ last = c.license_of.ensures.kept.later in
     let place = c.krates.krate-index in
     let krates = c.args.krates.now in
     let license = c.in_ok-license.license in
@@ -33,29 +27,13 @@ krates-preserved g c =
     let all = c.args.clarifications.now in
     let policy = c.args.policy in
     let new_files = c.license_of.new.files in
-    let by_some = c.in_ok-license.ensures.some in
     let grows : Grows c.krates.files new_files = c.license_of.ensures.grows in
     record {
-      kept = record { content = c.license_of.ensures.kept.content ∙ so_far.kept.content; later = omega arith };
       krates =
           ap (map krate_of) pushed ∙ map_push krate_of c.krates.licenses license
           ∙ ap (λ all. all ++ krate_of license ∷ []) so_far.krates
           ∙ ap (λ one. map record_behind (take place krates) ++ one ∷ []) (c.in_ok-license.ensures.krate ∙ ap record_behind c.krate-item.is)
           ∙ sym (ap (map record_behind) (take_more krates place c.krate-item.result c.krates-test.true) ∙ map_push record_behind (take place krates) _);
-      rises =
-          subst (λ licenses. RiseInOrder first (all_reads licenses) last) (sym pushed)
-          (rises_push first middle last c.krates.licenses license so_far.rises c.in_ok-license.ensures.rises);
-      told = λ content is.
-          subst (λ licenses. AreTurns scanner policy all content c.args.files.now licenses new_files) (sym pushed)
-          (turns_push scanner policy all content c.args.files.now c.krates.licenses license c.krates.files new_files (so_far.told content is)
-          (c.in_ok-license.ensures.told content (so_far.kept.content ∙ is)));
-      some =
-          subst (λ licenses. AreTurnsBySome scanner policy all c.args.files.now licenses new_files) (sym pushed)
-          (turns_push_some scanner policy all by_some.0 by_some.1.0 c.args.files.now c.krates.licenses license c.krates.files new_files so_far.some grows by_some.1.1.0 by_some.1.1.1);
-      cuts = λ content is.
-          subst (λ licenses. AreCutOut scanner policy all content c.args.files.now licenses new_files) (sym pushed)
-          (cuts_push scanner policy all content c.args.files.now c.krates.licenses license c.krates.files new_files (so_far.told content is) grows (so_far.cuts content is)
-          (c.in_ok-license.ensures.cuts content (so_far.kept.content ∙ is)));
       answered =
           subst (λ licenses. AreTurnsByReads (g.T.Tree.content c.args.tree.now) (g.T.Tree.content c.license_of.new.tree) (g.T.Tree.fault_count c.args.tree.now) (g.T.Tree.fault_count c.license_of.new.tree) (g.T.Tree.trace c.args.tree.now) (g.T.Tree.trace c.license_of.new.tree)
           scanner policy all c.args.files.now licenses new_files) (sym pushed)
@@ -77,12 +55,7 @@ krates-init g c =
     let files = c.args.files.now in
     let count = g.T.Tree.fault_count c.args.tree.now in
     record {
-      kept = record { content = refl; later = omega arith };
       krates = ap (map krate_of) c.new-licenses.ensures;
-      rises = subst (λ licenses. RiseInOrder count (all_reads licenses) count) none (omega arith);
-      told = λ content is. subst (λ licenses. AreTurns scanner policy all content files licenses files) none refl;
-      some = subst (λ licenses. AreTurnsBySome scanner policy all files licenses files) none refl;
-      cuts = λ content is. subst (λ licenses. AreCutOut scanner policy all content files licenses files) none tt;
       answered =
           subst (λ licenses. AreTurnsByReads (g.T.Tree.content c.args.tree.now) (g.T.Tree.content c.args.tree.now) (g.T.Tree.fault_count c.args.tree.now) (g.T.Tree.fault_count c.args.tree.now) (g.T.Tree.trace c.args.tree.now) (g.T.Tree.trace c.args.tree.now)
           scanner policy all files licenses files) none

@@ -1,13 +1,10 @@
 -- The crates so far.
-use Rattle.std.proofs.Common.{◌≡◌, map, take, Some}
+use Rattle.std.proofs.Common.{◌≡◌, map, take}
 use Rattle.std.specs.List.{All}
-use Rattle.tree_core.specs.Content.{Content}
-use Rattle.tree_core.specs.Hearing.{KeepsTree}
-use Rattle.reads_core.specs.Rising.{RiseInOrder}
 use Rattle.priority_core.specs.Settled.{scanner_with}
 use Rattle.selection_core.specs.Listed.{record_behind}
 use Rattle.gather_core.specs.Calls.{AreTurnsByReads}
-use Rattle.gather_core.specs.Gathered.{AreCutOut, AreTurns, AreTurnsBySome, all_reads, krate_of}
+use Rattle.gather_core.specs.Gathered.{krate_of}
 use Rattle.gather_core.specs.Premises.{ArePlacedIn, Grows, IsPlacedAt}
 use Rattle.gather_core.proofs.gatherer.gather_all.Given as goal
 
@@ -15,12 +12,7 @@ abbrev pub invariant-krates : goal.invariant-krates
 invariant-krates g l =
     let scanner = scanner_with g.C.Catalog.lists g.I.Identifier.match_of l.scan in
     record {
-      kept : KeepsTree (g.T.Tree.content l.fn.tree) (g.T.Tree.content l.tree) (g.T.Tree.fault_count l.fn.tree) (g.T.Tree.fault_count l.tree);
       krates : map krate_of l.licenses ≡ map record_behind (take l.krate-index l.krates);
-      rises : RiseInOrder (g.T.Tree.fault_count l.fn.tree) (all_reads l.licenses) (g.T.Tree.fault_count l.tree);
-      told : (content : Content) → g.T.Tree.content l.fn.tree ≡ Some content → AreTurns scanner l.policy l.clarifications content l.fn.files l.licenses l.files;
-      some : AreTurnsBySome scanner l.policy l.clarifications l.fn.files l.licenses l.files;
-      cuts : (content : Content) → g.T.Tree.content l.fn.tree ≡ Some content → AreCutOut scanner l.policy l.clarifications content l.fn.files l.licenses l.files;
       answered : AreTurnsByReads (g.T.Tree.content l.fn.tree) (g.T.Tree.content l.tree) (g.T.Tree.fault_count l.fn.tree) (g.T.Tree.fault_count l.tree) (g.T.Tree.trace l.fn.tree) (g.T.Tree.trace l.tree)
           scanner l.policy l.clarifications l.fn.files l.licenses l.files;
       placed : ArePlacedIn l.fn.files l.policy l.clarifications → All (IsPlacedAt l.files) l.licenses;

@@ -1,4 +1,4 @@
-use Rattle.gather_core.proofs.ToldGathered.{rises_by_reads}
+use Rattle.gather_core.proofs.RisingLemmas.{rises_by_reads}
 use Rattle.gather_core.proofs.laws.records_rise.Goals as goal
 
 pub returns : goal.returns

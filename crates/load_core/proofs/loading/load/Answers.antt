@@ -1,57 +1,12 @@
-use Rattle.std.proofs.Common.{◌⊎◌, inl, inr, refl, sym, subst, arith}
+use Rattle.std.proofs.Common.{inl, inr, refl, sym, subst}
 use Rattle.policy_core.proofs.ExceptionLemmas.{grows_itself}
 use Rattle.tree_core.proofs.MadeLemmas.{some_joined}
-use Rattle.load_core.specs.Answer.{IsUnprinted, Loads, LoadsBy, LoadsText}
+use Rattle.load_core.specs.Answer.{LoadsBy}
 use Rattle.load_core.specs.Load.{error_of_config}
 use Rattle.load_core.specs.declared.error.LoadError.TheVariants.{Memory}
 use Rattle.load_core.proofs.CallLemmas.{counts_of, reads_either, reads_refused}
-use Rattle.load_core.proofs.LoadLemmas.{handed_on, loads_nothing, loads_refused, loads_either}
+use Rattle.load_core.proofs.LoadLemmas.{handed_on}
 use Rattle.load_core.proofs.loading.load.Goals as goal
-
-pub returns-in_err-heard-clause-loads : goal.returns-in_err-heard-clause-loads
-returns-in_err-heard-clause-loads g c =
-    let lists = g.C.Catalog.lists c.args.catalog.now in
-    let content = g.T.Tree.content c.args.tree.now in
-    let after = g.T.Tree.fault_count c.hear.new.tree in
-    let held = g.S.Sink.written c.args.sink.now in
-    let files = c.args.files.now in
-    let first = c.requires.begun in
-    let later = c.hear.ensures.kept.later in
-    subst (λ result. Loads lists c.args.context c.args.paths content c.args.begun after files files held held result)
-    (sym (handed_on c.from_residual.result Memory c.from_residual.ensures.1))
-    (loads_nothing lists c.args.context c.args.paths content c.args.begun after files files held (omega arith))
-
-pub returns-in_err-found-clause-loads : goal.returns-in_err-found-clause-loads
-returns-in_err-found-clause-loads g c =
-    let lists = g.C.Catalog.lists c.args.catalog.now in
-    let content = g.T.Tree.content c.args.tree.now in
-    let before = g.T.Tree.fault_count c.args.tree.now in
-    let after = g.T.Tree.fault_count c.hear.new.tree in
-    let held = g.S.Sink.written c.args.sink.now in
-    let files = c.args.files.now in
-    let refused = c.in_err-found.field-0.0 in
-    subst (λ result. Loads lists c.args.context c.args.paths content c.args.begun after files files held held result)
-    (sym (handed_on c.from_residual-in_err-found.result (error_of_config refused) c.from_residual-in_err-found.ensures.1))
-    (loads_refused lists c.args.context c.args.paths content c.args.begun before after files held c.in_ok-heard.heard refused (error_of_config refused)
-    c.requires.begun c.hear.ensures.kept.later c.in_ok-heard.ensures.answer c.in_ok-heard.ensures.counts (sym c.in_err-found.ensures.told) refl)
-
-pub returns-clause-loads : goal.returns-clause-loads
-returns-clause-loads g c =
-    let lists = g.C.Catalog.lists c.args.catalog.now in
-    let content = g.T.Tree.content c.args.tree.now in
-    let before = g.T.Tree.fault_count c.args.tree.now in
-    let mid = g.T.Tree.fault_count c.hear.new.tree in
-    let after = g.T.Tree.fault_count c.load_text.new.tree in
-    let held = g.S.Sink.written c.args.sink.now in
-    let behind = g.S.Sink.written c.load_text.new.sink in
-    let files = c.args.files.now in
-    let new = c.load_text.new.files in
-    let first = c.requires.begun in
-    let then = c.hear.ensures.kept.later in
-    loads_either lists c.args.context c.args.paths content c.args.begun before mid after c.in_ok-heard.heard c.in_ok-found.found files new held behind c.load_text.result
-    (omega arith) c.load_text.ensures.kept.later (sym c.in_ok-found.ensures.told) c.requires.exceptions c.in_ok-heard.ensures.answer
-    (subst (λ told. IsUnprinted held behind c.load_text.result ⊎ LoadsText lists c.args.context c.args.paths c.in_ok-found.found told mid after files new held behind c.load_text.result)
-    c.hear.ensures.kept.content c.load_text.ensures.loads)
 
 pub returns-in_err-heard-clause-reads : goal.returns-in_err-heard-clause-reads
 returns-in_err-heard-clause-reads g c =

@@ -1,39 +1,17 @@
 use Rattle.std.proofs.Common.{inl, inr, refl, sym, subst, []}
 use Rattle.std.specs.Option.{option_copied}
-use Rattle.policy_core.specs.Load.{LoadsPolicy, LoadsPolicyBy}
+use Rattle.policy_core.specs.Load.{LoadsPolicyBy}
 use Rattle.policy_core.specs.Places.{PointInto}
 use Rattle.policy_core.specs.Policy.{absence_told}
 use Rattle.load_core.specs.declared.error.LoadError.TheVariants.{Memory}
 use Rattle.load_core.proofs.CallLemmas.{reads_root}
 use Rattle.load_core.proofs.LoadLemmas.{handed_on}
 use Rattle.load_core.proofs.PlaceLemmas.{all_inside}
-use Rattle.load_core.proofs.StageLemmas.{loads_root}
 use Rattle.load_core.proofs.loading.load_root.Goals as goal
 
 pub finish-requires : goal.finish-requires
 finish-requires g c =
     all_inside _ _ (c.in_ok-loaded.ensures.labels c.requires.placed (subst (PointInto c.args.files.now) (sym c.new-found.ensures) tt))
-
-pub returns-clause-loads : goal.returns-clause-loads
-returns-clause-loads g c =
-    let lists = g.C.Catalog.lists c.args.catalog.now in
-    let content = g.T.Tree.content c.args.tree.now in
-    let mid = g.T.Tree.fault_count c.args.tree.now in
-    let after = g.T.Tree.fault_count c.load_policy.new.tree in
-    let held = g.S.Sink.written c.args.sink.now in
-    let behind = g.S.Sink.written c.finish.new.sink in
-    let old = c.args.files.now in
-    let new = c.load_policy.new.files in
-    let found = c.load_policy.new.found in
-    let paths = c.args.paths in
-    let policy = c.in_ok-loaded.loaded in
-    let file = c.args.file_id in
-    inr (loads_root lists c.args.context file (absence_told c.args.is_there paths.policy) c.args.root paths.exceptions content mid after old new found held behind policy c.finish.result
-    (subst (λ path. LoadsPolicy lists content mid after file (absence_told c.args.is_there path) c.args.root paths.exceptions (record { files = old; found = [] }) (record { files = new; found = found }) policy)
-    c.path_text.ensures
-    (subst (λ start. LoadsPolicy lists content mid after file (absence_told c.args.is_there (option_copied c.path_text.result)) c.args.root paths.exceptions (record { files = old; found = start }) (record { files = new; found = found }) policy)
-    c.new-found.ensures c.in_ok-loaded.ensures.loads))
-    c.finish.ensures.ends c.finish.ensures.prints)
 
 pub returns-in_err-loaded-clause-reads : goal.returns-in_err-loaded-clause-reads
 returns-in_err-loaded-clause-reads g c =

@@ -4,36 +4,14 @@ use Rattle.policy_core.specs.Heard.{IsFileText, MayReadOf}
 use Rattle.policy_core.specs.Places.{IsPlacedIn}
 use Rattle.policy_core.specs.Policy.{absence_told}
 use Rattle.policy_core.proofs.ExceptionLemmas.{grows_itself}
-use Rattle.load_core.specs.Answer.{Comes, IsUnprinted, LoadsRoot, LoadsRootBy, refused_by}
+use Rattle.load_core.specs.Answer.{Comes, IsUnprinted, LoadsRootBy, refused_by}
 use Rattle.load_core.specs.Load.{policy_file, refusal_findings, with_policy}
 use Rattle.load_core.specs.Print.{AreInside}
 use Rattle.load_core.specs.declared.error.LoadError.TheVariants.{Memory}
 use Rattle.load_core.proofs.CallLemmas.{grows_behind, reads_by_refusal, reads_by_root, unread_further}
 use Rattle.load_core.proofs.LoadLemmas.{handed_on}
 use Rattle.load_core.proofs.PlaceLemmas.{refusal_inside, root_in}
-use Rattle.load_core.proofs.StageLemmas.{text_by_root, text_by_refusal}
 use Rattle.load_core.proofs.loading.load_text.Goals as goal
-
-pub returns-in-Ok-clause-loads : goal.returns-in-Ok-clause-loads
-returns-in-Ok-clause-loads g c =
-    let lists = g.C.Catalog.lists c.args.catalog.now in
-    let content = g.T.Tree.content c.args.tree.now in
-    let mid = g.T.Tree.fault_count c.args.tree.now in
-    let after = g.T.Tree.fault_count c.load_root.new.tree in
-    let held = g.S.Sink.written c.args.sink.now in
-    let behind = g.S.Sink.written c.load_root.new.sink in
-    let old = c.args.files.now in
-    let new = c.load_root.new.files in
-    let paths = c.args.paths in
-    let text = c.args.found in
-    let root = c.in-Ok.root in
-    let result = c.load_root.result in
-    text_by_root lists c.args.context paths text content mid after old new held behind root result
-    (ap (config_told lists) (sym c.as_str.ensures) ∙ c.in-Ok.ensures.told)
-    (subst (λ file. IsUnprinted held behind result ⊎ LoadsRoot lists c.args.context file (absence_told text.is_there paths.policy) root paths.exceptions content mid after (with_policy old paths text) new held behind result)
-    c.in_ok-file_id.ensures.number
-    (subst (λ files. IsUnprinted held behind result ⊎ LoadsRoot lists c.args.context c.in_ok-file_id.file_id (absence_told text.is_there paths.policy) root paths.exceptions content mid after files new held behind result)
-    c.in_ok-file_id.ensures.ok c.load_root.ensures.loads))
 
 pub load_root-requires-clause-placed : goal.load_root-requires-clause-placed
 load_root-requires-clause-placed g c =
@@ -56,25 +34,6 @@ refuse-requires g c =
     subst (λ number. AreInside c.add_policy.new.files (refusal_findings number c.in-Err.refused)) (sym c.in_ok-file_id.ensures.number)
     (subst (λ files. AreInside files (refusal_findings (length old) c.in-Err.refused)) (sym c.in_ok-file_id.ensures.ok)
     (refusal_inside old file is_text.utf8 is_text.fits lists (g.met.C.Catalog.lawful c.args.catalog.now) c.in-Err.refused told))
-
-pub returns-in-Err-clause-loads : goal.returns-in-Err-clause-loads
-returns-in-Err-clause-loads g c =
-    let lists = g.C.Catalog.lists c.args.catalog.now in
-    let content = g.T.Tree.content c.args.tree.now in
-    let mid = g.T.Tree.fault_count c.args.tree.now in
-    let held = g.S.Sink.written c.args.sink.now in
-    let behind = g.S.Sink.written c.refuse.new.sink in
-    let old = c.args.files.now in
-    let new = c.add_policy.new.files in
-    let paths = c.args.paths in
-    let text = c.args.found in
-    let refused = c.in-Err.refused in
-    let error = c.refuse.result in
-    text_by_refusal lists c.args.context paths text content mid mid old new held behind refused error
-    (subst (λ own. IsTold (config_told lists own) (Err refused)) c.as_str.ensures c.in-Err.ensures.told)
-    (subst (λ number. Comes (refused_by number refused) c.args.context (with_policy old paths text) new held behind (Err error)) c.in_ok-file_id.ensures.number
-    (subst (λ files. Comes (refused_by c.in_ok-file_id.file_id refused) c.args.context files new held behind (Err error)) c.in_ok-file_id.ensures.ok c.refuse.ensures.comes))
-    c.refuse.ensures.quiet
 
 pub returns-in_err-file_id-clause-reads : goal.returns-in_err-file_id-clause-reads
 returns-in_err-file_id-clause-reads g c =

@@ -2,26 +2,7 @@ use Rattle.std.proofs.Common.{◌≡◌, ◌∙◌, None, ap, sym}
 use Rattle.reads_core.specs.Views.{heard_file}
 use Rattle.diag_core.specs.File.{id_at}
 use Rattle.location_core.proofs.CallLemmas.{located_in_table, located_read, on_err, starves_read, starves_unread}
-use Rattle.location_core.proofs.HeardLemmas.{located_heard, located_there, located_told}
 use Rattle.location_core.proofs.location.locate.Goals as goal
-
-pub returns-in-Some-clause-told : goal.returns-in-Some-clause-told
-returns-in-Some-clause-told g c = λ content is.
-    located_there _ _ _ _ c.in-Some.id _ (sym c.in-Some.is ∙ c.id_for_path.ensures ∙ ap (id_at c.args.files.now) c.as_path.ensures) c.locate_in.ensures.located
-
-pub returns-in_ok-located-in-None-clause-told : goal.returns-in_ok-located-in-None-clause-told
-returns-in_ok-located-in-None-clause-told g c = λ content is.
-    let none : None ≡ id_at c.args.files.now c.args.path.now = sym c.in-None.is ∙ c.id_for_path.ensures ∙ ap (id_at c.args.files.now) c.as_path.ensures in
-    located_told content c.args.path.now c.args.field.now c.args.files.now (heard_file c.in_ok-heard-in-None.heard) c.in_ok-located-in-None.located
-    c.locate_heard.new.files none c.in_ok-located-in-None.ensures.located c.in_ok-located-in-None.ensures.files (c.in_ok-heard-in-None.ensures.told content is)
-
-pub returns-in_ok-located-in-None-clause-some : goal.returns-in_ok-located-in-None-clause-some
-returns-in_ok-located-in-None-clause-some g c =
-    let none : None ≡ id_at c.args.files.now c.args.path.now = sym c.in-None.is ∙ c.id_for_path.ensures ∙ ap (id_at c.args.files.now) c.as_path.ensures in (
-      heard_file c.in_ok-heard-in-None.heard,
-      located_heard c.args.path.now c.args.field.now c.args.files.now (heard_file c.in_ok-heard-in-None.heard) c.in_ok-located-in-None.located
-          c.locate_heard.new.files none c.in_ok-located-in-None.ensures.located c.in_ok-located-in-None.ensures.files,
-    )
 
 pub returns-in-Some-clause-answered : goal.returns-in-Some-clause-answered
 returns-in-Some-clause-answered g c =

@@ -1,24 +1,10 @@
-use Rattle.std.proofs.Common.{ap, subst, ◌∙◌, ◌≡◌, ◌⊎◌, [], ◌∷◌, ◌++◌, ℕ, List, OnErr}
+use Rattle.std.proofs.Common.{subst, ◌∙◌, ◌≡◌, ◌⊎◌, [], ◌∷◌, ◌++◌, ℕ, List, OnErr}
 use Rattle.std.proofs.lemmas.Result.{IfOk-weaker}
-use Rattle.deny_text.specs.Path.{components_of}
 use Rattle.tree_core.specs.Call as call
-use Rattle.tree_core.specs.Content.{Place, resolve}
-use Rattle.tree_core.specs.declared.reads.ReadKind.TheVariants.{LicenseFile, Manifest}
 use Rattle.reads_core.specs.Answered.{IsRead, call_of}
-use Rattle.reads_core.specs.Heard.{place_of, there_heard}
-use Rattle.reads_core.specs.Told.{IsHeardOf}
 use Rattle.reads_core.specs.Views.{heard_file}
 use Rattle.location_core.proofs.CallLemmas.{join_nothing}
-use Rattle.location_core.proofs.HeardLemmas.{by_root}
 use Rattle.location_core.proofs.location.read_manifest.Goals as goal
-
-pub returns-clause-told : goal.returns-clause-told
-returns-clause-told g c = λ content is.
-    let same : place_of LicenseFile (resolve []) (components_of c.as_path.result.now) ≡ place_of Manifest [] (components_of c.args.path.now) =
-    by_root (components_of c.as_path.result.now) ∙ ap (λ (path : List ℕ). place_of Manifest [] (components_of path)) c.as_path.ensures in
-    IfOk-weaker c.read_file.result _ _
-    (λ heard told. subst (λ (place : Place). IsHeardOf (there_heard LicenseFile content place) (heard_file heard)) same told)
-    (c.read_file.ensures.told content is)
 
 pub returns-clause-read : goal.returns-clause-read
 returns-clause-read g c =

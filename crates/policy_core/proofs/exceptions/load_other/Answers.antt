@@ -1,43 +1,11 @@
 use Rattle.std.proofs.Common.{◌≡◌, refl, subst, [], ◌∷◌, ◌++◌, Ok, Err}
 use Rattle.std.specs.Prelude.{OnOk}
-use Rattle.std.specs.Option.{ForSome}
-use Rattle.heard_core.specs.Cause.{ReadCounts, heard_cause}
-use Rattle.heard_core.specs.Heard.{IsHeard, IsRead, read_of}
+use Rattle.heard_core.specs.Heard.{IsRead, read_of}
 use Rattle.policy_core.specs.Exceptions.{unread_told}
 use Rattle.policy_core.specs.Heard.{fault_words}
-use Rattle.policy_core.proofs.AnswerLemmas.{fault_by, heard_text, heard_fault, on_err, text_by}
+use Rattle.policy_core.proofs.AnswerLemmas.{fault_by, on_err, text_by}
 use Rattle.policy_core.proofs.ExceptionLemmas.{grows_itself, one_read_of}
 use Rattle.policy_core.proofs.exceptions.load_other.Goals as goal
-
-pub returns-in-Ok-clause-loads : goal.returns-in-Ok-clause-loads
-returns-in-Ok-clause-loads g c =
-    let lists = g.C.Catalog.lists c.args.catalog.now in
-    let content = g.T.Tree.content c.args.tree.now in
-    let before = g.T.Tree.fault_count c.args.tree.now in
-    let after = g.T.Tree.fault_count c.load.new.tree in
-    let begun = c.faults-begun.result in
-    let text = c.in-Ok.text in
-    heard_text c.take_text.result lists content before after begun c.args.path text
-    (record { policy = c.args.cfg.now; files = c.args.files.now; found = c.args.diags.now })
-    (record { policy = c.take_text.new.cfg; files = c.take_text.new.files; found = c.take_text.new.diags })
-    c.take_text.ensures.taken c.take_text.ensures.text c.requires c.faults-begun.ensures
-    (subst (λ path. ForSome content (λ one. IsHeard one begun path before after (Ok text))) c.as_path.ensures
-    (subst (λ heard. ForSome content (λ one. IsHeard one begun c.as_path.result.now before after heard)) c.in-Ok.is c.in_ok-text.ensures.answer))
-
-pub returns-in-Err-clause-loads : goal.returns-in-Err-clause-loads
-returns-in-Err-clause-loads g c =
-    let lists = g.C.Catalog.lists c.args.catalog.now in
-    let content = g.T.Tree.content c.args.tree.now in
-    let before = g.T.Tree.fault_count c.args.tree.now in
-    let after = g.T.Tree.fault_count c.load.new.tree in
-    let begun = c.faults-begun.result in
-    let fault = c.in-Err.fault in
-    heard_fault c.tell_unread.result lists content before after begun c.args.path fault c.args.cfg.now c.args.files.now c.args.diags.now c.tell_unread.new.found
-    (subst (λ path. OnOk c.tell_unread.result (c.tell_unread.new.found ≡ c.args.diags.now ++ unread_told path (fault_words fault) ∷ [])) c.as_path-in-Err.ensures c.tell_unread.ensures)
-    c.requires c.faults-begun.ensures
-    (subst (λ path. ForSome content (λ one. IsHeard one begun path before after (Err fault))) c.as_path.ensures
-    (subst (λ heard. ForSome content (λ one. IsHeard one begun c.as_path.result.now before after heard)) c.in-Err.is c.in_ok-text.ensures.answer))
-    (subst (λ heard. ReadCounts begun before after (heard_cause heard)) c.in-Err.is c.in_ok-text.ensures.counts)
 
 pub returns-in-Ok-clause-read : goal.returns-in-Ok-clause-read
 returns-in-Ok-clause-read g c =

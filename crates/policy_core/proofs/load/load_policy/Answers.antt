@@ -2,50 +2,14 @@ use Rattle.std.proofs.Common.{◌∙◌, ap, refl, subst}
 use Rattle.std.specs.Prelude.{unwrap_or}
 use Rattle.std.specs.Option.{option_copied}
 use Rattle.policy_config.specs.Config.{no_config}
-use Rattle.policy_core.specs.Heard.{LoadsExceptions, LoadsExceptionsBy}
+use Rattle.policy_core.specs.Heard.{LoadsExceptionsBy}
 use Rattle.policy_core.specs.Policy.{absence_told}
 use Rattle.policy_core.proofs.KeptLemmas.{load_places}
-use Rattle.policy_core.proofs.LoadLemmas.{loads_policy, may_read_of, reads_policy}
+use Rattle.policy_core.proofs.LoadLemmas.{may_read_of, reads_policy}
 use Rattle.policy_core.proofs.AnswerLemmas.{on_err}
 use Rattle.policy_core.proofs.ExceptionLemmas.{grows_from, grows_itself, may_of, unread_of}
 use Rattle.policy_core.proofs.PlaceLemmas.{load_labels}
 use Rattle.policy_core.proofs.load.load_policy.Goals as goal
-
-pub returns-clause-loads : goal.returns-clause-loads
-returns-clause-loads g c =
-    let lists = g.C.Catalog.lists c.args.catalog.now in
-    let content = g.T.Tree.content c.args.tree.now in
-    let before = g.T.Tree.fault_count c.args.tree.now in
-    let after = g.T.Tree.fault_count c.load_further.new.tree in
-    let source = c.args.source.now in
-    let licenses = c.load_further.new.cfg in
-    let files = c.load_further.new.files in
-    let heard = c.load_further.new.diags in
-    loads_policy lists content before after source.file_id (absence_told source.is_there (option_copied source.path)) c.args.root c.args.exceptions_path
-    c.licences_or_default-config.result c.in_ok-licenses.licenses licenses c.args.files.now files c.args.found.now c.tell_absence.new.found c.validated.new.found
-    heard c.tell_settings.new.found
-    (c.licences_or_default-config.ensures ∙ ap (λ licenses. unwrap_or licenses no_config) c.take.ensures.value)
-    c.in_ok-tell_absence.ensures c.in_ok-licenses.ensures.valid c.in_ok-licenses.ensures.told
-    (subst
-    (λ known. LoadsExceptions lists content before after c.args.exceptions_path (record { policy = c.in_ok-licenses.licenses; files = known; found = c.validated.new.found })
-    (record { policy = licenses; files = files; found = heard })) c.in_ok-licenses.ensures.files c.in_ok-load_further.ensures.loads)
-    c.in_ok-tell_settings.ensures
-
-pub returns-clause-labels : goal.returns-clause-labels
-returns-clause-labels g c =
-    load_labels (g.C.Catalog.lists c.args.catalog.now) (g.met.C.Catalog.lawful c.args.catalog.now) (g.T.Tree.content c.args.tree.now)
-    (g.T.Tree.fault_count c.args.tree.now) (g.T.Tree.fault_count c.load_further.new.tree) c.args.source.now.file_id c.args.source.now.is_there
-    (option_copied c.args.source.now.path) c.args.root c.args.exceptions_path (record { files = c.args.files.now; found = c.args.found.now })
-    (record { files = c.load_further.new.files; found = c.tell_settings.new.found })
-    (record { licenses = c.load_further.new.cfg; graph = c.args.root.graph; output = c.args.root.output }) (returns-clause-loads g c)
-
-pub returns-clause-places : goal.returns-clause-places
-returns-clause-places g c =
-    load_places (g.C.Catalog.lists c.args.catalog.now) (g.met.C.Catalog.lawful c.args.catalog.now) (g.T.Tree.content c.args.tree.now)
-    (g.T.Tree.fault_count c.args.tree.now) (g.T.Tree.fault_count c.load_further.new.tree) c.args.source.now.file_id
-    (absence_told c.args.source.now.is_there (option_copied c.args.source.now.path)) c.args.root c.args.exceptions_path
-    (record { files = c.args.files.now; found = c.args.found.now }) (record { files = c.load_further.new.files; found = c.tell_settings.new.found })
-    (record { licenses = c.load_further.new.cfg; graph = c.args.root.graph; output = c.args.root.output }) (returns-clause-loads g c)
 
 pub returns-clause-read : goal.returns-clause-read
 returns-clause-read g c =
@@ -67,6 +31,22 @@ returns-clause-read g c =
     (λ known. LoadsExceptionsBy lists before after calls others c.args.exceptions_path (record { policy = c.in_ok-licenses.licenses; files = known; found = c.validated.new.found })
     (record { policy = licenses; files = files; found = heard })) c.in_ok-licenses.ensures.files c.in_ok-load_further.ensures.read)
     c.in_ok-tell_settings.ensures
+
+pub returns-clause-labels : goal.returns-clause-labels
+returns-clause-labels g c =
+    load_labels (g.C.Catalog.lists c.args.catalog.now) (g.met.C.Catalog.lawful c.args.catalog.now) (g.T.Tree.fault_count c.args.tree.now)
+    (g.T.Tree.fault_count c.load_further.new.tree) (g.T.Tree.trace c.args.tree.now) (g.T.Tree.trace c.load_further.new.tree) c.args.source.now.file_id c.args.source.now.is_there
+    (option_copied c.args.source.now.path) c.args.root c.args.exceptions_path (record { files = c.args.files.now; found = c.args.found.now })
+    (record { files = c.load_further.new.files; found = c.tell_settings.new.found })
+    (record { licenses = c.load_further.new.cfg; graph = c.args.root.graph; output = c.args.root.output }) (returns-clause-read g c)
+
+pub returns-clause-places : goal.returns-clause-places
+returns-clause-places g c =
+    load_places (g.C.Catalog.lists c.args.catalog.now) (g.met.C.Catalog.lawful c.args.catalog.now) (g.T.Tree.fault_count c.args.tree.now)
+    (g.T.Tree.fault_count c.load_further.new.tree) (g.T.Tree.trace c.args.tree.now) (g.T.Tree.trace c.load_further.new.tree) c.args.source.now.file_id
+    (absence_told c.args.source.now.is_there (option_copied c.args.source.now.path)) c.args.root c.args.exceptions_path
+    (record { files = c.args.files.now; found = c.args.found.now }) (record { files = c.load_further.new.files; found = c.tell_settings.new.found })
+    (record { licenses = c.load_further.new.cfg; graph = c.args.root.graph; output = c.args.root.output }) (returns-clause-read g c)
 
 pub returns-in_err-tell_absence-clause-no_memory : goal.returns-in_err-tell_absence-clause-no_memory
 returns-in_err-tell_absence-clause-no_memory g c =

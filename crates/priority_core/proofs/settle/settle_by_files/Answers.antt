@@ -1,47 +1,12 @@
-use Rattle.std.proofs.Common.{refl, sym, subst, map, ◌∙◌}
+use Rattle.std.proofs.Common.{refl, sym, map, ◌∙◌}
 use Rattle.graph_core.specs.Krate.{record_of}
-use Rattle.reads_core.specs.Rising.{RiseInOrder}
-use Rattle.pack_core.specs.Ears.{ears_by, ears_of}
-use Rattle.pack_core.specs.Steps.{Agrees}
+use Rattle.pack_core.specs.Ears.{ears_by}
 use Rattle.priority_core.specs.declared.settle.Settled.{Settled}
-use Rattle.priority_core.specs.Priority.{folder_of}
 use Rattle.priority_core.specs.Clarification.{behind}
 use Rattle.priority_core.specs.Settled.{scanner_with}
-use Rattle.priority_core.specs.Steps.{ears_in}
 use Rattle.priority_core.proofs.CallLemmas.{on_err, starves_looked}
-use Rattle.priority_core.proofs.LookedLemmas.{agrees_itself, ordered}
+use Rattle.priority_core.proofs.LookedLemmas.{ordered}
 use Rattle.priority_core.proofs.settle.settle_by_files.Goals as goal
-
-pub returns-clause-rises : goal.returns-clause-rises
-returns-clause-rises g c =
-    subst (λ reads. RiseInOrder (g.T.Tree.fault_count c.args.tree.now) reads (g.T.Tree.fault_count c.look.new.tree))
-    (sym c.into_reads-reads.ensures.reads) c.in_ok-clarified.ensures.looked.rises
-
-pub returns-clause-told : goal.returns-clause-told
-returns-clause-told g c = λ content is.
-    let krate = record_of c.args.krate.now in
-    let pack = c.in_ok-clarified.clarified.pack in
-    let looked = c.in_ok-clarified.ensures.looked in
-    let reads = c.into_reads-reads.result in
-    let settled : Settled = record { by = c.in_ok-by.by; missing = c.in_ok-clarified.clarified.missing; reads = reads } in
-    ordered (scanner_with g.C.Catalog.lists g.I.Identifier.match_of c.args.scan.now) _ _ _ krate (map behind c.args.clarifications.now) pack
-    c.in_ok-clarified.clarified.held c.in_ok-clarified.clarified.missing c.args.field settled (ears_of content (folder_of krate) reads) looked
-    c.into_reads-reads.ensures.sorted c.requires c.in_ok-by.ensures refl c.into_reads-reads.ensures.reads
-    (subst (λ folder. Agrees (ears_of content folder reads) pack) looked.folder (c.into_reads-reads.ensures.agrees content (looked.heard content is)))
-
-pub returns-clause-some : goal.returns-clause-some
-returns-clause-some g c =
-    let krate = record_of c.args.krate.now in
-    let pack = c.in_ok-clarified.clarified.pack in
-    let looked = c.in_ok-clarified.ensures.looked in
-    let reads = c.into_reads-reads.result in
-    let settled : Settled = record { by = c.in_ok-by.by; missing = c.in_ok-clarified.clarified.missing; reads = reads } in (
-      ears_in pack,
-      ordered (scanner_with g.C.Catalog.lists g.I.Identifier.match_of c.args.scan.now) _ _ _ krate (map behind c.args.clarifications.now) pack
-          c.in_ok-clarified.clarified.held c.in_ok-clarified.clarified.missing c.args.field settled (ears_in pack) looked
-          c.into_reads-reads.ensures.sorted c.requires c.in_ok-by.ensures refl c.into_reads-reads.ensures.reads
-          (agrees_itself pack looked.normal),
-    )
 
 pub returns-clause-answered : goal.returns-clause-answered
 returns-clause-answered g c =
@@ -55,7 +20,7 @@ returns-clause-answered g c =
       reads = made.reads;
       records = sym made.is.records ∙ sym c.into_reads-reads.ensures.reads;
       made = made.made;
-      is_so = ordered (scanner_with g.C.Catalog.lists g.I.Identifier.match_of c.args.scan.now) _ _ _ krate (map behind c.args.clarifications.now) pack
+      is_so = ordered (scanner_with g.C.Catalog.lists g.I.Identifier.match_of c.args.scan.now) krate (map behind c.args.clarifications.now) pack
           c.in_ok-clarified.clarified.held c.in_ok-clarified.clarified.missing c.args.field settled (ears_by made.reads) looked
           c.into_reads-reads.ensures.sorted c.requires c.in_ok-by.ensures refl c.into_reads-reads.ensures.reads made.is.agrees;
     }

@@ -1,8 +1,7 @@
 use Rattle.std.proofs.Common.{◌≡◌, ◌∙◌, true, false, [], map, sym, ap, rules}
 use Rattle.std.proofs.lemmas.Result.{IfOk-weaker}
 use Rattle.graph_core.specs.Krate.{record_of}
-use Rattle.reads_core.specs.Heard.{absent}
-use Rattle.pack_core.specs.Ears.{Ears, ears_by, ears_of}
+use Rattle.pack_core.specs.Ears.{ears_by}
 use Rattle.reads_core.proofs.ReadLemmas.{no_reads}
 use Rattle.priority_core.specs.declared.settle.Settled.{Settled}
 use Rattle.priority_core.specs.Clarification.{behind}
@@ -11,67 +10,6 @@ use Rattle.priority_core.specs.Settled.{scanner_with}
 use Rattle.priority_core.proofs.CallLemmas.{on_err-weaker, starves_at_files}
 use Rattle.priority_core.proofs.LookedLemmas.{looks_for_none, looks_for_some, settled_by_field, settled_by_files}
 use Rattle.priority_core.proofs.settle.settle_licence.Goals as goal
-
-pub returns-then-not-is_nothing-clause-told : goal.returns-then-not-is_nothing-clause-told
-returns-then-not-is_nothing-clause-told g c = λ content is.
-    let scanner = scanner_with g.C.Catalog.lists g.I.Identifier.match_of c.args.scan.now in
-    let krate = record_of c.args.krate.now in
-    let all = map behind c.args.clarifications.now in
-    let off : c.is_nothing.result ≡ false = search rules in
-    IfOk-weaker c.settle_by_files.result _ _
-    (λ settled by. settled_by_files scanner all krate (ears_of content (folder_of krate) settled.reads) settled
-    (looks_for_some scanner all krate (sym c.is_nothing.ensures ∙ off)) by)
-    (c.settle_by_files.ensures.told content is)
-
-pub returns-then-not-is_nothing-clause-some : goal.returns-then-not-is_nothing-clause-some
-returns-then-not-is_nothing-clause-some g c =
-    let scanner = scanner_with g.C.Catalog.lists g.I.Identifier.match_of c.args.scan.now in
-    let krate = record_of c.args.krate.now in
-    let all = map behind c.args.clarifications.now in
-    let off : c.is_nothing.result ≡ false = search rules in
-    IfOk-weaker c.settle_by_files.result _ _
-    (λ settled by. (by.0, settled_by_files scanner all krate by.0 settled (looks_for_some scanner all krate (sym c.is_nothing.ensures ∙ off)) by.1))
-    c.settle_by_files.ensures.some
-
-pub returns-in-None-clause-told : goal.returns-in-None-clause-told
-returns-in-None-clause-told g c = λ content is.
-    let scanner = scanner_with g.C.Catalog.lists g.I.Identifier.match_of c.args.scan.now in
-    let krate = record_of c.args.krate.now in
-    let all = map behind c.args.clarifications.now in
-    IfOk-weaker c.settle_by_files-in-None.result _ _
-    (λ settled by. settled_by_files scanner all krate (ears_of content (folder_of krate) settled.reads) settled
-    (looks_for_none scanner all krate (sym c.in-None.is ∙ c.requires)) by)
-    (c.settle_by_files-in-None.ensures.told content is)
-
-pub returns-in-None-clause-some : goal.returns-in-None-clause-some
-returns-in-None-clause-some g c =
-    let scanner = scanner_with g.C.Catalog.lists g.I.Identifier.match_of c.args.scan.now in
-    let krate = record_of c.args.krate.now in
-    let all = map behind c.args.clarifications.now in
-    IfOk-weaker c.settle_by_files-in-None.result _ _
-    (λ settled by. (by.0, settled_by_files scanner all krate by.0 settled (looks_for_none scanner all krate (sym c.in-None.is ∙ c.requires)) by.1))
-    c.settle_by_files-in-None.ensures.some
-
-pub returns-in-Some-clause-told : goal.returns-in-Some-clause-told
-returns-in-Some-clause-told g c = λ content is.
-    let krate = record_of c.args.krate.now in
-    let settled = c.settle_by_field.result in
-    let on : c.is_nothing.result ≡ true = search rules in
-    settled_by_field (scanner_with g.C.Catalog.lists g.I.Identifier.match_of c.args.scan.now) (map behind c.args.clarifications.now) krate
-    (ears_of content (folder_of krate) settled.reads) settled c.in-Some.expression (sym c.is_nothing.ensures ∙ on) (sym c.in-Some.is ∙ c.requires)
-    c.settle_by_field.ensures
-
--- no file is looked at, so any ears do
-pub returns-in-Some-clause-some : goal.returns-in-Some-clause-some
-returns-in-Some-clause-some g c =
-    let krate = record_of c.args.krate.now in
-    let ears : Ears = record { listing = absent; file = λ parts. absent } in
-    let on : c.is_nothing.result ≡ true = search rules in (
-      ears,
-      settled_by_field (scanner_with g.C.Catalog.lists g.I.Identifier.match_of c.args.scan.now) (map behind c.args.clarifications.now) krate
-          ears c.settle_by_field.result c.in-Some.expression (sym c.is_nothing.ensures ∙ on) (sym c.in-Some.is ∙ c.requires)
-          c.settle_by_field.ensures,
-    )
 
 pub returns-then-not-is_nothing-clause-answered : goal.returns-then-not-is_nothing-clause-answered
 returns-then-not-is_nothing-clause-answered g c =

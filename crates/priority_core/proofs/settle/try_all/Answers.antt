@@ -1,14 +1,13 @@
-use Rattle.std.proofs.Common.{◌≡◌, ◌≤◌, ◌+◌, ◌∷◌, ◌++◌, List, true, false, Some, map, drop, refl, sym, ap, subst, ◌∙◌, arith, rules}
+use Rattle.std.proofs.Common.{◌≡◌, ◌+◌, ◌∷◌, ◌++◌, List, true, false, Some, map, drop, refl, sym, ap, ◌∙◌, rules}
 use Rattle.std.specs.Prelude.{option_and_then, option_map}
 use Rattle.std.proofs.lemmas.List.{at_drop_more}
 use Rattle.std.specs.List.{fold}
 use Rattle.std.specs.Option.{option_to_list}
 use Rattle.deny_text.specs.declared.span.Span.{Span}
 use Rattle.pack_core.specs.Ears.{holds, looked_of, missing_from}
-use Rattle.pack_core.specs.Steps.{Advances, with_path}
+use Rattle.pack_core.specs.Steps.{with_path}
 use Rattle.pack_core.specs.View.{paths_read}
-use Rattle.pack_core.proofs.CallLemmas.{goes_itself, goes_then}
-use Rattle.pack_core.proofs.PackLemmas.{advances_itself, advances_then, agrees_earlier}
+use Rattle.pack_core.proofs.CallLemmas.{agrees_before, goes_itself, goes_then}
 use Rattle.priority_core.specs.declared.clarification.Held.{Held}
 use Rattle.priority_core.specs.Clarification.{PlacedFile, behind, held_in}
 use Rattle.priority_core.specs.Priority.{holding}
@@ -20,11 +19,6 @@ use Rattle.priority_core.proofs.settle.try_all.Goals as goal
 pub all-preserved : goal.all-preserved
 all-preserved g c =
     let so_far = c.all.invariant in
-    let first = g.T.Tree.fault_count c.args.tree.now in
-    let middle = g.T.Tree.fault_count c.all.tree in
-    let last = g.T.Tree.fault_count c.tries.new.tree in
-    let before : first ≤ middle = so_far.kept.later in
-    let after : middle ≤ last = c.tries.ensures.kept.later in
     let place = c.all.clarification-index in
     let item = c.clarification-item.result in
     let rest = drop (place + 1) c.args.clarifications.now in
@@ -33,12 +27,9 @@ all-preserved g c =
     let differs : c.in_ok-tried.tried.holds ≡ false = search rules in
     let so_long : List Span = c.all.missing in
     record {
-      kept = record { content = c.tries.ensures.kept.content ∙ so_far.kept.content; later = omega arith };
-      goes = advances_then (g.T.Tree.content c.args.tree.now) first middle last c.args.pack c.all.pack new so_far.goes
-          (subst (λ told. Advances told middle last c.all.pack new) so_far.kept.content c.in_ok-tried.ensures.advances);
       goes_by = goes_then c.args.pack c.all.pack new so_far.goes_by c.in_ok-tried.ensures.goes;
       looks_rest = λ ears agrees.
-          so_far.looks_rest ears (agrees_earlier _ _ _ _ _ ears c.in_ok-tried.ensures.advances agrees)
+          so_far.looks_rest ears (agrees_before _ _ _ ears c.in_ok-tried.ensures.goes.takes agrees)
           ∙ at_drop_more (λ all. looks ears (paths_read c.all.pack.reads) (map behind all)) c.args.clarifications.now place item c.all-test.true
           ∙ ap (λ one. looks ears (paths_read c.all.pack.reads) (map behind (one ∷ rest))) (sym c.clarification-item.is)
           ∙ looks_on ears (paths_read c.all.pack.reads) (behind item) (map behind rest) c.in_ok-tried.tried.holds
@@ -46,13 +37,13 @@ all-preserved g c =
           ∙ ap (λ paths. looks ears paths (map behind rest))
           (ap (λ files. fold with_path (paths_read c.all.pack.reads) (looked_of ears files)) (sym files_are) ∙ sym (c.in_ok-tried.ensures.paths ears agrees));
       held_rest = λ ears agrees.
-          so_far.held_rest ears (agrees_earlier _ _ _ _ _ ears c.in_ok-tried.ensures.advances agrees)
+          so_far.held_rest ears (agrees_before _ _ _ ears c.in_ok-tried.ensures.goes.takes agrees)
           ∙ at_drop_more (λ all. option_map held_in (holding ears (map behind all))) c.args.clarifications.now place item c.all-test.true
           ∙ ap (λ one. option_map held_in (holding ears (map behind (one ∷ rest)))) (sym c.clarification-item.is)
           ∙ held_on ears (behind item) (map behind rest) c.in_ok-tried.tried.holds
           (c.in_ok-tried.ensures.holds ears agrees ∙ ap (holds ears) files_are) differs;
       missing_rest = λ ears agrees.
-          so_far.missing_rest ears (agrees_earlier _ _ _ _ _ ears c.in_ok-tried.ensures.advances agrees)
+          so_far.missing_rest ears (agrees_before _ _ _ ears c.in_ok-tried.ensures.goes.takes agrees)
           ∙ at_drop_more (λ all. so_long ++ missing_of ears (map behind all)) c.args.clarifications.now place item c.all-test.true
           ∙ ap (λ one. so_long ++ missing_of ears (map behind (one ∷ rest))) (sym c.clarification-item.is)
           ∙ missing_on ears so_long (behind item) (map behind rest) c.in_ok-tried.tried.holds
@@ -64,12 +55,6 @@ all-preserved g c =
           (c.in_ok-tried.ensures.missing ears agrees ∙ ap (missing_from ears 0) files_are)));
     }
 
-pub returns-then-tried-clause-advances : goal.returns-then-tried-clause-advances
-returns-then-tried-clause-advances g c =
-    advances_then _ _ _ _ c.args.pack c.all.pack c.in_ok-tried.tried.pack c.all.invariant.goes
-    (subst (λ told. Advances told (g.T.Tree.fault_count c.all.tree) (g.T.Tree.fault_count c.tries.new.tree) c.all.pack c.in_ok-tried.tried.pack)
-    c.all.invariant.kept.content c.in_ok-tried.ensures.advances)
-
 pub returns-then-tried-clause-paths : goal.returns-then-tried-clause-paths
 returns-then-tried-clause-paths g c = λ ears agrees.
     let place = c.all.clarification-index in
@@ -79,7 +64,7 @@ returns-then-tried-clause-paths g c = λ ears agrees.
     let passed : c.in_ok-tried.tried.holds ≡ true = search rules in
     c.in_ok-tried.ensures.paths ears agrees
     ∙ ap (λ files. fold with_path (paths_read c.all.pack.reads) (looked_of ears files)) files_are
-    ∙ sym (c.all.invariant.looks_rest ears (agrees_earlier _ _ _ _ _ ears c.in_ok-tried.ensures.advances agrees)
+    ∙ sym (c.all.invariant.looks_rest ears (agrees_before _ _ _ ears c.in_ok-tried.ensures.goes.takes agrees)
     ∙ at_drop_more (λ all. looks ears (paths_read c.all.pack.reads) (map behind all)) c.args.clarifications.now place item c.all-test.true
     ∙ ap (λ one. looks ears (paths_read c.all.pack.reads) (map behind (one ∷ rest))) (sym c.clarification-item.is)
     ∙ looks_last ears (paths_read c.all.pack.reads) (behind item) (map behind rest) c.in_ok-tried.tried.holds
@@ -93,7 +78,7 @@ returns-then-tried-clause-held g c = λ ears agrees.
     let files_are = ap (map (λ (file : PlacedFile). file.named)) c.files.ensures in
     let passed : c.in_ok-tried.tried.holds ≡ true = search rules in
     ap (λ (one : Held). Some one) c.in_ok-held.ensures
-    ∙ sym (c.all.invariant.held_rest ears (agrees_earlier _ _ _ _ _ ears c.in_ok-tried.ensures.advances agrees)
+    ∙ sym (c.all.invariant.held_rest ears (agrees_before _ _ _ ears c.in_ok-tried.ensures.goes.takes agrees)
     ∙ at_drop_more (λ all. option_map held_in (holding ears (map behind all))) c.args.clarifications.now place item c.all-test.true
     ∙ ap (λ one. option_map held_in (holding ears (map behind (one ∷ rest)))) (sym c.clarification-item.is)
     ∙ held_here ears (behind item) (map behind rest) c.in_ok-tried.tried.holds
@@ -111,7 +96,7 @@ returns-then-tried-clause-missing g c = λ ears agrees.
     ∙ ap (λ files. so_long ++ option_to_list (option_and_then (span_at files) c.in_ok-tried.tried.missing)) c.files-in-all.ensures
     ∙ ap (λ number. so_long ++ option_to_list (option_and_then (span_at (behind item).files) number))
     (c.in_ok-tried.ensures.missing ears agrees ∙ ap (missing_from ears 0) files_are)
-    ∙ sym (c.all.invariant.missing_rest ears (agrees_earlier _ _ _ _ _ ears c.in_ok-tried.ensures.advances agrees)
+    ∙ sym (c.all.invariant.missing_rest ears (agrees_before _ _ _ ears c.in_ok-tried.ensures.goes.takes agrees)
     ∙ at_drop_more (λ all. so_long ++ missing_of ears (map behind all)) c.args.clarifications.now place item c.all-test.true
     ∙ ap (λ one. so_long ++ missing_of ears (map behind (one ∷ rest))) (sym c.clarification-item.is)
     ∙ missing_last ears so_long (behind item) (map behind rest) c.in_ok-tried.tried.holds
@@ -166,8 +151,6 @@ pub all-init : goal.all-init
 all-init g c =
     let count = g.T.Tree.fault_count c.args.tree.now in
     record {
-      kept = record { content = refl; later = omega arith };
-      goes = advances_itself (g.T.Tree.content c.args.tree.now) count count c.args.pack (omega arith);
       goes_by = goes_itself (g.T.Tree.content c.args.tree.now) count (g.T.Tree.trace c.args.tree.now) c.args.pack;
       looks_rest = λ ears agrees. refl;
       held_rest = λ ears agrees. refl;

@@ -1,10 +1,9 @@
 -- All the clarifications are tried as the rest of them, with the pack that is there.
 use Rattle.std.proofs.Common.{◌≡◌, ◌++◌, map, drop}
 use Rattle.std.specs.Prelude.{option_map}
-use Rattle.tree_core.specs.Hearing.{KeepsTree}
 use Rattle.pack_core.specs.Calls.{GoesBy}
 use Rattle.pack_core.specs.Ears.{Ears}
-use Rattle.pack_core.specs.Steps.{Advances, Agrees}
+use Rattle.pack_core.specs.Steps.{Agrees}
 use Rattle.pack_core.specs.View.{paths_read}
 use Rattle.priority_core.specs.Clarification.{behind, held_in}
 use Rattle.priority_core.specs.Priority.{holding}
@@ -17,8 +16,6 @@ invariant-all g l =
     let all = map behind l.clarifications in
     let rest = map behind (drop l.clarification-index l.clarifications) in
     record {
-      kept : KeepsTree (g.T.Tree.content l.fn.tree) (g.T.Tree.content l.tree) (g.T.Tree.fault_count l.fn.tree) (g.T.Tree.fault_count l.tree);
-      goes : Advances (g.T.Tree.content l.fn.tree) (g.T.Tree.fault_count l.fn.tree) (g.T.Tree.fault_count l.tree) l.fn.pack l.pack;
       goes_by : GoesBy (g.T.Tree.content l.fn.tree) (g.T.Tree.content l.tree) (g.T.Tree.fault_count l.fn.tree) (g.T.Tree.fault_count l.tree) (g.T.Tree.trace l.fn.tree) (g.T.Tree.trace l.tree) l.fn.pack l.pack;
       looks_rest : (ears : Ears) → Agrees ears l.pack → looks ears (paths_read l.fn.pack.reads) all ≡ looks ears (paths_read l.pack.reads) rest;
       held_rest : (ears : Ears) → Agrees ears l.pack → option_map held_in (holding ears all) ≡ option_map held_in (holding ears rest);

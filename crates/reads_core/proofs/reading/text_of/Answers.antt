@@ -3,7 +3,7 @@ use Rattle.std.specs.Prelude.{string_bytes}
 use Rattle.std.specs.Str.{IsUtf8}
 use Rattle.std.proofs.lemmas.Str.{IsUtf8-string_bytes}
 use Rattle.reads_core.specs.Heard.{text}
-use Rattle.reads_core.proofs.ToldLemmas.{heard_text, heard_no_text}
+use Rattle.reads_core.proofs.TextLemmas.{heard_text, heard_no_text}
 use Rattle.reads_core.proofs.reading.text_of.Goals as goal
 
 pub returns-in-Ok : goal.returns-in-Ok

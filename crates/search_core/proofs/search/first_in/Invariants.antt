@@ -1,17 +1,13 @@
 -- nothing stands at the paths before this one
-use Rattle.std.proofs.Common.{◌≡◌, ◌≤◌, ◌++◌, map, drop, take}
-use Rattle.std.specs.Option.{ForSome}
-use Rattle.tree_core.specs.Hearing.{KeepsTree, MadeSome}
+use Rattle.std.proofs.Common.{◌≡◌, ◌≤◌, ◌++◌, map, take}
+use Rattle.tree_core.specs.Hearing.{MadeSome}
 use Rattle.search_core.specs.Looked.{misses}
-use Rattle.search_core.specs.Search.{paths_in, first_existing}
+use Rattle.search_core.specs.Search.{paths_in}
 use Rattle.search_core.proofs.search.first_in.Given as goal
 
 abbrev pub invariant-names : goal.invariant-names
 invariant-names g l =
     (l.begun ≤ g.T.Tree.fault_count l.tree)
-    × KeepsTree (g.T.Tree.content l.initial.tree) (g.T.Tree.content l.tree) (g.T.Tree.fault_count l.initial.tree) (g.T.Tree.fault_count l.tree)
-    × ForSome (g.T.Tree.content l.initial.tree) (λ c.
-    first_existing c (paths_in (map (λ name. name.now) l.name-items) l.folder)
-    ≡ first_existing c (paths_in (map (λ name. name.now) (drop l.name-index l.name-items)) l.folder))
+    × (g.T.Tree.fault_count l.initial.tree ≤ g.T.Tree.fault_count l.tree)
     × (g.T.Tree.trace l.tree ≡ g.T.Tree.trace l.initial.tree ++ misses (paths_in (map (λ name. name.now) (take l.name-index l.name-items)) l.folder))
     × MadeSome (g.T.Tree.content l.initial.tree) (g.T.Tree.content l.tree) (g.T.Tree.fault_count l.initial.tree) (g.T.Tree.fault_count l.tree) (g.T.Tree.trace l.initial.tree) (g.T.Tree.trace l.tree)

@@ -1,36 +1,15 @@
-use Rattle.std.proofs.Common.{◌≡◌, ℕ, List, [], ◌∷◌, ◌++◌, cond, None, Some, sym, ap, subst, ◌∙◌}
+use Rattle.std.proofs.Common.{ℕ, List, [], ◌∷◌, ◌++◌, cond, Some, sym, ap, subst, ◌∙◌}
 use Rattle.std.proofs.lemmas.Result.{IfOk-weaker}
 use Rattle.std.specs.Option.{option_map}
-use Rattle.deny_text.specs.Path.{components_of}
-use Rattle.tree_core.specs.Content.{resolve}
-use Rattle.tree_core.specs.declared.reads.ReadKind.TheVariants.{LicenseFile}
-use Rattle.reads_core.specs.Heard.{place_of, there_heard}
-use Rattle.reads_core.specs.Told.{IsHeardOf}
 use Rattle.reads_core.specs.Views.{heard_file}
 use Rattle.pack_core.specs.Calls.{GoesBy}
-use Rattle.pack_core.specs.Steps.{Advances, with_file, with_path}
+use Rattle.pack_core.specs.Steps.{with_file, with_path}
 use Rattle.pack_core.specs.Told.{told_of}
 use Rattle.pack_core.specs.View.{PackView, file_at, paths_read}
 use Rattle.pack_core.specs.declared.told.Told.{Told}
 use Rattle.pack_core.proofs.CallLemmas.{goes_itself, goes_read, on_err, starves_before, starves_for, starves_read, starves_unread}
-use Rattle.pack_core.proofs.PackLemmas.{none_told, advances-with_file, both_ok, paths_read-push, there-with_file}
+use Rattle.pack_core.proofs.PackLemmas.{none_told, both_ok, paths_read-push, there-with_file}
 use Rattle.pack_core.proofs.pack.Pack.look_up.Goals as goal
-
-pub returns-in_ok-heard-in-None-clause-advances : goal.returns-in_ok-heard-in-None-clause-advances
-returns-in_ok-heard-in-None-clause-advances g c =
-    let pack = c.args.self in
-    let key = c.in_ok-key.key in
-    let heard = heard_file c.in_ok-heard-in-None.heard in
-    IfOk-weaker c.with_file.result _ _
-    (λ looked is. subst (Advances (g.T.Tree.content c.args.tree.now) (g.T.Tree.fault_count c.args.tree.now) (g.T.Tree.fault_count c.read_file.new.tree) pack) (sym is)
-    (advances-with_file _ _ _ pack key heard (none_told (file_at pack.files key) c.in-None.ensures.told)
-    c.read_file.ensures.kept.later c.in_ok-heard-in-None.ensures.counts
-    (λ content told.
-    subst (λ (at : List ℕ). IsHeardOf (there_heard LicenseFile content (place_of LicenseFile (resolve pack.folder) (components_of at))) heard)
-    (c.as_path-in-None.ensures ∙ sym c.in_ok-key.ensures)
-    (subst (λ (folder : List ℕ). IsHeardOf (there_heard LicenseFile content (place_of LicenseFile (resolve folder) (components_of c.as_path-in-None.result.now))) heard)
-    (c.as_path.ensures ∙ ap (λ (p : PackView). p.folder) c.self.view_is) (c.in_ok-heard-in-None.ensures.told content told)))))
-    c.with_file.ensures.pack
 
 pub returns-in_ok-heard-in-None-clause-paths : goal.returns-in_ok-heard-in-None-clause-paths
 returns-in_ok-heard-in-None-clause-paths g c =

@@ -1,16 +1,13 @@
 -- The paths so far are looked up.
 use Rattle.std.proofs.Common.{◌≡◌, take}
 use Rattle.std.specs.List.{fold}
-use Rattle.tree_core.specs.Hearing.{KeepsTree}
 use Rattle.pack_core.specs.Calls.{GoesBy}
-use Rattle.pack_core.specs.Steps.{Advances, with_path}
+use Rattle.pack_core.specs.Steps.{with_path}
 use Rattle.pack_core.specs.View.{paths_read}
 use Rattle.pack_core.proofs.pack.Pack.look_up_all.Given as goal
 
 abbrev pub invariant-paths : goal.invariant-paths
 invariant-paths g l = record {
-  kept : KeepsTree (g.T.Tree.content l.fn.tree) (g.T.Tree.content l.tree) (g.T.Tree.fault_count l.fn.tree) (g.T.Tree.fault_count l.tree);
-  goes : Advances (g.T.Tree.content l.fn.tree) (g.T.Tree.fault_count l.fn.tree) (g.T.Tree.fault_count l.tree) l.fn.self l.pack;
   goes_by : GoesBy (g.T.Tree.content l.fn.tree) (g.T.Tree.content l.tree) (g.T.Tree.fault_count l.fn.tree) (g.T.Tree.fault_count l.tree) (g.T.Tree.trace l.fn.tree) (g.T.Tree.trace l.tree) l.fn.self l.pack;
   read : paths_read l.pack.reads ≡ fold with_path (paths_read l.fn.self.reads) (take l.path-index l.paths);
 }

@@ -1,18 +1,12 @@
-use Rattle.std.proofs.Common.{◌≡◌, ◌≤◌, true, false, cond, Some, None, [], ◌∷◌, map, drop, ap, sym, subst, ◌∙◌, ◌+◌, rules, arith}
+use Rattle.std.proofs.Common.{◌≡◌, true, false, cond, Some, None, [], ◌∷◌, map, drop, ap, sym, ◌∙◌, ◌+◌, rules}
 use Rattle.std.specs.List.{fold}
 use Rattle.std.proofs.lemmas.List.{at_drop_more}
 use Rattle.pack_core.specs.Ears.{holds, looked_of, matches, missing_from}
-use Rattle.pack_core.specs.Steps.{Advances, with_path}
+use Rattle.pack_core.specs.Steps.{with_path}
 use Rattle.pack_core.specs.View.{paths_read}
-use Rattle.pack_core.proofs.CallLemmas.{goes_then, on_err, starves_looks}
-use Rattle.pack_core.proofs.PackLemmas.{advances_then, agrees_earlier, holds_on, holds_not, looks_on, looks_not, missing_here, missing_on}
+use Rattle.pack_core.proofs.CallLemmas.{agrees_before, goes_then, on_err, starves_looks}
+use Rattle.pack_core.proofs.PackLemmas.{holds_on, holds_not, looks_on, looks_not, missing_here, missing_on}
 use Rattle.pack_core.proofs.pack.Pack.tries.Goals as goal
-
-pub returns-then-not-tried-clause-advances : goal.returns-then-not-tried-clause-advances
-returns-then-not-tried-clause-advances g c =
-    advances_then _ _ _ _ c.args.self c.files.pack c.in_ok-tried.tried.pack c.files.invariant.goes
-    (subst (λ told. Advances told (g.T.Tree.fault_count c.files.tree) (g.T.Tree.fault_count c.matches.new.tree) c.files.pack c.in_ok-tried.tried.pack)
-    c.files.invariant.kept.content c.in_ok-tried.ensures.advances)
 
 pub returns-then-not-tried-clause-paths : goal.returns-then-not-tried-clause-paths
 returns-then-not-tried-clause-paths g c = λ ears agrees.
@@ -21,7 +15,7 @@ returns-then-not-tried-clause-paths g c = λ ears agrees.
     let item = c.index-files-place.result in
     let rest = drop (place + 1) c.args.files.now in
     let failed : c.in_ok-tried.tried.holds ≡ false = search rules in
-    sym (c.files.invariant.looks_rest ears (agrees_earlier _ _ _ _ _ ears c.in_ok-tried.ensures.advances agrees)
+    sym (c.files.invariant.looks_rest ears (agrees_before _ _ _ ears c.in_ok-tried.ensures.goes.takes agrees)
     ∙ at_drop_more (λ files. fold with_path (paths_read c.files.pack.reads) (looked_of ears (map named_of files))) c.args.files.now place item c.files-test.true
     ∙ ap (λ one. fold with_path (paths_read c.files.pack.reads) (looked_of ears (map named_of (one ∷ rest)))) (sym c.index-files-place.is)
     ∙ looks_not ears (paths_read c.files.pack.reads) (named_of item) (map named_of rest) c.in_ok-tried.tried.holds (c.in_ok-tried.ensures.holds ears agrees) failed
@@ -34,7 +28,7 @@ returns-then-not-tried-clause-holds g c = λ ears agrees.
     let item = c.index-files-place.result in
     let rest = drop (place + 1) c.args.files.now in
     let failed : c.in_ok-tried.tried.holds ≡ false = search rules in
-    sym (c.files.invariant.holds_rest ears (agrees_earlier _ _ _ _ _ ears c.in_ok-tried.ensures.advances agrees)
+    sym (c.files.invariant.holds_rest ears (agrees_before _ _ _ ears c.in_ok-tried.ensures.goes.takes agrees)
     ∙ at_drop_more (λ files. holds ears (map named_of files)) c.args.files.now place item c.files-test.true
     ∙ ap (λ one. holds ears (map named_of (one ∷ rest))) (sym c.index-files-place.is)
     ∙ holds_not ears (named_of item) (map named_of rest) c.in_ok-tried.tried.holds (c.in_ok-tried.ensures.holds ears agrees) failed)
@@ -47,7 +41,7 @@ returns-then-not-tried-clause-missing g c = λ ears agrees.
     let rest = drop (place + 1) c.args.files.now in
     let failed : c.in_ok-tried.tried.holds ≡ false = search rules in
     c.number_where.ensures
-    ∙ sym (c.files.invariant.missing_rest ears (agrees_earlier _ _ _ _ _ ears c.in_ok-tried.ensures.advances agrees)
+    ∙ sym (c.files.invariant.missing_rest ears (agrees_before _ _ _ ears c.in_ok-tried.ensures.goes.takes agrees)
     ∙ at_drop_more (λ files. missing_from ears place (map named_of files)) c.args.files.now place item c.files-test.true
     ∙ ap (λ one. missing_from ears place (map named_of (one ∷ rest))) (sym c.index-files-place.is)
     ∙ missing_here ears place (named_of item) (map named_of rest) c.in_ok-tried.tried.holds (c.in_ok-tried.ensures.holds ears agrees) failed
@@ -56,11 +50,6 @@ returns-then-not-tried-clause-missing g c = λ ears agrees.
 pub files-preserved : goal.files-preserved
 files-preserved g c =
     let so_far = c.files.invariant in
-    let first = g.T.Tree.fault_count c.args.tree.now in
-    let middle = g.T.Tree.fault_count c.files.tree in
-    let last = g.T.Tree.fault_count c.matches.new.tree in
-    let before : first ≤ middle = so_far.kept.later in
-    let after : middle ≤ last = c.matches.ensures.kept.later in
     let named_of = g.F.NamedFile.named in
     let place = c.files.place in
     let item = c.index-files-place.result in
@@ -68,23 +57,20 @@ files-preserved g c =
     let new = c.in_ok-tried.tried.pack in
     let passed : c.in_ok-tried.tried.holds ≡ true = search rules in
     record {
-      kept = record { content = c.matches.ensures.kept.content ∙ so_far.kept.content; later = omega arith };
-      goes = advances_then (g.T.Tree.content c.args.tree.now) first middle last c.args.self c.files.pack new so_far.goes
-          (subst (λ told. Advances told middle last c.files.pack new) so_far.kept.content c.in_ok-tried.ensures.advances);
       goes_by = goes_then c.args.self c.files.pack new so_far.goes_by c.in_ok-tried.ensures.goes;
       holds_rest = λ ears agrees.
-          so_far.holds_rest ears (agrees_earlier _ _ _ _ _ ears c.in_ok-tried.ensures.advances agrees)
+          so_far.holds_rest ears (agrees_before _ _ _ ears c.in_ok-tried.ensures.goes.takes agrees)
           ∙ at_drop_more (λ files. holds ears (map named_of files)) c.args.files.now place item c.files-test.true
           ∙ ap (λ one. holds ears (map named_of (one ∷ rest))) (sym c.index-files-place.is)
           ∙ holds_on ears (named_of item) (map named_of rest) c.in_ok-tried.tried.holds (c.in_ok-tried.ensures.holds ears agrees) passed;
       looks_rest = λ ears agrees.
-          so_far.looks_rest ears (agrees_earlier _ _ _ _ _ ears c.in_ok-tried.ensures.advances agrees)
+          so_far.looks_rest ears (agrees_before _ _ _ ears c.in_ok-tried.ensures.goes.takes agrees)
           ∙ at_drop_more (λ files. fold with_path (paths_read c.files.pack.reads) (looked_of ears (map named_of files))) c.args.files.now place item c.files-test.true
           ∙ ap (λ one. fold with_path (paths_read c.files.pack.reads) (looked_of ears (map named_of (one ∷ rest)))) (sym c.index-files-place.is)
           ∙ looks_on ears (paths_read c.files.pack.reads) (named_of item) (map named_of rest) c.in_ok-tried.tried.holds (c.in_ok-tried.ensures.holds ears agrees) passed
           ∙ ap (λ paths. fold with_path paths (looked_of ears (map named_of rest))) (sym c.in_ok-tried.ensures.paths);
       missing_rest = λ ears agrees.
-          so_far.missing_rest ears (agrees_earlier _ _ _ _ _ ears c.in_ok-tried.ensures.advances agrees)
+          so_far.missing_rest ears (agrees_before _ _ _ ears c.in_ok-tried.ensures.goes.takes agrees)
           ∙ at_drop_more (λ files. missing_from ears place (map named_of files)) c.args.files.now place item c.files-test.true
           ∙ ap (λ one. missing_from ears place (map named_of (one ∷ rest))) (sym c.index-files-place.is)
           ∙ missing_on ears place (named_of item) (map named_of rest) c.in_ok-tried.tried.holds (c.in_ok-tried.ensures.holds ears agrees) passed;

@@ -1,10 +1,9 @@
 -- The whole clarification holds, and is looked up, as the rest of it after what was looked up.
 use Rattle.std.proofs.Common.{◌≡◌, map, drop}
 use Rattle.std.specs.List.{fold}
-use Rattle.tree_core.specs.Hearing.{KeepsTree}
 use Rattle.pack_core.specs.Calls.{GoesBy}
 use Rattle.pack_core.specs.Ears.{Ears, holds, looked_of, missing_from}
-use Rattle.pack_core.specs.Steps.{Advances, Agrees, with_path}
+use Rattle.pack_core.specs.Steps.{Agrees, with_path}
 use Rattle.pack_core.specs.View.{paths_read}
 use Rattle.pack_core.proofs.pack.Pack.tries.Given as goal
 
@@ -13,8 +12,6 @@ invariant-files g l =
     let named = map g.F.NamedFile.named l.files in
     let rest = map g.F.NamedFile.named (drop l.place l.files) in
     record {
-      kept : KeepsTree (g.T.Tree.content l.fn.tree) (g.T.Tree.content l.tree) (g.T.Tree.fault_count l.fn.tree) (g.T.Tree.fault_count l.tree);
-      goes : Advances (g.T.Tree.content l.fn.tree) (g.T.Tree.fault_count l.fn.tree) (g.T.Tree.fault_count l.tree) l.fn.self l.pack;
       goes_by : GoesBy (g.T.Tree.content l.fn.tree) (g.T.Tree.content l.tree) (g.T.Tree.fault_count l.fn.tree) (g.T.Tree.fault_count l.tree) (g.T.Tree.trace l.fn.tree) (g.T.Tree.trace l.tree) l.fn.self l.pack;
       holds_rest : (ears : Ears) → Agrees ears l.pack → holds ears named ≡ holds ears rest;
       looks_rest : (ears : Ears) → Agrees ears l.pack → fold with_path (paths_read l.fn.self.reads) (looked_of ears named) ≡ fold with_path (paths_read l.pack.reads) (looked_of ears rest);
