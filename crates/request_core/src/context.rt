@@ -1,8 +1,10 @@
 //! Which crates of a project are looked at.
-ghost use Rattle.std.specs.Prelude.{◌≡◌, IfOk, unwrap_or, codes};
+ghost use Rattle.std.specs.Prelude.{◌≡◌, ◌||◌, IfOk, unwrap_or, codes};
+ghost use Rattle.std.specs.List.{flat_map, slice_split};
 ghost use Rattle.std.specs.Option.{option_to_list};
 ghost use Rattle.clap.specs.Words.{found_of, rows_of, first_of};
 ghost use Rattle.deny_text.specs.Path.{join_of};
+ghost use Rattle.request_core.specs.Reading.{words_of, is_set, is_comma};
 ghost use Rattle.request_core.specs.Request.{krate_context_of, path_at};
 
 use crate::rows::{copied_path, copied_words, is_set, pieces, word_under};
@@ -48,32 +50,92 @@ impl KrateContext {
         ensures { IfOk result (λ context. context
             ≡ krate_context_of (rows_of (found_of matches.now)) cwd.now) }
     {
-        let manifest_path = manifest_path(alloc, matches, cwd)?;
-        let config_path = copied_path(alloc, matches, "config")?;
-        let metadata_path = path_at(alloc, matches, "metadata-path", cwd)?;
-        let exclude = copied_words(alloc, matches, "exclude")?;
-        let targets = targets(alloc, matches)?;
-        let features = pieces(alloc, matches, "features")?;
-        let cwd = PathBuf::copy(alloc, cwd)?;
+        let paths = paths_given(alloc, matches, cwd)?;
+        let lists = lists_given(alloc, matches)?;
         let frozen = is_set(matches, "frozen");
         Ok(KrateContext {
-            manifest_path,
-            config_path,
-            metadata_path,
+            manifest_path: paths.manifest,
+            config_path: paths.config,
+            metadata_path: paths.metadata,
             workspace: is_set(matches, "workspace"),
-            exclude,
-            targets,
+            exclude: lists.exclude,
+            targets: lists.targets,
             no_default_features: is_set(matches, "no-default-features"),
             all_features: is_set(matches, "all-features"),
-            features,
+            features: lists.features,
             frozen,
-            locked: is_set(matches, "locked") || frozen,
-            offline: is_set(matches, "offline") || frozen,
+            locked: is_set_or(matches, "locked", frozen),
+            offline: is_set_or(matches, "offline", frozen),
             exclude_dev: is_set(matches, "exclude-dev"),
             exclude_unpublished: is_set(matches, "exclude-unpublished"),
-            cwd,
+            cwd: paths.cwd,
         })
     }
+}
+
+/// The paths of a context.
+#[derive(Drop)]
+struct GivenPaths {
+    manifest: PathBuf,
+    config: Option<PathBuf>,
+    metadata: Option<PathBuf>,
+    cwd: PathBuf,
+}
+
+/// The lists of a context.
+#[derive(Drop)]
+struct GivenLists {
+    exclude: Texts,
+    targets: Texts,
+    features: Texts,
+}
+
+/// The paths that the matches ask for.
+fn paths_given(alloc: Global, matches: &ArgMatches<'_>, cwd: &str) -> Result<GivenPaths, AllocError>
+    ensures { let rows = rows_of (found_of matches.now) in
+        IfOk result (λ paths. paths ≡ record {
+          manifest = unwrap_or (path_at cwd.now (codes "manifest-path") rows) (join_of cwd.now (codes "Cargo.toml"));
+          config = first_of (codes "config") rows;
+          metadata = path_at cwd.now (codes "metadata-path") rows;
+          cwd = cwd.now;
+        }) }
+{
+    let manifest = manifest_path(alloc, matches, cwd)?;
+    let config = copied_path(alloc, matches, "config")?;
+    let metadata = path_at(alloc, matches, "metadata-path", cwd)?;
+    let cwd = PathBuf::copy(alloc, cwd)?;
+    Ok(GivenPaths {
+        manifest,
+        config,
+        metadata,
+        cwd,
+    })
+}
+
+/// The lists that the matches ask for.
+fn lists_given(alloc: Global, matches: &ArgMatches<'_>) -> Result<GivenLists, AllocError>
+    ensures { let rows = rows_of (found_of matches.now) in
+        IfOk result (λ lists. lists ≡ record {
+          exclude = words_of (codes "exclude") rows;
+          targets = option_to_list (first_of (codes "target") rows);
+          features = flat_map (slice_split is_comma) (words_of (codes "features") rows);
+        }) }
+{
+    let exclude = copied_words(alloc, matches, "exclude")?;
+    let targets = targets(alloc, matches)?;
+    let features = pieces(alloc, matches, "features")?;
+    Ok(GivenLists {
+        exclude,
+        targets,
+        features,
+    })
+}
+
+/// Whether an option without a value was used, or is implied.
+fn is_set_or(matches: &ArgMatches<'_>, option: &str, implied: bool) -> bool
+    ensures { result ≡ (is_set option.now (rows_of (found_of matches.now)) || implied) }
+{
+    is_set(matches, option) || implied
 }
 
 /// The path of an option, joined to the working folder.
