@@ -11,7 +11,7 @@ use Rattle.certificate_core.specs.declared.verdict.Hit.{Hit}
 use Rattle.certificate_core.specs.declared.verdict.Verdict.{Verdict}
 use Rattle.certificate_core.specs.declared.verdict.Verdict.TheVariants.{Skipped, Unlicensed, Accepted, Rejected}
 use Rattle.certificate_core.specs.Certificates.{hit_at}
-use Rattle.reads_core.specs.Heard.{Heard, heard}
+use Rattle.reads_core.specs.Heard.{Heard}
 use Rattle.pack_core.specs.Ears.{Ears, has_hash, holds, looked_of, matches, tried_of}
 use Rattle.pack_core.specs.NamedFile.{Named}
 use Rattle.pack_core.specs.Pack.{first_spellings, found_of, in_path_order, pack_of, placed, same_path, wanted_of}
