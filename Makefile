@@ -8,7 +8,7 @@ COMPLETION = crates/completions/stdout
 
 FIRST = ../../examples/first
 
-.PHONY: try build run test examples wrong starve calls bench install
+.PHONY: try build run test examples map wrong starve calls bench install
 
 # A first answer in minutes, by an unproved build.
 try:
@@ -32,6 +32,10 @@ test:
 # with examples/outputs.
 examples: build
 	@sh tools/examples.sh
+
+# Prints what each crate stands on and which crates use it, or of one crate: make map NAME=pack_core
+map:
+	@sh tools/map.sh $(NAME)
 
 # Tries the wrong bodies of a crate that the gate leaves out: make wrong NAME=pack_core
 wrong:
