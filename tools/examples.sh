@@ -69,6 +69,10 @@ END
     compare "odd-$file" "$odd" "'$program' --metadata-path $file.json --config deny.toml check licenses"
 done
 
+# Metadata that comes through standard input, over a policy of forty names.
+metadata "$top/examples/stdin"
+compare stdin "$top/examples/stdin" "'$program' --metadata-path /dev/stdin --config deny.toml check licenses <'$room/metadata.json'"
+
 # Metadata that comes through a pipe, words that are refused, and a standard error that is closed.
 first="$top/examples/first"
 metadata "$first"

@@ -1,6 +1,6 @@
 //! The stages of a run, by the calls: crates are read and selected, the policy is loaded, licences are gathered and
 //! checked, and what is found is printed.
-ghost use Rattle.std.specs.Prelude.{◌≡◌, ◌<◌, [], All, IfOk, OnOk};
+ghost use Rattle.std.specs.Prelude.{◌≡◌, [], All, IfOk, OnOk};
 ghost use Rattle.policy_core.specs.Places.{PolicyStands};
 ghost use Rattle.gather_core.specs.Premises.{IsPlacedAt};
 ghost use Rattle.unused_core.specs.Laws.{EntriesLie};
@@ -10,9 +10,8 @@ use crate::failed::Failed;
 use crate::meter::Meter;
 use crate::parts::from_root;
 use catalog_core::LicenseStore;
-use check_core::check::check;
-use check_core::{CheckCtx, Verdicts};
-use deny_text::{PathBuf, Steps};
+use check_core::{CheckCtx, judge_all};
+use deny_text::PathBuf;
 use diag_core::{ErrorSink, Files, LevelFilter, Pack};
 use evaluate_core::Verdict;
 use gather_core::{Gatherer, LicenseInfo, Summary};
@@ -21,8 +20,6 @@ use print_core::{Color, Format, LogContext};
 use selection_core::Krates;
 use spdx_core::Table;
 use std::alloc::{AllocError, Global};
-use std::marker::Brand;
-use std::sync::ledger::{Blank, Ledger};
 use tree_core::{MemSink, MemTree, Sink, Tree};
 use workspace_core::krates_at;
 
@@ -80,41 +77,6 @@ fn gathered<'k>(
     let gatherer: Gatherer<'_, LicenseStore> = Gatherer::default();
     let gatherer = gatherer.with_store(&store);
     gatherer.gather(alloc, krates, files, policy, tree, &Table)
-}
-
-/// The verdicts on crates, with the steps of the check counted in a ledger. What is found goes into the sink.
-fn checked_in<L: Ledger>(
-    ledger: Blank,
-    alloc: Global,
-    ctx: &CheckCtx<'_, ValidConfig>,
-    summary: &Summary<'_>,
-    sink: &mut ErrorSink,
-) -> Result<Verdicts, AllocError>
-    requires name { ledger.name ≡ L.name }
-    requires parts { ledger.parts ≡ L.parts }
-    requires some { 0 < ledger.parts }
-    requires placed { All (IsPlacedAt ctx.now.files.now) summary.now.nfos }
-    requires entries { EntriesLie ctx.now.files.now ctx.now.cfg }
-    requires empty { sink.old ≡ record { overrides = None; packs = [] } }
-    ensures { OnOk result (All (PackLies ctx.now.files.now) sink.new.packs) }
-{
-    let mut steps = Steps::<L>::new(ledger);
-    check(alloc, ctx, summary, sink, &mut steps)
-}
-
-/// The same, with its steps counted in a ledger of its own.
-fn checked(
-    alloc: Global,
-    ctx: &CheckCtx<'_, ValidConfig>,
-    summary: &Summary<'_>,
-    sink: &mut ErrorSink,
-) -> Result<Verdicts, AllocError>
-    requires placed { All (IsPlacedAt ctx.now.files.now) summary.now.nfos }
-    requires entries { EntriesLie ctx.now.files.now ctx.now.cfg }
-    requires empty { sink.old ≡ record { overrides = None; packs = [] } }
-    ensures { OnOk result (All (PackLies ctx.now.files.now) sink.new.packs) }
-{
-    checked_in::<Brand>(Blank::new(1), alloc, ctx, summary, sink)
 }
 
 /// How many bytes are printed of what was found.
@@ -178,7 +140,7 @@ fn from_check(
     requires entries { EntriesLie ctx.now.files.now ctx.now.cfg }
 {
     let mut found = ErrorSink::new(alloc, None);
-    let verdicts = checked(alloc, ctx, summary, &mut found)?;
+    let verdicts = judge_all(alloc, ctx, summary, &mut found)?;
     if meter.ends(run, "check", accepted(verdicts.items())) {
         return Ok(());
     }

@@ -27,7 +27,7 @@ most_more {X} size xs x before after grows here each =
 -- ---- verdicts, packs and hits
 
 verdicts_push : (policy : Policy) (asked : List Asked) (verdicts : List Verdict) (one : Asked) (verdict : Verdict) → AreVerdicts policy asked verdicts
-    → IsVerdict policy one.krate (expression_of one.told) verdict → AreVerdicts policy (asked ++ one ∷ []) (verdicts ++ verdict ∷ [])
+    → IsVerdict policy one.krate (expression_of one.info) verdict → AreVerdicts policy (asked ++ one ∷ []) (verdicts ++ verdict ∷ [])
 verdicts_push policy [] [] one verdict are is = (is, tt)
 verdicts_push policy [] (first ∷ verdicts) one verdict are is = absurd are
 verdicts_push policy (here ∷ asked) [] one verdict are is = absurd are
@@ -79,7 +79,7 @@ pub record SoFar (policy : ValidConfig) (asked : List Asked) (verdicts : List Ve
   pub told : new ≡ gained old (packs_of (policy_of policy) asked verdicts)
 
 pub one_more : (policy : ValidConfig) (asked : List Asked) (verdicts : List Verdict) (flags : Flags) (old new : ErrorSink) (one : Asked) (verdict : Verdict) (pack : PackOf)
-    (later : Flags) (last : ErrorSink) → SoFar policy asked verdicts flags old new → IsVerdict (policy_of policy) one.krate (expression_of one.told) verdict
+    (later : Flags) (last : ErrorSink) → SoFar policy asked verdicts flags old new → IsVerdict (policy_of policy) one.krate (expression_of one.info) verdict
     → pack ≡ pack_by (is_skipped verdict) (policy_of policy) one
     → ((before : List Hit) → flags ≡ flags_by policy before → later ≡ flags_by policy (before ++ hits_by (is_skipped verdict) (policy_of policy) one))
     → last ≡ record new { packs = new.packs ++ pack_overridden new.overrides pack ∷ [] } → SoFar policy (asked ++ one ∷ []) (verdicts ++ verdict ∷ []) later old last

@@ -7,6 +7,8 @@ use Rattle.graph_core.specs.Krate.{Record}
 use Rattle.certificate_core.specs.declared.verdict.Hit.{Hit}
 use Rattle.certificate_core.specs.declared.verdict.Hit.TheVariants.{Allowed, Exception}
 use Rattle.certificate_core.specs.declared.verdict.Verdict.{Verdict}
+use Rattle.finding_core.specs.declared.license.LicenseInfo.{LicenseInfo}
+use Rattle.finding_core.specs.declared.license.LicenseInfo.TheVariants.{SpdxExpression, Unlicensed}
 use Rattle.valid_policy.specs.Policy.{Policy, hit_of}
 use Rattle.valid_policy.specs.View.{policy_of}
 use Rattle.evaluate_core.specs.Evaluation.{kept_of}
@@ -14,12 +16,12 @@ use Rattle.unused_core.specs.Unused.{hits_in}
 use Rattle.unused_core.proofs.LawLemmas.{tells_the_unused}
 use Rattle.check_core.specs.Check.{all_hits}
 use Rattle.check_core.specs.Hits.{HasTerm, IsNeeded, Needs, TellsTheUnneeded, TermsAreTold}
-use Rattle.check_core.specs.Turns.{Asked, Told, hits_by, hits_of}
+use Rattle.check_core.specs.Turns.{Asked, hits_by, hits_of}
 use Rattle.check_core.specs.Verdicts.{is_skipped}
 
 pub terms_are_told : TermsAreTold
-terms_are_told policy krate at [] = tt
-terms_are_told policy krate at (term ∷ terms) = (refl, terms_are_told policy krate at terms)
+terms_are_told policy krate nfo [] = tt
+terms_are_told policy krate nfo (term ∷ terms) = (refl, terms_are_told policy krate nfo terms)
 
 -- ---- some item of a list
 
@@ -101,22 +103,22 @@ module _ (policy : Policy) (hit : Hit) where
 
   -- ---- of crates
 
-  told_has : (krate : Record) (told : Option Told) → IsHit (hits_of policy krate told) → HasTerm policy krate hit told
-  told_has krate None is = absurd is
-  told_has krate (Some told) is =
-      somewhere (λ (term : ExpressionReq). hit_of policy krate term.req ≡ Some hit) told.expression.terms (term_of krate told.expression.terms is)
+  info_has : (krate : Record) (info : LicenseInfo) → IsHit (hits_of policy krate info) → HasTerm policy krate hit info
+  info_has krate Unlicensed is = absurd is
+  info_has krate (SpdxExpression expression nfo) is =
+      somewhere (λ (term : ExpressionReq). hit_of policy krate term.req ≡ Some hit) expression.terms (term_of krate expression.terms is)
 
-  has_told : (krate : Record) (told : Option Told) → HasTerm policy krate hit told → IsHit (hits_of policy krate told)
-  has_told krate None has = absurd has
-  has_told krate (Some told) has =
-      hit_in krate told.expression.terms (among (λ (term : ExpressionReq). hit_of policy krate term.req ≡ Some hit) told.expression.terms has)
+  has_info : (krate : Record) (info : LicenseInfo) → HasTerm policy krate hit info → IsHit (hits_of policy krate info)
+  has_info krate Unlicensed has = absurd has
+  has_info krate (SpdxExpression expression nfo) has =
+      hit_in krate expression.terms (among (λ (term : ExpressionReq). hit_of policy krate term.req ≡ Some hit) expression.terms has)
 
   needs_by : (asked : Asked) (verdict : Verdict) (b : Bool) → is_skipped verdict ≡ b → IsHit (hits_by b policy asked) → Needs policy hit asked verdict
   needs_by asked verdict true skips is = absurd is
-  needs_by asked verdict false skips is = record { asks = skips; term = told_has asked.krate asked.told is }
+  needs_by asked verdict false skips is = record { asks = skips; term = info_has asked.krate asked.info is }
 
   hit_by_crate : (asked : Asked) (verdict : Verdict) → Needs policy hit asked verdict → IsHit (hits_by (is_skipped verdict) policy asked)
-  hit_by_crate asked verdict needs = subst (λ (b : Bool). IsHit (hits_by b policy asked)) (sym needs.asks) (has_told asked.krate asked.told needs.term)
+  hit_by_crate asked verdict needs = subst (λ (b : Bool). IsHit (hits_by b policy asked)) (sym needs.asks) (has_info asked.krate asked.info needs.term)
 
   needed : (asked : List Asked) (verdicts : List Verdict) → IsHit (all_hits policy asked verdicts) → IsNeeded policy asked verdicts hit
   needed [] verdicts is = absurd is

@@ -17,10 +17,12 @@ use Rattle.diag_core.specs.File.{File, source_of}
 use Rattle.diag_core.specs.Overrides.{overridden, pack_overridden}
 use Rattle.diag_core.specs.Pack.{PackOf, with_crate}
 use Rattle.finding_core.specs.Cuts.{LabelLies, labels_of}
-use Rattle.gather_core.specs.declared.license.LicenseInfo.{LicenseInfo}
-use Rattle.gather_core.specs.declared.license.LicenseInfo.TheVariants.{SpdxExpression, Unlicensed}
+use Rattle.finding_core.specs.License.{InfoStands, PlaceLies}
+use Rattle.finding_core.specs.declared.license.LicenseExprInfo.{LicenseExprInfo}
+use Rattle.finding_core.specs.declared.license.LicenseInfo.{LicenseInfo}
+use Rattle.finding_core.specs.declared.license.LicenseInfo.TheVariants.{SpdxExpression, Unlicensed}
 use Rattle.gather_core.specs.declared.summary.KrateLicense.{KrateLicense}
-use Rattle.gather_core.specs.Premises.{InfoStands, IsPlacedAt, StandsIn}
+use Rattle.gather_core.specs.Premises.{IsPlacedAt}
 use Rattle.valid_policy.specs.declared.policy.ValidConfig.{ValidConfig}
 use Rattle.valid_policy.specs.Policy.{Policy}
 use Rattle.valid_policy.specs.View.{policy_of}
@@ -28,16 +30,14 @@ use Rattle.evaluate_core.specs.Evaluation.{is_allowed, kept_of}
 use Rattle.unused_core.specs.Laws.{EntriesLie, LabelsLie}
 use Rattle.unused_core.specs.Unused.{last_pack, unused_findings}
 use Rattle.unused_core.proofs.LawLemmas.{labels_lie}
-use Rattle.verdict_findings.specs.declared.place.ExprPlace.{ExprPlace}
 use Rattle.verdict_findings.specs.Findings as findings
 use Rattle.verdict_findings.specs.Laws.{words_of}
-use Rattle.verdict_findings.specs.Places.{CutsIn, LabelPoints, LiesIn, PointsBy, Stands}
+use Rattle.verdict_findings.specs.Places.{LabelPoints, PointsBy}
 use Rattle.verdict_findings.proofs.PointLemmas.{labels_point}
 use Rattle.check_core.specs.Check.{HasFront, all_hits, findings_of, gained, packs_of}
-use Rattle.check_core.specs.Labels.{FindingLies, GainLies, PackLies, ToldPoints, VerdictPoints}
-use Rattle.check_core.specs.Sources.{source_text}
-use Rattle.check_core.specs.Summary.{IsExpressionIn, all_asked, asked_in, place_of, told_in}
-use Rattle.check_core.specs.Turns.{Asked, Told, findings_by, pack_by, verdict_finding}
+use Rattle.check_core.specs.Labels.{FindingLies, GainLies, InfoPoints, PackLies, VerdictPoints}
+use Rattle.check_core.specs.Summary.{IsExpressionIn, all_asked, asked_in}
+use Rattle.check_core.specs.Turns.{Asked, findings_by, pack_by, verdict_finding}
 use Rattle.check_core.specs.Verdicts.{is_skipped}
 
 -- ---- a label
@@ -48,48 +48,48 @@ is_live [] (suc id) source is = absurd (cc is)
 is_live (file ∷ files) zero source is = omega arith
 is_live (file ∷ files) (suc id) source is = let below : id < length files = is_live files id source is in omega arith
 
-lies_in : (files : List File) (file : ℕ) (label : Label) → label.file_id ≡ file → LiesIn files file label.range → LabelLies files label
+lies_in : (files : List File) (file : ℕ) (label : Label) → label.file_id ≡ file → PlaceLies files file label.range → LabelLies files label
 lies_in files file label of_file lies =
     let is : source_of files label.file_id ≡ Some lies.source = ap (source_of files) of_file ∙ lies.is_source in
     let text : unwrap_or (source_of files label.file_id) [] ≡ lies.source = ap (λ (source : Option (List ℕ)). unwrap_or source []) is in
     record {
       live = is_live files label.file_id lies.source is;
-      ordered = lies.lies.ordered;
-      starts = subst (λ (source : List ℕ). IsCharBoundary source label.range.start) (sym text) lies.lies.starts;
-      ends = subst (λ (source : List ℕ). IsCharBoundary source label.range.end) (sym text) lies.lies.ends;
+      ordered = lies.ordered;
+      starts = subst (λ (source : List ℕ). IsCharBoundary source label.range.start) (sym text) lies.starts;
+      ends = subst (λ (source : List ℕ). IsCharBoundary source label.range.end) (sym text) lies.ends;
     }
 
-in_file : (files : List File) (file : ℕ) (span : Span) (part : List ℕ) (whole : Option Span) → PointsBy files file span part whole → LiesIn files file span
-in_file files file span part None points = record { source = points.source; is_source = points.is_source; lies = points.cuts.lies }
+in_file : (files : List File) (file : ℕ) (span : Span) (part : List ℕ) (whole : Option Span) → PointsBy files file span part whole → PlaceLies files file span
+in_file files file span part None points =
+    record { source = points.source; is_source = points.is_source; ordered = points.cuts.ordered; starts = points.cuts.starts; ends = points.cuts.ends }
 in_file files file span part (Some whole) points = points.0
 
-pointing_lies : (files : List File) (at : ExprPlace) (part : List ℕ) (label : Label) → LabelPoints files at part label → LabelLies files label
-pointing_lies files at part label points = lies_in files at.file_id label points.of_file (in_file files at.file_id label.range part at.whole points.points)
+pointing_lies : (files : List File) (nfo : LicenseExprInfo) (part : List ℕ) (label : Label) → LabelPoints files nfo part label → LabelLies files label
+pointing_lies files nfo part label points = lies_in files nfo.file_id label points.of_file (in_file files nfo.file_id label.range part nfo.whole points.points)
 
 -- ---- the labels of an expression
 
-terms_lie : (files : List File) (at : ExprPlace) (text : List ℕ) (terms : List ExpressionReq) (labels : List Label)
-    → AllZip (λ (term : ExpressionReq) (label : Label). LabelPoints files at (words_of text term) label) terms labels → AllByRecursion (LabelLies files) labels
-terms_lie files at text [] [] points = tt
-terms_lie files at text [] (label ∷ labels) points = absurd points
-terms_lie files at text (term ∷ terms) [] points = absurd points
-terms_lie files at text (term ∷ terms) (label ∷ labels) points =
-    (pointing_lies files at (words_of text term) label points.0, terms_lie files at text terms labels points.1)
+terms_lie : (files : List File) (nfo : LicenseExprInfo) (text : List ℕ) (terms : List ExpressionReq) (labels : List Label)
+    → AllZip (λ (term : ExpressionReq) (label : Label). LabelPoints files nfo (words_of text term) label) terms labels → AllByRecursion (LabelLies files) labels
+terms_lie files nfo text [] [] points = tt
+terms_lie files nfo text [] (label ∷ labels) points = absurd points
+terms_lie files nfo text (term ∷ terms) [] points = absurd points
+terms_lie files nfo text (term ∷ terms) (label ∷ labels) points =
+    (pointing_lies files nfo (words_of text term) label points.0, terms_lie files nfo text terms labels points.1)
 
 judged_lies : (files : List File) (accepted : Bool) (labels : List Label) (notes : List (List ℕ)) → All (LabelLies files) labels → FindingLies files (findings.judged accepted labels notes)
 judged_lies files true labels notes lie = lie
 judged_lies files false labels notes lie = lie
 
-verdict_lies : (files : List File) (policy : Policy) (krate : Record) (told : Option Told) (notes : List (List ℕ)) → ToldPoints files policy krate told
-    → FindingLies files (verdict_finding policy krate told notes)
-verdict_lies files policy krate None notes points = All-nil (LabelLies files)
-verdict_lies files policy krate (Some told) notes points =
-    let expression = told.expression in
+verdict_lies : (files : List File) (policy : Policy) (krate : Record) (info : LicenseInfo) (notes : List (List ℕ)) → InfoPoints files policy krate info
+    → FindingLies files (verdict_finding policy krate info notes)
+verdict_lies files policy krate Unlicensed notes points = All-nil (LabelLies files)
+verdict_lies files policy krate (SpdxExpression expression nfo) notes points =
     let kept = kept_of policy krate expression.terms in
-    judged_lies files (is_allowed policy krate expression.terms expression.tree) (findings.labels_of told.place told.source expression kept) notes
-    (All-from_recursion (LabelLies files) (findings.labels_of told.place told.source expression kept) (
-      pointing_lies files told.place expression.text (findings.whole_label told.place expression.text told.source) points.whole,
-      terms_lie files told.place expression.text expression.terms (findings.term_labels told.place expression.terms kept) points.terms,
+    judged_lies files (is_allowed policy krate expression.terms expression.tree) (findings.labels_of expression nfo kept) notes
+    (All-from_recursion (LabelLies files) (findings.labels_of expression nfo kept) (
+      pointing_lies files nfo expression.text (findings.whole_label nfo expression.text) points.whole,
+      terms_lie files nfo expression.text expression.terms (findings.term_labels nfo expression.terms kept) points.terms,
     ))
 
 -- ---- what was gathered
@@ -120,8 +120,8 @@ findings_lie : (files : List File) (policy : Policy) (asked : Asked) (private : 
 findings_lie files policy asked true lie points =
     All-from_recursion (FindingLies files) (findings.skipped asked.krate ∷ []) (All-nil (LabelLies files), tt)
 findings_lie files policy asked false lie points =
-    All-push (FindingLies files) asked.gathered (verdict_finding policy asked.krate asked.told asked.notes) (gathered_lies files asked.gathered lie)
-    (verdict_lies files policy asked.krate asked.told asked.notes points)
+    All-push (FindingLies files) asked.gathered (verdict_finding policy asked.krate asked.info asked.notes) (gathered_lies files asked.gathered lie)
+    (verdict_lies files policy asked.krate asked.info asked.notes points)
 
 pack_lies : (files : List File) (policy : Policy) (asked : Asked) (private : Bool) → All (LabelLies files) (labels_of asked.gathered) → VerdictPoints files policy asked
     → PackLies files (pack_by private policy asked)
@@ -137,7 +137,7 @@ packs_lie files policy (license ∷ licenses) (verdict ∷ verdicts) placed poin
 
 -- ---- the last pack
 
-labels_each : (files : List File) (labels : List Label) → AllByRecursion (λ (label : Label). LiesIn files label.file_id label.range) labels → AllByRecursion (LabelLies files) labels
+labels_each : (files : List File) (labels : List Label) → AllByRecursion (λ (label : Label). PlaceLies files label.file_id label.range) labels → AllByRecursion (LabelLies files) labels
 labels_each files [] all = tt
 labels_each files (label ∷ labels) all = (lies_in files label.file_id label refl all.0, labels_each files labels all.1)
 
@@ -202,26 +202,9 @@ any_gain files policy licenses old new (Err error) placed points packs front lie
 
 -- ---- where an expression stands
 
-stands_at : (files : List File) (file offset : ℕ) (whole : Option Span) (text : List ℕ) → StandsIn files file offset whole text
-    → Stands files (record { file_id = file; offset = offset; whole = whole }) text
-stands_at files file offset None text stands =
-    let none_more : offset + 0 ≡ offset = omega arith in
-    subst (λ (start : ℕ). CutsIn files file (record { start = start; end = offset + length text }) text) (sym none_more) (record {
-      source = stands.source;
-      is_source = stands.is_source;
-      cuts = record {
-        lies = record { ordered = stands.cuts.ordered; starts = stands.cuts.starts; ends = stands.cuts.ends };
-        cut_out = stands.cuts.cut_out;
-      };
-    })
-stands_at files file offset (Some whole) text stands =
-    (record { source = stands.source; is_source = stands.is_source; lies = record { ordered = stands.ordered; starts = stands.starts; ends = stands.ends } }, refl)
-
-info_points : (files : List File) (policy : Policy) (krate : Record) (info : LicenseInfo) → IsExpressionIn info → InfoStands files info → ToldPoints files policy krate (told_in info)
+info_points : (files : List File) (policy : Policy) (krate : Record) (info : LicenseInfo) → IsExpressionIn info → InfoStands files info → InfoPoints files policy krate info
 info_points files policy krate Unlicensed facts stands = tt
-info_points files policy krate (SpdxExpression expression nfo) facts stands =
-    labels_point files (place_of nfo) (source_text nfo.source) expression (kept_of policy krate expression.terms) facts
-    (stands_at files nfo.file_id nfo.offset nfo.whole expression.text stands)
+info_points files policy krate (SpdxExpression expression nfo) facts stands = labels_point files expression nfo (kept_of policy krate expression.terms) facts stands
 
 each_points : (files : List File) (policy : Policy) (licenses : List KrateLicense) → AllByRecursion (λ (license : KrateLicense). IsExpressionIn license.lic_info) licenses
     → AllByRecursion (IsPlacedAt files) licenses → AllByRecursion (VerdictPoints files policy) (all_asked licenses)

@@ -3,4 +3,5 @@ pub mod HitLemmas
 pub mod LabelLemmas
 pub mod LawLemmas
 pub mod OwnLemmas
+pub mod SinkLemmas
 pub mod VerdictLemmas

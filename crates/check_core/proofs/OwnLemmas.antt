@@ -15,10 +15,10 @@ use Rattle.reads_core.specs.Heard.{Heard}
 use Rattle.pack_core.specs.Ears.{Ears, has_hash, holds, looked_of, matches, tried_of}
 use Rattle.pack_core.specs.NamedFile.{Named}
 use Rattle.pack_core.specs.Pack.{first_spellings, found_of, in_path_order, pack_of, placed, same_path, wanted_of}
-use Rattle.pack_core.specs.View.{is_listed, normal_heard}
+use Rattle.pack_core.specs.View.{normal_heard}
 use Rattle.expression_core.specs.Scanned.{Scanner, file_scanned}
-use Rattle.priority_core.specs.Clarification.{Clarification, files_of, named_in}
-use Rattle.priority_core.specs.Priority.{Answer, answer_by, by_cases, field_of, files_scanned, holding, priority_of}
+use Rattle.priority_core.specs.Clarification.{Clarification, files_of, held_in, named_in}
+use Rattle.priority_core.specs.Priority.{Answer, answer_in, by_seen, field_of, files_scanned, holding, priority_of, seen_by, settling_by}
 use Rattle.gather_core.specs.Entries.{clarifications_of, entries_of}
 use Rattle.valid_policy.specs.Policy.{Policy}
 use Rattle.valid_policy.specs.View.{policy_of}
@@ -168,9 +168,11 @@ module _ (one other : Ears) where
       let heard_same : map (heard_by one) pack ≡ map (heard_by other) (pack_of other krate.license_file files) =
       same_heard pack pack_all ∙ ap (map (heard_by other)) pack_same in
       let scanned_same : files_scanned scanner clarifications krate one ≡ files_scanned scanner clarifications krate other =
-      ap₂ (λ listing heard. map (file_scanned scanner) (cond (is_listed listing) heard [])) hear.listing heard_same in
-      ap₂ (λ held scanned. by_cases (option_map (λ (one : Clarification). one.expression) held) (field_of scanner.lists krate) (answer_by scanner.lists scanned))
-      (same_holding clarifications each) scanned_same
+      ap (map (file_scanned scanner)) heard_same in
+      let seen_same : seen_by one.listing (files_scanned scanner clarifications krate one) ≡ seen_by other.listing (files_scanned scanner clarifications krate other) =
+      ap₂ seen_by hear.listing scanned_same in
+      ap₂ (λ held seen. answer_in (settling_by (option_map held_in held) (field_of scanner.lists krate) (by_seen scanner.lists seen)))
+      (same_holding clarifications each) seen_same
 
 -- ---- a crate has one verdict
 

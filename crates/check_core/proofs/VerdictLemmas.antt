@@ -14,7 +14,7 @@ use Rattle.certificate_core.specs.Choices.{first_choice, is_accepted}
 use Rattle.certificate_core.proofs.LawLemmas.{no_choice}
 use Rattle.valid_policy.specs.Policy.{IsPrivate, Policy}
 use Rattle.evaluate_core.specs.Evaluation.{is_allowed, kept_of}
-use Rattle.check_core.specs.declared.turn.Turn.{Turn}
+use Rattle.check_core.specs.declared.crate_check.CrateCheck.{CrateCheck}
 use Rattle.check_core.specs.Verdicts.{accepted, rejected, IsAnswered, IsCertified, IsShown, IsVerdict, is_skipped, judgement_in, judgement_of, verdict_of}
 
 -- what was kept is what the policy says of each term
@@ -75,7 +75,7 @@ pub answered_not_skipped : (policy : Policy) (krate : Record) (expression : Opti
 answered_not_skipped policy krate expression verdict answered = (answered_is policy krate expression verdict answered).1
 
 -- of a crate that was asked, unless memory was short
-pub answered_turn : (policy : Policy) (krate : Record) (expression : Option ExpressionView) (private : Bool) → IsTrue private ↔ IsPrivate policy krate → private ≡ false
-    → (result : Result Turn AllocError) → IfOk result (λ turn. IsAnswered policy krate expression turn.verdict) → IfOk result (λ turn. IsVerdict policy krate expression turn.verdict)
-answered_turn policy krate expression private tells asked (Ok turn) answered = answered_verdict policy krate expression private turn.verdict tells asked answered
-answered_turn policy krate expression private tells asked (Err error) none = tt
+pub answered_check : (policy : Policy) (krate : Record) (expression : Option ExpressionView) (private : Bool) → IsTrue private ↔ IsPrivate policy krate → private ≡ false
+    → (result : Result CrateCheck AllocError) → IfOk result (λ checked. IsAnswered policy krate expression checked.verdict) → IfOk result (λ checked. IsVerdict policy krate expression checked.verdict)
+answered_check policy krate expression private tells asked (Ok checked) answered = answered_verdict policy krate expression private checked.verdict tells asked answered
+answered_check policy krate expression private tells asked (Err error) none = tt

@@ -17,7 +17,7 @@ use Rattle.check_core.specs.Verdicts.{IsVerdict, is_skipped}
 
 -- each crate has its verdict, in order
 abbrev pub AreVerdicts : Policy → List Asked → List Verdict → Type 0
-AreVerdicts policy asked verdicts = AllZip (λ (one : Asked) verdict. IsVerdict policy one.krate (expression_of one.told) verdict) asked verdicts
+AreVerdicts policy asked verdicts = AllZip (λ (one : Asked) verdict. IsVerdict policy one.krate (expression_of one.info) verdict) asked verdicts
 
 -- the packs of the crates, in order
 abbrev pub packs_of : Policy → List Asked → List Verdict → List PackOf

@@ -1,39 +1,41 @@
 -- Hits, and which entries of a policy are told to be none, in other words than the packs.
-use Rattle.std.specs.Prelude.{◌≡◌, ◌↔◌, ◌⊎◌, ℕ, false, List, [], ◌∷◌, Option, Some, None, Any}
+use Rattle.std.specs.Prelude.{◌≡◌, ◌↔◌, ◌⊎◌, ℕ, false, List, [], ◌∷◌, Some, Any}
 use Rattle.std.specs.List.{AllZip}
 use Rattle.term_core.specs.declared.term.ExpressionReq.{ExpressionReq}
 use Rattle.graph_core.specs.Krate.{Record}
 use Rattle.certificate_core.specs.declared.verdict.Hit.{Hit}
 use Rattle.certificate_core.specs.declared.verdict.Hit.TheVariants.{Allowed, Exception}
 use Rattle.certificate_core.specs.declared.verdict.Verdict.{Verdict}
+use Rattle.finding_core.specs.declared.license.LicenseExprInfo.{LicenseExprInfo}
+use Rattle.finding_core.specs.declared.license.LicenseInfo.{LicenseInfo}
+use Rattle.finding_core.specs.declared.license.LicenseInfo.TheVariants.{SpdxExpression, Unlicensed}
 use Rattle.valid_policy.specs.declared.policy.ValidConfig.{ValidConfig}
 use Rattle.valid_policy.specs.Policy.{Policy, hit_of}
 use Rattle.valid_policy.specs.View.{policy_of}
 use Rattle.evaluate_core.specs.Evaluation.{kept_of}
-use Rattle.verdict_findings.specs.declared.place.ExprPlace.{ExprPlace}
 use Rattle.verdict_findings.specs.Findings.{term_label, term_labels}
 use Rattle.unused_core.specs.Laws.{ExceptionIsHit, LicenseIsHit, TellUnused}
 use Rattle.unused_core.specs.Unused.{unused_findings}
 use Rattle.check_core.specs.Check.{all_hits}
-use Rattle.check_core.specs.Turns.{Asked, Told}
+use Rattle.check_core.specs.Turns.{Asked}
 use Rattle.check_core.specs.Verdicts.{is_skipped}
 
 -- each term of a crate's expression is told at its own place by what allows it
 abbrev pub TermsAreTold : Type 0
-TermsAreTold = (policy : Policy) (krate : Record) (at : ExprPlace) (terms : List ExpressionReq)
-    → AllZip (λ term label. label ≡ term_label at term.span (hit_of policy krate term.req)) terms (term_labels at terms (kept_of policy krate terms))
+TermsAreTold = (policy : Policy) (krate : Record) (nfo : LicenseExprInfo) (terms : List ExpressionReq)
+    → AllZip (λ term label. label ≡ term_label nfo term.span (hit_of policy krate term.req)) terms (term_labels nfo terms (kept_of policy krate terms))
 
 -- ---- hits of crates
 
 -- a crate's expression has a term that this allows
-abbrev pub HasTerm : Policy → Record → Hit → Option Told → Type 0
-HasTerm policy krate hit None = ⊥
-HasTerm policy krate hit (Some told) = Any (λ (term : ExpressionReq). hit_of policy krate term.req ≡ Some hit) told.expression.terms
+abbrev pub HasTerm : Policy → Record → Hit → LicenseInfo → Type 0
+HasTerm policy krate hit Unlicensed = ⊥
+HasTerm policy krate hit (SpdxExpression expression nfo) = Any (λ (term : ExpressionReq). hit_of policy krate term.req ≡ Some hit) expression.terms
 
 -- so has a crate that is not skipped
 pub record Needs (policy : Policy) (hit : Hit) (asked : Asked) (verdict : Verdict) : Type 0 where
   pub asks : is_skipped verdict ≡ false
-  pub term : HasTerm policy asked.krate hit asked.told
+  pub term : HasTerm policy asked.krate hit asked.info
 
 -- some crate does
 abbrev pub IsNeeded : Policy → List Asked → List Verdict → Hit → Type 0

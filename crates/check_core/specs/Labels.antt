@@ -1,15 +1,17 @@
 -- Where the labels of what the check tells lie, and what those of terms cut out.
-use Rattle.std.specs.Prelude.{◌≡◌, List, ◌++◌, All, Option, Some, None, ⊤}
+use Rattle.std.specs.Prelude.{◌≡◌, List, ◌++◌, All, ⊤}
 use Rattle.graph_core.specs.Krate.{Record}
 use Rattle.diag_core.specs.declared.overrides.ErrorSink.{ErrorSink}
 use Rattle.diag_core.specs.declared.pack.Diag.{Diag}
 use Rattle.diag_core.specs.File.{File}
 use Rattle.diag_core.specs.Pack.{PackOf}
 use Rattle.finding_core.specs.Cuts.{LabelLies}
+use Rattle.finding_core.specs.declared.license.LicenseInfo.{LicenseInfo}
+use Rattle.finding_core.specs.declared.license.LicenseInfo.TheVariants.{SpdxExpression, Unlicensed}
 use Rattle.valid_policy.specs.Policy.{Policy}
 use Rattle.evaluate_core.specs.Evaluation.{kept_of}
 use Rattle.verdict_findings.specs.Laws.{LabelsPoint}
-use Rattle.check_core.specs.Turns.{Asked, Told}
+use Rattle.check_core.specs.Turns.{Asked}
 
 -- each label of each finding lies in its file, between characters
 abbrev pub FindingLies : List File → Diag → Type 0
@@ -24,9 +26,9 @@ GainLies files old new = (packs : List PackOf) × (new.packs ≡ old.packs ++ pa
 
 -- the labels of a verdict: the first cuts out the expression, and each further one just its own term, or where the text was
 -- written with escapes each is the whole string
-abbrev pub ToldPoints : List File → Policy → Record → Option Told → Type 0
-ToldPoints files policy krate None = ⊤
-ToldPoints files policy krate (Some told) = LabelsPoint files told.place told.source told.expression (kept_of policy krate told.expression.terms)
+abbrev pub InfoPoints : List File → Policy → Record → LicenseInfo → Type 0
+InfoPoints files policy krate Unlicensed = ⊤
+InfoPoints files policy krate (SpdxExpression expression nfo) = LabelsPoint files expression nfo (kept_of policy krate expression.terms)
 
 abbrev pub VerdictPoints : List File → Policy → Asked → Type 0
-VerdictPoints files policy asked = ToldPoints files policy asked.krate asked.told
+VerdictPoints files policy asked = InfoPoints files policy asked.krate asked.info

@@ -4,8 +4,6 @@ pub mod Labels
 pub mod Laws
 pub mod Own
 pub mod Rows
-pub mod Sources
 pub mod Summary
 pub mod Turns
 pub mod Verdicts
-pub mod Views

@@ -1,7 +1,6 @@
 -- Rows of policies and crates, with the judgement, the hits and what is told, worked out by hand from the rules.
 use Rattle.std.specs.Prelude.{ℕ, Bool, true, false, List, [], ◌∷◌, map, codes, Option, Some, None}
 use Rattle.term_core.specs.declared.term.ExpressionReq.{ExpressionReq}
-use Rattle.term_core.specs.declared.term.LicenseItem.TheVariants.{Spdx}
 use Rattle.term_core.specs.declared.term.LicenseReq.{LicenseReq}
 use Rattle.spdx_core.specs.Grammar.{leaf, both, either}
 use Rattle.spdx_core.specs.Reading.{ExpressionView}
@@ -10,69 +9,31 @@ use Rattle.certificate_core.specs.declared.verdict.Hit.TheVariants.{Allowed, Exc
 use Rattle.diag_core.specs.declared.licenses.Code.TheVariants.{GatherFailure}
 use Rattle.diag_core.specs.declared.pack.Diag.{Diag}
 use Rattle.diag_core.specs.declared.severity.Severity.TheVariants.{Warning}
-use Rattle.gather_core.specs.declared.license.LicenseExprSource.{LicenseExprSource}
-use Rattle.gather_core.specs.declared.license.LicenseExprSource.TheVariants.{Metadata, UserOverride, LicenseFiles}
+use Rattle.finding_core.specs.declared.license.LicenseExprSource.TheVariants.{UserOverride}
+use Rattle.finding_core.specs.declared.license.LicenseInfo.{LicenseInfo}
+use Rattle.finding_core.specs.declared.license.LicenseInfo.TheVariants.{SpdxExpression, Unlicensed}
 use Rattle.valid_policy.specs.Policy.{Grant, Policy}
-use Rattle.valid_policy.specs.Rows.{crate_a}
+use Rattle.valid_policy.specs.Rows.{crate_a, grant, isc, mit, policy, zlib}
 use Rattle.verdict_findings.specs.Findings.{finding}
-use Rattle.check_core.specs.Sources.{source_text}
-use Rattle.check_core.specs.Turns.{Asked, Told, expression_of, findings_by, hits_by}
+use Rattle.check_core.specs.Turns.{Asked, expression_of, findings_by, hits_by}
 use Rattle.check_core.specs.Verdicts.{Judgement, skipped, unlicensed, accepted, rejected, verdict_of}
 
--- ---- sources in words
-
-pub record SourceRow : Type 0 where
-  pub source : LicenseExprSource
-  pub text : List ℕ
-
-abbrev pub worded : SourceRow → SourceRow
-worded row = record { source = row.source; text = source_text row.source }
-
-abbrev source_row : LicenseExprSource → List ℕ → SourceRow
-source_row source text = record { source = source; text = text }
-
-abbrev pub source_rows : List SourceRow
-source_rows =
-    source_row (Metadata None) (codes "Cargo.toml `license`")
-    ∷ source_row UserOverride (codes "user override")
-    ∷ source_row (LicenseFiles (codes "COPYING" ∷ [])) (codes "license files: COPYING")
-    ∷ source_row (LicenseFiles (codes "COPYING" ∷ codes "a/LICENSE" ∷ codes "b" ∷ [])) (codes "license files: COPYING, a/LICENSE, b")
-    ∷ []
-
--- ---- terms and policies
-
-abbrev named : List ℕ → ℕ → LicenseReq
-named name family = record { item = Spdx name family 0 false false; exception = None }
-
-abbrev mit : LicenseReq
-mit = named (codes "MIT") 1
-
-abbrev isc : LicenseReq
-isc = named (codes "ISC") 2
-
-abbrev zlib : LicenseReq
-zlib = named (codes "Zlib") 3
+-- ---- terms
 
 abbrev term : LicenseReq → ℕ → ℕ → ExpressionReq
 term req start end = record { req = req; span = record { start = start; end = end } }
 
-abbrev told : ExpressionView → Option Told
-told expression = Some (record { expression = expression; place = record { file_id = 0; offset = 50; whole = None }; source = codes "user override" })
+abbrev clarified : ExpressionView → LicenseInfo
+clarified expression = SpdxExpression expression (record { file_id = 0; offset = 50; whole = None; source = UserOverride })
 
-abbrev one : Option Told
-one = told (record { text = codes "MIT"; terms = term mit 0 3 ∷ []; tree = leaf 0 })
+abbrev one : LicenseInfo
+one = clarified (record { text = codes "MIT"; terms = term mit 0 3 ∷ []; tree = leaf 0 })
 
-abbrev some : Option Told
-some = told (record { text = codes "MIT OR Zlib"; terms = term mit 0 3 ∷ term zlib 7 11 ∷ []; tree = either (leaf 0) (leaf 1) })
+abbrev some : LicenseInfo
+some = clarified (record { text = codes "MIT OR Zlib"; terms = term mit 0 3 ∷ term zlib 7 11 ∷ []; tree = either (leaf 0) (leaf 1) })
 
-abbrev all : Option Told
-all = told (record { text = codes "MIT AND ISC"; terms = term mit 0 3 ∷ term isc 8 11 ∷ []; tree = both (leaf 0) (leaf 1) })
-
-abbrev grant : List ℕ → List LicenseReq → Grant
-grant name licensees = record { spec = record { name = name; span = record { start = 0; end = 0 }; requirement = None }; allowed = licensees }
-
-abbrev policy : List LicenseReq → List Grant → Policy
-policy licensees grants = record { ignores = false; registries = []; ignore_sources = []; allowed = licensees; exceptions = grants }
+abbrev all : LicenseInfo
+all = clarified (record { text = codes "MIT AND ISC"; terms = term mit 0 3 ∷ term isc 8 11 ∷ []; tree = both (leaf 0) (leaf 1) })
 
 -- ---- the crate `a`
 
@@ -90,43 +51,43 @@ seen code notes = record { code = Some code; notes = notes }
 pub record Row : Type 0 where
   pub skips : Bool
   pub policy : Policy
-  pub told : Option Told
+  pub info : LicenseInfo
   pub judgement : Judgement
   pub hits : List Hit
   pub findings : List Seen
 
 -- with a finding and a note that were gathered
-abbrev asked : Option Told → Asked
-asked told = record { krate = crate_a; told = told; gathered = finding Warning GatherFailure [] [] [] ∷ []; notes = codes "a note" ∷ [] }
+abbrev asked : LicenseInfo → Asked
+asked info = record { krate = crate_a; info = info; gathered = finding Warning GatherFailure [] [] [] ∷ []; notes = codes "a note" ∷ [] }
 
 -- what the definitions make of a row
 abbrev pub judged : Row → Row
 judged row = record {
   skips = row.skips;
   policy = row.policy;
-  told = row.told;
-  judgement = verdict_of row.skips row.policy crate_a (expression_of row.told);
-  hits = hits_by row.skips row.policy (asked row.told);
-  findings = map seen_of (findings_by row.skips row.policy (asked row.told));
+  info = row.info;
+  judgement = verdict_of row.skips row.policy crate_a (expression_of row.info);
+  hits = hits_by row.skips row.policy (asked row.info);
+  findings = map seen_of (findings_by row.skips row.policy (asked row.info));
 }
 
 -- of a crate that is not passed over
-abbrev row : List LicenseReq → List Grant → Option Told → Judgement → List ℕ → List Hit → Row
-row licensees grants told judgement code hits = record {
+abbrev row : List LicenseReq → List Grant → LicenseInfo → Judgement → List ℕ → List Hit → Row
+row licensees grants info judgement code hits = record {
   skips = false;
   policy = policy licensees grants;
-  told = told;
+  info = info;
   judgement = judgement;
   hits = hits;
   findings = seen (codes "gather-failure") [] ∷ seen code (codes "a note" ∷ []) ∷ [];
 }
 
 -- of one that is
-abbrev passed : Option Told → Row
-passed told = record {
+abbrev passed : LicenseInfo → Row
+passed info = record {
   skips = true;
   policy = policy (mit ∷ []) [];
-  told = told;
+  info = info;
   judgement = skipped;
   hits = [];
   findings = seen (codes "skipped-private-workspace-crate") [] ∷ [];
@@ -147,8 +108,8 @@ rows =
     ∷ row [] (grant (codes "a") (isc ∷ []) ∷ grant (codes "a") (mit ∷ []) ∷ []) one rejected (codes "rejected") []
     ∷ row (mit ∷ []) (grant (codes "b") (mit ∷ []) ∷ grant (codes "a") (isc ∷ mit ∷ []) ∷ []) one accepted (codes "accepted") (Exception 1 1 ∷ [])
     -- without an expression
-    ∷ row (mit ∷ []) [] None unlicensed (codes "unlicensed") []
+    ∷ row (mit ∷ []) [] Unlicensed unlicensed (codes "unlicensed") []
     -- passed over, also without an expression
     ∷ passed one
-    ∷ passed None
+    ∷ passed Unlicensed
     ∷ []

@@ -1,5 +1,5 @@
 //! The check of all crates.
-ghost use Rattle.std.specs.Prelude.{◌≡◌, ◌≤◌, ◌++◌, [], ◌∷◌, All, IfOk, OnOk, OnErr, List, length};
+ghost use Rattle.std.specs.Prelude.{◌≡◌, ◌<◌, ◌≤◌, [], ◌∷◌, All, IfOk, None, OnOk, OnErr, List, length};
 ghost use Rattle.std.specs.Option.{option_map_or};
 ghost use Rattle.certificate_core.specs.declared.verdict.Hit.{Hit};
 ghost use Rattle.diag_core.specs.File.{source_of};
@@ -9,16 +9,14 @@ ghost use Rattle.unused_core.specs.Flags.{flags_by};
 ghost use Rattle.unused_core.specs.Laws.{EntriesLie};
 ghost use Rattle.unused_core.specs.Unused as unused;
 ghost use Rattle.verdict_findings.specs.Places.{Fits};
-ghost use Rattle.gather_core.specs.Premises.{InfoStands, IsPlacedAt, StandsIn};
+ghost use Rattle.finding_core.specs.License.{InfoStands, Stands};
+ghost use Rattle.gather_core.specs.Premises.{IsPlacedAt};
 ghost use Rattle.check_core.specs.Check.{AreVerdicts, HasFront, all_hits, findings_of, gained, packs_of};
-ghost use Rattle.check_core.specs.Labels.{GainLies, VerdictPoints};
+ghost use Rattle.check_core.specs.Labels.{GainLies, PackLies, VerdictPoints};
 ghost use Rattle.check_core.specs.Summary as spec;
-ghost use Rattle.check_core.specs.Summary.{IsExpressionIn, all_asked, asked_in};
-ghost use Rattle.check_core.specs.Turns.{expression_of, hits_by, pack_by};
-ghost use Rattle.check_core.specs.Verdicts.{IsVerdict, is_skipped};
+ghost use Rattle.check_core.specs.Summary.{InfoFits, IsExpressionIn, all_asked};
 
-use crate::source::source_text;
-use crate::turn::{Checker, Gathered, Turn};
+use crate::crate_check::Checker;
 use deny_text::{ListOf, Steps};
 use diag_core::{ErrorSink, FileId, Files, LevelFilter};
 use evaluate_core::Verdict;
@@ -26,9 +24,9 @@ use gather_core::{KrateLicense, LicenseExprInfo, LicenseInfo, Summary};
 use selection_core::Krates;
 use spdx_core::Expression;
 use std::alloc::{AllocError, Global};
-use std::sync::ledger::Ledger;
+use std::marker::Brand;
+use std::sync::ledger::{Blank, Ledger};
 use valid_policy::ValidConfig;
-use verdict_findings::{ExprPlace, Retrieved};
 
 /// What a check is made with.
 #[derive(Drop)]
@@ -86,65 +84,28 @@ fn length_in(files: &Files, id: FileId) -> usize
     }
 }
 
-/// Where the text of an expression stands. It fits, since the file's text is at least as long.
-fn place_of(files: &Files, nfo: &LicenseExprInfo, expr: &Expression) -> ExprPlace
-    requires { StandsIn files.now nfo.now.file_id nfo.now.offset nfo.now.whole expr.now.text }
-    ensures place { result ≡ spec.place_of nfo.now }
-    ensures fits { Fits result (length expr.now.text) }
+/// The text of an expression that stands in its file fits there, since the file's text is at least as long.
+fn text_fits(files: &Files, expr: &Expression, nfo: &LicenseExprInfo)
+    requires { Stands files.now nfo.now expr.now.text }
+    ensures { Fits nfo.now (length expr.now.text) }
 {
     let _length = length_in(files, nfo.file_id);
-    ExprPlace {
-        file_id: nfo.file_id,
-        offset: nfo.offset,
-        whole: nfo.whole,
-    }
 }
 
-/// The check of one crate.
-fn check_one<L: Ledger>(
-    alloc: Global,
-    policy: &ValidConfig,
-    files: &Files,
-    checker: &mut Checker,
-    license: &KrateLicense<'_>,
-    steps: &mut Steps<L>,
-) -> Result<Turn, AllocError>
-    requires room { spec.nodes_in license.now.lic_info ≤ checker.old.nodes }
-    requires exceptions { exception_names (policy_of policy.now) ≡ checker.old.names }
-    requires placed { InfoStands files.now license.now.lic_info }
-    ensures nodes { checker.new.nodes ≡ checker.old.nodes }
-    ensures names { checker.new.names ≡ checker.old.names }
-    ensures verdict { let asked = asked_in license.now in IfOk result (λ turn.
-        IsVerdict (policy_of policy.now) asked.krate (expression_of asked.told) turn.verdict) }
-    ensures pack { IfOk result (λ turn.
-        turn.pack ≡ pack_by (is_skipped turn.verdict) (policy_of policy.now) (asked_in license.now)) }
-    ensures hits { (before : List Hit) → checker.old.flags ≡ flags_by policy.now before
-        → IfOk result (λ turn. checker.new.flags ≡ flags_by policy.now
-        (before ++ hits_by (is_skipped turn.verdict) (policy_of policy.now) (asked_in license.now))) }
-    ensures steps { steps.old ≤ steps.new }
+/// So it does of a licence.
+fn info_fits(files: &Files, info: &LicenseInfo)
+    requires { InfoStands files.now info.now }
+    ensures { InfoFits info.now }
 {
-    let gathered = Gathered {
-        krate: license.krate,
-        findings: license.diags.items(),
-        notes: license.notes.items(),
-    };
-    match &license.lic_info {
-        LicenseInfo::SpdxExpression { expr, nfo } => {
-            let source = source_text(alloc, &nfo.source)?;
-            let retrieved = Retrieved {
-                expression: expr,
-                place: place_of(files, nfo, expr),
-                source: source.as_str(),
-            };
-            checker.turn(alloc, policy, &gathered, &Some(retrieved), steps)
-        }
-        LicenseInfo::Unlicensed => checker.turn(alloc, policy, &gathered, &None, steps),
+    match info {
+        LicenseInfo::SpdxExpression { expr, nfo } => text_fits(files, expr, nfo),
+        LicenseInfo::Unlicensed => {}
     }
 }
 
-/// The check of crates, in order.
+/// The verdicts on crates, one after another.
 #[tactic(auto, using(crate::proofs::CheckLemmas::has_front, crate::proofs::CheckLemmas::nothing_gained))]
-fn check_all<L: Ledger>(
+fn judge_in_order<L: Ledger>(
     alloc: Global,
     policy: &ValidConfig,
     files: &Files,
@@ -168,9 +129,10 @@ fn check_all<L: Ledger>(
 {
     let mut verdicts = Verdicts::new(alloc);
     'licenses: for license in licenses {
-        let turn = check_one(alloc, policy, files, checker, license, steps)?;
-        verdicts.push(turn.verdict)?;
-        sink.push(turn.pack)?;
+        info_fits(files, &license.lic_info);
+        let checked = checker.judge(alloc, policy, license, steps)?;
+        verdicts.push(checked.verdict)?;
+        sink.push(checked.pack)?;
     }
     Ok(verdicts)
 }
@@ -190,9 +152,9 @@ fn tell_unused(
     sink.push(last)
 }
 
-/// The check of crates whose expressions have so many nodes at most, and of the policy.
+/// The verdicts on crates whose expressions have so many nodes at most, and what is told of the policy after them.
 #[tactic(auto, using(crate::proofs::CheckLemmas::no_front, crate::proofs::CheckLemmas::whole_front, crate::proofs::CheckLemmas::gained_then))]
-fn check_licenses<L: Ledger>(
+fn judge_with_room<L: Ledger>(
     alloc: Global,
     policy: &ValidConfig,
     files: &Files,
@@ -211,7 +173,7 @@ fn check_licenses<L: Ledger>(
     ensures steps { steps.old ≤ steps.new }
 {
     let mut checker = Checker::with_room(alloc, nodes, policy)?;
-    let verdicts = check_all(alloc, policy, files, &mut checker, licenses, sink, steps)?;
+    let verdicts = judge_in_order(alloc, policy, files, &mut checker, licenses, sink, steps)?;
     tell_unused(alloc, policy, &checker, sink)?;
     Ok(verdicts)
 }
@@ -239,5 +201,51 @@ pub fn check<L: Ledger>(
 {
     let licenses = summary.nfos.items();
     let nodes = most_nodes(licenses);
-    check_licenses(alloc, &ctx.cfg, ctx.files, licenses, nodes, sink, steps)
+    judge_with_room(alloc, &ctx.cfg, ctx.files, licenses, nodes, sink, steps)
+}
+
+/// The same, into a sink that holds nothing yet, with its steps counted in a ledger that is handed in.
+fn judge_by_ledger<L: Ledger>(
+    ledger: Blank,
+    alloc: Global,
+    ctx: &CheckCtx<'_, ValidConfig>,
+    summary: &Summary<'_>,
+    sink: &mut ErrorSink,
+) -> Result<Verdicts, AllocError>
+    requires name { ledger.name ≡ L.name }
+    requires parts { ledger.parts ≡ L.parts }
+    requires some { 0 < ledger.parts }
+    requires placed { All (IsPlacedAt ctx.now.files.now) summary.now.nfos }
+    requires entries { EntriesLie ctx.now.files.now ctx.now.cfg }
+    requires empty { sink.old ≡ record { overrides = None; packs = [] } }
+    ensures verdicts { IfOk result (λ verdicts.
+        AreVerdicts (policy_of ctx.now.cfg) (all_asked summary.now.nfos) verdicts) }
+    ensures packs { IfOk result (λ verdicts.
+        sink.new.packs ≡ findings_of ctx.now.cfg (all_asked summary.now.nfos) verdicts) }
+    ensures terms { All (VerdictPoints ctx.now.files.now (policy_of ctx.now.cfg)) (all_asked summary.now.nfos) }
+    ensures labels { OnOk result (All (PackLies ctx.now.files.now) sink.new.packs) }
+{
+    let mut steps = Steps::<L>::new(ledger);
+    check(alloc, ctx, summary, sink, &mut steps)
+}
+
+/// The verdicts on the crates of a summary, as `check` gives them, with its steps counted in a ledger of its own,
+/// and a sink that holds nothing yet.
+pub fn judge_all(
+    alloc: Global,
+    ctx: &CheckCtx<'_, ValidConfig>,
+    summary: &Summary<'_>,
+    sink: &mut ErrorSink,
+) -> Result<Verdicts, AllocError>
+    requires placed { All (IsPlacedAt ctx.now.files.now) summary.now.nfos }
+    requires entries { EntriesLie ctx.now.files.now ctx.now.cfg }
+    requires empty { sink.old ≡ record { overrides = None; packs = [] } }
+    ensures verdicts { IfOk result (λ verdicts.
+        AreVerdicts (policy_of ctx.now.cfg) (all_asked summary.now.nfos) verdicts) }
+    ensures packs { IfOk result (λ verdicts.
+        sink.new.packs ≡ findings_of ctx.now.cfg (all_asked summary.now.nfos) verdicts) }
+    ensures terms { All (VerdictPoints ctx.now.files.now (policy_of ctx.now.cfg)) (all_asked summary.now.nfos) }
+    ensures labels { OnOk result (All (PackLies ctx.now.files.now) sink.new.packs) }
+{
+    judge_by_ledger::<Brand>(Blank::new(1), alloc, ctx, summary, sink)
 }

@@ -2,10 +2,8 @@
 #![tactic(auto)]
 
 pub mod check;
+pub mod crate_check;
 pub mod laws;
-mod source;
-pub mod turn;
 
-pub use check::{CheckCtx, Verdicts};
-pub use source::source_text;
-pub use turn::{Checker, Gathered};
+pub use check::{CheckCtx, Verdicts, judge_all};
+pub use crate_check::{Checker, CrateCheck};

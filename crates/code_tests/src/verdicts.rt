@@ -1,9 +1,10 @@
 //! What the definitions make of verdicts and of what is told of them.
 ghost use Rattle.std.specs.Prelude.{◌≡◌, map, take};
-ghost use Rattle.check_core.specs.Rows.{judged, rows, source_rows, worded};
+ghost use Rattle.check_core.specs.Rows.{judged, rows};
 ghost use Rattle.unused_core.specs.Rows.{reported, unused_rows};
 ghost use Rattle.valid_policy.specs.Rows as hits;
 ghost use Rattle.verdict_findings.specs.Rows.{findings_meant, findings_said, label_rows, labelled};
+ghost use Rattle.verdict_findings.specs.Rows.{source_rows, worded};
 
 /// Does nothing: the definitions make of each row what was worked out by hand. Findings that name a crate are left
 /// out.

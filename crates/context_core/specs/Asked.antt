@@ -1,10 +1,9 @@
 -- What a request asks for, and the crates that it looks at.
-use Rattle.std.specs.Prelude.{◌≡◌, ◌↔◌, ◌⊎◌, ℕ, ◌==◌, ◌||◌, Bool, List, ◌++◌, Option, Some, None, is_none, Result, Err, if◌then◌else◌}
+use Rattle.std.specs.Prelude.{◌≡◌, ◌↔◌, ◌⊎◌, ℕ, ◌||◌, List, ◌++◌, Option, Some, None, is_none, Result, Err, if◌then◌else◌}
 use Rattle.std.specs.List.{filter_map, list_any}
-use Rattle.std.specs.Option.{option_to_list}
 use Rattle.tree_core.specs.Call.{Call}
 use Rattle.request_core.specs.declared.context.KrateContext.{KrateContext}
-use Rattle.selection_core.specs.Choice.{Choice, Spec, spec_read}
+use Rattle.selection_core.specs.Choice.{Choice, is_uncarried, spec_read}
 use Rattle.selection_core.specs.Listed.{Chosen}
 use Rattle.workspace_core.specs.declared.error.KratesError.{KratesError}
 use Rattle.workspace_core.specs.declared.error.KratesError.TheVariants.{Memory, NotCarried}
@@ -14,14 +13,6 @@ use Rattle.workspace_core.specs.Krates.{GathersBy}
 
 -- ---- what is not carried
 
--- a `/` or a `#`
-abbrev pub is_sign : ℕ → Bool
-is_sign byte = (byte == 47) || (byte == 35)
-
--- a spec that holds one
-abbrev pub is_uncarried : List ℕ → Bool
-is_uncarried text = list_any is_sign text
-
 -- The first of the parts that are not carried: no path of metadata, a spec with such a sign, be it the request's or the
 -- policy's.
 abbrev pub uncarried : KrateContext → List (List ℕ) → Option What
@@ -30,9 +21,6 @@ uncarried context cfg_excludes =
     else (if list_any is_uncarried context.exclude || list_any is_uncarried cfg_excludes then Some ExcludeSpec else None)
 
 -- ---- what it selects by
-
-abbrev pub read_one : List ℕ → List Spec
-read_one text = option_to_list (spec_read text)
 
 -- the readable specs, those of the policy behind those of the request
 abbrev pub choice_asked : KrateContext → List (List ℕ) → Choice

@@ -1,34 +1,18 @@
 //! The crates that a request looks at, from its metadata's file.
-ghost use Rattle.std.specs.Prelude.{◌≡◌, ◌++◌, map, IfErr, IfOk, OnOk};
-ghost use Rattle.std.specs.List.{filter_map, list_any};
+ghost use Rattle.std.specs.Prelude.{◌≡◌, IfErr, IfOk};
 ghost use Rattle.tree_core.specs.Hearing.{MadeSome};
-ghost use Rattle.selection_core.specs.Choice.{choice_of, spec_of, spec_read};
+ghost use Rattle.selection_core.specs.Choice.{choice_of};
 ghost use Rattle.heard_core.specs.Cause.{ReadCounts};
 ghost use Rattle.workspace_core.specs.Krates.{krates_cause};
 ghost use Rattle.context_core.specs.Asked as spec;
 ghost use Rattle.context_core.specs.Asked.{IsAnswerBy, IsUnasked, choice_asked};
 
-use deny_text::{Text, Texts};
+use deny_text::Texts;
 use request_core::KrateContext;
+use selection_core::{has_uncarried, read_specs};
 use std::alloc::{AllocError, Global};
 use tree_core::Tree;
-use workspace_core::{ExcludeSpec, ExcludeSpecs, Krates, KratesError, Selection, What, krates_at};
-
-/// Whether a spec holds a `/` or a `#`.
-fn is_uncarried(text: &Text) -> bool
-    ensures { result ≡ spec.is_uncarried text.now }
-{
-    text.as_str()
-        .as_bytes()
-        .iter()
-        .any(|byte| *byte == b'/' || *byte == b'#')
-}
-
-fn has_uncarried(texts: &Texts) -> bool
-    ensures { result ≡ list_any spec.is_uncarried texts.now }
-{
-    texts.items().iter().any(|text| is_uncarried(text))
-}
+use workspace_core::{ExcludeSpecs, Krates, KratesError, Selection, What, krates_at};
 
 /// The first part of a request that is not carried.
 fn uncarried(context: &KrateContext, cfg_excludes: &Texts) -> Option<What>
@@ -41,25 +25,6 @@ fn uncarried(context: &KrateContext, cfg_excludes: &Texts) -> Option<What>
     } else {
         None
     }
-}
-
-/// Appends the specs that texts are read as. Unreadable ones are passed over.
-fn read_specs(alloc: Global, specs: &mut ExcludeSpecs, texts: &[Text]) -> Result<(), AllocError>
-    ensures { OnOk result (map spec_of specs.new ≡ map spec_of specs.old ++ filter_map spec_read texts.now) }
-{
-    'texts: for text in texts {
-        push_spec(alloc, specs, text)?;
-    }
-    Ok(())
-}
-
-fn push_spec(alloc: Global, specs: &mut ExcludeSpecs, text: &Text) -> Result<(), AllocError>
-    ensures { OnOk result (map spec_of specs.new ≡ map spec_of specs.old ++ spec.read_one text.now) }
-{
-    if let Some(read) = ExcludeSpec::read(alloc, text.as_str())? {
-        specs.push(read)?;
-    }
-    Ok(())
 }
 
 /// What a request selects by, with the policy's specs behind its own.

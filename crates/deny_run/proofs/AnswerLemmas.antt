@@ -9,8 +9,10 @@ use Rattle.selection_core.specs.Listed.{IsListOf}
 use Rattle.selection_core.specs.Roots.{HasRoot}
 use Rattle.selection_core.specs.Walks.{Selected}
 use Rattle.reads_core.specs.Read.{AreReads}
-use Rattle.gather_core.specs.Calls.{reads_of_all}
-use Rattle.gather_core.specs.Gathered.{krate_of}
+use Rattle.gather_core.specs.Calls.{AreTurnsBy, CrateTurn, reads_of_all, turns_of}
+use Rattle.gather_core.specs.Entries.{entries_of}
+use Rattle.gather_core.specs.Gathered.{include_of, krate_of}
+use Rattle.gather_core.proofs.CrateTurns.{krates_told, own_turns}
 use Rattle.heard_core.specs.Cause.{Cause, no_memory, told, failed_read, refused_write}
 use Rattle.validate_core.specs.Order.{PutsPolicyInOrder}
 use Rattle.valid_policy.specs.View.{policy_of}
@@ -25,14 +27,14 @@ use Rattle.check_core.specs.Summary.{all_asked}
 use Rattle.deny_run.specs.declared.words.Request.{Request}
 use Rattle.deny_run.specs.Error.{cause_of}
 use Rattle.deny_run.specs.Given.{Given}
-use Rattle.deny_run.specs.Heard.{AreOwnReads, HearsAllDue, IsRunHearing, all_looked_at, calls_of, count_metadata, exceptions_in, files_behind_all, files_loaded, found_of, graph_heard, load_at, load_heard, metadata_heard, scanner_in}
+use Rattle.deny_run.specs.Heard.{HearsAllDue, IsRunHearing, all_looked_at, calls_of, count_metadata, exceptions_in, files_loaded, found_of, graph_heard, load_at, load_heard, metadata_heard, scanner_in, turns_in}
 use Rattle.deny_run.specs.Hearing.{MadeOn, RunHearing, TreeSeen}
-use Rattle.deny_run.specs.Report.{AreLabelsCut, AreSourcesTold, IsAnsweredBy, IsGivenUp, IsRefusal, IsRefusedBy, IsReport, StopsAt, TellsFindings, paths_at, verdicts_told}
-use Rattle.deny_run.specs.Selection.{choice_in, included_by, included_in, Refuses}
+use Rattle.deny_run.specs.Report.{IsAnsweredBy, IsGivenUp, IsRefusal, IsRefusedBy, IsReport, StopsAt, TellsFindings, paths_at, verdicts_told}
+use Rattle.deny_run.specs.Selection.{choice_in, included_in, Refuses}
 use Rattle.deny_run.specs.Steps.{IsChecked, checked_by, report_with}
 use Rattle.deny_run.specs.Words.{request_of}
 use Rattle.deny_run.proofs.FoundLemmas.{graph_heard-Ok, table-is}
-use Rattle.deny_run.proofs.GatheredLemmas.{all_looked, krates_same, labels_cut, own_reads, reported_by, sources_told, table_left, verdicts_reported}
+use Rattle.deny_run.proofs.GatheredLemmas.{all_looked, labels_cut, own_files, reported_by, sources_told, verdicts_reported}
 use Rattle.deny_run.proofs.PolicyLemmas.{policy_is}
 
 -- ---- refusals
@@ -95,13 +97,10 @@ module _ (given : Given) (request : Request) (asked : request_of given.words giv
     (exceptions : Option (List ℕ)) (sought : exceptions_in given hearing ≡ Ok exceptions) (policy : PolicyFound)
     (loads : (load_at given hearing (paths_at request.config_path exceptions)).answer ≡ Ok policy)
     (graph : Graph) (drawn : graph_heard (metadata_heard given hearing) ≡ Ok graph) (root : HasRoot graph (choice_in policy))
-    (valid : ValidConfig) (order : PutsPolicyInOrder policy.licenses valid) (flags : included_by valid ≡ included_in policy)
+    (valid : ValidConfig) (order : PutsPolicyInOrder policy.licenses valid) (flags : include_of valid ≡ included_in policy)
     (table : List File) (table_of : table ≡ (load_at given hearing (paths_at request.config_path exceptions)).files) (due : HearsAllDue given hearing) where
   table_loaded : files_loaded given hearing ≡ table
   table_loaded = table-is given request asked hearing exceptions sought ∙ sym table_of
-
-  by_table : (P : List File → Type 0) → P table → P (files_loaded given hearing)
-  by_table P own = subst P (sym table_loaded) own
 
   module _ (last : List File) (checked : CheckedCrates) (records : AreReads (count_metadata given hearing) (reads_of_all hearing.crates))
       (done : IsChecked (scanner_in given valid) valid table last graph (choice_in policy) hearing.crates checked) where
@@ -109,22 +108,27 @@ module _ (given : Given) (request : Request) (asked : request_of given.words giv
     abbrev made : Report
     made = report_with (checked_by valid done.licenses done.check.verdicts) last
 
+    abbrev turns : List CrateTurn
+    turns = turns_in given hearing valid
+
+    turned : AreTurnsBy (files_loaded given hearing) turns done.licenses last
+    turned =
+        subst (λ files. AreTurnsBy files (turns_of (scanner_in given valid) valid.file_id (entries_of valid) files hearing.crates) done.licenses last) (sym table_loaded) done.turns
+
     verdicts_are : AreVerdicts (policy_of valid) (all_asked done.licenses) (verdicts_told made)
     verdicts_are = subst (AreVerdicts (policy_of valid) (all_asked done.licenses)) (sym (verdicts_reported (policy_of valid) done.licenses done.check.verdicts done.check.are)) done.check.are
 
-    looked_are : all_looked_at given valid (files_loaded given hearing) hearing.crates ≡ all_asked done.licenses
-    looked_are = ap (λ files. all_looked_at given valid files hearing.crates) table_loaded ∙ all_looked given valid table hearing.crates done.licenses last done.turns
+    looked_are : all_looked_at turns ≡ all_asked done.licenses
+    looked_are = all_looked turns done.licenses last turned.each
 
-    findings_are : TellsFindings given hearing made
+    findings_are : TellsFindings (files_loaded given hearing) turns made
     findings_are = record {
       are = subst (λ looked. AreVerdicts (policy_of valid) looked (verdicts_told made)) (sym looked_are) verdicts_are;
       findings =
           sym (ap (λ looked. findings_of valid looked (verdicts_told made)) looked_are
           ∙ ap (findings_of valid (all_asked done.licenses)) (verdicts_reported (policy_of valid) done.licenses done.check.verdicts done.check.are));
-      files =
-          sym (ap (λ files. files_behind_all given valid files hearing.crates) table_loaded
-          ∙ table_left given valid table hearing.crates done.licenses last done.turns);
-      cuts = by_table (λ files. AreLabelsCut given valid files hearing.crates last) (labels_cut given valid table hearing.crates done.licenses last done.turns);
+      files = turned.left;
+      cuts = labels_cut turns done.licenses last turned.each;
       terms = subst (All (VerdictPoints last (policy_of valid))) (sym looked_are) done.points;
     }
 
@@ -134,26 +138,28 @@ module _ (given : Given) (request : Request) (asked : request_of given.words giv
         let (bytes, heard, is_told) = graph_heard-Ok (metadata_heard given hearing) graph drawn in
         let own = policy_is given.lists at (load_heard given hearing) policy loads in
         record {
-          due = due;
-          asked = record { request = request; policy = policy; graph = graph; crates = map krate_of done.licenses };
-          asks = record {
-            request = asked;
-            policy = record { exceptions = exceptions; found = sought; is = own };
-            metadata = record { text = bytes; heard = heard; tells = is_told };
-            root = root;
-            selected = subst (λ include. IsListOf graph (Selected graph (choice_in policy) include) (map krate_of done.licenses)) flags done.selected;
+          verdicts = record {
+            due = due;
+            asked = record { request = request; policy = policy; graph = graph; crates = map krate_of done.licenses };
+            asks = record {
+              request = asked;
+              policy = record { exceptions = exceptions; found = sought; is = own };
+              metadata = record { text = bytes; heard = heard; tells = is_told };
+              root = root;
+              selected = subst (λ include. IsListOf graph (Selected graph (choice_in policy) include) (map krate_of done.licenses)) flags done.selected;
+            };
+            records = records;
+            files = own_files given valid (files_loaded given hearing) hearing.crates done.licenses last turned.each;
+            gives = record {
+              policy = order;
+              file = ap (λ (one : ValidConfig). one.file_id) order.rest ∙ ap (λ (one : PolicyFound). one.licenses.file_id) own.is;
+              crates = krates_told (scanner_in given valid) valid.file_id (entries_of valid) (files_loaded given hearing) hearing.crates done.licenses last turned;
+              verdicts = reported_by given valid (files_loaded given hearing) hearing.crates done.licenses last done.check.verdicts turned.each done.check.are;
+              stats = refl;
+            };
           };
-          records = records;
-          own = by_table (λ files. AreOwnReads given valid files hearing.crates) (own_reads given valid table hearing.crates done.licenses last done.turns);
-          sources = by_table (λ files. AreSourcesTold given valid files hearing.crates made.crates)
-              (sources_told given valid table hearing.crates done.licenses last done.check.verdicts done.turns done.check.are);
-          gives = record {
-            policy = order;
-            file = ap (λ (one : ValidConfig). one.file_id) order.rest ∙ ap (λ (one : PolicyFound). one.licenses.file_id) own.is;
-            crates = krates_same given valid table hearing.crates done.licenses last done.turns;
-            verdicts = reported_by given valid table hearing.crates done.licenses last done.check.verdicts done.turns done.check.are;
-            stats = refl;
-          };
+          own = own_turns (files_loaded given hearing) turns done.licenses last turned;
+          sources = sources_told (policy_of valid) turns done.licenses last done.check.verdicts turned.each done.check.are;
           tells = findings_are;
         }
 

@@ -1,5 +1,5 @@
 -- A verdict against a crate is told by a finding that is an error.
-use Rattle.std.proofs.Common.{◌≡◌, ◌∙◌, refl, sym, ℕ, zero, suc, ◌+◌, Bool, true, false, cond, nat_lt, count_by, List, [], ◌∷◌, ◌++◌, map, Option, None, Some, arith}
+use Rattle.std.proofs.Common.{◌≡◌, ◌∙◌, refl, sym, ℕ, zero, suc, ◌+◌, Bool, true, false, cond, nat_lt, count_by, List, [], ◌∷◌, ◌++◌, map, Option, Some, arith}
 use Rattle.std.specs.Prelude.{◌^◌, ◌-◌, min}
 use Rattle.std.specs.List.{AllByRecursion as ByRecursion, sum_by}
 use Rattle.std.proofs.lemmas.Bool.Decides.{nat_tests}
@@ -9,6 +9,8 @@ use Rattle.diag_core.specs.Severity.{is_same_severity}
 use Rattle.diag_core.specs.declared.label.Label.{Label}
 use Rattle.diag_core.specs.declared.pack.Diag.{Diag}
 use Rattle.diag_core.specs.declared.severity.Severity.TheVariants as severity
+use Rattle.finding_core.specs.declared.license.LicenseInfo.{LicenseInfo}
+use Rattle.finding_core.specs.declared.license.LicenseInfo.TheVariants as license_info
 use Rattle.certificate_core.specs.declared.verdict.Verdict.{Verdict}
 use Rattle.certificate_core.specs.declared.verdict.Verdict.TheVariants.{Accepted, Rejected, Skipped, Unlicensed}
 use Rattle.evaluate_core.specs.Evaluation.{is_allowed}
@@ -16,7 +18,7 @@ use Rattle.graph_core.specs.Krate.{Record}
 use Rattle.valid_policy.specs.Policy.{Policy}
 use Rattle.verdict_findings.specs.Findings.{judged}
 use Rattle.check_core.specs.Check.{AreVerdicts, packs_of}
-use Rattle.check_core.specs.Turns.{Asked as LookedAt, Told, expression_of, pack_by, verdict_finding}
+use Rattle.check_core.specs.Turns.{Asked as LookedAt, expression_of, pack_by, verdict_finding}
 use Rattle.check_core.specs.Verdicts.{IsVerdict, accepted, is_skipped, rejected, unlicensed, verdict_of}
 use Rattle.deny_run.specs.declared.report.CrateReport.{CrateReport}
 use Rattle.deny_run.specs.Counts.{count_in, is_against}
@@ -48,34 +50,34 @@ apart_by : (test : Bool) → unlicensed ≡ cond test accepted rejected → ⊥
 apart_by true is = absurd (cc)
 apart_by false is = absurd (cc)
 
-rejected_told : (private : Bool) (policy : Policy) (krate : Record) (told : Option Told) (notes : List (List ℕ))
-    → rejected ≡ verdict_of private policy krate (expression_of told) → is_error (verdict_finding policy krate told notes) ≡ true
-rejected_told true policy krate told notes is = absurd (cc)
-rejected_told false policy krate None notes is = absurd (cc)
-rejected_told false policy krate (Some told) notes is = rejected_by (is_allowed policy krate told.expression.terms told.expression.tree) _ notes is
+rejected_told : (private : Bool) (policy : Policy) (krate : Record) (info : LicenseInfo) (notes : List (List ℕ))
+    → rejected ≡ verdict_of private policy krate (expression_of info) → is_error (verdict_finding policy krate info notes) ≡ true
+rejected_told true policy krate info notes is = absurd (cc)
+rejected_told false policy krate license_info.Unlicensed notes is = absurd (cc)
+rejected_told false policy krate (license_info.SpdxExpression expression nfo) notes is = rejected_by (is_allowed policy krate expression.terms expression.tree) _ notes is
 
-unlicensed_told : (private : Bool) (policy : Policy) (krate : Record) (told : Option Told) (notes : List (List ℕ))
-    → unlicensed ≡ verdict_of private policy krate (expression_of told) → is_error (verdict_finding policy krate told notes) ≡ true
-unlicensed_told true policy krate told notes is = absurd (cc)
-unlicensed_told false policy krate None notes is = refl
-unlicensed_told false policy krate (Some told) notes is = absurd (apart_by (is_allowed policy krate told.expression.terms told.expression.tree) is)
+unlicensed_told : (private : Bool) (policy : Policy) (krate : Record) (info : LicenseInfo) (notes : List (List ℕ))
+    → unlicensed ≡ verdict_of private policy krate (expression_of info) → is_error (verdict_finding policy krate info notes) ≡ true
+unlicensed_told true policy krate info notes is = absurd (cc)
+unlicensed_told false policy krate license_info.Unlicensed notes is = refl
+unlicensed_told false policy krate (license_info.SpdxExpression expression nfo) notes is = absurd (apart_by (is_allowed policy krate expression.terms expression.tree) is)
 
 true_false : (test : Bool) → test ≡ true → test ≡ false → ⊥
 true_false true one other = absurd (cc)
 true_false false one other = absurd (cc)
 
 -- of a crate none of whose findings is an error
-clear_one : (policy : Policy) (looked : LookedAt) (verdict : Verdict) → IsVerdict policy looked.krate (expression_of looked.told) verdict
+clear_one : (policy : Policy) (looked : LookedAt) (verdict : Verdict) → IsVerdict policy looked.krate (expression_of looked.info) verdict
     → count_in severity.Error (pack_by (is_skipped verdict) policy looked) ≡ 0 → is_against verdict ≡ false
 clear_one policy looked Skipped is none = refl
 clear_one policy looked (Accepted choice hits) is none = refl
 clear_one policy looked Unlicensed is none =
-    let finding = verdict_finding policy looked.krate looked.told looked.notes in
-    absurd (true_false (is_error finding) (unlicensed_told is.judged.private policy looked.krate looked.told looked.notes is.judged.is)
+    let finding = verdict_finding policy looked.krate looked.info looked.notes in
+    absurd (true_false (is_error finding) (unlicensed_told is.judged.private policy looked.krate looked.info looked.notes is.judged.is)
     (last_counts (Some looked.krate.id) looked.gathered finding none))
 clear_one policy looked (Rejected least blocks) is none =
-    let finding = verdict_finding policy looked.krate looked.told looked.notes in
-    absurd (true_false (is_error finding) (rejected_told is.judged.private policy looked.krate looked.told looked.notes is.judged.is)
+    let finding = verdict_finding policy looked.krate looked.info looked.notes in
+    absurd (true_false (is_error finding) (rejected_told is.judged.private policy looked.krate looked.info looked.notes is.judged.is)
     (last_counts (Some looked.krate.id) looked.gathered finding none))
 
 clear_all : (policy : Policy) (looked : List LookedAt) (verdicts : List Verdict) (more : List PackOf) → AreVerdicts policy looked verdicts

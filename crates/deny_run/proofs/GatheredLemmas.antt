@@ -1,35 +1,40 @@
 -- The licences that were gathered, as what was read of crates and as what is told of them.
-use Rattle.std.proofs.Common.{◌≡◌, ◌∙◌, refl, sym, ap, ap₂, subst, ℕ, List, [], ◌∷◌, map, Option, Some, None}
-use Rattle.std.specs.Prelude.{unwrap_or}
-use Rattle.std.specs.List.{AllZip}
-use Rattle.diag_core.specs.File.{File}
+use Rattle.std.proofs.Common.{◌≡◌, ◌∙◌, refl, sym, ap, subst, ℕ, Bool, true, false, List, [], ◌∷◌, map, Option, Some, None}
+use Rattle.std.proofs.lemmas.List.Elements.{All-from_recursion}
+use Rattle.std.specs.Prelude.{All, IfSome, unwrap_or}
+use Rattle.std.specs.List.{AllByRecursion, AllZip}
+use Rattle.graph_core.specs.Krate.{Record}
+use Rattle.reads_core.specs.Heard.{Heard}
+use Rattle.diag_core.specs.File.{File, id_at}
 use Rattle.diag_core.specs.declared.label.Coord.{Coord}
-use Rattle.priority_core.specs.Priority.{priority_of}
-use Rattle.priority_core.specs.Settled.{answer_in}
+use Rattle.priority_core.specs.Priority.{answer_in}
 use Rattle.priority_core.specs.declared.settling.JoinedNames.{JoinedNames}
 use Rattle.priority_core.specs.declared.settling.Settling.{Settling}
 use Rattle.priority_core.specs.declared.settling.Settling.TheVariants.{Clarified, Field, Files}
-use Rattle.pack_core.specs.Ears.{ears_by}
+use Rattle.priority_core.specs.Clarification.{Clarification}
+use Rattle.location_core.specs.Location.{located_by}
+use Rattle.pack_core.specs.Ears.{Ears}
 use Rattle.gather_core.specs.Told.{answer_told, info_by, joined_info, joined_notes, notes_of, nowhere}
-use Rattle.gather_core.specs.Turns.{IsTurn, Turn, files_behind, findings_in, info_in, located_in, notes_in, points_in, settling_in}
-use Rattle.gather_core.specs.declared.license.LicenseInfo.{LicenseInfo}
-use Rattle.gather_core.specs.declared.license.LicenseInfo.TheVariants.{SpdxExpression, Unlicensed}
+use Rattle.gather_core.specs.Turns.{IsCutOut, IsTurn, Turn, asks_manifest, field_text, files_behind, findings_in, info_in, located_in, located_where, notes_in, points_in, settling_in}
+use Rattle.finding_core.specs.declared.license.LicenseInfo.{LicenseInfo}
+use Rattle.finding_core.specs.declared.license.LicenseInfo.TheVariants.{SpdxExpression, Unlicensed}
 use Rattle.valid_policy.specs.declared.policy.ValidConfig.{ValidConfig}
 use Rattle.valid_policy.specs.Policy.{Policy}
 use Rattle.valid_policy.specs.View.{policy_of}
-use Rattle.gather_core.specs.Calls.{AreTurnsBy, CrateReads}
-use Rattle.gather_core.specs.Entries.{clarifications_of, entries_of}
+use Rattle.gather_core.specs.Calls.{CrateReads, CrateTurn, HasOwnReads, IsTurnBy, turn_by, turns_of}
+use Rattle.gather_core.specs.Entries.{entries_of}
 use Rattle.gather_core.specs.Gathered.{krate_of}
 use Rattle.gather_core.specs.declared.summary.KrateLicense.{KrateLicense}
+use Rattle.gather_core.proofs.ZipLemmas.{all_left, same_maps}
 use Rattle.deny_run.specs.declared.report.CrateReport.{CrateReport}
 use Rattle.deny_run.specs.Given.{Given}
 use Rattle.certificate_core.specs.declared.verdict.Verdict.{Verdict}
 use Rattle.check_core.specs.Check.{AreVerdicts}
-use Rattle.check_core.specs.Summary.{all_asked, asked_in, told_in}
+use Rattle.check_core.specs.Summary.{all_asked, asked_in}
 use Rattle.check_core.specs.Turns.{Asked as LookedAt, expression_of}
 use Rattle.check_core.specs.Verdicts.{IsVerdict}
-use Rattle.deny_run.specs.Heard.{AreOwnReads, all_looked_at, expression_in, files_behind_all, looked_at, priority_heard, scanner_in, turn_heard}
-use Rattle.deny_run.specs.Report.{AreLabelsCut, AreSourcesTold, IsReportOf, answer_by, source_of}
+use Rattle.deny_run.specs.Heard.{IsManifestRead, ReadsItsFiles, all_looked_at, expression_in, looked_at, scanner_in}
+use Rattle.deny_run.specs.Report.{IsReportOf, TellsSource, answer_by, source_of}
 use Rattle.deny_run.specs.Steps.{all_reported, expression_told}
 
 -- the verdicts that reports tell
@@ -51,7 +56,7 @@ told_answer Unlicensed notes = refl
 told_answer (SpdxExpression expression nfo) notes = refl
 
 -- the expression that the check looks at
-looked_expression : (info : LicenseInfo) → expression_of (told_in info) ≡ expression_told info
+looked_expression : (info : LicenseInfo) → expression_of info ≡ expression_told info
 looked_expression Unlicensed = refl
 looked_expression (SpdxExpression expression nfo) = refl
 
@@ -71,99 +76,94 @@ told_notes turn Unlicensed notes is noted =
     noted ∙ settled_nothing turn.policy (located_in turn).location (unwrap_or (points_in turn).expression nowhere) (settling_in turn) is
 told_notes turn (SpdxExpression expression nfo) notes is noted = refl
 
+-- the read of a manifest is of the crate's own, and is asked for
+module _ (clarifications : List Clarification) (krate : Record) (ears : Ears) (files : List File) (manifest : Heard) where
+  read_by : asks_manifest clarifications krate ears ≡ true → (id : Option ℕ)
+      → IfSome (located_by krate.manifest_path (field_text krate) files manifest id).read (IsManifestRead clarifications krate ears)
+  read_by asks None = record { asked = asks; kind = refl; path = refl }
+  read_by asks (Some id) = tt
+
+  read_where : (asks : Bool) → asks_manifest clarifications krate ears ≡ asks → IfSome (located_where asks krate files manifest).read (IsManifestRead clarifications krate ears)
+  read_where false is = tt
+  read_where true is = read_by is (id_at files krate.manifest_path)
+
+-- what the check has looked at is what the turns say
+looked_same : (license : KrateLicense) (turn : Turn) (table : List File) → turn.krate ≡ krate_of license → IsTurn turn license table → looked_at turn ≡ asked_in license
+looked_same license turn table of_krate is =
+    ap (λ krate. let it : LookedAt = record { krate = krate; info = info_in turn; gathered = findings_in turn; notes = notes_in turn } in it) of_krate
+    ∙ ap (λ info. let it : LookedAt = record { krate = krate_of license; info = info; gathered = findings_in turn; notes = notes_in turn } in it) (sym is.info)
+    ∙ ap (λ found. let it : LookedAt = record { krate = krate_of license; info = license.lic_info; gathered = found; notes = notes_in turn } in it) (sym is.found)
+    ∙ ap (λ noted. let it : LookedAt = record { krate = krate_of license; info = license.lic_info; gathered = license.diags; notes = noted } in it) (sym is.noted)
+
+module _ (turns : List CrateTurn) (licenses : List KrateLicense) (last : List File) (each : AllZip (IsTurnBy last) turns licenses) where
+  pub all_looked : all_looked_at turns ≡ all_asked licenses
+  all_looked =
+      same_maps (IsTurnBy last) (λ (own : CrateTurn). looked_at own.turn) asked_in
+      (λ own license is. looked_same license own.turn (files_behind own.turn) is.krate is.turn) turns licenses each
+
+  -- the labels of what is found
+  pub labels_cut : All (λ (own : CrateTurn). IsCutOut last own.turn) turns
+  labels_cut = all_left (IsTurnBy last) (λ (own : CrateTurn). IsCutOut last own.turn) (λ own license is. is.cuts) turns licenses each
+
+-- each report tells the source of its licence
+pub sources_told : (policy : Policy) (turns : List CrateTurn) (licenses : List KrateLicense) (last : List File) (verdicts : List Verdict) → AllZip (IsTurnBy last) turns licenses
+    → AreVerdicts policy (all_asked licenses) verdicts → AllZip TellsSource turns (all_reported licenses verdicts)
+sources_told policy [] [] last verdicts each are = tt
+sources_told policy [] (license ∷ licenses) last verdicts each are = absurd each
+sources_told policy (own ∷ turns) [] last verdicts each are = absurd each
+sources_told policy (own ∷ turns) (license ∷ licenses) last [] each are = absurd are
+sources_told policy (own ∷ turns) (license ∷ licenses) last (verdict ∷ verdicts) each are =
+    (ap source_of each.0.turn.info, sources_told policy turns licenses last verdicts each.1 are.1)
+
 module _ (given : Given) (policy : ValidConfig) where
-  abbrev pub Turns : List File → List CrateReads → List KrateLicense → List File → Type 0
-  Turns files crates licenses last = AreTurnsBy (scanner_in given policy) policy.file_id (entries_of policy) files crates licenses last
+  abbrev pub turn_at : List File → CrateReads → CrateTurn
+  turn_at files one = turn_by (scanner_in given policy) policy.file_id (entries_of policy) files one
 
-  -- the crates are those of the licences
-  pub krates_same : (files : List File) (crates : List CrateReads) (licenses : List KrateLicense) (last : List File) → Turns files crates licenses last
-      → map (λ (one : CrateReads). one.krate) crates ≡ map krate_of licenses
-  krates_same files [] [] last turns = refl
-  krates_same files [] (license ∷ licenses) last turns = absurd turns
-  krates_same files (one ∷ crates) [] last turns = absurd turns
-  krates_same files (one ∷ crates) (license ∷ licenses) last turns =
-      ap₂ ◌∷◌ turns.0.krate (krates_same (files_behind (turn_heard given policy files one)) crates licenses last turns.1)
-
-  -- what has priority of a crate is what is told of its licence
-  told_priority : (one : CrateReads) (license : KrateLicense) → one.krate ≡ krate_of license
-      → answer_told license.lic_info license.notes ≡ priority_of (scanner_in given policy) (clarifications_of (krate_of license) (entries_of policy)) (krate_of license) (ears_by one.reads)
-      → answer_told license.lic_info license.notes ≡ priority_heard given policy one
-  told_priority one license same is =
-      is ∙ ap (λ krate. priority_of (scanner_in given policy) (clarifications_of krate (entries_of policy)) krate (ears_by one.reads)) (sym same)
+  abbrev pub turns_at : List File → List CrateReads → List CrateTurn
+  turns_at files crates = turns_of (scanner_in given policy) policy.file_id (entries_of policy) files crates
 
   -- each report is on the crate of its licence
-  pub reported_by : (files : List File) (crates : List CrateReads) (licenses : List KrateLicense) (last : List File) (verdicts : List Verdict) → Turns files crates licenses last
+  pub reported_by : (files : List File) (crates : List CrateReads) (licenses : List KrateLicense) (last : List File) (verdicts : List Verdict) → AllZip (IsTurnBy last) (turns_at files crates) licenses
       → AreVerdicts (policy_of policy) (all_asked licenses) verdicts → AllZip (IsReportOf given policy) crates (all_reported licenses verdicts)
-  reported_by files [] [] last verdicts turns are = tt
-  reported_by files [] (license ∷ licenses) last verdicts turns are = absurd turns
-  reported_by files (one ∷ crates) [] last verdicts turns are = absurd turns
-  reported_by files (one ∷ crates) (license ∷ licenses) last [] turns are = absurd are
-  reported_by files (one ∷ crates) (license ∷ licenses) last (verdict ∷ verdicts) turns are =
-      let turn = turn_heard given policy files one in
-      let own = turns.0 in
-      let answer = told_priority one license own.krate own.answer in (
+  reported_by files [] [] last verdicts each are = tt
+  reported_by files [] (license ∷ licenses) last verdicts each are = absurd each
+  reported_by files (one ∷ crates) [] last verdicts each are = absurd each
+  reported_by files (one ∷ crates) (license ∷ licenses) last [] each are = absurd are
+  reported_by files (one ∷ crates) (license ∷ licenses) last (verdict ∷ verdicts) each are =
+      let turn = (turn_at files one).turn in
+      let own = each.0 in (
         record {
           id = ap (λ krate. krate.id) (sym own.krate);
           reads = sym own.recorded_are;
-          expression = told_expression license.lic_info license.notes ∙ ap expression_in answer;
-          answer = told_answer license.lic_info license.notes ∙ answer;
-          notes = told_notes turn license.lic_info license.notes own.turn.info own.turn.noted ∙ ap notes_of answer;
+          expression = told_expression license.lic_info license.notes ∙ ap expression_in own.answer;
+          answer = told_answer license.lic_info license.notes ∙ own.answer;
+          notes = told_notes turn license.lic_info license.notes own.turn.info own.turn.noted ∙ ap notes_of own.answer;
           verdict = subst (λ krate. IsVerdict (policy_of policy) krate (expression_told license.lic_info) verdict) (sym own.krate)
               (subst (λ expression. IsVerdict (policy_of policy) (krate_of license) expression verdict) (looked_expression license.lic_info) are.0);
         },
-        reported_by (files_behind turn) crates licenses last verdicts turns.1 are.1,
+        reported_by (files_behind turn) crates licenses last verdicts each.1 are.1,
       )
 
-  -- the records of each crate's reads are its own
-  pub own_reads : (files : List File) (crates : List CrateReads) (licenses : List KrateLicense) (last : List File) → Turns files crates licenses last → AreOwnReads given policy files crates
-  own_reads files [] [] last turns = tt
-  own_reads files [] (license ∷ licenses) last turns = absurd turns
-  own_reads files (one ∷ crates) [] last turns = absurd turns
-  own_reads files (one ∷ crates) (license ∷ licenses) last turns =
-      (turns.0.recorded_are ∙ turns.0.turn.read, own_reads (files_behind (turn_heard given policy files one)) crates licenses last turns.1)
+  -- the reads of each crate are of its own files
+  own_at : (files : List File) (one : CrateReads) → HasOwnReads (turn_at files one) → ReadsItsFiles given policy one
+  own_at files one are =
+      let turn = (turn_at files one).turn in
+      record {
+        manifest = (located_in turn).read;
+        of_manifest =
+            read_where turn.clarifications turn.krate turn.ears turn.files turn.manifest (asks_manifest turn.clarifications turn.krate turn.ears) refl;
+        are = are;
+      }
 
-  -- each report tells the source of its licence
-  pub sources_told : (files : List File) (crates : List CrateReads) (licenses : List KrateLicense) (last : List File) (verdicts : List Verdict) → Turns files crates licenses last
-      → AreVerdicts (policy_of policy) (all_asked licenses) verdicts → AreSourcesTold given policy files crates (all_reported licenses verdicts)
-  sources_told files [] [] last verdicts turns are = tt
-  sources_told files [] (license ∷ licenses) last verdicts turns are = absurd turns
-  sources_told files (one ∷ crates) [] last verdicts turns are = absurd turns
-  sources_told files (one ∷ crates) (license ∷ licenses) last [] turns are = absurd are
-  sources_told files (one ∷ crates) (license ∷ licenses) last (verdict ∷ verdicts) turns are = (
-    ap source_of turns.0.turn.info,
-    sources_told (files_behind (turn_heard given policy files one)) crates licenses last verdicts turns.1 are.1,
+  files_by : (files : List File) (crates : List CrateReads) (licenses : List KrateLicense) (last : List File) → AllZip (IsTurnBy last) (turns_at files crates) licenses
+      → AllByRecursion (ReadsItsFiles given policy) crates
+  files_by files [] licenses last each = tt
+  files_by files (one ∷ crates) [] last each = absurd each
+  files_by files (one ∷ crates) (license ∷ licenses) last each = (
+    own_at files one (each.0.recorded_are ∙ each.0.turn.read),
+    files_by (files_behind (turn_at files one).turn) crates licenses last each.1,
   )
 
-  -- what the check has looked at is what the turns say
-  looked_same : (license : KrateLicense) (turn : Turn) (table : List File) → turn.krate ≡ krate_of license → IsTurn turn license table → looked_at turn ≡ asked_in license
-  looked_same license turn table of_krate is =
-      ap (λ krate. let it : LookedAt = record { krate = krate; told = told_in (info_in turn); gathered = findings_in turn; notes = notes_in turn } in it) of_krate
-      ∙ ap (λ info. let it : LookedAt = record { krate = krate_of license; told = told_in info; gathered = findings_in turn; notes = notes_in turn } in it) (sym is.info)
-      ∙ ap (λ found. let it : LookedAt = record { krate = krate_of license; told = told_in license.lic_info; gathered = found; notes = notes_in turn } in it) (sym is.found)
-      ∙ ap (λ noted. let it : LookedAt = record { krate = krate_of license; told = told_in license.lic_info; gathered = license.diags; notes = noted } in it) (sym is.noted)
-
-  pub all_looked : (files : List File) (crates : List CrateReads) (licenses : List KrateLicense) (last : List File) → Turns files crates licenses last
-      → all_looked_at given policy files crates ≡ all_asked licenses
-  all_looked files [] [] last turns = refl
-  all_looked files [] (license ∷ licenses) last turns = absurd turns
-  all_looked files (one ∷ crates) [] last turns = absurd turns
-  all_looked files (one ∷ crates) (license ∷ licenses) last turns =
-      let turn = turn_heard given policy files one in
-      ap₂ ◌∷◌ (looked_same license turn (files_behind turn) turns.0.krate turns.0.turn) (all_looked (files_behind turn) crates licenses last turns.1)
-
-  -- the labels of what is found
-  pub labels_cut : (files : List File) (crates : List CrateReads) (licenses : List KrateLicense) (last : List File) → Turns files crates licenses last
-      → AreLabelsCut given policy files crates last
-  labels_cut files [] [] last turns = tt
-  labels_cut files [] (license ∷ licenses) last turns = absurd turns
-  labels_cut files (one ∷ crates) [] last turns = absurd turns
-  labels_cut files (one ∷ crates) (license ∷ licenses) last turns =
-      (turns.0.cuts, labels_cut (files_behind (turn_heard given policy files one)) crates licenses last turns.1)
-
-  -- the table that is left
-  pub table_left : (files : List File) (crates : List CrateReads) (licenses : List KrateLicense) (last : List File) → Turns files crates licenses last
-      → files_behind_all given policy files crates ≡ last
-  table_left files [] [] last turns = sym turns
-  table_left files [] (license ∷ licenses) last turns = absurd turns
-  table_left files (one ∷ crates) [] last turns = absurd turns
-  table_left files (one ∷ crates) (license ∷ licenses) last turns = table_left (files_behind (turn_heard given policy files one)) crates licenses last turns.1
+  pub own_files : (files : List File) (crates : List CrateReads) (licenses : List KrateLicense) (last : List File) → AllZip (IsTurnBy last) (turns_at files crates) licenses
+      → All (ReadsItsFiles given policy) crates
+  own_files files crates licenses last each = All-from_recursion (ReadsItsFiles given policy) crates (files_by files crates licenses last each)

@@ -1,14 +1,12 @@
 -- The headline, from what a run answers.
-use Rattle.std.proofs.Common.{◌≡◌, ◌∙◌, ◌⊎◌, ℕ, ◌≤◌, ◌<◌, ◌^◌, ◌-◌, true, false, List, [], ◌∷◌, Some, All, inl, inr, sym, ap, subst, refl, arith}
-use Rattle.std.proofs.Common.{ltb}
-use Rattle.std.proofs.lemmas.Bool.Decides.{Decides-ltb}
+use Rattle.std.proofs.Common.{◌≡◌, ◌∙◌, ◌⊎◌, ℕ, ◌≤◌, ◌-◌, false, List, [], ◌∷◌, Some, All, inl, inr, sym, ap, subst, refl, arith}
 use Rattle.std.specs.List.{AllByRecursion, sum_by}
 use Rattle.std.proofs.lemmas.List.{append_cancel_left}
 use Rattle.std.proofs.lemmas.List.Elements.{All-from_recursion, recursion_from_All}
 use Rattle.tree_core.specs.Call as call
 use Rattle.tree_core.specs.Call.{Asked as AskedOf, Answered, Call}
 use Rattle.tree_core.specs.Content.{Content}
-use Rattle.tree_core.specs.Faults.{Rose, counted}
+use Rattle.tree_core.specs.Faults.{Rose}
 use Rattle.tree_core.specs.Script.{to_out, to_err, Target, Script, FaultCounts, IsWithoutFault, RefusedBy, Written}
 use Rattle.tree_core.specs.Trace.{Says, fault_behind, faults_after}
 use Rattle.tree_core.proofs.MadeLemmas.{faults_after-later}
@@ -18,6 +16,7 @@ use Rattle.unused_core.specs.Unused.{last_pack}
 use Rattle.check_core.specs.Check.{all_hits}
 use Rattle.heard_core.specs.Cause.{Cause, no_memory, failed_read, refused_write}
 use Rattle.heard_core.specs.Cause as causes
+use Rattle.reads_core.proofs.ReadLemmas.{rose_counted}
 use Rattle.deny_run.specs.declared.error.Part.TheVariants.{Words}
 use Rattle.deny_run.specs.declared.error.Error.{Error}
 use Rattle.deny_run.specs.declared.error.Error.TheVariants.{Memory, NotCarried, ConfigRead, ConfigSyntax, ConfigShape, ConfigInvalid, MetadataRead, MetadataSyntax, MetadataShape, NoRoots, WriteFault, NotYet}
@@ -29,7 +28,7 @@ use Rattle.deny_run.specs.Counts.{count_in, is_against, status_of}
 use Rattle.deny_run.specs.Error.{cause_of, MayEndLawful}
 use Rattle.deny_run.specs.Given.{Given}
 use Rattle.deny_run.specs.Headline.{EndsInReport, Headline, HeadlineRead, IsHeardOf, Tells}
-use Rattle.deny_run.specs.Heard.{HearsAllDue, IsRunHearing, all_looked_at, calls_of, files_loaded, found_of}
+use Rattle.deny_run.specs.Heard.{HearsAllDue, IsRunHearing, all_looked_at, calls_of, found_of, turns_in}
 use Rattle.deny_run.specs.Hearing.{RunHearing, TreeSeen}
 use Rattle.deny_run.specs.Report.{Asked, Asks, IsAnsweredBy, IsRefusal, IsRefusedBy, IsReport, verdicts_told}
 use Rattle.deny_run.specs.Run.{answer_of, exit_status}
@@ -88,16 +87,6 @@ not_refused_read given tree hearing own asked error heard due asks ran refusal =
     (found_alike IsSame same_step given own hearing (ran.begun ∙ sym heard.begun) refusal.due due same) refusal.refused
 
 -- ---- the same content
-
-not_less : (a b : ℕ) → ltb a b ≡ false → b ≤ a
-not_less a b is = grind (arith, Decides-ltb a b)
-
--- a call that failed raised the count
-rose_counted : (count after : ℕ) → counted count ≤ after → Rose count after
-rose_counted count after later = elim (ltb count (2 ^ 64 - 1)) as (λ b. ltb count (2 ^ 64 - 1) ≡ b → Rose count after) [
-  | true ↦ λ below. let less : count < 2 ^ 64 - 1 = (Decides-ltb count (2 ^ 64 - 1)).0 below in inl (omega arith)
-  | false ↦ λ over. let most : 2 ^ 64 - 1 ≤ count = not_less count (2 ^ 64 - 1) over in inr (omega arith)
-] refl
 
 -- the answer of a call is what the content has, or memory was wanting
 abbrev Fair : Content → Call → Type 0
@@ -190,12 +179,12 @@ ends_lawful given tree counts text begun hearing (Refused error) answers fails b
 clear_status : (given : Given) (hearing : RunHearing) (report : Report) (status : ℕ) → IsReport given hearing report
     → status ≡ status_of report.stats → status ≡ 0 → All (λ crate. is_against crate.verdict ≡ false) report.crates
 clear_status given hearing report status asked is clear =
-    let looked = all_looked_at given report.policy (files_loaded given hearing) hearing.crates in
+    let looked = all_looked_at (turns_in given hearing report.policy) in
     let last = last_pack report.policy (all_hits (policy_of report.policy) looked (verdicts_told report)) ∷ [] in
     All-from_recursion (λ crate. is_against crate.verdict ≡ false) report.crates
     (none_against (policy_of report.policy) looked report.crates last asked.tells.are
     (sym (ap (sum_by (count_in severity.Error)) asked.tells.findings)
-    ∙ none_counted (sum_by (count_in severity.Error) report.findings) (sym (is ∙ ap status_of asked.gives.stats) ∙ clear)))
+    ∙ none_counted (sum_by (count_in severity.Error) report.findings) (sym (is ∙ ap status_of asked.verdicts.gives.stats) ∙ clear)))
 
 -- ---- the headline
 
@@ -214,7 +203,7 @@ module _ (given : Given) (tree : TreeSeen) (counts : FaultCounts) (old new : Wri
   -- by what was read
   pub HeadlineRead-from_writes : HeadlineRead given tree counts outcome
   HeadlineRead-from_writes = record {
-    verdicts = λ report e. record { hearing = own; heard = (reported report e).0; is = (reported report e).1 };
+    verdicts = λ report e. record { hearing = own; heard = (reported report e).0; tells = (reported report e).1.verdicts };
     status = clear;
     lawful = λ hearing asked heard due asks quiet.
         ends_lawful given tree counts writes.text writes.begun own outcome.ended writes.tells.answers
@@ -231,7 +220,7 @@ module _ (given : Given) (tree : TreeSeen) (counts : FaultCounts) (old new : Wri
           begun = ran.begun ∙ before;
           counts = sym after ∙ ran.made.counts ∙ ap (λ n. faults_after n (calls_of given own)) before;
           says = ran.made.says content told;
-          is = (reported report e).1;
+          tells = (reported report e).1.verdicts;
         };
     status = clear;
     lawful = λ hearing asked heard asks quiet.

@@ -13,6 +13,5 @@ pub mod PlaceLemmas
 pub mod PolicyLemmas
 pub mod ReportLemmas
 pub mod ScriptLemmas
-pub mod SpecLemmas
 pub mod StageLemmas
 pub mod StepLemmas

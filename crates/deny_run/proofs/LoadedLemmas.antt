@@ -22,7 +22,7 @@ use Rattle.deny_run.specs.Heard.{HearsAllDue, calls_of, count_exceptions, count_
 use Rattle.deny_run.specs.Hearing.{unended, IsReadWhereDue, RunHearing, count_behind, look_calls, looks_by, read_calls, text_by}
 use Rattle.deny_run.specs.Report.{StopsAt, at_exceptions, at_metadata, at_policy, paths_at}
 use Rattle.deny_run.specs.Words.{request_of}
-use Rattle.deny_run.proofs.CallLemmas.{heard_where, looks_found, text_heard_by}
+use Rattle.deny_run.proofs.CallLemmas.{heard_where, looks_found, no_read, text_heard_by}
 use Rattle.deny_run.proofs.FoundLemmas.{calls-due, exceptions-are, exceptions-is, looked-at, policy-is}
 use Rattle.deny_run.proofs.LoadCalls.{CountsFurther, LoadsAlike, ReadsDue, may_further, reads_behind, text_anyhow}
 
@@ -235,12 +235,8 @@ module _ (given : Given) (request : Request) (asked : request_of given.words giv
       ∙ ap (λ first_ones. first_ones ++ read_calls (Some request.config_path) policy ++ read_calls due exceptions_file ++ read_calls (metadata_due given own) None ++ [])
       (ap (λ paths. look_calls paths looks) (looked-at given request asked))
       ∙ append-nil (looked ++ read_calls (Some request.config_path) policy ++ read_calls due exceptions_file ++ read_calls (metadata_due given own) None)
-      ∙ ap (λ own_calls. looked ++ read_calls (Some request.config_path) policy ++ read_calls due exceptions_file ++ own_calls) (nothing (metadata_due given own))
+      ∙ ap (λ own_calls. looked ++ read_calls (Some request.config_path) policy ++ read_calls due exceptions_file ++ own_calls) (no_read (metadata_due given own))
       ∙ append-nil (looked ++ read_calls (Some request.config_path) policy ++ read_calls due exceptions_file)
-    where
-      nothing : (due : Option (List ℕ)) → read_calls due None ≡ []
-      nothing None = refl
-      nothing (Some path) = refl
 
   -- the policy's file may have been read
   pub policy_part : (answer : Option Answered) → LoadsInPart given begun looks (look_calls (candidates Exceptions (manifest_in given.cwd)) looks ++ read_calls (Some request.config_path) answer)
@@ -251,14 +247,10 @@ module _ (given : Given) (request : Request) (asked : request_of given.words giv
         exceptions = None;
         calls_are =
             in_part answer None (exceptions_due given own) refl
-            ∙ ap (λ rest. look_calls (candidates Exceptions (manifest_in given.cwd)) looks ++ read_calls (Some request.config_path) answer ++ rest) (nothing (exceptions_due given own))
+            ∙ ap (λ rest. look_calls (candidates Exceptions (manifest_in given.cwd)) looks ++ read_calls (Some request.config_path) answer ++ rest) (no_read (exceptions_due given own))
             ∙ append-nil (look_calls (candidates Exceptions (manifest_in given.cwd)) looks ++ read_calls (Some request.config_path) answer);
         stops = at_policy (looks_ended given request asked begun looks exceptions by answer None None []) refl refl refl refl;
       }
-    where
-      nothing : (due : Option (List ℕ)) → read_calls due None ≡ []
-      nothing None = refl
-      nothing (Some path) = refl
 
   -- and behind it the exceptions file
   pub both_part : (calls more : List Call) (both : MayReadBoth given.lists begun calls more [] (paths_at request.config_path exceptions))

@@ -2,7 +2,7 @@
 use Rattle.std.proofs.Common.{◌≡◌, ◌∙◌, refl, sym, ap, subst, ℕ, Bool, true, false, cond, List, [], ◌∷◌, ◌++◌, map, Option, Some, None, Result, Ok, Err, ◌||◌}
 use Rattle.std.specs.List.{list_any}
 use Rattle.catalog_core.specs.Catalog.{CatalogLists}
-use Rattle.context_core.specs.Asked.{is_uncarried}
+use Rattle.selection_core.specs.Choice.{is_uncarried}
 use Rattle.diag_core.specs.File.{File, id_at}
 use Rattle.diag_core.specs.declared.diagnostic.Diagnostic.{Diagnostic}
 use Rattle.heard_core.specs.declared.fault.ReadFault.{ReadFault}

@@ -27,6 +27,7 @@ use Rattle.valid_policy.specs.declared.policy.ValidConfig.{ValidConfig}
 use Rattle.diag_core.specs.File.{File}
 use Rattle.reads_core.specs.Read.{AreReads}
 use Rattle.gather_core.specs.Calls.{CrateReads, calls_of_all, reads_of_all}
+use Rattle.gather_core.specs.Gathered.{include_of}
 use Rattle.policy_core.specs.Policy.{PolicyFound}
 use Rattle.policy_core.specs.declared.load.LoadedPolicy.{LoadedPolicy}
 use Rattle.load_core.specs.Answer.{Answers, Comes, IsPolicyOf, WriteCounts, load_cause}
@@ -49,7 +50,7 @@ use Rattle.deny_run.specs.Hearing.{Looks, look_failed, nowhere, at, unended, IsR
 use Rattle.deny_run.specs.Report.{HaveTurns, IsAnsweredBy, IsGivenUp, IsRefusal, paths_at}
 use Rattle.deny_run.specs.Report.{at_crates, at_looks}
 use Rattle.deny_run.specs.Script.{WritesLoad, plain_log, told_before, told_of}
-use Rattle.deny_run.specs.Selection.{choice_by, choice_in, included_by, included_in, Refuses}
+use Rattle.deny_run.specs.Selection.{choice_by, choice_in, included_in, Refuses}
 use Rattle.deny_run.specs.Steps.{AreCheckedInPart, ChecksAt, HasNoCrates, IsAfterLoad, IsCheckGivenUp, IsChecked, IsCheckedAt, report_with}
 use Rattle.deny_run.specs.Words.{request_of}
 use Rattle.deny_run.proofs.AnswerLemmas.{IsFree, first_of, given_up, is_reported, refused_first, up_without}
@@ -201,8 +202,8 @@ same_paths paths path is = ap (λ own. let it : PolicyPaths = record { policy = 
 same_choice : (found : PolicyFound) (loaded : LoadedPolicy) → IsPolicyOf found loaded → choice_by loaded.graph.exclude ≡ choice_in found
 same_choice found loaded is = ap (λ graph. choice_by graph.exclude) is.graph
 
-same_flags : (found : PolicyFound) (loaded : LoadedPolicy) → IsPolicyOf found loaded → included_by loaded.licenses ≡ included_in found
-same_flags found loaded is = ap (λ (one : ValidConfig). included_by one) is.licenses.rest
+same_flags : (found : PolicyFound) (loaded : LoadedPolicy) → IsPolicyOf found loaded → include_of loaded.licenses ≡ included_in found
+same_flags found loaded is = ap (λ (one : ValidConfig). include_of one) is.licenses.rest
 
 module _ (given : Given) (request : Request) (asked : request_of given.words given.cwd ≡ Some request) (exceptions : Option (List ℕ)) (begun mid : ℕ) (told middle : Option Content)
     (old between calls : List Call) (heard : LoadHeard) (ended : LoadEnded given request exceptions begun mid heard calls) (made : Made told middle begun mid old between calls)
@@ -320,7 +321,7 @@ module _ (given : Given) (request : Request) (asked : request_of given.words giv
             ordered = valid.licenses;
             checked = part.checked;
             selected = subst (λ include. IsListOf part.graph (Selected part.graph (choice_in found) include) part.checked) (same_flags found policy valid)
-                (subst (λ choice. IsListOf part.graph (Selected part.graph choice (included_by policy.licenses)) part.checked) (same_choice found policy valid) part.selected);
+                (subst (λ choice. IsListOf part.graph (Selected part.graph choice (include_of policy.licenses)) part.checked) (same_choice found policy valid) part.selected);
             turns = subst (λ files. HaveTurns (scanner_in given policy.licenses) policy.licenses files part.checked hearing.crates part.lost) (sym (table_at (Some part.answer) part.crates))
                 (subst (λ crates. HaveTurns (scanner_in given policy.licenses) policy.licenses loaded.files part.checked crates part.lost) (sym (ended.crates_are (Some part.answer) part.crates)) part.turns);
           });

@@ -161,13 +161,13 @@ module _ (given : Given) (tree : TreeSeen) (counts : FaultCounts) (old : Written
   -- the crates that are checked by what was heard have all had their turns
   all_turns : (hearing : RunHearing) → IsReport given hearing report → AreChecking given hearing []
   all_turns hearing is = record {
-    found = record { request = is.asked.request; policy = is.asked.policy; graph = is.asked.graph };
-    is = found_of-from_Asks given hearing is.asked is.asks;
+    found = record { request = is.verdicts.asked.request; policy = is.verdicts.asked.policy; graph = is.verdicts.asked.graph };
+    is = found_of-from_Asks given hearing is.verdicts.asked is.verdicts.asks;
     policy = report.policy;
-    ordered = is.gives.policy;
-    checked = is.asked.crates;
-    selected = is.asks.selected;
-    turns = record { earlier = hearing.crates; own = is.own; ends = inl (refl, refl); among = ([], sym is.gives.crates ∙ sym (append-nil (crates_heard hearing))) };
+    ordered = is.verdicts.gives.policy;
+    checked = is.verdicts.asked.crates;
+    selected = is.verdicts.asks.selected;
+    turns = record { earlier = hearing.crates; own = is.own; ends = inl (refl, refl); among = ([], sym is.verdicts.gives.crates ∙ sym (append-nil (crates_heard hearing))) };
   }
 
   report_up : (hearing : RunHearing) → IsRunHearing given tree hearing → IsReport given hearing report → IsGivenUp given tree hearing
@@ -175,7 +175,7 @@ module _ (given : Given) (tree : TreeSeen) (counts : FaultCounts) (old : Written
     begun = heard.begun;
     lost = [];
     made = subst (MadeOn tree) (sym (append-nil (calls_of given hearing))) heard.made;
-    stops = at_crates is.due (all_turns hearing is);
+    stops = at_crates is.verdicts.due (all_turns hearing is);
   }
 
   -- a refusal that comes behind the report

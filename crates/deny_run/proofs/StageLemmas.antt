@@ -2,6 +2,7 @@
 use Rattle.std.proofs.Common.{◌≡◌, ◌∙◌, ◌⊎◌, inl, inr, refl, sym, ap, subst, ℕ, List, [], ◌∷◌, ◌++◌, map, append-nil, append_assoc, Option, Some, Result, Ok, Err}
 use Rattle.std.proofs.lemmas.Grind.{flat_map-append}
 use Rattle.std.proofs.lemmas.List.{map-append}
+use Rattle.std.proofs.lemmas.List.Elements.{All-nil}
 use Rattle.std.specs.Prelude.{All}
 use Rattle.tree_core.specs.Call.{Answered, Call}
 use Rattle.tree_core.specs.Content.{Content}
@@ -25,11 +26,10 @@ use Rattle.valid_policy.specs.View.{policy_of}
 use Rattle.valid_policy.specs.declared.policy.ValidConfig.{ValidConfig}
 use Rattle.check_core.specs.Labels.{VerdictPoints}
 use Rattle.check_core.specs.Summary.{all_asked}
-use Rattle.gather_core.specs.Calls as gather
-use Rattle.gather_core.specs.Calls.{AreTurnsBy, AreTurnsByReads, CrateReads, StarvesGathering, calls_of_all, turn_by}
+use Rattle.gather_core.specs.Calls.{AreTurnsByReads, CrateReads, HasOwnReads, StarvesGathering, calls_of_all, reads_of_all, turns_of}
 use Rattle.gather_core.specs.Entries.{entries_of}
-use Rattle.gather_core.specs.Gathered.{krate_of}
-use Rattle.gather_core.specs.Turns.{files_behind}
+use Rattle.gather_core.specs.Gathered.{include_of, krate_of}
+use Rattle.gather_core.proofs.CrateTurns.{krates_told, own_turns}
 use Rattle.gather_core.specs.declared.summary.KrateLicense.{KrateLicense}
 use Rattle.policy_core.specs.declared.load.LoadedPolicy.{LoadedPolicy}
 use Rattle.workspace_core.specs.Krates.{AreFrom, GathersBy, IsCarried}
@@ -37,32 +37,14 @@ use Rattle.workspace_core.specs.declared.error.KratesError.{KratesError}
 use Rattle.workspace_core.specs.declared.error.KratesError.TheVariants as krates
 use Rattle.deny_run.specs.declared.check.CheckedCrates.{CheckedCrates}
 use Rattle.deny_run.specs.Hearing.{MadeOn, TreeSeen, seen}
-use Rattle.deny_run.specs.Selection.{choice_by, included_by}
+use Rattle.deny_run.specs.Selection.{choice_by}
 use Rattle.deny_run.specs.Steps.{HasNoCrates, IsCheckCut, IsCheckGivenUp, IsCheckOf, IsCheckedAt, IsCheckedOn, NoCratesBy}
 
 -- ---- the crates that were gathered
 
 module _ (scanner : Scanner) (policy : ValidConfig) where
-  -- each of them had its own reads
-  turns_own : (files : List File) (crates : List CrateReads) (licenses : List KrateLicense) (last : List File) → AreTurnsBy scanner policy.file_id (entries_of policy) files crates licenses last
-      → gather.AreOwnReads scanner policy.file_id (entries_of policy) files crates
-  turns_own files [] [] last turns = tt
-  turns_own files [] (license ∷ licenses) last turns = absurd turns
-  turns_own files (one ∷ crates) [] last turns = absurd turns
-  turns_own files (one ∷ crates) (license ∷ licenses) last turns =
-      (turns.0.recorded_are ∙ turns.0.turn.read, turns_own (files_behind (turn_by scanner policy.file_id (entries_of policy) files one)) crates licenses last turns.1)
-
-  turns_krates : (files : List File) (crates : List CrateReads) (licenses : List KrateLicense) (last : List File) → AreTurnsBy scanner policy.file_id (entries_of policy) files crates licenses last
-      → map (λ (one : CrateReads). one.krate) crates ≡ map krate_of licenses
-  turns_krates files [] [] last turns = refl
-  turns_krates files [] (license ∷ licenses) last turns = absurd turns
-  turns_krates files (one ∷ crates) [] last turns = absurd turns
-  turns_krates files (one ∷ crates) (license ∷ licenses) last turns =
-      ap (λ krate. krate ∷ map (λ (own : CrateReads). own.krate) crates) turns.0.krate
-      ∙ ap (λ rest. krate_of license ∷ rest) (turns_krates (files_behind (turn_by scanner policy.file_id (entries_of policy) files one)) crates licenses last turns.1)
-
   module _ (tree : TreeSeen) (files last : List File) (graph : Graph) (choice : Choice) (licenses : List KrateLicense)
-      (selected : IsListOf graph (Selected graph choice (included_by policy)) (map krate_of licenses))
+      (selected : IsListOf graph (Selected graph choice (include_of policy)) (map krate_of licenses))
       (reads : AreTurnsByReads tree.told tree.tells tree.count_before tree.count_after tree.calls_before tree.calls_after scanner policy.file_id (entries_of policy) files licenses last) where
     -- they were checked
     pub checked_on : (checked : CheckedCrates) → IsCheckOf policy licenses checked → All (VerdictPoints last (policy_of policy)) (all_asked licenses)
@@ -84,16 +66,16 @@ module _ (scanner : Scanner) (policy : ValidConfig) where
       selected = selected;
       turns = record {
         earlier = reads.crates;
-        own = turns_own files reads.crates licenses last reads.turns;
+        own = own_turns files (turns_of scanner policy.file_id (entries_of policy) files reads.crates) licenses last reads.turns;
         ends = inl (refl, refl);
-        among = ([], sym (turns_krates files reads.crates licenses last reads.turns) ∙ sym (append-nil (map (λ (one : CrateReads). one.krate) reads.crates)));
+        among = ([], sym (krates_told scanner policy.file_id (entries_of policy) files reads.crates licenses last reads.turns) ∙ sym (append-nil (map (λ (one : CrateReads). one.krate) reads.crates)));
       };
     }
 
   -- memory was wanting before they were all gathered
   module _ (tree : TreeSeen) (files : List File) (graph : Graph) (choice : Choice) (chosen : Chosen) (is : IsChosen graph choice chosen) where
     abbrev reached : List Record
-    reached = selected_in (included_by policy) chosen
+    reached = selected_in (include_of policy) chosen
 
     none_cut : MadeOn tree [] → IsCheckCut scanner policy tree files graph choice
     none_cut made = record {
@@ -101,8 +83,8 @@ module _ (scanner : Scanner) (policy : ValidConfig) where
       lost = [];
       made = made;
       checked = reached;
-      selected = selected-lists graph choice chosen is (included_by policy);
-      turns = record { earlier = []; own = tt; ends = inl (refl, refl); among = (reached, refl) };
+      selected = selected-lists graph choice chosen is (include_of policy);
+      turns = record { earlier = []; own = All-nil HasOwnReads; ends = inl (refl, refl); among = (reached, refl) };
     }
 
     some_cut : StarvesGathering tree.told tree.tells tree.count_before tree.count_after tree.calls_before tree.calls_after scanner policy.file_id (entries_of policy) files reached
@@ -120,7 +102,7 @@ module _ (scanner : Scanner) (policy : ValidConfig) where
           lost = lost;
           made = made_as calls_are starves.made;
           checked = reached;
-          selected = selected-lists graph choice chosen is (included_by policy);
+          selected = selected-lists graph choice chosen is (include_of policy);
           turns = record {
             earlier = starves.crates;
             own = starves.own;
@@ -163,7 +145,7 @@ module _ (scanner : Scanner) (policy : LoadedPolicy) (told middle tells : Option
           made = made_joined (made_these made gathers.read.made) own.made;
           graph = from.graph;
           tells = record { heard = gathers.heard; hears = hears; tells = from.tells; rooted = from.rooted };
-          records = subst (λ n. AreReads n (gather.reads_of_all own.crates)) mid_is own.records;
+          records = subst (λ n. AreReads n (reads_of_all own.crates)) mid_is own.records;
           is = own.is;
         }
 

@@ -1,10 +1,10 @@
 -- The refusals of steps and their counts.
-use Rattle.std.proofs.Common.{ℕ, ◌≤◌, ◌⊎◌, List, [], Option, inl, inr, arith, subst, sym}
+use Rattle.std.proofs.Common.{ℕ, ◌≤◌, ◌⊎◌, List, [], Option, inl, inr, arith}
 use Rattle.tree_core.specs.Call.{Call}
 use Rattle.tree_core.specs.Content.{Content}
 use Rattle.tree_core.specs.Faults.{Rose}
-use Rattle.tree_core.specs.Hearing.{Made, MadeSome}
-use Rattle.tree_core.proofs.MadeLemmas.{faults_after-later}
+use Rattle.tree_core.specs.Hearing.{Made}
+use Rattle.tree_core.proofs.MadeLemmas.{made-later}
 use Rattle.diag_core.specs.File.{File}
 use Rattle.graph_core.specs.Krate.{Record}
 use Rattle.gather_core.specs.Calls.{StarvesGathering}
@@ -17,18 +17,11 @@ use Rattle.deny_run.specs.Error.{cause_of, error_of_print}
 
 -- ---- counts
 
--- calls never lower the count
-pub calls_later : {held tells : Option Content} {before after : ℕ} {old new calls : List Call} → Made held tells before after old new calls → before ≤ after
-calls_later {held} {tells} {before} {after} {old} {new} {calls} made = subst (λ count. before ≤ count) (sym made.counts) (faults_after-later before calls)
-
-pub made_later : {held tells : Option Content} {before after : ℕ} {old new : List Call} → MadeSome held tells before after old new → before ≤ after
-made_later some = calls_later some.made
-
--- also where memory was wanting for gathering
+-- calls never lower the count, also where memory was wanting for gathering
 pub gathering_later : {held tells : Option Content} {before after : ℕ} {old new : List Call} {scanner : Scanner} {policy : ℕ} {all : List Entry} {files : List File} {krates : List Record}
     → Made held tells before after old new [] ⊎ StarvesGathering held tells before after old new scanner policy all files krates → before ≤ after
-gathering_later (inl made) = calls_later made
-gathering_later (inr starves) = calls_later starves.made
+gathering_later (inl made) = made-later made
+gathering_later (inr starves) = made-later starves.made
 
 rose_wider : (begun before after : ℕ) → begun ≤ before → Rose before after → Rose begun after
 rose_wider begun before after first (inl less) = inl (omega arith)

@@ -27,7 +27,7 @@ use Rattle.deny_run.specs.Error.{cause_of, MayEndLawful}
 use Rattle.deny_run.specs.Given.{Given}
 use Rattle.deny_run.specs.Heard.{HearsAllDue, IsRunHearing, calls_of}
 use Rattle.deny_run.specs.Hearing.{RunHearing, TreeSeen}
-use Rattle.deny_run.specs.Report.{Asked, Asks, IsReport}
+use Rattle.deny_run.specs.Report.{Asked, Asks, TellsVerdicts}
 
 -- the run ended with a report, or for want of memory
 abbrev pub EndsInReport : Ended → Type 0
@@ -40,14 +40,14 @@ TellsAgainst outcome = (report : Report) → outcome.ended ≡ Checked report �
 
 -- ---- by what was read
 
--- the report is the one that is asked for by what was read, and no other call was made
-pub record IsReportRead (given : Given) (tree : TreeSeen) (report : Report) : Type 0 where
+-- the report gives the verdicts that are asked for by what was read, and no other call was made
+pub record HasVerdictsRead (given : Given) (tree : TreeSeen) (report : Report) : Type 0 where
   pub hearing : RunHearing
   pub heard : IsRunHearing given tree hearing
-  pub is : IsReport given hearing report
+  pub tells : TellsVerdicts given hearing report
 
 pub record HeadlineRead (given : Given) (tree : TreeSeen) (counts : FaultCounts) (outcome : Outcome) : Type 0 where
-  pub verdicts : (report : Report) → outcome.ended ≡ Checked report → IsReportRead given tree report
+  pub verdicts : (report : Report) → outcome.ended ≡ Checked report → HasVerdictsRead given tree report
   pub status : TellsAgainst outcome
   pub lawful : (hearing : RunHearing) (asked : Asked) → IsRunHearing given tree hearing → HearsAllDue given hearing → Asks given hearing asked
       → IsWithoutFault counts → EndsInReport outcome.ended
@@ -64,16 +64,16 @@ pub record IsHeardOf (given : Given) (content : Content) (count : ℕ) (hearing 
   pub due : HearsAllDue given hearing
   pub tells : All (Tells content) (calls_of given hearing)
 
--- the report is the one that is asked for by calls that say what the content has, but for those that failed, each of which raised the
--- count of faults
-pub record IsReportIn (given : Given) (content : Content) (before after : ℕ) (report : Report) : Type 0 where
+-- the report gives the verdicts that are asked for by calls that say what the content has, but for those that failed, each of which
+-- raised the count of faults
+pub record HasVerdictsIn (given : Given) (content : Content) (before after : ℕ) (report : Report) : Type 0 where
   pub hearing : RunHearing
   pub begun : hearing.begun ≡ before
   pub counts : after ≡ faults_after before (calls_of given hearing)
   pub says : All (Says content) (calls_of given hearing)
-  pub is : IsReport given hearing report
+  pub tells : TellsVerdicts given hearing report
 
 pub record Headline (given : Given) (content : Content) (counts : FaultCounts) (outcome : Outcome) : Type 0 where
-  pub verdicts : (report : Report) → outcome.ended ≡ Checked report → IsReportIn given content counts.tree_before counts.tree_after report
+  pub verdicts : (report : Report) → outcome.ended ≡ Checked report → HasVerdictsIn given content counts.tree_before counts.tree_after report
   pub status : TellsAgainst outcome
   pub lawful : (hearing : RunHearing) (asked : Asked) → IsHeardOf given content counts.tree_before hearing → Asks given hearing asked → IsWithoutFault counts → EndsInReport outcome.ended

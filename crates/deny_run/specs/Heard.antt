@@ -1,29 +1,32 @@
 -- What is heard of the files, what the words and the files ask to check, and which calls that takes.
-use Rattle.std.specs.Prelude.{◌≡◌, ◌≢◌, ℕ, List, [], ◌∷◌, ◌++◌, codes, Option, Some, None, option_map, Result, Ok, Err}
+use Rattle.std.specs.Prelude.{◌≡◌, ◌≢◌, ℕ, true, List, [], ◌++◌, map, codes, Option, Some, None, IfSome, option_map, Result, Ok, Err}
 use Rattle.std.specs.Option.{option_and_then}
 use Rattle.deny_text.specs.Path.{join_of}
 use Rattle.tree_core.specs.Call.{Call}
 use Rattle.tree_core.specs.Trace.{faults_after}
+use Rattle.tree_core.specs.declared.reads.ReadKind.TheVariants.{Manifest}
+use Rattle.tree_core.specs.declared.reads.ReadRecord.{ReadRecord}
 use Rattle.catalog_core.specs.Catalog.{CatalogLists}
 use Rattle.spdx_core.specs.Reading.{ExpressionView}
+use Rattle.graph_core.specs.Krate.{Record}
 use Rattle.graph_core.specs.Metadata.{Graph}
+use Rattle.reads_core.specs.Read.{records_in as recorded}
 use Rattle.heard_core.specs.declared.fault.ReadFault.{ReadFault}
 use Rattle.heard_core.specs.declared.fault.ReadFault.TheVariants.{Failed}
 use Rattle.search_core.specs.Search.{candidates}
 use Rattle.search_core.specs.declared.search.Sought.TheVariants.{Exceptions}
 use Rattle.workspace_core.specs.declared.error.KratesError.{KratesError}
 use Rattle.workspace_core.specs.Krates.{graph_in}
-use Rattle.pack_core.specs.Ears.{ears_by}
+use Rattle.pack_core.specs.Ears.{Ears, ears_by}
 use Rattle.expression_core.specs.Scanned.{Scanner}
-use Rattle.priority_core.specs.Priority.{Answer, priority_of}
+use Rattle.priority_core.specs.Clarification.{Clarification}
+use Rattle.priority_core.specs.Priority.{Answer, is_nothing, priority_of, records_of}
 use Rattle.diag_core.specs.File.{File, id_at}
 use Rattle.valid_policy.specs.declared.policy.ValidConfig.{ValidConfig}
-use Rattle.gather_core.specs.Calls as gather
-use Rattle.gather_core.specs.Calls.{CrateReads, calls_of_all, turn_by}
+use Rattle.gather_core.specs.Calls.{CrateReads, CrateTurn, calls_of_all, turns_of}
 use Rattle.gather_core.specs.Entries.{clarifications_of, entries_of}
 use Rattle.gather_core.specs.Gathered.{threshold_of}
-use Rattle.gather_core.specs.Turns.{Turn, files_behind, findings_in, info_in, notes_in}
-use Rattle.check_core.specs.Summary.{told_in}
+use Rattle.gather_core.specs.Turns.{Turn, asks_manifest, findings_in, in_order, info_in, notes_in}
 use Rattle.check_core.specs.Turns.{Asked as LookedAt}
 use Rattle.policy_config.specs.declared.root.RootConfig.{RootConfig}
 use Rattle.policy_core.specs.Policy.{PolicyFound}
@@ -252,6 +255,23 @@ priority_heard given policy one =
 abbrev pub expression_in : Option Answer → Option ExpressionView
 expression_in answer = option_map (λ own. own.expression) answer
 
+-- ---- the files of a crate
+
+-- the read of a crate's manifest, which is asked for where no clarification holds and the field is not null
+pub record IsManifestRead (clarifications : List Clarification) (krate : Record) (ears : Ears) (read : ReadRecord) : Type 0 where
+  pub asked : asks_manifest clarifications krate ears ≡ true
+  pub kind : read.kind ≡ Manifest
+  pub path : read.path ≡ krate.manifest_path
+
+-- The records of a crate's reads are those that its licence asks for by what their answers let hear, each file once, and perhaps
+-- the one of its manifest.
+pub record ReadsItsFiles (given : Given) (policy : ValidConfig) (one : CrateReads) : Type 0 where
+  pub manifest : Option ReadRecord
+  pub of_manifest : IfSome manifest (IsManifestRead (clarifications_of one.krate (entries_of policy)) one.krate (ears_by one.reads))
+  pub are : recorded one.reads
+      ≡ in_order (is_nothing (clarifications_of one.krate (entries_of policy))) manifest
+      (records_of (scanner_in given policy) (clarifications_of one.krate (entries_of policy)) one.krate (ears_by one.reads))
+
 -- ---- turn after turn
 
 -- the file table once the policy was loaded
@@ -262,27 +282,15 @@ files_in (Err error) = []
 abbrev pub files_loaded : Given → RunHearing → List File
 files_loaded given hearing = files_in (loaded_of given hearing)
 
--- the turn of a crate, by its own reads, with the table that the crates before have left
-abbrev pub turn_heard : Given → ValidConfig → List File → CrateReads → Turn
-turn_heard given policy files one = turn_by (scanner_in given policy) policy.file_id (entries_of policy) files one
-
--- the table behind all crates
-abbrev pub files_behind_all : Given → ValidConfig → List File → List CrateReads → List File
-files_behind_all given policy files crates = gather.files_behind_all (scanner_in given policy) policy.file_id (entries_of policy) files crates
-
--- Crate after crate, the records of its reads are those that its turn asks for: by its clarifications, its field and its files,
--- and of its manifest where the field is to be located.
-abbrev pub AreOwnReads : Given → ValidConfig → List File → List CrateReads → Type 0
-AreOwnReads given policy files crates = gather.AreOwnReads (scanner_in given policy) policy.file_id (entries_of policy) files crates
+-- the turns of the crates, one after another, each by its own reads
+abbrev pub turns_in : Given → RunHearing → ValidConfig → List CrateTurn
+turns_in given hearing policy = turns_of (scanner_in given policy) policy.file_id (entries_of policy) (files_loaded given hearing) hearing.crates
 
 -- ---- what the check looks at
 
--- a crate, its expression with its place and its source, and what was found and noted of it, by its turn
+-- a crate, its licence, and what was found and noted of it, by its turn
 abbrev pub looked_at : Turn → LookedAt
-looked_at turn = record { krate = turn.krate; told = told_in (info_in turn); gathered = findings_in turn; notes = notes_in turn }
+looked_at turn = record { krate = turn.krate; info = info_in turn; gathered = findings_in turn; notes = notes_in turn }
 
-abbrev pub all_looked_at : Given → ValidConfig → List File → List CrateReads → List LookedAt
-all_looked_at given policy files [] = []
-all_looked_at given policy files (one ∷ crates) =
-    looked_at (turn_heard given policy files one)
-    ∷ all_looked_at given policy (files_behind (turn_heard given policy files one)) crates
+abbrev pub all_looked_at : List CrateTurn → List LookedAt
+all_looked_at turns = map (λ own. looked_at own.turn) turns

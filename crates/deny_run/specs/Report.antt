@@ -1,5 +1,5 @@
 -- When a report is the one that the words and the files ask for.
-use Rattle.std.specs.Prelude.{◌≡◌, ◌⊎◌, ℕ, List, [], ◌∷◌, ◌++◌, map, Option, Some, None, Result, Ok, Err, IfOk, ⊤, All}
+use Rattle.std.specs.Prelude.{◌≡◌, ◌⊎◌, ℕ, List, [], ◌∷◌, ◌++◌, map, Option, Some, None, Result, Ok, Err, IfOk, All}
 use Rattle.std.specs.List.{AllZip}
 use Rattle.std.specs.Option.{option_to_list}
 use Rattle.tree_core.specs.Call.{Call}
@@ -18,15 +18,14 @@ use Rattle.certificate_core.specs.declared.verdict.Verdict.{Verdict}
 use Rattle.priority_core.specs.Priority.{Answer, folder_of}
 use Rattle.diag_core.specs.File.{File}
 use Rattle.expression_core.specs.Scanned.{Scanner}
-use Rattle.gather_core.specs.Calls as gather
-use Rattle.gather_core.specs.Calls.{CrateReads, reads_of_all, turn_by}
+use Rattle.gather_core.specs.Calls.{CrateReads, CrateTurn, HasOwnReads, files_behind_all, reads_of_all, turn_by, turns_of}
 use Rattle.gather_core.specs.Entries.{entries_of}
 use Rattle.gather_core.specs.Told.{notes_of, source_told}
-use Rattle.gather_core.specs.Turns.{IsCutOut, files_behind, info_in, records_in}
-use Rattle.gather_core.specs.declared.license.LicenseExprSource.{LicenseExprSource}
-use Rattle.gather_core.specs.declared.license.LicenseInfo.{LicenseInfo}
-use Rattle.gather_core.specs.declared.license.LicenseInfo.TheVariants.{SpdxExpression}
-use Rattle.gather_core.specs.declared.license.LicenseInfo.TheVariants as license_info
+use Rattle.gather_core.specs.Turns.{IsCutOut, info_in, records_in}
+use Rattle.finding_core.specs.declared.license.LicenseExprSource.{LicenseExprSource}
+use Rattle.finding_core.specs.declared.license.LicenseInfo.{LicenseInfo}
+use Rattle.finding_core.specs.declared.license.LicenseInfo.TheVariants.{SpdxExpression}
+use Rattle.finding_core.specs.declared.license.LicenseInfo.TheVariants as license_info
 use Rattle.check_core.specs.Check.{AreVerdicts, findings_of}
 use Rattle.check_core.specs.Labels.{PackLies, VerdictPoints}
 use Rattle.check_core.specs.Verdicts.{IsVerdict}
@@ -41,7 +40,7 @@ use Rattle.deny_run.specs.declared.words.Request.{Request}
 use Rattle.deny_run.specs.Counts.{counts_of}
 use Rattle.deny_run.specs.Error.{cause_of}
 use Rattle.deny_run.specs.Given.{Given}
-use Rattle.deny_run.specs.Heard.{AreOwnReads, Found, HearsAllDue, HearsExceptions, HearsPolicy, IsRunHearing, LooksEnd, all_looked_at, calls_of, count_metadata, exceptions_in, expression_in, files_behind_all, files_loaded, found_of, load_heard, metadata_heard, priority_heard, scanner_in, turn_heard}
+use Rattle.deny_run.specs.Heard.{Found, HearsAllDue, HearsExceptions, HearsPolicy, IsRunHearing, LooksEnd, ReadsItsFiles, all_looked_at, calls_of, count_metadata, exceptions_in, expression_in, files_loaded, found_of, load_heard, metadata_heard, priority_heard, scanner_in, turns_in}
 use Rattle.deny_run.specs.Hearing.{MadeOn, RunHearing, TreeSeen, crates_heard}
 use Rattle.deny_run.specs.Policy.{IsPolicyAt}
 use Rattle.deny_run.specs.Selection.{choice_in, AreSelected, Refuses}
@@ -105,14 +104,10 @@ abbrev pub source_of : LicenseInfo → Option LicenseExprSource
 source_of (SpdxExpression expression info) = Some info.source
 source_of license_info.Unlicensed = None
 
--- Crate after crate, the report tells the source that the crate's turn says: of a field with the place where its manifest
--- writes it, where that counts.
-abbrev pub AreSourcesTold : Given → ValidConfig → List File → List CrateReads → List CrateReport → Type 0
-AreSourcesTold given policy files [] [] = ⊤
-AreSourcesTold given policy files (one ∷ crates) (report ∷ reports) =
-    (report.source ≡ source_of (info_in (turn_heard given policy files one)))
-    × AreSourcesTold given policy (files_behind (turn_heard given policy files one)) crates reports
-AreSourcesTold given policy files _ _ = ⊥
+-- The report on a crate tells the source that its turn says: of a field with the place where its manifest writes it, where that
+-- counts.
+abbrev pub TellsSource : CrateTurn → CrateReport → Type 0
+TellsSource own report = report.source ≡ source_of (info_in own.turn)
 
 -- The policy that was found is reported, its lists put in order. Each crate that is checked has its one report by it, in the
 -- same order, and the findings are counted.
@@ -126,37 +121,36 @@ pub record GivesVerdicts (given : Given) (hearing : RunHearing) (asked : Asked) 
 abbrev pub verdicts_told : Report → List Verdict
 verdicts_told report = map (λ crate. crate.verdict) report.crates
 
--- Crate after crate, the labels of what is found on the way to its expression cut out what they say, in the table at the end.
-abbrev pub AreLabelsCut : Given → ValidConfig → List File → List CrateReads → List File → Type 0
-AreLabelsCut given policy files [] last = ⊤
-AreLabelsCut given policy files (one ∷ crates) last =
-    IsCutOut last (turn_heard given policy files one)
-    × AreLabelsCut given policy (files_behind (turn_heard given policy files one)) crates last
-
--- The verdicts are those on what the check has looked at; what was found of each crate, in order, and then of the policy; and
--- the table that the crates have left. The labels of a verdict cut out the expression and each of its terms there, or are the
--- whole string that the policy wrote with escapes.
-pub record TellsFindings (given : Given) (hearing : RunHearing) (report : Report) : Type 0 where
-  pub are : AreVerdicts (policy_of report.policy) (all_looked_at given report.policy (files_loaded given hearing) hearing.crates) (verdicts_told report)
-  pub findings : report.findings
-      ≡ findings_of report.policy (all_looked_at given report.policy (files_loaded given hearing) hearing.crates) (verdicts_told report)
-  pub files : report.files ≡ files_behind_all given report.policy (files_loaded given hearing) hearing.crates
-  pub cuts : AreLabelsCut given report.policy (files_loaded given hearing) hearing.crates report.files
-  pub terms : All (VerdictPoints report.files (policy_of report.policy)) (all_looked_at given report.policy (files_loaded given hearing) hearing.crates)
+-- The verdicts are those on what the check has looked at, turn after turn; what was found of each crate, in order, and then of
+-- the policy; and the table that the turns have left, of what was loaded. The labels of what is found on the way to an expression
+-- cut out what they say there; those of a verdict the expression and each of its terms, or the whole string that the policy wrote
+-- with escapes.
+pub record TellsFindings (loaded : List File) (turns : List CrateTurn) (report : Report) : Type 0 where
+  pub are : AreVerdicts (policy_of report.policy) (all_looked_at turns) (verdicts_told report)
+  pub findings : report.findings ≡ findings_of report.policy (all_looked_at turns) (verdicts_told report)
+  pub files : report.files ≡ files_behind_all loaded turns
+  pub cuts : All (λ own. IsCutOut report.files own.turn) turns
+  pub terms : All (VerdictPoints report.files (policy_of report.policy)) (all_looked_at turns)
 
 -- ---- what is answered
 
--- The report is what is asked for by what was heard: each read that was due was made; the records of the crates' reads tell what
--- their answers let hear, and they are those that the crates' turns ask for.
-pub record IsReport (given : Given) (hearing : RunHearing) (report : Report) : Type 0 where
+-- What was heard asks for a check, and the report gives its verdicts: each read that was due was made; the records of the crates'
+-- reads tell what their answers let hear; and each crate's own files were read, once, and no other file for it.
+pub record TellsVerdicts (given : Given) (hearing : RunHearing) (report : Report) : Type 0 where
   pub due : HearsAllDue given hearing
   pub asked : Asked
   pub asks : Asks given hearing asked
   pub records : AreReads (count_metadata given hearing) (reads_of_all hearing.crates)
-  pub own : AreOwnReads given report.policy (files_loaded given hearing) hearing.crates
-  pub sources : AreSourcesTold given report.policy (files_loaded given hearing) hearing.crates report.crates
+  pub files : All (ReadsItsFiles given report.policy) hearing.crates
   pub gives : GivesVerdicts given hearing asked report
-  pub tells : TellsFindings given hearing report
+
+-- The report is what is asked for by what was heard: it gives the verdicts; the crates' reads are those that their turns ask for,
+-- with the manifests that the file table lacks; and it tells the sources of the expressions, and what was found.
+pub record IsReport (given : Given) (hearing : RunHearing) (report : Report) : Type 0 where
+  pub verdicts : TellsVerdicts given hearing report
+  pub own : All HasOwnReads (turns_in given hearing report.policy)
+  pub sources : AllZip TellsSource (turns_in given hearing report.policy) report.crates
+  pub tells : TellsFindings (files_loaded given hearing) (turns_in given hearing report.policy) report
 
 -- The refusal is the first one, by what was heard up to there.
 pub record IsRefusal (given : Given) (hearing : RunHearing) (error : Error) : Type 0 where
@@ -174,12 +168,12 @@ pub record IsTurnBegun (scanner : Scanner) (policy : ValidConfig) (files : List 
   pub crates_are : crates ≡ earlier ++ one ∷ []
   pub lost_is : lost ≡ call_lost (folder_of one.krate) next
   pub front : IsFront (recorded one.reads ++ option_to_list next)
-      (records_in (turn_by scanner policy.file_id (entries_of policy) (gather.files_behind_all scanner policy.file_id (entries_of policy) files earlier) one))
+      (records_in (turn_by scanner policy.file_id (entries_of policy) (files_behind_all files (turns_of scanner policy.file_id (entries_of policy) files earlier)) one).turn)
 
 -- The first ones of these crates had their turns, from a file table on, each by its own reads, and perhaps one more was begun.
 pub record HaveTurns (scanner : Scanner) (policy : ValidConfig) (files : List File) (checked : List Record) (crates : List CrateReads) (lost : List Call) : Type 0 where
   pub earlier : List CrateReads
-  pub own : gather.AreOwnReads scanner policy.file_id (entries_of policy) files earlier
+  pub own : All HasOwnReads (turns_of scanner policy.file_id (entries_of policy) files earlier)
   pub ends : ((crates ≡ earlier) × (lost ≡ [])) ⊎ IsTurnBegun scanner policy files earlier crates lost
   pub among : IsFront (map (λ (one : CrateReads). one.krate) crates) checked
 

@@ -9,7 +9,7 @@ use Rattle.selection_core.specs.Listed.{IsListOf}
 use Rattle.selection_core.specs.Roots.{LacksRoots}
 use Rattle.selection_core.specs.Walks.{Selected}
 use Rattle.policy_core.specs.Policy.{PolicyFound}
-use Rattle.valid_policy.specs.declared.policy.ValidConfig.{ValidConfig}
+use Rattle.gather_core.specs.Gathered.{include_of}
 use Rattle.deny_run.specs.declared.error.Error.{Error}
 use Rattle.deny_run.specs.declared.error.Error.TheVariants.{NoRoots}
 use Rattle.deny_run.specs.Heard.{Found}
@@ -24,11 +24,8 @@ abbrev pub choice_in : PolicyFound → Choice
 choice_in policy = choice_by policy.graph.exclude
 
 -- whether crates are checked that only dev dependencies lead to, and those that only build dependencies lead to
-abbrev pub included_by : ValidConfig → Include
-included_by licenses = record { dev = licenses.include_dev; build = licenses.include_build }
-
 abbrev pub included_in : PolicyFound → Include
-included_in policy = included_by policy.licenses
+included_in policy = include_of policy.licenses
 
 -- the crates that are checked, in the order of their ids
 abbrev pub AreSelected : PolicyFound → Graph → List Record → Type 0

@@ -24,12 +24,12 @@ use Rattle.workspace_core.specs.declared.error.KratesError.TheVariants as krates
 use Rattle.expression_core.specs.Scanned.{Scanner}
 use Rattle.valid_policy.specs.View.{policy_of}
 use Rattle.valid_policy.specs.declared.policy.ValidConfig.{ValidConfig}
-use Rattle.gather_core.specs.declared.license.LicenseInfo.{LicenseInfo}
-use Rattle.gather_core.specs.declared.license.LicenseInfo.TheVariants.{SpdxExpression}
-use Rattle.gather_core.specs.declared.license.LicenseInfo.TheVariants as license_info
-use Rattle.gather_core.specs.Calls.{AreTurnsBy, CrateReads, calls_of_all, reads_of_all}
+use Rattle.finding_core.specs.declared.license.LicenseInfo.{LicenseInfo}
+use Rattle.finding_core.specs.declared.license.LicenseInfo.TheVariants.{SpdxExpression}
+use Rattle.finding_core.specs.declared.license.LicenseInfo.TheVariants as license_info
+use Rattle.gather_core.specs.Calls.{AreTurnsBy, CrateReads, calls_of_all, reads_of_all, turns_of}
 use Rattle.gather_core.specs.Entries.{entries_of}
-use Rattle.gather_core.specs.Gathered.{krate_of, threshold_of}
+use Rattle.gather_core.specs.Gathered.{include_of, krate_of, threshold_of}
 use Rattle.gather_core.specs.declared.summary.KrateLicense.{KrateLicense}
 use Rattle.policy_core.specs.declared.load.LoadedPolicy.{LoadedPolicy}
 use Rattle.load_core.specs.declared.loading.PolicyPaths.{PolicyPaths}
@@ -46,7 +46,7 @@ use Rattle.deny_run.specs.Counts.{counts_of}
 use Rattle.deny_run.specs.Heard.{manifest_in}
 use Rattle.deny_run.specs.Hearing.{MadeOn, TreeSeen, read_calls}
 use Rattle.deny_run.specs.Report.{HaveTurns, source_of}
-use Rattle.deny_run.specs.Selection.{choice_by, included_by}
+use Rattle.deny_run.specs.Selection.{choice_by}
 
 -- ---- one crate after another
 
@@ -110,8 +110,8 @@ pub record ArePathsAt (cwd path : List ℕ) (old new : List Call) (paths : Polic
 -- left, and the check of them.
 pub record IsChecked (scanner : Scanner) (policy : ValidConfig) (files last : List File) (graph : Graph) (choice : Choice) (crates : List CrateReads) (checked : CheckedCrates) : Type 0 where
   pub licenses : List KrateLicense
-  pub selected : IsListOf graph (Selected graph choice (included_by policy)) (map krate_of licenses)
-  pub turns : AreTurnsBy scanner policy.file_id (entries_of policy) files crates licenses last
+  pub selected : IsListOf graph (Selected graph choice (include_of policy)) (map krate_of licenses)
+  pub turns : AreTurnsBy files (turns_of scanner policy.file_id (entries_of policy) files crates) licenses last
   pub check : IsCheckOf policy licenses checked
   pub points : All (VerdictPoints last (policy_of policy)) (all_asked licenses)
 
@@ -128,7 +128,7 @@ pub record IsCheckCut (scanner : Scanner) (policy : ValidConfig) (tree : TreeSee
   pub lost : List Call
   pub made : MadeOn tree (calls_of_all crates ++ lost)
   pub checked : List Record
-  pub selected : IsListOf graph (Selected graph choice (included_by policy)) checked
+  pub selected : IsListOf graph (Selected graph choice (include_of policy)) checked
   pub turns : HaveTurns scanner policy files checked crates lost
 
 -- ---- behind the load
@@ -173,7 +173,7 @@ pub record AreCheckedInPart (scanner : Scanner) (policy : LoadedPolicy) (tree : 
   pub graph : Graph
   pub tells : TellsGraph tree begun policy answer graph
   pub checked : List Record
-  pub selected : IsListOf graph (Selected graph (choice_by policy.graph.exclude) (included_by policy.licenses)) checked
+  pub selected : IsListOf graph (Selected graph (choice_by policy.graph.exclude) (include_of policy.licenses)) checked
   pub turns : HaveTurns scanner policy.licenses files checked crates lost
 
 -- memory was wanting: no call was made, or the metadata's read, whatever was answered, or crates had their turns behind it

@@ -1,5 +1,5 @@
 //! The licences of all crates, and the check of them.
-ghost use Rattle.std.specs.Prelude.{◌≡◌, ◌<◌, ◌≤◌, [], None, All, IfOk, OnOk, OnErr};
+ghost use Rattle.std.specs.Prelude.{◌≡◌, ◌≤◌, All, IfOk, OnErr};
 ghost use Rattle.graph_core.specs.Metadata.{Graph};
 ghost use Rattle.selection_core.specs.Choice.{Choice};
 ghost use Rattle.selection_core.specs.Listed.{IsChosen};
@@ -7,23 +7,19 @@ ghost use Rattle.valid_policy.specs.View.{policy_of};
 ghost use Rattle.policy_core.specs.Places.{PolicyStands};
 ghost use Rattle.gather_core.specs.Premises.{IsPlacedAt};
 ghost use Rattle.unused_core.specs.Laws.{EntriesLie};
-ghost use Rattle.check_core.specs.Check.{AreVerdicts, findings_of};
 ghost use Rattle.check_core.specs.Labels.{PackLies, VerdictPoints};
 ghost use Rattle.check_core.specs.Summary.{all_asked};
 ghost use Rattle.deny_run.specs.Hearing.{seen};
 ghost use Rattle.deny_run.specs.Steps.{IsCheckCut, IsCheckOf, IsCheckedOn, all_reported, reported, scanner_by};
 
 use crate::report::CrateReport;
-use check_core::check::check;
-use check_core::{CheckCtx, Verdicts};
-use deny_text::{ListOf, Steps, Text};
+use check_core::{CheckCtx, Verdicts, judge_all};
+use deny_text::{ListOf, Text};
 use diag_core::{ErrorSink, Files, LevelFilter, Packs};
 use evaluate_core::Verdict;
 use gather_core::{Gatherer, KrateLicense, KrateLicenses, LicenseInfo, Summary};
 use spdx_core::{Catalog, Identifier};
 use std::alloc::{AllocError, Global};
-use std::marker::Brand;
-use std::sync::ledger::{Blank, Ledger};
 use tree_core::Tree;
 use valid_policy::ValidConfig;
 use workspace_core::Krates;
@@ -89,54 +85,8 @@ fn reports_on(
     Ok(reports)
 }
 
-/// The verdicts on the crates of a summary, with the steps of the check counted in a ledger. What is found goes
-/// into the sink.
-fn check_in<L: Ledger>(
-    ledger: Blank,
-    alloc: Global,
-    ctx: &CheckCtx<'_, ValidConfig>,
-    summary: &Summary<'_>,
-    sink: &mut ErrorSink,
-) -> Result<Verdicts, AllocError>
-    requires name { ledger.name ≡ L.name }
-    requires parts { ledger.parts ≡ L.parts }
-    requires some { 0 < ledger.parts }
-    requires placed { All (IsPlacedAt ctx.now.files.now) summary.now.nfos }
-    requires entries { EntriesLie ctx.now.files.now ctx.now.cfg }
-    requires empty { sink.old ≡ record { overrides = None; packs = [] } }
-    ensures verdicts { IfOk result (λ verdicts.
-        AreVerdicts (policy_of ctx.now.cfg) (all_asked summary.now.nfos) verdicts) }
-    ensures packs { IfOk result (λ verdicts.
-        sink.new.packs ≡ findings_of ctx.now.cfg (all_asked summary.now.nfos) verdicts) }
-    ensures terms { All (VerdictPoints ctx.now.files.now (policy_of ctx.now.cfg)) (all_asked summary.now.nfos) }
-    ensures labels { OnOk result (All (PackLies ctx.now.files.now) sink.new.packs) }
-{
-    let mut steps = Steps::<L>::new(ledger);
-    check(alloc, ctx, summary, sink, &mut steps)
-}
-
-/// The same, with its steps counted in a ledger of its own.
-fn check_into(
-    alloc: Global,
-    ctx: &CheckCtx<'_, ValidConfig>,
-    summary: &Summary<'_>,
-    sink: &mut ErrorSink,
-) -> Result<Verdicts, AllocError>
-    requires placed { All (IsPlacedAt ctx.now.files.now) summary.now.nfos }
-    requires entries { EntriesLie ctx.now.files.now ctx.now.cfg }
-    requires empty { sink.old ≡ record { overrides = None; packs = [] } }
-    ensures verdicts { IfOk result (λ verdicts.
-        AreVerdicts (policy_of ctx.now.cfg) (all_asked summary.now.nfos) verdicts) }
-    ensures packs { IfOk result (λ verdicts.
-        sink.new.packs ≡ findings_of ctx.now.cfg (all_asked summary.now.nfos) verdicts) }
-    ensures terms { All (VerdictPoints ctx.now.files.now (policy_of ctx.now.cfg)) (all_asked summary.now.nfos) }
-    ensures labels { OnOk result (All (PackLies ctx.now.files.now) sink.new.packs) }
-{
-    check_in::<Brand>(Blank::new(1), alloc, ctx, summary, sink)
-}
-
-/// The check of the crates of a summary under a policy.
-fn check_summary(
+/// The verdicts on the crates of a summary under a policy, and the reports on these crates.
+fn judge_and_report(
     alloc: Global,
     policy: ValidConfig,
     krates: &Krates,
@@ -157,7 +107,7 @@ fn check_summary(
         files,
     };
     let mut sink = ErrorSink::new(alloc, None);
-    let verdicts = check_into(alloc, &ctx, &summary, &mut sink)?;
+    let verdicts = judge_all(alloc, &ctx, &summary, &mut sink)?;
     let crates = reports_on(alloc, summary.nfos, verdicts)?;
     Ok(CheckedCrates {
         policy: ctx.cfg,
@@ -168,7 +118,7 @@ fn check_summary(
 
 /// The check of the crates that a policy has checked, in the order of their ids, once the licence of each was
 /// settled.
-pub(crate) fn check_all<T: Tree, C: Catalog, I: Identifier>(
+pub(crate) fn settle_and_judge<T: Tree, C: Catalog, I: Identifier>(
     alloc: Global,
     policy: ValidConfig,
     krates: &Krates,
@@ -197,5 +147,5 @@ pub(crate) fn check_all<T: Tree, C: Catalog, I: Identifier>(
         .with_store(identifier)
         .with_confidence_threshold(policy.confidence_threshold);
     let summary = gatherer.gather(alloc, krates, files, &policy, tree, catalog)?;
-    check_summary(alloc, policy, krates, files, summary)
+    judge_and_report(alloc, policy, krates, files, summary)
 }

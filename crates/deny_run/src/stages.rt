@@ -1,12 +1,10 @@
 //! The stages of a run before its verdicts: where the policy's files are, and the crates that are checked.
-ghost use Rattle.std.specs.Prelude.{◌≡◌, ◌≤◌, ◌++◌, map, All, IfErr, IfOk, OnOk};
-ghost use Rattle.std.specs.List.{filter_map};
+ghost use Rattle.std.specs.Prelude.{◌≡◌, ◌≤◌, All, IfErr, IfOk};
 ghost use Rattle.tree_core.specs.Hearing.{MadeSome};
 ghost use Rattle.heard_core.specs.Cause.{ReadCounts};
 ghost use Rattle.search_core.specs.Looked.{LookedUntil};
 ghost use Rattle.search_core.specs.Search.{candidates, search_cause};
-ghost use Rattle.selection_core.specs.Choice.{choice_of, spec_of, spec_read};
-ghost use Rattle.context_core.specs.Asked.{read_one};
+ghost use Rattle.selection_core.specs.Choice.{choice_of};
 ghost use Rattle.policy_core.specs.Places.{PolicyStands};
 ghost use Rattle.check_core.specs.Labels.{PackLies};
 ghost use Rattle.deny_run.specs.Error.{cause_of, error_of};
@@ -15,17 +13,18 @@ ghost use Rattle.deny_run.specs.Hearing.{seen};
 ghost use Rattle.deny_run.specs.Selection.{choice_by};
 ghost use Rattle.deny_run.specs.Steps.{ArePathsAt, ChecksAt, IsAfterLoad, scanner_by};
 
-use crate::check::{CheckedCrates, check_all};
+use crate::check::{CheckedCrates, settle_and_judge};
 use crate::error::Refusal;
 use deny_text::path::join;
-use deny_text::{PathBuf, Text, Texts};
+use deny_text::{PathBuf, Texts};
 use diag_core::Files;
 use load_core::{LoadedPolicy, PolicyPaths};
 use search_core::{SearchError, Sought, find_upwards};
+use selection_core::read_specs;
 use spdx_core::{Catalog, Identifier};
 use std::alloc::{AllocError, Global};
 use tree_core::Tree;
-use workspace_core::{ExcludeSpec, ExcludeSpecs, Selection, krates_at};
+use workspace_core::{ExcludeSpecs, Selection, krates_at};
 
 /// Where the two files of a policy are, where the policy's path is given: the exceptions file is looked for
 /// in the folder `cwd` and those above it. `begun` is the tree's count of faults when the run began.
@@ -52,25 +51,6 @@ pub(crate) fn policy_paths<T: Tree>(
         policy: Some(config_path),
         exceptions,
     })
-}
-
-fn push_spec(alloc: Global, specs: &mut ExcludeSpecs, text: &Text) -> Result<(), AllocError>
-    ensures { OnOk result (map spec_of specs.new ≡ map spec_of specs.old ++ read_one text.now) }
-{
-    if let Some(read) = ExcludeSpec::read(alloc, text.as_str())? {
-        specs.push(read)?;
-    }
-    Ok(())
-}
-
-/// Appends the specs that texts are read as. Unreadable ones are passed over.
-fn read_specs(alloc: Global, specs: &mut ExcludeSpecs, texts: &[Text]) -> Result<(), AllocError>
-    ensures { OnOk result (map spec_of specs.new ≡ map spec_of specs.old ++ filter_map spec_read texts.now) }
-{
-    'texts: for text in texts {
-        push_spec(alloc, specs, text)?;
-    }
-    Ok(())
 }
 
 /// The selection that leaves out what some specs say. The words ask for nothing else yet.
@@ -114,7 +94,7 @@ pub(crate) fn check_crates<T: Tree, C: Catalog, I: Identifier>(
 {
     let selection = selection_by(alloc, &policy.graph.exclude)?;
     let krates = krates_at(alloc, tree, metadata_path, &selection, begun)?;
-    let checked = check_all(
+    let checked = settle_and_judge(
         alloc,
         policy.licenses,
         &krates,

@@ -1,8 +1,11 @@
+pub mod Character
 pub mod Component
+pub mod Cut
 pub mod Hash
 pub mod Home
 pub mod Normal
 pub mod Path
 pub mod Search
+pub mod Spans
 pub mod TextMap
 pub mod TextMapLends

@@ -2,6 +2,8 @@
 #![tactic(auto)]
 
 pub mod ancestors;
+pub mod character;
+pub mod cut;
 pub mod hash;
 pub mod home;
 pub mod list;

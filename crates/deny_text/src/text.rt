@@ -1,5 +1,5 @@
 //! Owned text.
-ghost use Rattle.std.specs.Prelude.{◌≡◌, ℕ, List, IfOk, string_bytes, Some};
+ghost use Rattle.std.specs.Prelude.{◌≡◌, ℕ, List, IfOk, option_copied, string_bytes, Some};
 ghost use Rattle.std.proofs.Common.{rules};
 ghost use Rattle.std.specs.Ordering.{nat_cmp, eq_by_cmp};
 ghost use Rattle.std.specs.Cmp.{eq_by_cmp_equiv, partial_equiv_from_equiv, partial_order_from_total};
@@ -101,5 +101,31 @@ impl fmt::Display for Text {
 impl fmt::Debug for Text {
     fn fmt<W: fmt::Write>(&self, f: &mut fmt::Formatter<W>) -> fmt::Result {
         fmt::Debug::fmt(self.as_str(), f)
+    }
+}
+
+/// A copy of a text that may be there.
+pub fn copied(alloc: Global, text: Option<&str>) -> Result<Option<Text>, AllocError>
+    ensures { IfOk result (λ copy. copy ≡ option_copied text.entry) }
+{
+    match text {
+        None => Ok(None),
+        Some(text) => {
+            let copy = Text::copy(alloc, text)?;
+            Ok(Some(copy))
+        }
+    }
+}
+
+/// The same of an owned one.
+pub fn copied_text(alloc: Global, text: &Option<Text>) -> Result<Option<Text>, AllocError>
+    ensures { IfOk result (λ copy. copy ≡ text.now) }
+{
+    match text {
+        None => Ok(None),
+        Some(text) => {
+            let copy = Text::copy(alloc, text.as_str())?;
+            Ok(Some(copy))
+        }
     }
 }

@@ -8,8 +8,7 @@ use Rattle.std.proofs.lemmas.List.{length-take, length-drop, get_or-take, get_or
 use Rattle.std.proofs.lemmas.List.Sums.{passes_at_first}
 use Rattle.std.proofs.lemmas.Str.{IsUtf8-between, IsCharBoundary-after_ascii}
 use Rattle.deny_text.specs.declared.span.Span.{Span}
-use Rattle.spdx_core.specs.Laws.{LiesIn}
-use Rattle.toml_places.specs.Placed.{LiesBetween}
+use Rattle.deny_text.specs.Spans.{LiesBetween}
 use Rattle.policy_entries.specs.Licensees.{place_from, moved}
 
 module _ (text : List ℕ) where
@@ -59,10 +58,10 @@ module _ (text : List ℕ) where
       let low = inner.0 in
       subst (IsCharBoundary text) (sym (uncut (span.start + i) (omega arith))) inner
 
-  pub moved_lies : (span : Span) → LiesBetween text span → length text < 2 ^ 64 → (inner : Span) → LiesIn (slice_range text span.start span.end) inner
+  pub moved_lies : (span : Span) → LiesBetween text span → length text < 2 ^ 64 → (inner : Span) → LiesBetween (slice_range text span.start span.end) inner
       → LiesBetween text (moved span.start inner)
   moved_lies span lies fits inner within = record {
-    ordered = (let o = within.order in omega arith);
+    ordered = (let o = within.ordered in omega arith);
     start_border = place_lies span lies fits inner.start within.start_border;
     end_border = place_lies span lies fits inner.end within.end_border;
   }

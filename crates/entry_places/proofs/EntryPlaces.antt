@@ -5,11 +5,11 @@ use Rattle.std.specs.Str.{IsUtf8}
 use Rattle.catalog_core.specs.Catalog.{CatalogLists, IsCatalog}
 use Rattle.deny_text.specs.declared.span.Span.{Span}
 use Rattle.spdx_core.proofs.FaultSpans.{licensee_fault_lies}
-use Rattle.spdx_core.specs.Laws.{LiesIn}
 use Rattle.term_core.specs.Faults.{licensee_fault}
 use Rattle.term_core.specs.declared.error.ParseError.{ParseError}
 use Rattle.term_core.specs.declared.term.LicenseReq.{LicenseReq}
-use Rattle.toml_places.specs.Placed.{LiesBetween, IsSpelled}
+use Rattle.deny_text.specs.Spans.{LiesBetween}
+use Rattle.toml_places.specs.Placed.{IsSpelled}
 use Rattle.toml_shapes.specs.Shaped.{Shaped, shaped_map}
 use Rattle.toml_subset.specs.Data.{Entries, Toml}
 use Rattle.toml_subset.specs.Written.{Written}
@@ -73,7 +73,7 @@ module _ (text : List ℕ) (utf8 : IsUtf8 text) where
         → licensee_fault policy_mode lists string.text ≡ Some fault → LiesBetween text (moved whole.start fault.span)
     plain_fault string whole fault lies spelled is =
         let inner = licensee_fault_lies policy_mode lists string.text fault laws (subst IsUtf8 (sym spelled) (part_is_text text whole utf8 lies)) is in
-        moved_lies text whole lies fits fault.span (subst (λ (s : List ℕ). LiesIn s fault.span) spelled inner)
+        moved_lies text whole lies fits fault.span (subst (λ (s : List ℕ). LiesBetween s fault.span) spelled inner)
 
     fault_place : (string : Written) (whole : Span) (fault : ParseError) → LiesBetween text whole → IsSpelled text whole string
         → licensee_fault policy_mode lists string.text ≡ Some fault → LiesBetween text (place_in string whole fault.span)

@@ -5,7 +5,8 @@ use Rattle.std.specs.List.{AllByRecursion, cons_option}
 use Rattle.std.specs.Str.{IsUtf8, bytes_eq}
 use Rattle.catalog_core.specs.Catalog.{CatalogLists, IsCatalog}
 use Rattle.deny_text.specs.declared.span.Span.{Span}
-use Rattle.toml_places.specs.Placed.{LiesBetween, AreEntriesPlaced}
+use Rattle.deny_text.specs.Spans.{LiesBetween}
+use Rattle.toml_places.specs.Placed.{AreEntriesPlaced}
 use Rattle.toml_subset.specs.Data.{Entries, Toml, no_entry, entry}
 use Rattle.toml_subset.specs.declared.string.Key.{Key}
 use Rattle.toml_value.specs.Removal.{entry_at}

@@ -9,7 +9,8 @@ use Rattle.deny_text.specs.declared.span.Span.{Span}
 use Rattle.deny_text.specs.declared.span.Spanned.{Spanned}
 use Rattle.semver.specs.Parse.{Held, req_of}
 use Rattle.semver.specs.declared.error.Error.{Error}
-use Rattle.toml_places.specs.Placed.{LiesBetween, IsSpelled, IsPlaced, IsContentPlaced, AreEntriesPlaced}
+use Rattle.deny_text.specs.Spans.{LiesBetween}
+use Rattle.toml_places.specs.Placed.{IsSpelled, IsPlaced, IsContentPlaced, AreEntriesPlaced}
 use Rattle.toml_subset.specs.Data.{Content, Entries, Toml, string, integer, decimal, boolean, array, table}
 use Rattle.toml_subset.specs.Written.{Written}
 use Rattle.toml_value.specs.Lookup.{value_at}
@@ -17,7 +18,8 @@ use Rattle.toml_value.specs.Taken.{string_of}
 use Rattle.policy_toml.specs.Readings.{text_of, spanned_of}
 use Rattle.policy_places.specs.Places.{StaysIn, KeepsPlacesIn, keeps_nothing, keeps_its_span}
 use Rattle.policy_places.proofs.PlaceLemmas.{IsPlacedWhere, map_stays, then_stays, text_stays, spanned_stays, found_placed, without_placed}
-use Rattle.policy_spec.specs.Grammar.{Split, is_at_sign, is_colon, cut_at, or_at_colon, split_by, split_of, exact_first_where, requirement_at, end_of, rest_span, spec_of_split, spec_of_string}
+use Rattle.deny_text.specs.Cut.{cut_at, is_at_sign, is_colon}
+use Rattle.policy_spec.specs.Grammar.{Split, or_at_colon, split_by, split_of, exact_first_where, requirement_at, end_of, rest_span, spec_of_split, spec_of_string}
 use Rattle.policy_spec.specs.Reading.{string_spec, requirement_of, with_version, named_spec, table_spec_by, entries_left_by, spec_of, left_of}
 use Rattle.entry_places.specs.Entries.{spec_keeps}
 use Rattle.entry_places.proofs.Borders.{part_is_text, part_length, inner_border, behind_first}

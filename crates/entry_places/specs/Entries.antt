@@ -1,7 +1,7 @@
 -- The places that the entries of a policy keep.
 use Rattle.std.specs.Prelude.{◌≡◌, ℕ, ◌<◌, ◌^◌, false, List, length, slice_range}
 use Rattle.std.specs.Str.{IsUtf8}
-use Rattle.toml_places.specs.Placed.{LiesBetween}
+use Rattle.deny_text.specs.Spans.{LiesBetween}
 use Rattle.toml_shapes.specs.Shaped.{Shaped}
 use Rattle.toml_subset.specs.Data.{Toml}
 use Rattle.policy_spec.specs.Spec.{Spec}

@@ -1,6 +1,6 @@
 -- The places that a policy keeps.
 use Rattle.std.specs.Prelude.{ℕ, List}
-use Rattle.toml_places.specs.Placed.{LiesBetween}
+use Rattle.deny_text.specs.Spans.{LiesBetween}
 use Rattle.policy_config.specs.declared.config.Config.{Config}
 use Rattle.policy_config.specs.declared.root.RootConfig.{RootConfig}
 use Rattle.policy_places.specs.Places.{keeps_each, keeps_where}

@@ -1,13 +1,10 @@
 -- Licence expressions as they are taken from fields and from names.
-use Rattle.std.specs.Prelude.{ℕ, true, false, List, [], ◌∷◌, Option, Some, None}
+use Rattle.std.specs.Prelude.{ℕ, true, false, List, [], ◌∷◌, Option, None}
+use Rattle.std.specs.Option.{option_or}
 use Rattle.catalog_core.specs.Catalog.{CatalogLists}
 use Rattle.term_core.specs.declared.mode.ParseMode.{ParseMode}
 use Rattle.spdx_core.specs.Printing.{named_mode, joined_names}
 use Rattle.spdx_core.specs.Reading.{ExpressionView, expression_of}
-
-abbrev pub or_else : {A : Type 0} → Option A → Option A → Option A
-or_else None more = more
-or_else (Some x) more = Some x
 
 -- ---- a crate's field
 
@@ -30,7 +27,7 @@ lax = record {
 -- strict with the slash on, or else lax; an empty field is no expression
 abbrev pub field_read : CatalogLists → List ℕ → Option ExpressionView
 field_read lists [] = None
-field_read lists (byte ∷ bytes) = or_else (expression_of strict_with_slash lists (byte ∷ bytes)) (expression_of lax lists (byte ∷ bytes))
+field_read lists (byte ∷ bytes) = option_or (expression_of strict_with_slash lists (byte ∷ bytes)) (expression_of lax lists (byte ∷ bytes))
 
 -- ---- names
 

@@ -12,7 +12,8 @@ use Rattle.diag_core.specs.declared.pack.Diag.{Diag}
 use Rattle.diag_core.specs.File.{File, source_of}
 use Rattle.diag_core.specs.Label.{label_at}
 use Rattle.graph_core.specs.Krate.{Record}
-use Rattle.manifest_core.specs.Synthetic.{LiesBetween, cut, marked_of}
+use Rattle.deny_text.specs.Spans.{LiesBetween}
+use Rattle.manifest_core.specs.Synthetic.{cut, marked_of}
 use Rattle.location_core.specs.Location.{PointsAt}
 use Rattle.finding_core.specs.Cuts.{CutOutBy, ExpressionStandsBy, LabelLies, LabelsLieBy, MarksLie, StandsAt, failed_texts, field_texts, labels_of, name_texts, text_under}
 use Rattle.finding_core.specs.Findings.{CaseView, MarksView, Outcome, by_field, by_files, failure_findings, failure_marks, failures_of, field_findings, field_mark, field_place, joined_place, unlicensed_findings}

@@ -1,6 +1,6 @@
 -- What a reading of a text answers.
 use Rattle.std.proofs.Common.{◌≡◌, ◌∙◌, ℕ, Bool, true, false, eqb, cond, List, [], ◌∷◌, length, Option, Some, None, refl, sym, ap}
-use Rattle.std.specs.Option.{IfSome}
+use Rattle.std.specs.Option.{IfSome, option_or}
 use Rattle.std.specs.Str.{IsUtf8}
 use Rattle.std.proofs.lemmas.List.Elements.{All-cons, All-nil}
 use Rattle.catalog_core.specs.Catalog.{CatalogLists, IsCatalog}
@@ -9,12 +9,12 @@ use Rattle.term_core.specs.declared.error.ParseError.{ParseError}
 use Rattle.term_core.specs.Faults.{first_fault}
 use Rattle.spdx_core.specs.Expressions.{IsRead}
 use Rattle.spdx_core.specs.Reading.{ExpressionView, expression_of}
-use Rattle.spdx_core.specs.Laws.{LiesIn}
 use Rattle.spdx_core.proofs.FaultSpans.{fault_lies}
 use Rattle.spdx_core.proofs.HasTree.{has_tree}
 use Rattle.spdx_core.proofs.SpellingLemmas.{is_read}
 use Rattle.expression_core.proofs.TakenLemmas.{of_fault, of_read}
-use Rattle.expression_core.specs.Taken.{field_read, lax, or_else, strict_with_slash}
+use Rattle.expression_core.specs.Taken.{field_read, lax, strict_with_slash}
+use Rattle.deny_text.specs.Spans.{LiesBetween}
 use Rattle.finding_core.specs.Faults.{faults_by, faults_of, same_span}
 use Rattle.finding_core.specs.Premises.{FaultsLie}
 
@@ -27,11 +27,11 @@ fault_of mode lists text fault is = of_fault mode lists text fault is
 -- a field that the strict reading takes
 pub strictly_read : (lists : CatalogLists) (byte : ℕ) (bytes : List ℕ) (read : ExpressionView) → expression_of strict_with_slash lists (byte ∷ bytes) ≡ Some read
     → field_read lists (byte ∷ bytes) ≡ Some read
-strictly_read lists byte bytes read is = ap (λ o. or_else o (expression_of lax lists (byte ∷ bytes))) is
+strictly_read lists byte bytes read is = ap (λ o. option_or o (expression_of lax lists (byte ∷ bytes))) is
 
 pub laxly_read : (lists : CatalogLists) (byte : ℕ) (bytes : List ℕ) → expression_of strict_with_slash lists (byte ∷ bytes) ≡ None
     → field_read lists (byte ∷ bytes) ≡ expression_of lax lists (byte ∷ bytes)
-laxly_read lists byte bytes is = ap (λ o. or_else o (expression_of lax lists (byte ∷ bytes))) is
+laxly_read lists byte bytes is = ap (λ o. option_or o (expression_of lax lists (byte ∷ bytes))) is
 
 -- a field without a strict fault is what the strict reading gives
 pub fine_read : (lists : CatalogLists) (field : List ℕ) (found : Option ExpressionView) → eqb (length field) 0 ≡ false → first_fault strict_with_slash lists field ≡ None
@@ -69,12 +69,12 @@ empty_faults lists field none =
 
 -- ---- where they stand
 
-two_lie : (field : List ℕ) (strict laxly : Option ParseError) → IfSome strict (λ fault. LiesIn field fault.span) → IfSome laxly (λ fault. LiesIn field fault.span)
+two_lie : (field : List ℕ) (strict laxly : Option ParseError) → IfSome strict (λ fault. LiesBetween field fault.span) → IfSome laxly (λ fault. LiesBetween field fault.span)
     → FaultsLie field (faults_by strict laxly)
-two_lie field None laxly first second = All-nil (λ (one : ParseError). LiesIn field one.span)
-two_lie field (Some fault) None first second = All-cons (λ (one : ParseError). LiesIn field one.span) fault [] first (All-nil (λ (one : ParseError). LiesIn field one.span))
+two_lie field None laxly first second = All-nil (λ (one : ParseError). LiesBetween field one.span)
+two_lie field (Some fault) None first second = All-cons (λ (one : ParseError). LiesBetween field one.span) fault [] first (All-nil (λ (one : ParseError). LiesBetween field one.span))
 two_lie field (Some fault) (Some other) first second =
-    let lies : ParseError → Type 0 = λ one. LiesIn field one.span in
+    let lies : ParseError → Type 0 = λ one. LiesBetween field one.span in
     let last = All-cons lies other [] second (All-nil lies) in
     elim (same_span fault.span other.span) as (λ b. FaultsLie field (cond b (fault ∷ []) (fault ∷ other ∷ []))) [
       | true ↦ All-cons lies fault [] first (All-nil lies)
@@ -82,7 +82,7 @@ two_lie field (Some fault) (Some other) first second =
     ]
 
 one_lies : (mode : ParseMode) (lists : CatalogLists) (field : List ℕ) → IsCatalog lists → IsUtf8 field → (found : Option ParseError) → first_fault mode lists field ≡ found
-    → IfSome found (λ fault. LiesIn field fault.span)
+    → IfSome found (λ fault. LiesBetween field fault.span)
 one_lies mode lists field laws utf8 None is = tt
 one_lies mode lists field laws utf8 (Some fault) is = fault_lies mode lists field fault laws utf8 is
 
@@ -91,6 +91,6 @@ faults_lie lists field laws utf8 =
     let strictly = one_lies strict_with_slash lists field laws utf8 (first_fault strict_with_slash lists field) refl in
     let laxly = one_lies lax lists field laws utf8 (first_fault lax lists field) refl in
     elim (eqb (length field) 0) as (λ b. FaultsLie field (cond b [] (faults_by (first_fault strict_with_slash lists field) (first_fault lax lists field)))) [
-      | true ↦ All-nil (λ (one : ParseError). LiesIn field one.span)
+      | true ↦ All-nil (λ (one : ParseError). LiesBetween field one.span)
       | false ↦ two_lie field (first_fault strict_with_slash lists field) (first_fault lax lists field) strictly laxly
     ]

@@ -9,14 +9,14 @@ use Rattle.std.proofs.lemmas.List.Elements.{All-append, All-cons, All-head, All-
 use Rattle.deny_text.specs.declared.span.Span.{Span}
 use Rattle.term_core.specs.declared.error.ParseError.{ParseError}
 use Rattle.term_core.specs.Reasons.{reason_text}
-use Rattle.spdx_core.specs.Laws.{LiesIn}
 use Rattle.diag_core.specs.declared.label.Coord.{Coord}
 use Rattle.diag_core.specs.declared.label.LabelStyle.TheVariants.{Secondary}
 use Rattle.diag_core.specs.declared.pack.Diag.{Diag}
 use Rattle.diag_core.specs.File.{File, source_of}
 use Rattle.graph_core.specs.Krate.{Record}
 use Rattle.manifest_core.specs.Manifest.{closing_pieces, opening_pieces}
-use Rattle.manifest_core.specs.Synthetic.{LiesBetween, cut, marked_of}
+use Rattle.deny_text.specs.Spans.{LiesBetween}
+use Rattle.manifest_core.specs.Synthetic.{cut, marked_of}
 use Rattle.location_core.specs.Location.{PointsAt}
 use Rattle.expression_core.specs.declared.files.Scanned.{Scanned}
 use Rattle.expression_core.specs.declared.files.Scanned.TheVariants.{Bad, Unnamed, Low, Unknown, Joined}
@@ -48,8 +48,8 @@ fault_cuts : (files : List File) (at : Coord) (field : List ℕ) → PointsAt fi
     → map (text_under files) (labels_of (map (field_fault at) faults)) ≡ map (λ (fault : ParseError). cut field fault.span) faults
 fault_cuts files at field stands [] lie = refl
 fault_cuts files at field stands (fault ∷ faults) lie =
-    let here = All-head (λ (one : ParseError). LiesIn field one.span) fault faults lie in
-    let rest = fault_cuts files at field stands faults (All-tail (λ (one : ParseError). LiesIn field one.span) fault faults lie) in
+    let here = All-head (λ (one : ParseError). LiesBetween field one.span) fault faults lie in
+    let rest = fault_cuts files at field stands faults (All-tail (λ (one : ParseError). LiesBetween field one.span) fault faults lie) in
     let first = points_cut files (fault_place at fault.span) (cut field fault.span) (fault_points files at field fault.span stands here) in
     ap (λ (text : List ℕ). text ∷ map (text_under files) (labels_of (map (field_fault at) faults))) first
     ∙ ap (λ (texts : List (List ℕ)). cut field fault.span ∷ texts) rest
@@ -58,8 +58,8 @@ fault_lies : (files : List File) (at : Coord) (field : List ℕ) → PointsAt fi
     → All (LabelLies files) (labels_of (map (field_fault at) faults))
 fault_lies files at field stands [] lie = All-nil (LabelLies files)
 fault_lies files at field stands (fault ∷ faults) lie =
-    let here = All-head (λ (one : ParseError). LiesIn field one.span) fault faults lie in
-    let rest = fault_lies files at field stands faults (All-tail (λ (one : ParseError). LiesIn field one.span) fault faults lie) in
+    let here = All-head (λ (one : ParseError). LiesBetween field one.span) fault faults lie in
+    let rest = fault_lies files at field stands faults (All-tail (λ (one : ParseError). LiesBetween field one.span) fault faults lie) in
     All-cons (LabelLies files) (label_of (fault_place at fault.span) (reason_text fault.reason)) (labels_of (map (field_fault at) faults))
     (points_lie files (fault_place at fault.span) (cut field fault.span) Secondary (reason_text fault.reason) (fault_points files at field fault.span stands here)) rest
 

@@ -3,6 +3,7 @@ pub mod FieldLemmas
 pub mod FindingLemmas
 pub mod GrowLemmas
 pub mod LabelLemmas
+pub mod LicenseLemmas
 pub mod MarkLemmas
 pub mod PieceLemmas
 pub mod PlaceLemmas

@@ -5,8 +5,8 @@ use Rattle.std.specs.List.{All}
 use Rattle.std.proofs.lemmas.List.{length-drop, length-take-le}
 use Rattle.std.proofs.lemmas.List.Elements.{All-weaker}
 use Rattle.deny_text.specs.declared.span.Span.{Span}
+use Rattle.deny_text.specs.Spans.{LiesBetween}
 use Rattle.term_core.specs.declared.error.ParseError.{ParseError}
-use Rattle.spdx_core.specs.Laws.{LiesIn}
 use Rattle.diag_core.specs.declared.label.Coord.{Coord}
 use Rattle.diag_core.specs.File.{File}
 use Rattle.graph_core.specs.Krate.{Record}
@@ -110,8 +110,8 @@ points_long files at field points =
 pub all_fit : (at : Coord) (field : List ℕ) (faults : List ParseError) → at.span.end ≡ at.span.start + length field → at.span.end < 2 ^ 64
     → FaultsLie field faults → All (Fits at) faults
 all_fit at field faults is fits lie =
-    All-weaker (λ (fault : ParseError). LiesIn field fault.span) (Fits at)
-    (λ fault within. let first = within.order in let second = within.end_border.0 in (omega arith, omega arith)) faults lie
+    All-weaker (λ (fault : ParseError). LiesBetween field fault.span) (Fits at)
+    (λ fault within. let first = within.ordered in let second = within.end_border.0 in (omega arith, omega arith)) faults lie
 
 pub location_fits : (files : List File) (at : Coord) (field : List ℕ) (faults : List ParseError) → PointsAt files at field → at.span.end < 2 ^ 64
     → FaultsLie field faults → All (Fits at) faults

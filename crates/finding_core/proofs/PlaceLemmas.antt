@@ -5,12 +5,12 @@ use Rattle.std.specs.Option.{IfSome}
 use Rattle.std.proofs.Math.Nat.{eq-or-lt_of_le}
 use Rattle.std.proofs.lemmas.List.{drop-drop, drop-take, get_or-drop, get_or-take, length-drop, length-take-le, take-take}
 use Rattle.deny_text.specs.declared.span.Span.{Span}
-use Rattle.spdx_core.specs.Laws.{LiesIn}
 use Rattle.diag_core.specs.declared.label.Coord.{Coord}
 use Rattle.diag_core.specs.declared.label.LabelStyle.{LabelStyle}
 use Rattle.diag_core.specs.File.{File, source_of}
 use Rattle.diag_core.specs.Label.{label_at}
-use Rattle.manifest_core.specs.Synthetic.{LiesBetween, cut}
+use Rattle.deny_text.specs.Spans.{LiesBetween}
+use Rattle.manifest_core.specs.Synthetic.{cut}
 use Rattle.location_core.specs.Location.{PointsAt}
 use Rattle.finding_core.specs.Cuts.{LabelLies}
 use Rattle.finding_core.specs.Findings.{fault_place}
@@ -70,7 +70,7 @@ points files id source span bytes is lies same = record {
 }
 
 -- a fault in a field that stands in a file
-pub fault_points : (files : List File) (at : Coord) (field : List ℕ) (fault : Span) → PointsAt files at field → LiesIn field fault
+pub fault_points : (files : List File) (at : Coord) (field : List ℕ) (fault : Span) → PointsAt files at field → LiesBetween field fault
     → PointsAt files (fault_place at fault) (cut field fault)
 fault_points files at field fault stands lies =
     let border : (i : ℕ) → IsCharBoundary field i → IsCharBoundary stands.source (at.span.start + i) = λ i there.
@@ -79,10 +79,10 @@ fault_points files at field fault stands lies =
       source = stands.source;
       is_source = stands.is_source;
       cuts = record {
-        ordered = (let o = lies.order in omega arith);
+        ordered = (let o = lies.ordered in omega arith);
         starts = border fault.start lies.start_border;
         ends = border fault.end lies.end_border;
-        cut_out = cut_inside stands.source field at.span fault stands.cuts.cut_out stands.cuts.ordered stands.cuts.ends.0 lies.order lies.end_border.0;
+        cut_out = cut_inside stands.source field at.span fault stands.cuts.cut_out stands.cuts.ordered stands.cuts.ends.0 lies.ordered lies.end_border.0;
       };
     }
 

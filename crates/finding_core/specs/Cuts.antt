@@ -9,7 +9,8 @@ use Rattle.diag_core.specs.declared.label.Coord.{Coord}
 use Rattle.diag_core.specs.declared.label.Label.{Label}
 use Rattle.diag_core.specs.declared.pack.Diag.{Diag}
 use Rattle.diag_core.specs.File.{File, source_of}
-use Rattle.manifest_core.specs.Synthetic.{LiesBetween, cut, marked_of}
+use Rattle.deny_text.specs.Spans.{LiesBetween}
+use Rattle.manifest_core.specs.Synthetic.{cut, marked_of}
 use Rattle.location_core.specs.Location.{PointsAt}
 use Rattle.finding_core.specs.Findings.{CaseView, Outcome, by_field, by_files, files_for, is_made, kept_by, marks_by, points_by}
 use Rattle.finding_core.specs.Pieces.{Seen, seen_pieces}

@@ -2,11 +2,10 @@
 use Rattle.std.specs.Prelude.{ℕ, ◌+◌, ◌^◌, ◌<◌, ◌==◌, Bool, true, false, List, [], ◌∷◌, ◌++◌, length, map, drop, codes, slice_get, Option, Some, None, is_none, if◌then◌else◌}
 use Rattle.std.specs.List.{filter_map, zip}
 use Rattle.std.specs.Option.{option_map, option_map_or, option_to_list}
-use Rattle.semver.specs.Identifiers.{parts_text}
 use Rattle.deny_text.specs.declared.span.Span.{Span}
 use Rattle.term_core.specs.declared.error.ParseError.{ParseError}
 use Rattle.term_core.specs.Reasons.{reason_text}
-use Rattle.graph_core.specs.Krate.{Record}
+use Rattle.graph_core.specs.Krate.{Record, title_of}
 use Rattle.diag_core.specs.declared.code.DiagnosticCode.TheVariants.{License}
 use Rattle.diag_core.specs.declared.label.Coord.{Coord}
 use Rattle.diag_core.specs.declared.label.Label.{Label}
@@ -57,10 +56,6 @@ field_fault field fault =
 
 abbrev pub empty_field : Coord → Diag
 empty_field at = warning EmptyLicenseField (codes "license field was present but empty") (label_of at (codes "empty field") ∷ [])
-
--- `{name} = {version}`
-abbrev pub title_of : Record → List ℕ
-title_of krate = krate.name ++ codes " = " ++ parts_text krate.version
 
 abbrev pub no_field : Record → Diag
 no_field krate = warning NoLicenseField (codes "license expression was not specified in manifest for crate '" ++ title_of krate ++ codes "'") []

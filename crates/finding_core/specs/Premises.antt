@@ -1,9 +1,9 @@
 -- What is asked of a crate's field: where it stands, and where its faults lie.
 use Rattle.std.specs.Prelude.{ℕ, List, [], IfSome, All, unwrap_or}
 use Rattle.term_core.specs.declared.error.ParseError.{ParseError}
-use Rattle.spdx_core.specs.Laws.{LiesIn}
 use Rattle.diag_core.specs.File.{File}
 use Rattle.location_core.specs.Location.{PointsAt}
+use Rattle.deny_text.specs.Spans.{LiesBetween}
 use Rattle.finding_core.specs.Findings.{CaseView}
 
 -- the text of the field; empty where there is none
@@ -12,7 +12,7 @@ field_of case = unwrap_or case.krate.license []
 
 -- the faults lie in the field, between its characters
 abbrev pub FaultsLie : List ℕ → List ParseError → Type 0
-FaultsLie field faults = All (λ (fault : ParseError). LiesIn field fault.span) faults
+FaultsLie field faults = All (λ (fault : ParseError). LiesBetween field fault.span) faults
 
 -- the location, where there is one, cuts the field out of its file, between characters
 pub record IsPlaced (case : CaseView) (files : List File) : Type 0 where

@@ -1,11 +1,12 @@
 //! What is found on the way to a crate's licence: its findings, the places that they point at, and the
-//! manifest that is written in place of its own.
+//! manifest that is written in place of its own; and the licence, with where its expression stands.
 #![tactic(auto)]
 
 pub mod case;
 mod failures;
 pub mod field;
 mod findings;
+pub mod license;
 mod marks;
 pub mod outcome;
 mod synthesis;
@@ -13,4 +14,5 @@ mod synthesis;
 pub use case::{Case, SeenFiles, Settles};
 pub use field::{Faults, FieldRead, read_field};
 pub use findings::{Diags, missing_file};
+pub use license::{LicenseExprInfo, LicenseExprSource, LicenseInfo};
 pub use outcome::{Points, find};

@@ -17,7 +17,7 @@ use Rattle.pack_core.specs.Calls.{IsFront, StarvesAmong}
 use Rattle.pack_core.specs.Ears.{Ears, ears_by}
 use Rattle.pack_core.specs.Pack.{reads_of}
 use Rattle.pack_core.specs.Steps.{file_record, records_by}
-use Rattle.pack_core.proofs.CallLemmas.{front_then}
+use Rattle.pack_core.proofs.CallLemmas.{first_false, front_then, second_false}
 use Rattle.expression_core.specs.Scanned.{Scanner}
 use Rattle.finding_core.proofs.GrowLemmas.{grows_same}
 use Rattle.location_core.specs.declared.location.Located.{Located}
@@ -34,22 +34,6 @@ use Rattle.gather_core.specs.Taken.{IsLocatedWhere, IsTaken, is_clarified, turn_
 use Rattle.gather_core.specs.Turns.{asks_manifest, field_text, in_order, located_where, not_asked, records_in}
 use Rattle.gather_core.proofs.PlacedLemmas.{grows_by}
 use Rattle.gather_core.proofs.TakenLemmas.{asked_where, located_at, taken_first, taken_last}
-
-pub on_err : {A E : Type 0} (result : Result A E) (P : Type 0) → P → OnErr result P
-on_err (Ok x) P holds = tt
-on_err (Err e) P holds = holds
-
-pub on_err-weaker : {A E : Type 0} (result : Result A E) (P Q : Type 0) → (P → Q) → OnErr result P → OnErr result Q
-on_err-weaker (Ok x) P Q weaker holds = tt
-on_err-weaker (Err e) P Q weaker holds = weaker holds
-
-pub first_false : (a b : Bool) → (a || b) ≡ false → a ≡ false
-first_false true b e = cc
-first_false false b e = refl
-
-pub second_false : (a b : Bool) → (a || b) ≡ false → b ≡ false
-second_false true b e = cc
-second_false false b e = e
 
 -- ---- the first read of those that are asked for, among reads that follow one another
 

@@ -5,10 +5,8 @@ use Rattle.diag_core.specs.declared.label.Coord.{Coord}
 use Rattle.diag_core.specs.File.{File}
 use Rattle.priority_core.specs.declared.settling.Settling.{Settling}
 use Rattle.priority_core.specs.declared.settling.Settling.TheVariants.{Clarified, Field, Files}
-use Rattle.priority_core.specs.Priority.{priority_of}
-use Rattle.priority_core.specs.Settled.{answer_in}
-use Rattle.priority_core.proofs.SeenLemmas.{answer_is}
-use Rattle.gather_core.specs.declared.license.LicenseInfo.{LicenseInfo}
+use Rattle.priority_core.specs.Priority.{answer_in, priority_of}
+use Rattle.finding_core.specs.declared.license.LicenseInfo.{LicenseInfo}
 use Rattle.gather_core.specs.declared.summary.KrateLicense.{KrateLicense}
 use Rattle.gather_core.specs.Told.{answer_told, info_by, notes_of, nowhere}
 use Rattle.gather_core.specs.Turns.{IsTurn, Turn, info_in, located_in, points_in, settling_in}
@@ -27,7 +25,6 @@ priority_turn turn license files is =
     ap (λ (info : LicenseInfo). answer_told info license.notes) is.info
     ∙ ap (answer_told (info_in turn)) is.noted
     ∙ told_answer turn.policy (located_in turn).location (unwrap_or (points_in turn).expression nowhere) (settling_in turn)
-    ∙ answer_is turn.scanner turn.clarifications turn.krate turn.ears
 
 pub map_push : {A B : Type 0} (f : A → B) (xs : List A) (x : A) → map f (xs ++ x ∷ []) ≡ map f xs ++ f x ∷ []
 map_push f [] x = refl

@@ -1,4 +1,5 @@
 pub mod CallLemmas
+pub mod CrateTurns
 pub mod GatheredLemmas
 pub mod PickLemmas
 pub mod PlacedLemmas
@@ -7,3 +8,4 @@ pub mod TakenLemmas
 pub mod ToldLemmas
 pub mod TurnCalls
 pub mod TurnLemmas
+pub mod ZipLemmas

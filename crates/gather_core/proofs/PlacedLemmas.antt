@@ -16,35 +16,25 @@ use Rattle.graph_core.specs.Krate.{Record}
 use Rattle.reads_core.specs.Heard.{Heard, failed, absent, wrong_kind, not_utf8, text, entries}
 use Rattle.pack_core.specs.Ears.{Ears, holds, missing_from}
 use Rattle.policy_spec.specs.Matching.{spec_matches}
-use Rattle.location_core.specs.Location.{PointsAt, files_by, files_heard, joined_by, span_in}
+use Rattle.location_core.specs.Location.{files_by, files_heard, joined_by, span_in}
 use Rattle.manifest_core.specs.Synthetic.{cut}
 use Rattle.finding_core.specs.Cuts.{LabelLies, labels_of, text_under}
 use Rattle.finding_core.proofs.GrowLemmas.{grows_itself}
+use Rattle.finding_core.proofs.LicenseLemmas.{info_grown, place_grown, stands_grown}
 use Rattle.priority_core.specs.declared.settling.FilesSeen.{FilesSeen}
 use Rattle.priority_core.specs.declared.settling.Settling.{Settling}
 use Rattle.priority_core.specs.declared.settling.Settling.TheVariants.{Clarified, Field, Files}
 use Rattle.priority_core.specs.Clarification.{Clarification, PlacedFile, held_in, named_in}
-use Rattle.priority_core.specs.Priority.{field_of, files_scanned, holding}
-use Rattle.priority_core.specs.Settled.{by_seen, missing_in, missing_of, seen_by, settling_by, span_at}
-use Rattle.gather_core.specs.declared.license.LicenseInfo.{LicenseInfo}
-use Rattle.gather_core.specs.declared.license.LicenseInfo.TheVariants.{SpdxExpression, Unlicensed}
+use Rattle.priority_core.specs.Priority.{by_seen, field_of, files_scanned, holding, seen_by, settling_by}
+use Rattle.priority_core.specs.Settled.{missing_in, missing_of, span_at}
 use Rattle.gather_core.specs.declared.summary.KrateLicense.{KrateLicense}
 use Rattle.gather_core.specs.declared.turn.Taken.{Taken}
 use Rattle.gather_core.specs.Entries.{Entry, clarifications_of}
-use Rattle.gather_core.specs.Premises.{ArePlacedIn, ByStands, Grows, InfoStands, IsPlacedAt, IsPlacedIn, PlaceLies, StandsIn}
+use Rattle.gather_core.specs.Premises.{ArePlacedIn, ByStands, Grows, IsPlacedAt, IsPlacedIn, PlaceLies}
 use Rattle.gather_core.specs.Taken.{IsTaken}
 use Rattle.gather_core.specs.Turns.{IsCutOut, Turn, asks_manifest, faults_in, field_text, files_behind, files_left, files_located, files_where, located_in, points_in, settling_in}
 
 -- ---- sources stay
-
-no_some : {A G : Type 0} (x : A) → None ≡ Some x → G
-no_some x e = cc
-
-kept_source : (files more : List File) (id : ℕ) (source : List ℕ) → source_of files id ≡ Some source → source_of (files ++ more) id ≡ Some source
-kept_source [] more zero source is = no_some source is
-kept_source [] more (suc id) source is = no_some source is
-kept_source (first ∷ files) more zero source is = is
-kept_source (first ∷ files) more (suc id) source is = kept_source files more id source is
 
 same_source : (files more : List File) (id : ℕ) → id < length files → source_of (files ++ more) id ≡ source_of files id
 same_source [] more id live = absurd (omega (arith, live))
@@ -59,26 +49,6 @@ longer (first ∷ files) more (suc id) live =
     let rest = longer files more id below in omega (arith, rest)
 
 -- ---- places stay
-
-place_grown : (files more : List File) (file : ℕ) (span : Span) → PlaceLies files file span → PlaceLies (files ++ more) file span
-place_grown files more file span lies = record {
-  source = lies.source;
-  is_source = kept_source files more file lies.source lies.is_source;
-  ordered = lies.ordered;
-  starts = lies.starts;
-  ends = lies.ends;
-}
-
-pub points_grown : (files more : List File) (at : Coord) (bytes : List ℕ) → PointsAt files at bytes → PointsAt (files ++ more) at bytes
-points_grown files more at bytes points = record {
-  source = points.source;
-  is_source = kept_source files more at.file points.source points.is_source;
-  cuts = points.cuts;
-}
-
-stands_grown : (files more : List File) (file offset : ℕ) (whole : Option Span) (words : List ℕ) → StandsIn files file offset whole words → StandsIn (files ++ more) file offset whole words
-stands_grown files more file offset (Some place) words stands = place_grown files more file place stands
-stands_grown files more file offset None words stands = points_grown files more (record { file = file; span = record { start = offset; end = offset + length words } }) words stands
 
 label_grown : (files more : List File) (label : Label) → LabelLies files label → LabelLies (files ++ more) label
 label_grown files more label lies =
@@ -101,10 +71,6 @@ entries_grown files new policy all grows placed =
     subst (λ (new : List File). ArePlacedIn new policy all) (sym grows.1)
     (All-weaker (λ (entry : Entry). IsPlacedIn files policy entry.clarification) (λ (entry : Entry). IsPlacedIn (files ++ grows.0) policy entry.clarification)
     (λ entry placed. clarification_grown files grows.0 policy entry.clarification placed) all placed)
-
-info_grown : (files more : List File) (info : LicenseInfo) → InfoStands files info → InfoStands (files ++ more) info
-info_grown files more Unlicensed stands = tt
-info_grown files more (SpdxExpression expression nfo) stands = stands_grown files more nfo.file_id nfo.offset nfo.whole expression.text stands
 
 license_grown : (files more : List File) (license : KrateLicense) → IsPlacedAt files license → IsPlacedAt (files ++ more) license
 license_grown files more license placed = record {

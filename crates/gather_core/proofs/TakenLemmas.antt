@@ -16,8 +16,8 @@ use Rattle.priority_core.specs.declared.settle.Settled.{Settled}
 use Rattle.priority_core.specs.declared.settling.FilesSeen.{FilesSeen}
 use Rattle.priority_core.specs.declared.settling.Settling.{Settling}
 use Rattle.priority_core.specs.Clarification.{Clarification, held_in}
-use Rattle.priority_core.specs.Priority.{field_of, files_scanned, holding, is_nothing, records_of}
-use Rattle.priority_core.specs.Settled.{IsSettledBy, by_seen, seen_by, settling_by, settling_of}
+use Rattle.priority_core.specs.Priority.{by_seen, field_of, files_scanned, holding, is_nothing, records_of, seen_by, settling_by, settling_of}
+use Rattle.priority_core.specs.Settled.{IsSettledBy}
 use Rattle.gather_core.specs.Taken.{IsLocatedWhere, IsTaken, is_clarified, turn_with}
 use Rattle.gather_core.specs.Turns.{asks_manifest, files_where, in_order, located_where, not_asked}
 

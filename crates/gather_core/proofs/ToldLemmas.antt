@@ -2,7 +2,7 @@
 use Rattle.std.proofs.Common.{◌≡◌, ◌∙◌, ℕ, zero, suc, ◌+◌, ◌-◌, ◌<◌, ◌≤◌, Bool, true, false, length, drop, List, [], ◌∷◌, Option, None, Some, unwrap_or, refl, sym, ap, subst, arith, length-drop}
 use Rattle.std.specs.Prelude.{is_none, option_and_then, option_map}
 use Rattle.std.specs.List.{All}
-use Rattle.std.specs.Option.{option_map_or}
+use Rattle.std.specs.Option.{option_map_or, option_or}
 use Rattle.std.specs.Str.{IsCharBoundary}
 use Rattle.std.proofs.lemmas.List.{length-take-le}
 use Rattle.std.proofs.lemmas.List.Elements.{All-cons, All-head, All-nil, All-tail}
@@ -16,15 +16,14 @@ use Rattle.spdx_core.specs.Reading.{ExpressionView, Read, after_items, expressio
 use Rattle.graph_core.specs.Krate.{Record}
 use Rattle.diag_core.specs.declared.label.Coord.{Coord}
 use Rattle.diag_core.specs.File.{File, source_of}
-use Rattle.expression_core.specs.Taken.{field_read, lax, or_else, strict_with_slash}
+use Rattle.expression_core.specs.Taken.{field_read, lax, strict_with_slash}
 use Rattle.location_core.specs.Location.{PointsAt}
 use Rattle.finding_core.specs.Cuts.{LabelLies, StandsAt, labels_of}
 use Rattle.priority_core.specs.declared.settling.FilesSeen.{FilesSeen}
 use Rattle.priority_core.specs.declared.settling.Settling.{Settling}
 use Rattle.priority_core.specs.declared.settling.Settling.TheVariants.{Clarified, Field, Files}
 use Rattle.priority_core.specs.Clarification.{Clarification, held_in}
-use Rattle.priority_core.specs.Priority.{field_of, files_scanned, holding}
-use Rattle.priority_core.specs.Settled.{by_seen, seen_by, settling_by}
+use Rattle.priority_core.specs.Priority.{by_seen, field_of, files_scanned, holding, seen_by, settling_by}
 use Rattle.gather_core.specs.Premises.{ByStands, InfoStands, PlaceLies, StandsIn, TextIs}
 use Rattle.gather_core.specs.Told.{info_by, nowhere}
 use Rattle.gather_core.specs.Turns.{Turn, field_text, missing_findings, settling_in, text_settled}
@@ -47,7 +46,7 @@ text_of : (mode : ParseMode) (lists : CatalogLists) (words : List ℕ) (e : Expr
 text_of mode lists words e is = text_if (is_none (first_fault mode lists words)) words (after_items nothing_read (items_of mode lists words)) e is
 
 either_text : (a b : Option ExpressionView) (words : List ℕ) (e : ExpressionView) → ((e : ExpressionView) → a ≡ Some e → e.text ≡ words) → ((e : ExpressionView) → b ≡ Some e → e.text ≡ words)
-    → or_else a b ≡ Some e → e.text ≡ words
+    → option_or a b ≡ Some e → e.text ≡ words
 either_text None b words e one two is = two e is
 either_text (Some x) b words e one two is = one e is
 

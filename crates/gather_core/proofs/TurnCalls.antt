@@ -1,5 +1,5 @@
 -- Crates that have their turns one after another, each by its own reads.
-use Rattle.std.proofs.Common.{◌≡◌, ◌∙◌, ℕ, ◌+◌, List, [], ◌∷◌, ◌++◌, map, append-nil, Option, Result, Ok, Err, refl, sym, ap, ap₂, subst, take, take-append-drop, drop}
+use Rattle.std.proofs.Common.{◌≡◌, ◌∙◌, ℕ, ◌+◌, List, [], ◌∷◌, ◌++◌, map, append-nil, Option, Result, Ok, Err, refl, sym, ap, subst, take, take-append-drop, drop}
 use Rattle.std.specs.Prelude.{IfOk, OnOk}
 use Rattle.std.specs.declared.alloc.AllocError.{AllocError}
 use Rattle.std.specs.Option.{option_to_list}
@@ -21,16 +21,16 @@ use Rattle.diag_core.specs.File.{File}
 use Rattle.location_core.specs.Calls.{manifest_by}
 use Rattle.priority_core.specs.Priority.{folder_of}
 use Rattle.gather_core.specs.declared.summary.KrateLicense.{KrateLicense}
-use Rattle.gather_core.specs.Calls.{AreOwnReads, AreTurnsBy, AreTurnsByReads, CrateReads, IsByOwnReads, IsTurnBy, IsTurnHeard, StarvesGathering, StarvesTaking}
-use Rattle.gather_core.specs.Calls.{calls_of_all, files_behind_all, reads_of_all, turn_by}
+use Rattle.gather_core.specs.Calls.{AreTurnsByReads, CrateReads, IsByOwnReads, IsTurnHeard, StarvesGathering, StarvesTaking}
+use Rattle.gather_core.specs.Calls.{calls_of_all, reads_of_all, turn_by, turns_of}
 use Rattle.gather_core.specs.Entries.{Entry, clarifications_of}
 use Rattle.gather_core.specs.Gathered.{krate_of, turn_of}
 use Rattle.gather_core.specs.Premises.{Grows}
 use Rattle.gather_core.specs.Taken.{turn_with}
-use Rattle.gather_core.specs.Turns.{IsCutOut, IsTurn, files_behind, records_in}
+use Rattle.gather_core.specs.Turns.{IsCutOut, IsTurn, records_in}
 use Rattle.gather_core.proofs.CallLemmas.{starves_behind}
+use Rattle.gather_core.proofs.CrateTurns.{krates_told, own_turns, turns_more}
 use Rattle.gather_core.proofs.GatheredLemmas.{map_push, priority_turn}
-use Rattle.gather_core.proofs.PlacedLemmas.{cut_grown}
 
 -- ---- one crate
 
@@ -96,28 +96,7 @@ are_then {told} {mid} {before} {middle} crates more made first then =
 
 pub no_turns : (told : Option Content) (count : ℕ) (calls : List Call) (scanner : Scanner) (policy : ℕ) (all : List Entry) (files : List File)
     → AreTurnsByReads told told count count calls calls scanner policy all files [] files
-no_turns told count calls scanner policy all files = record { crates = []; made = made_none told count calls; are = tt; turns = refl }
-
-turns_push : (scanner : Scanner) (policy : ℕ) (all : List Entry) (one : CrateReads) (files : List File) (crates : List CrateReads) (licenses : List KrateLicense) (license : KrateLicense) (middle last : List File)
-    → AreTurnsBy scanner policy all files crates licenses middle → Grows middle last → IsTurnBy scanner policy all middle one license last → last ≡ files_behind (turn_by scanner policy all middle one)
-    → AreTurnsBy scanner policy all files (crates ++ one ∷ []) (licenses ++ license ∷ []) last
-turns_push scanner policy all one files [] [] license middle last same grows is table = (
-  subst (λ (files : List File). IsTurnBy scanner policy all files one license last) same is,
-  subst (λ (files : List File). last ≡ files_behind (turn_by scanner policy all files one)) same table,
-)
-turns_push scanner policy all one files [] (other ∷ licenses) license middle last turns grows is table = absurd turns
-turns_push scanner policy all one files (first ∷ crates) [] license middle last turns grows is table = absurd turns
-turns_push scanner policy all one files (first ∷ crates) (other ∷ licenses) license middle last turns grows is table =
-    let turn = turn_by scanner policy all files first in (
-      record {
-        krate = turns.0.krate;
-        recorded_are = turns.0.recorded_are;
-        turn = turns.0.turn;
-        answer = turns.0.answer;
-        cuts = cut_grown middle last turn grows turns.0.cuts;
-      },
-      turns_push scanner policy all one (files_behind turn) crates licenses license middle last turns.1 grows is table,
-    )
+no_turns told count calls scanner policy all files = record { crates = []; made = made_none told count calls; are = tt; turns = record { each = tt; left = refl } }
 
 module _ {told mid tells : Option Content} {before between_count after : ℕ} {old between new : List Call} (scanner : Scanner) (policy : ℕ) (all : List Entry) (files : List File) (licenses : List KrateLicense) where
   -- one more crate
@@ -126,13 +105,13 @@ module _ {told mid tells : Option Content} {before between_count after : ℕ} {o
       → AreTurnsByReads told tells before after old new scanner policy all files (licenses ++ license ∷ []) last
   turns_then license middle last first grows by =
       let one : CrateReads = record { krate = krate_of license; reads = by.reads } in
-      let turn = turn_by scanner policy all middle one in
+      let turn = (turn_by scanner policy all middle one).turn in
       record {
         crates = first.crates ++ one ∷ [];
         made = made_as (sym (calls_push first.crates one)) (made_joined first.made by.made.made);
         are = subst (AreReads before) (sym (reads_push first.crates one)) (are_then first.crates by.reads first.made first.are by.made.are);
         turns =
-            turns_push scanner policy all one files first.crates licenses license middle last first.turns grows
+            turns_more scanner policy all one files first.crates licenses license middle last first.turns grows
             (record {
               krate = refl;
               recorded_are = by.recorded_are;
@@ -144,32 +123,6 @@ module _ {told mid tells : Option Content} {before between_count after : ℕ} {o
       }
 
 -- ---- for want of memory
-
-own_turns : (scanner : Scanner) (policy : ℕ) (all : List Entry) (files : List File) (crates : List CrateReads) (licenses : List KrateLicense) (last : List File)
-    → AreTurnsBy scanner policy all files crates licenses last → AreOwnReads scanner policy all files crates
-own_turns scanner policy all files [] licenses last turns = tt
-own_turns scanner policy all files (one ∷ crates) [] last turns = absurd turns
-own_turns scanner policy all files (one ∷ crates) (license ∷ licenses) last turns = (
-  turns.0.recorded_are ∙ turns.0.turn.read,
-  own_turns scanner policy all (files_behind (turn_by scanner policy all files one)) crates licenses last turns.1,
-)
-
-left_turns : (scanner : Scanner) (policy : ℕ) (all : List Entry) (files : List File) (crates : List CrateReads) (licenses : List KrateLicense) (last : List File)
-    → AreTurnsBy scanner policy all files crates licenses last → last ≡ files_behind_all scanner policy all files crates
-left_turns scanner policy all files [] [] last turns = turns
-left_turns scanner policy all files [] (license ∷ licenses) last turns = absurd turns
-left_turns scanner policy all files (one ∷ crates) [] last turns = absurd turns
-left_turns scanner policy all files (one ∷ crates) (license ∷ licenses) last turns =
-    left_turns scanner policy all (files_behind (turn_by scanner policy all files one)) crates licenses last turns.1
-
-krates_turned : (scanner : Scanner) (policy : ℕ) (all : List Entry) (files : List File) (crates : List CrateReads) (licenses : List KrateLicense) (last : List File)
-    → AreTurnsBy scanner policy all files crates licenses last → map (λ (one : CrateReads). one.krate) crates ≡ map krate_of licenses
-krates_turned scanner policy all files [] [] last turns = refl
-krates_turned scanner policy all files [] (license ∷ licenses) last turns = absurd turns
-krates_turned scanner policy all files (one ∷ crates) [] last turns = absurd turns
-krates_turned scanner policy all files (one ∷ crates) (license ∷ licenses) last turns =
-    ap₂ (λ (krate : Record) (rest : List Record). krate ∷ rest) turns.0.krate
-    (krates_turned scanner policy all (files_behind (turn_by scanner policy all files one)) crates licenses last turns.1)
 
 -- memory was wanting at the turn of the next crate
 pub starves_next : {told mid tells : Option Content} {before between_count after : ℕ} {old between new : List Call} (scanner : Scanner) (policy : ℕ) (all : List Entry) (files : List File)
@@ -185,12 +138,11 @@ starves_next scanner policy all files licenses middle krate krates first starves
       next = starves.next;
       made = made_joined first.made starves.made.made;
       are = are_then first.crates starves.reads first.made first.are starves.made.are;
-      own = own_turns scanner policy all files first.crates licenses middle first.turns;
+      own = own_turns files (turns_of scanner policy all files first.crates) licenses middle first.turns;
       front =
-          subst (λ (files : List File). IsFront (recorded starves.reads ++ option_to_list starves.next) (records_in (turn_by scanner policy all files begun)))
-          (left_turns scanner policy all files first.crates licenses middle first.turns) starves.front;
+          subst (λ (files : List File). IsFront (recorded starves.reads ++ option_to_list starves.next) (records_in (turn_by scanner policy all files begun).turn)) first.turns.left starves.front;
       among =
-          subst (λ (those : List Record). IsFront (those ++ krate ∷ []) krates) (sym (krates_turned scanner policy all files first.crates licenses middle first.turns)) among;
+          subst (λ (those : List Record). IsFront (those ++ krate ∷ []) krates) (sym (krates_told scanner policy all files first.crates licenses middle first.turns)) among;
     }
 
 -- the first ones of a list, with the next one

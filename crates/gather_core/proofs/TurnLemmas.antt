@@ -7,7 +7,8 @@ use Rattle.term_core.specs.declared.error.ParseError.{ParseError}
 use Rattle.diag_core.specs.declared.label.Coord.{Coord}
 use Rattle.diag_core.specs.File.{File}
 use Rattle.priority_core.specs.declared.settling.Settling.{Settling}
-use Rattle.priority_core.specs.Settled.{answer_in, missing_of}
+use Rattle.priority_core.specs.Priority.{answer_in}
+use Rattle.priority_core.specs.Settled.{missing_of}
 use Rattle.finding_core.specs.declared.outcome.Points.{Points}
 use Rattle.finding_core.specs.Cuts.{LabelLies, labels_of, text_under}
 use Rattle.gather_core.specs.declared.summary.KrateLicense.{KrateLicense}

@@ -1,7 +1,7 @@
 -- Over any tree, whatever it tells of its content: the calls that are made at the turns of crates, and what is so by what their
 -- answers let hear.
-use Rattle.std.specs.Prelude.{◌≡◌, ℕ, List, [], ◌∷◌, ◌++◌, map, Option, ⊤}
-use Rattle.std.specs.List.{flat_map}
+use Rattle.std.specs.Prelude.{◌≡◌, ℕ, List, [], ◌∷◌, ◌++◌, map, fold, Option, All}
+use Rattle.std.specs.List.{AllZip, flat_map}
 use Rattle.std.specs.Option.{option_to_list}
 use Rattle.tree_core.specs.Call.{Call}
 use Rattle.tree_core.specs.Content.{Content}
@@ -15,11 +15,12 @@ use Rattle.pack_core.specs.Ears.{Ears, ears_by}
 use Rattle.expression_core.specs.Scanned.{Scanner}
 use Rattle.diag_core.specs.File.{File}
 use Rattle.location_core.specs.Calls.{manifest_by}
-use Rattle.priority_core.specs.Priority.{folder_of}
+use Rattle.priority_core.specs.Priority.{folder_of, priority_of}
 use Rattle.gather_core.specs.Entries.{Entry, clarifications_of}
 use Rattle.gather_core.specs.declared.summary.KrateLicense.{KrateLicense}
-use Rattle.gather_core.specs.Gathered.{IsPriorityBy, krate_of, turn_of}
+use Rattle.gather_core.specs.Gathered.{krate_of, turn_of}
 use Rattle.gather_core.specs.Taken.{turn_with}
+use Rattle.gather_core.specs.Told.{answer_told}
 use Rattle.gather_core.specs.Turns.{IsCutOut, IsTurn, Turn, files_behind, records_in}
 
 -- ---- one crate
@@ -53,15 +54,31 @@ pub record CrateReads : Type 0 where
   pub krate : Record
   pub reads : List Read
 
--- the turn of a crate among all, by what its own reads let hear, with the table that the crates before have left
-abbrev pub turn_by : Scanner → ℕ → List Entry → List File → CrateReads → Turn
-turn_by scanner policy all files one =
-    turn_with scanner policy (clarifications_of one.krate all) one.krate (ears_by one.reads) (manifest_by one.reads) files
+-- the turn of a crate, with its reads
+pub record CrateTurn : Type 0 where
+  pub reads : List Read
+  pub turn : Turn
 
--- the table behind all of them
-abbrev pub files_behind_all : Scanner → ℕ → List Entry → List File → List CrateReads → List File
-files_behind_all scanner policy all files [] = files
-files_behind_all scanner policy all files (one ∷ crates) = files_behind_all scanner policy all (files_behind (turn_by scanner policy all files one)) crates
+-- the turn of a crate among all, by what its own reads let hear, with the table that the crates before have left
+abbrev pub turn_by : Scanner → ℕ → List Entry → List File → CrateReads → CrateTurn
+turn_by scanner policy all files one = record {
+  reads = one.reads;
+  turn = turn_with scanner policy (clarifications_of one.krate all) one.krate (ears_by one.reads) (manifest_by one.reads) files;
+}
+
+-- the turns of crates, one after another, each with the table that the one before has left
+abbrev pub turns_of : Scanner → ℕ → List Entry → List File → List CrateReads → List CrateTurn
+turns_of scanner policy all files [] = []
+turns_of scanner policy all files (one ∷ crates) =
+    turn_by scanner policy all files one ∷ turns_of scanner policy all (files_behind (turn_by scanner policy all files one).turn) crates
+
+-- the table that turns leave, where it was this one before them
+abbrev pub files_behind_all : List File → List CrateTurn → List File
+files_behind_all files turns = fold (λ (before : List File) (own : CrateTurn). files_behind own.turn) files turns
+
+-- the reads of a crate are those that its turn asks for
+abbrev pub HasOwnReads : CrateTurn → Type 0
+HasOwnReads own = recorded own.reads ≡ records_in own.turn
 
 -- the calls of their reads, crate after crate, each crate's in its own folder
 abbrev pub calls_of_all : List CrateReads → List Call
@@ -72,20 +89,17 @@ reads_of_all crates = flat_map (λ one. one.reads) crates
 
 -- What is told of a crate is what its turn says by its own reads, which have the records that are told of it; it has priority by
 -- them; and the labels of what is found cut out what they say, in the table that is left at last.
-pub record IsTurnBy (scanner : Scanner) (policy : ℕ) (all : List Entry) (files : List File) (one : CrateReads) (license : KrateLicense) (last : List File) : Type 0 where
-  pub krate : one.krate ≡ krate_of license
-  pub recorded_are : recorded one.reads ≡ license.reads
-  pub turn : IsTurn (turn_by scanner policy all files one) license (files_behind (turn_by scanner policy all files one))
-  pub answer : IsPriorityBy scanner all (ears_by one.reads) license
-  pub cuts : IsCutOut last (turn_by scanner policy all files one)
+pub record IsTurnBy (last : List File) (own : CrateTurn) (license : KrateLicense) : Type 0 where
+  pub krate : own.turn.krate ≡ krate_of license
+  pub recorded_are : recorded own.reads ≡ license.reads
+  pub turn : IsTurn own.turn license (files_behind own.turn)
+  pub answer : answer_told license.lic_info license.notes ≡ priority_of own.turn.scanner own.turn.clarifications own.turn.krate own.turn.ears
+  pub cuts : IsCutOut last own.turn
 
--- crate after crate, from a table on to the one that is left at last
-abbrev pub AreTurnsBy : Scanner → ℕ → List Entry → List File → List CrateReads → List KrateLicense → List File → Type 0
-AreTurnsBy scanner policy all files [] [] last = last ≡ files
-AreTurnsBy scanner policy all files (one ∷ crates) (license ∷ licenses) last =
-    IsTurnBy scanner policy all files one license last
-    × AreTurnsBy scanner policy all (files_behind (turn_by scanner policy all files one)) crates licenses last
-AreTurnsBy scanner policy all files _ _ last = ⊥
+-- what is told of crates, one by one, is what these turns say, and the table that is left at last is theirs
+pub record AreTurnsBy (files : List File) (turns : List CrateTurn) (licenses : List KrateLicense) (last : List File) : Type 0 where
+  pub each : AllZip (IsTurnBy last) turns licenses
+  pub left : last ≡ files_behind_all files turns
 
 -- Crates had their turns over a tree, each by its own reads: the calls of these were made, one crate after another, and no other;
 -- their records tell what the answers let hear; and what is told of each crate is what its turn says by them.
@@ -93,16 +107,9 @@ pub record AreTurnsByReads (told tells : Option Content) (before after : ℕ) (o
   pub crates : List CrateReads
   pub made : Made told tells before after old new (calls_of_all crates)
   pub are : AreReads before (reads_of_all crates)
-  pub turns : AreTurnsBy scanner policy all files crates licenses last
+  pub turns : AreTurnsBy files (turns_of scanner policy all files crates) licenses last
 
 -- ---- for want of memory
-
--- crate after crate, the reads are those that its turn asks for by them
-abbrev pub AreOwnReads : Scanner → ℕ → List Entry → List File → List CrateReads → Type 0
-AreOwnReads scanner policy all files [] = ⊤
-AreOwnReads scanner policy all files (one ∷ crates) =
-    (recorded one.reads ≡ records_in (turn_by scanner policy all files one))
-    × AreOwnReads scanner policy all (files_behind (turn_by scanner policy all files one)) crates
 
 -- Some of these crates, the first ones, had their turns over a tree, and memory was wanting at the turn of the next one, perhaps in
 -- a call. Its reads, and that call's, are the first ones of those that its turn asks for by what they let hear.
@@ -112,6 +119,6 @@ pub record StarvesGathering (told tells : Option Content) (before after : ℕ) (
   pub next : Option ReadRecord
   pub made : Made told tells before after old new (calls_of_all crates ++ (calls_in (folder_of begun.krate) begun.reads ++ call_lost (folder_of begun.krate) next))
   pub are : AreReads before (reads_of_all crates ++ begun.reads)
-  pub own : AreOwnReads scanner policy all files crates
-  pub front : IsFront (recorded begun.reads ++ option_to_list next) (records_in (turn_by scanner policy all (files_behind_all scanner policy all files crates) begun))
+  pub own : All HasOwnReads (turns_of scanner policy all files crates)
+  pub front : IsFront (recorded begun.reads ++ option_to_list next) (records_in (turn_by scanner policy all (files_behind_all files (turns_of scanner policy all files crates)) begun).turn)
   pub among : IsFront (map (λ (one : CrateReads). one.krate) crates ++ begun.krate ∷ []) krates

@@ -11,12 +11,10 @@ use Rattle.selection_core.specs.declared.selection.Include.{Include}
 use Rattle.valid_policy.specs.declared.policy.ValidConfig.{ValidConfig}
 use Rattle.reads_core.specs.Heard.{Heard}
 use Rattle.diag_core.specs.File.{File}
-use Rattle.priority_core.specs.Priority.{priority_of}
 use Rattle.gather_core.specs.Entries.{Entry, clarifications_of}
 use Rattle.gather_core.specs.declared.gatherer.Gatherer.{Gatherer}
 use Rattle.gather_core.specs.declared.summary.KrateLicense.{KrateLicense}
 use Rattle.gather_core.specs.Taken.{turn_with}
-use Rattle.gather_core.specs.Told.{answer_told}
 use Rattle.gather_core.specs.Turns.{Turn}
 
 -- the least score of a name that is joined: a number of hundredths, cut to 0..100
@@ -45,11 +43,6 @@ include_of policy = record { dev = policy.include_dev; build = policy.include_bu
 
 abbrev pub krate_of : KrateLicense → Record
 krate_of license = record_of license.krate.now
-
--- a crate is told to be under what has priority by some ears
-abbrev pub IsPriorityBy : Scanner → List Entry → Ears → KrateLicense → Type 0
-IsPriorityBy scanner all ears license =
-    answer_told license.lic_info license.notes ≡ priority_of scanner (clarifications_of (krate_of license) all) (krate_of license) ears
 
 -- ---- turn after turn
 

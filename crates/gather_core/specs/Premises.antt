@@ -1,32 +1,14 @@
 -- Where a policy's places stand, and where the places of what was gathered do.
-use Rattle.std.specs.Prelude.{◌≡◌, ℕ, ◌+◌, ◌≤◌, List, length, All, Option, Some, None, ⊤}
-use Rattle.std.specs.Str.{IsCharBoundary}
-use Rattle.deny_text.specs.declared.span.Span.{Span}
-use Rattle.diag_core.specs.File.{File, source_of}
-use Rattle.location_core.specs.Location.{PointsAt}
-use Rattle.finding_core.specs.Cuts.{LabelLies, labels_of}
+use Rattle.std.specs.Prelude.{◌≡◌, ℕ, List, All, ⊤}
+use Rattle.diag_core.specs.File.{File}
 pub use Rattle.diag_core.specs.File.{Grows}
+use Rattle.finding_core.specs.Cuts.{LabelLies, labels_of}
+pub use Rattle.finding_core.specs.License.{InfoStands, PlaceLies, StandsIn}
 use Rattle.priority_core.specs.declared.settling.Settling.{Settling}
 use Rattle.priority_core.specs.declared.settling.Settling.TheVariants.{Clarified, Field, Files}
 use Rattle.priority_core.specs.Clarification.{Clarification, PlacedFile}
-use Rattle.gather_core.specs.declared.license.LicenseInfo.{LicenseInfo}
-use Rattle.gather_core.specs.declared.license.LicenseInfo.TheVariants.{SpdxExpression, Unlicensed}
 use Rattle.gather_core.specs.declared.summary.KrateLicense.{KrateLicense}
 use Rattle.gather_core.specs.Entries.{Entry}
-
--- a place lies in the text of a file of the table, between characters
-pub record PlaceLies (files : List File) (file : ℕ) (span : Span) : Type 0 where
-  pub source : List ℕ
-  pub is_source : source_of files file ≡ Some source
-  pub ordered : span.start ≤ span.end
-  pub starts : IsCharBoundary source span.start
-  pub ends : IsCharBoundary source span.end
-
--- An expression stands in a file: where its string has escapes, the place of that lies there; else its text stands there from
--- its offset on.
-abbrev pub StandsIn : List File → ℕ → ℕ → Option Span → List ℕ → Type 0
-StandsIn files file offset (Some place) text = PlaceLies files file place
-StandsIn files file offset None text = PointsAt files (record { file = file; span = record { start = offset; end = offset + length text } }) text
 
 -- ---- what is asked of a policy
 
@@ -53,11 +35,6 @@ TextIs words (Field expression) = expression.text ≡ words
 TextIs words (Files seen joined) = ⊤
 
 -- ---- what is left
-
--- the expression of a crate, where there is one, stands in its file
-abbrev pub InfoStands : List File → LicenseInfo → Type 0
-InfoStands files Unlicensed = ⊤
-InfoStands files (SpdxExpression expression nfo) = StandsIn files nfo.file_id nfo.offset nfo.whole expression.text
 
 -- each label lies in its file, between characters, and the expression stands in its own
 pub record IsPlacedAt (files : List File) (license : KrateLicense) : Type 0 where

@@ -6,11 +6,11 @@ use Rattle.priority_core.specs.declared.settling.Settling.{Settling}
 use Rattle.priority_core.specs.declared.settling.Settling.TheVariants.{Clarified, Field, Files}
 use Rattle.priority_core.specs.declared.settling.JoinedNames.{JoinedNames}
 use Rattle.priority_core.specs.Priority.{Answer, Source, metadata, user_override, license_files}
-use Rattle.gather_core.specs.declared.license.LicenseExprInfo.{LicenseExprInfo}
-use Rattle.gather_core.specs.declared.license.LicenseExprSource.{LicenseExprSource}
-use Rattle.gather_core.specs.declared.license.LicenseExprSource.TheVariants.{Metadata, UserOverride, LicenseFiles}
-use Rattle.gather_core.specs.declared.license.LicenseInfo.{LicenseInfo}
-use Rattle.gather_core.specs.declared.license.LicenseInfo.TheVariants.{SpdxExpression, Unlicensed}
+use Rattle.finding_core.specs.declared.license.LicenseExprInfo.{LicenseExprInfo}
+use Rattle.finding_core.specs.declared.license.LicenseExprSource.{LicenseExprSource}
+use Rattle.finding_core.specs.declared.license.LicenseExprSource.TheVariants.{Metadata, UserOverride, LicenseFiles}
+use Rattle.finding_core.specs.declared.license.LicenseInfo.{LicenseInfo}
+use Rattle.finding_core.specs.declared.license.LicenseInfo.TheVariants.{SpdxExpression, Unlicensed}
 
 -- ---- where an expression's text stands
 

@@ -18,8 +18,8 @@ use Rattle.priority_core.specs.declared.settling.JoinedNames.{JoinedNames}
 use Rattle.priority_core.specs.declared.settling.Settling.{Settling}
 use Rattle.priority_core.specs.declared.settling.Settling.TheVariants.{Clarified, Field, Files}
 use Rattle.priority_core.specs.Clarification.{Clarification}
-use Rattle.priority_core.specs.Priority.{folder_of, holding, is_nothing, records_of}
-use Rattle.priority_core.specs.Settled.{answer_in, missing_of, settling_of}
+use Rattle.priority_core.specs.Priority.{answer_in, folder_of, holding, is_nothing, records_of, settling_of}
+use Rattle.priority_core.specs.Settled.{missing_of}
 use Rattle.location_core.specs.declared.location.Located.{Located}
 use Rattle.location_core.specs.Location.{files_after, located_of}
 use Rattle.finding_core.specs.declared.outcome.Points.{Points}
@@ -27,7 +27,7 @@ use Rattle.finding_core.specs.Cuts.{LabelLies, labels_of, text_under, texts_by}
 use Rattle.finding_core.specs.Faults.{faults_of}
 use Rattle.finding_core.specs.Findings.{CaseView, Outcome, by_field, by_files, files_with, missing_file, points_of}
 use Rattle.finding_core.specs.Pieces.{Seen, unlisted, listed}
-use Rattle.gather_core.specs.declared.license.LicenseInfo.{LicenseInfo}
+use Rattle.finding_core.specs.declared.license.LicenseInfo.{LicenseInfo}
 use Rattle.gather_core.specs.declared.summary.KrateLicense.{KrateLicense}
 use Rattle.gather_core.specs.Told.{info_by, notes_of, nowhere}
 

@@ -4,12 +4,11 @@
 mod clarifications;
 pub mod gatherer;
 pub mod laws;
-pub mod license;
 pub mod summary;
 mod tell;
 mod told;
 mod turn;
 
+pub use finding_core::{Diags, LicenseExprInfo, LicenseExprSource, LicenseInfo};
 pub use gatherer::Gatherer;
-pub use license::{LicenseExprInfo, LicenseExprSource, LicenseInfo};
-pub use summary::{Diags, KrateLicense, KrateLicenses, Summary};
+pub use summary::{KrateLicense, KrateLicenses, Summary};

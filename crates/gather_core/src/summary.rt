@@ -1,12 +1,9 @@
 //! What was gathered.
-use crate::license::LicenseInfo;
 use deny_text::ListOf;
-use diag_core::{Diag, Notes};
+use diag_core::Notes;
+use finding_core::{Diags, LicenseInfo};
 use graph_core::Krate;
 use tree_core::Reads;
-
-/// Findings in order.
-pub type Diags = ListOf<Diag>;
 
 /// The licence of a crate.
 #[derive(Drop)]

@@ -14,12 +14,12 @@ ghost use Rattle.gather_core.specs.Turns.{IsCutOut, IsTurn, Turn, faults_in, fie
 ghost use Rattle.gather_core.specs.Turns.{joined_text, outcome_in, points_for, seen_as, text_settled};
 ghost use Rattle.gather_core.specs.Turns.{texts_for};
 
-use crate::summary::{Diags, KrateLicense};
+use crate::summary::KrateLicense;
 use crate::told::told_by;
 use crate::turn::{Taken, joined};
 use deny_text::Span;
 use diag_core::{Coord, FileId, Files};
-use finding_core::{Case, Faults, Points, SeenFiles, Settles, find, missing_file};
+use finding_core::{Case, Diags, Faults, Points, SeenFiles, Settles, find, missing_file};
 use graph_core::Krate;
 use priority_core::{FilesSeen, JoinedNames, Settling, folder};
 use std::alloc::{AllocError, Global};

@@ -1,12 +1,12 @@
 //! What is told of a crate's licence, by what settles it.
 ghost use Rattle.std.specs.Prelude.{◌≡◌, None, unwrap_or};
-ghost use Rattle.priority_core.specs.Settled.{answer_in};
+ghost use Rattle.priority_core.specs.Priority.{answer_in};
 ghost use Rattle.gather_core.specs.Told.{field_source, info_at, info_by, joined_info, joined_notes, notes_of};
 ghost use Rattle.gather_core.specs.Told.{nowhere};
 
-use crate::license::{LicenseExprInfo, LicenseExprSource, LicenseInfo};
 use deny_text::Span;
 use diag_core::{Coord, FileId, Notes};
+use finding_core::{LicenseExprInfo, LicenseExprSource, LicenseInfo};
 use priority_core::{Held, JoinedNames, Settling};
 use spdx_core::Expression;
 use std::alloc::Global;

@@ -11,6 +11,7 @@ use deny_text::{Steps, Text, Texts};
 use diag_core::licenses::Code;
 use diag_core::{Diag, Files, Label, Labels, LevelFilter, Notes, Pack, Severity};
 use evaluate_core::{Evaluator, Hit, Hits, Places, Verdict};
+use gather_core::{LicenseExprInfo, LicenseExprSource};
 use graph_core::{Krate, Source};
 use print_core::{Color, DiagPrinter, Format, LogContext, pack_labels_are_inside};
 use spdx_core::Expression;
@@ -20,7 +21,7 @@ use std::sync::ledger::{Blank, Ledger};
 use tree_core::MemSink;
 use unused_core::{Encountered, last_pack};
 use valid_policy::ValidConfig;
-use verdict_findings::{ExprPlace, Retrieved, finding, judged, pack_of, skipped, unlicensed};
+use verdict_findings::{finding, fits, judged, pack_of, skipped, unlicensed};
 
 fn put_places(out: &mut Shown, of: &str, places: &Places) {
     out.put(of);
@@ -153,18 +154,30 @@ fn hits_of(alloc: Global, words: &str) -> Option<Vec<Option<Hit>>> {
     Some(hits)
 }
 
-/// A place: the number of the file, the offset, and perhaps the place of the string that the text was written as.
-fn place_of(words: &str) -> ExprPlace {
-    let (file, rest) = first_word(words);
+/// The field, the policy, or files by their paths.
+fn expr_source(alloc: Global, words: &str) -> Option<LicenseExprSource> {
+    let (from, paths) = first_word(words);
+    match from {
+        "field" => Some(LicenseExprSource::Metadata(None)),
+        "policy" => Some(LicenseExprSource::UserOverride),
+        _ => Some(LicenseExprSource::LicenseFiles(texts(alloc, paths)?)),
+    }
+}
+
+/// Where the expression stands: the number of the file, the offset, and perhaps the place of the string that the
+/// text was written as; and where it comes from.
+fn info_of(alloc: Global, case: &Case<'_>) -> Option<LicenseExprInfo> {
+    let (file, rest) = first_word(case.word("place"));
     let (offset, whole) = first_word(rest);
-    ExprPlace {
+    Some(LicenseExprInfo {
         file_id: number(file),
         offset: number(offset),
         whole: match whole {
             "" => None,
             _ => Some(span(whole, " ")),
         },
-    }
+        source: expr_source(alloc, case.word("source"))?,
+    })
 }
 
 /// What is noted of the files of the crate.
@@ -214,16 +227,12 @@ fn warnings(alloc: Global, entries: &[Entry]) -> Option<Vec<Diag>> {
 fn judged_of(alloc: Global, case: &Case<'_>, notes: &[Text]) -> Option<Diag> {
     let expression = expression(alloc, value(case, "expression")?)?;
     let hits = hits_of(alloc, case.word("hits"))?;
-    let retrieved = Retrieved {
-        expression: &expression,
-        place: place_of(case.word("place")),
-        source: case.word("source"),
-    };
-    if !retrieved.place.fits(expression.as_ref().len()) {
+    let nfo = info_of(alloc, case)?;
+    if !fits(&nfo, expression.as_ref().len()) {
         return None;
     }
     let accepted = case.word("verdict") == "accepted";
-    judged(alloc, accepted, &retrieved, &hits, notes).ok()
+    judged(alloc, accepted, &expression, &nfo, &hits, notes).ok()
 }
 
 /// The verdict on the crate.

@@ -1,5 +1,5 @@
 -- Crates as metadata tells of them, and what is said of one.
-use Rattle.std.specs.Prelude.{◌≡◌, ℕ, Bool, true, false, ◌==◌, List, [], ◌∷◌, ◌++◌, codes, Option, Some, None, bytes_eq}
+use Rattle.std.specs.Prelude.{ℕ, Bool, false, List, ◌++◌, map, codes, Option, Some, None, bytes_eq}
 use Rattle.std.specs.FinMap as finmap
 use Rattle.std.specs.Option.{option_map_or}
 use Rattle.std.specs.List.{list_any, list_all}
@@ -62,6 +62,10 @@ krate_order = on id_of (slice_cmp nat_cmp)
 pub krate_order_total : IsTotalOrder krate_order
 krate_order_total = on_total id_of nat_list_cmp_total
 
+-- the ids of crates
+abbrev pub ids_in : List Record → List (List ℕ)
+ids_in crates = map (λ krate. krate.id) crates
+
 -- ---- what is said of a crate
 
 -- whether a list holds a text
@@ -88,5 +92,5 @@ abbrev pub is_registry : Option Source → Bool
 is_registry source = option_map_or sources.is_registry source false
 
 -- `{name} = {version}`
-abbrev pub text_of : Krate → List ℕ
-text_of krate = krate.name ++ codes " = " ++ parts_text (parts_of krate.version)
+abbrev pub title_of : Record → List ℕ
+title_of krate = krate.name ++ codes " = " ++ parts_text krate.version

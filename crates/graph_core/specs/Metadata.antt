@@ -1,5 +1,5 @@
 -- What metadata tells: crates, the edges between them, the members of the workspace, its root folder and its root crate.
-use Rattle.std.specs.Prelude.{◌≡◌, ℕ, ◌<◌, List, [], ◌∷◌, map, length, slice_get, Option, Some, None, All, unwrap_or, IfSome}
+use Rattle.std.specs.Prelude.{◌≡◌, ℕ, ◌<◌, false, List, [], ◌∷◌, map, length, slice_get, Option, Some, None, All, unwrap_or, IfSome}
 use Rattle.std.specs.Option.{option_map_or}
 use Rattle.std.specs.Ordering.{nat_cmp}
 use Rattle.std.specs.List.Sorted.{IsStrictlySortedBy}
@@ -8,6 +8,9 @@ use Rattle.graph_core.specs.declared.krate.Krate.{Krate}
 use Rattle.graph_core.specs.declared.edge.Edge.{Edge}
 use Rattle.graph_core.specs.declared.edge.Kinds.{Kinds}
 use Rattle.graph_core.specs.Krate.{Record, record_of, id_of}
+
+abbrev pub no_kinds : Kinds
+no_kinds = record { normal = false; dev = false; build = false }
 
 -- an edge: the id of the crate that it leads to, and its kinds
 pub record Link : Type 0 where

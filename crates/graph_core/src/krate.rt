@@ -6,7 +6,7 @@ ghost use Rattle.std.specs.Cmp.{eq_by_cmp_equiv, partial_equiv_from_equiv, parti
 ghost use Rattle.std.specs.Cmp.Rules.{comparing};
 ghost use Rattle.std.proofs.Common.{rules};
 ghost use Rattle.graph_core.specs.Krate as spec;
-ghost use Rattle.graph_core.specs.Krate.{krate_order, krate_order_total, SourceMatches};
+ghost use Rattle.graph_core.specs.Krate.{krate_order, krate_order_total, record_of, title_of, SourceMatches};
 
 use deny_text::{PathBuf, Text, TextMap, Texts};
 use semver::Version;
@@ -109,7 +109,7 @@ impl Krate {
 }
 
 impl fmt::Display for Krate {
-    ghost output = { λ krate. Some (spec.text_of krate) };
+    ghost output = { λ krate. Some (title_of (record_of krate)) };
 
     fn fmt<W: fmt::Write>(&self, f: &mut fmt::Formatter<W>) -> fmt::Result {
         write!(f, "{} = {}", self.name, self.version)

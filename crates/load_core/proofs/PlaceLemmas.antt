@@ -8,7 +8,7 @@ use Rattle.std.proofs.lemmas.List.{length-append}
 use Rattle.std.proofs.lemmas.List.Elements.{All-from_recursion}
 use Rattle.deny_text.specs.declared.span.Span.{Span}
 use Rattle.catalog_core.specs.Catalog.{CatalogLists, IsCatalog}
-use Rattle.toml_places.specs.Placed.{LiesBetween}
+use Rattle.deny_text.specs.Spans.{LiesBetween}
 use Rattle.toml_places.proofs.Texts.{text_placed}
 use Rattle.toml_subset.specs.Answer.{Read}
 use Rattle.toml_subset.specs.Data.{Toml}
@@ -29,7 +29,7 @@ use Rattle.entry_places.specs.Policies.{RootKeeps}
 use Rattle.entry_places.proofs.PolicyPlaces.{root_stays}
 use Rattle.policy_core.specs.Exceptions.{shape_told}
 use Rattle.policy_core.specs.Places.{IsPlacedIn, LabelPoints, PointInto}
-use Rattle.context_core.specs.Asked.{is_uncarried}
+use Rattle.selection_core.specs.Choice.{is_uncarried}
 use Rattle.policy_text.specs.Config.{IsTold, config_told, if_carried, or_shape, or_syntax, shape_told as shape_read, then_told}
 use Rattle.policy_text.specs.declared.error.ConfigError.{ConfigError}
 use Rattle.policy_text.specs.declared.error.ConfigError.TheVariants as config

@@ -13,7 +13,8 @@ use Rattle.std.proofs.lemmas.List.Sums.{passes_at_first}
 use Rattle.std.proofs.lemmas.Slice.Eq.{bytes_eq-Decides}
 use Rattle.std.proofs.lemmas.Str.{IsCharBoundary-after_ascii, IsCharBoundary-before_ascii, IsUtf8-drop, chars-encodes}
 use Rattle.deny_text.specs.declared.span.Span.{Span}
-use Rattle.manifest_core.specs.SpanSearch.{behind, behind_quote, is_quote, license_key, license_span_of, moved, quote_place, value_at_end, value_behind}
+use Rattle.deny_text.specs.Spans.{moved}
+use Rattle.manifest_core.specs.SpanSearch.{behind, behind_quote, is_quote, license_key, license_span_of, quote_place, value_at_end, value_behind}
 use Rattle.manifest_core.specs.Synthetic.{cut}
 use Rattle.location_core.specs.Location.{CutsOut, counted_in, span_in}
 

@@ -14,9 +14,9 @@ ghost use Rattle.location_core.specs.Location.{in_heard, in_table, joined_by};
 use crate::search::span_in;
 use deny_text::{PathBuf, Span, Text};
 use diag_core::{Coord, FileId, Files};
-use reads_core::{FileHeard, read_file};
+use reads_core::{FileHeard, file_record, read_file};
 use std::alloc::{AllocError, Global};
-use tree_core::{ReadAnswer, ReadKind, ReadRecord, Tree};
+use tree_core::{ReadKind, ReadRecord, Tree};
 
 /// Where a field stands, and the record of the read of its manifest, where that was read.
 #[derive(Drop)]
@@ -70,26 +70,6 @@ fn read_manifest<T: Tree>(
     read_file(alloc, tree, "", path.as_path())
 }
 
-/// The record of the read of a manifest.
-fn manifest_record(
-    alloc: Global,
-    path: &PathBuf,
-    heard: &FileHeard,
-) -> Result<ReadRecord, AllocError>
-    ensures { IfOk result (λ read. read ≡ spec.manifest_record path.now (heard_file heard.now)) }
-{
-    let path = PathBuf::copy(alloc, path.as_path())?;
-    let answer = match heard {
-        Ok(_) => ReadAnswer::Got,
-        Err(error) => ReadAnswer::from(*error),
-    };
-    Ok(ReadRecord {
-        path,
-        kind: ReadKind::Manifest,
-        answer,
-    })
-}
-
 /// Puts a manifest into the table where the place of the field counts, and tells the location.
 fn join_where_counted(
     files: &mut Files,
@@ -129,7 +109,7 @@ fn locate_heard(
         PointsAt files.new at field.now)) }
     ensures err { OnErr result (files.new ≡ files.old) }
 {
-    let record = manifest_record(alloc, path, &heard)?;
+    let record = file_record(alloc, ReadKind::Manifest, path, &heard)?;
     match heard {
         Ok(text) => {
             let span = span_in(text.as_str(), field);

@@ -9,7 +9,8 @@ use Rattle.std.proofs.lemmas.List.{length-append}
 use Rattle.std.proofs.lemmas.List.Elements.{All-push, All-weaker}
 use Rattle.std.proofs.lemmas.Str.{IsCharBoundary-end, IsCharBoundary-from_take}
 use Rattle.deny_text.specs.declared.span.Span.{Span}
-use Rattle.manifest_core.specs.Synthetic.{LiesBetween, place_behind}
+use Rattle.deny_text.specs.Spans.{LiesBetween}
+use Rattle.manifest_core.specs.Synthetic.{place_behind}
 
 -- where a text ends and more of it begins
 seam : (text more : List ℕ) → IsUtf8 text → IsUtf8 (text ++ more) → IsCharBoundary (text ++ more) (length text)

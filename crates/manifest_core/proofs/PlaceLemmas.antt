@@ -7,7 +7,8 @@ use Rattle.std.proofs.lemmas.List.Elements.{All-nil, All-head, All-tail, All-pus
 use Rattle.std.proofs.lemmas.Str.{IsUtf8-append, IsUtf8-nil}
 use Rattle.std.proofs.Math.Seq.{drop-append_seam, take-append_seam}
 use Rattle.deny_text.specs.declared.span.Span.{Span}
-use Rattle.manifest_core.specs.Synthetic.{Bit, plain, marked, Kept, nothing_kept, place_behind, written, written_all, bytes_of, marked_of, cut, LiesIn, IsBetweenCharacters, PlacesCutOut}
+use Rattle.deny_text.specs.Spans.{LiesIn}
+use Rattle.manifest_core.specs.Synthetic.{Bit, plain, marked, Kept, nothing_kept, place_behind, written, written_all, bytes_of, marked_of, cut, IsBetweenCharacters, PlacesCutOut}
 
 LiesIn-grown : (text more : List ℕ) (span : Span) → LiesIn text span → LiesIn (text ++ more) span
 LiesIn-grown text more span lies = (lies.0, omega (arith, lies.1, length-append text more))

@@ -5,7 +5,8 @@ use Rattle.std.specs.Str.{trim_start}
 use Rattle.std.specs.Str.Pattern.{FindsText, LacksTextAt}
 use Rattle.std.proofs.lemmas.Bool.{eqb-true}
 use Rattle.deny_text.specs.declared.span.Span.{Span}
-use Rattle.manifest_core.specs.SpanSearch.{behind, behind_quote, quote_place, license_key, moved, value_behind, license_span_of}
+use Rattle.deny_text.specs.Spans.{moved}
+use Rattle.manifest_core.specs.SpanSearch.{behind, behind_quote, quote_place, license_key, value_behind, license_span_of}
 
 behind-is : (front text rest : List ℕ) → behind front text ≡ Some rest → text ≡ front ++ rest
 behind-is [] text rest e = cc

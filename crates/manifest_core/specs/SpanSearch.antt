@@ -1,8 +1,9 @@
 -- Where a text writes the value of a licence field.
-use Rattle.std.specs.Prelude.{ℕ, ◌+◌, ◌-◌, ◌||◌, ◌==◌, nat_lt, Bool, List, [], ◌∷◌, length, codes, Option, None, Some, if◌then◌else◌}
+use Rattle.std.specs.Prelude.{ℕ, ◌-◌, ◌||◌, ◌==◌, nat_lt, Bool, List, [], ◌∷◌, length, codes, Option, None, Some, if◌then◌else◌}
 use Rattle.std.specs.List.{position_or_len}
 use Rattle.std.specs.Option.{option_and_then, option_map, option_or}
 use Rattle.std.specs.Str.{trim_start}
+use Rattle.deny_text.specs.Spans.{moved}
 use Rattle.deny_text.specs.declared.span.Span.{Span}
 
 -- what follows the front, where the text begins with it
@@ -26,9 +27,6 @@ quote_place text = if nat_lt (position_or_len is_quote text) (length text) then 
 
 abbrev pub license_key : List ℕ
 license_key = codes "license"
-
-abbrev pub moved : ℕ → Span → Span
-moved by span = record { start = by + span.start; end = by + span.end }
 
 -- the value that a text ends with, up to the first quote in it
 abbrev pub value_at_end : List ℕ → List ℕ → Option Span

@@ -1,7 +1,8 @@
 -- A text that is written in pieces, some of which are marked, and the places of those.
-use Rattle.std.specs.Prelude.{◌≡◌, ℕ, ◌+◌, ◌-◌, ◌≤◌, List, [], ◌∷◌, ◌++◌, length, take, drop, map}
+use Rattle.std.specs.Prelude.{◌≡◌, ℕ, ◌+◌, ◌-◌, List, [], ◌∷◌, ◌++◌, length, take, drop, map}
 use Rattle.std.specs.List.{fold, All}
-use Rattle.std.specs.Str.{IsCharBoundary, IsUtf8}
+use Rattle.std.specs.Str.{IsUtf8}
+use Rattle.deny_text.specs.Spans.{LiesIn}
 use Rattle.deny_text.specs.declared.span.Span.{Span}
 
 -- written as it is, or with its place kept
@@ -43,19 +44,9 @@ marked_of (marked bytes ∷ rest) = bytes ∷ marked_of rest
 abbrev pub cut : List ℕ → Span → List ℕ
 cut text span = take (span.end - span.start) (drop span.start text)
 
--- the place lies in the text
-abbrev pub LiesIn : List ℕ → Span → Type 0
-LiesIn text span = (span.start ≤ span.end) × (span.end ≤ length text)
-
 -- both its ends are between characters: what stands before each is text
 abbrev pub IsBetweenCharacters : List ℕ → Span → Type 0
 IsBetweenCharacters text span = IsUtf8 (take span.start text) × IsUtf8 (take span.end text)
-
--- the place lies in the text, and both its ends on borders of characters
-pub record LiesBetween (text : List ℕ) (span : Span) : Type 0 where
-  pub ordered : span.start ≤ span.end
-  pub start_border : IsCharBoundary text span.start
-  pub end_border : IsCharBoundary text span.end
 
 -- the kept places of any pieces cut out those that are marked, in order, lie in the text, and stand between characters
 -- where each piece is text

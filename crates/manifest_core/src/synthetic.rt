@@ -1,7 +1,8 @@
 //! A text that is written in place of a manifest, with the places of what a finding points at.
 ghost use Rattle.std.specs.Prelude.{◌≡◌, All, OnOk, OnErr};
 ghost use Rattle.manifest_core.specs.Pieces.{bit_of};
-ghost use Rattle.manifest_core.specs.Synthetic.{LiesBetween, PlacesAlwaysCutOut, nothing_kept, written};
+ghost use Rattle.deny_text.specs.Spans.{LiesBetween};
+ghost use Rattle.manifest_core.specs.Synthetic.{PlacesAlwaysCutOut, nothing_kept, written};
 
 use deny_text::{Span, Text};
 use std::alloc::{AllocError, Global};
@@ -23,7 +24,8 @@ pub struct Synthetic {
 
 impl Model for Synthetic {
     ghost use Rattle.std.specs.Prelude.{All, string_bytes};
-    ghost use Rattle.manifest_core.specs.Synthetic.{Kept, LiesBetween};
+    ghost use Rattle.deny_text.specs.Spans.{LiesBetween};
+    ghost use Rattle.manifest_core.specs.Synthetic.{Kept};
 
     ghost Value = { Kept };
 

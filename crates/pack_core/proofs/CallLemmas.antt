@@ -46,11 +46,11 @@ front_looks start (path ∷ more) =
 pub front_alone : {A : Type 0} (xs ys : List A) → IsFront xs ys → IsFront (xs ++ []) ys
 front_alone xs ys front = subst (λ l. IsFront l ys) (sym (append-nil xs)) front
 
-first_false : (a b : Bool) → (a || b) ≡ false → a ≡ false
+pub first_false : (a b : Bool) → (a || b) ≡ false → a ≡ false
 first_false true b e = cc
 first_false false b e = refl
 
-second_false : (a b : Bool) → (a || b) ≡ false → b ≡ false
+pub second_false : (a b : Bool) → (a || b) ≡ false → b ≡ false
 second_false true b e = cc
 second_false false b e = e
 

@@ -122,7 +122,7 @@ by_same : {G : Type 0} (b : Bool) → (b ≡ true → G) → (b ≡ false → G)
 by_same true holds differs = holds refl
 by_same false holds differs = differs refl
 
-symmetric : (x y : List ℕ) → same_path x y ≡ same_path y x
+pub symmetric : (x y : List ℕ) → same_path x y ≡ same_path y x
 symmetric x y = (eq_by_cmp_equiv path_order_total).symm x y
 
 first_spellings-push : (paths : List (List ℕ)) (y : List ℕ) → first_spellings (paths ++ y ∷ []) ≡ with_path (first_spellings paths) y

@@ -1,5 +1,5 @@
 -- A pack, as contracts see it.
-use Rattle.std.specs.Prelude.{◌≡◌, ℕ, Bool, List, map, Option, Some, None, is_none, Result, if◌then◌else◌}
+use Rattle.std.specs.Prelude.{◌≡◌, ℕ, List, map, Option, Some, None, Result, if◌then◌else◌}
 use Rattle.std.specs.BTreeMap.{is_at}
 use Rattle.std.specs.List.{filter_map}
 use Rattle.std.specs.Map.{lookup}
@@ -56,10 +56,6 @@ unlisted_of wrong_kind = Some bad.WrongKind
 unlisted_of not_utf8 = Some bad.NotUtf8
 unlisted_of (text bytes) = Some bad.WrongKind
 unlisted_of (entries listed) = None
-
--- whether a listing is heard as entries
-abbrev pub is_listed : Heard → Bool
-is_listed listing = is_none (unlisted_of listing)
 
 -- the files are those that were read, in path order
 pub record IsKept (pack : PackView) : Type 0 where

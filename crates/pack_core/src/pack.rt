@@ -29,7 +29,7 @@ use reads_core::{
 use std::alloc::{AllocError, Global};
 use std::collections::{BTreeMap, btree_map};
 use std::marker::Model;
-use tree_core::{Reads, Tree};
+use tree_core::{ReadKind, Reads, Tree};
 
 /// A licence text in its normal form, or why there is none.
 pub type PackData = Result<LicenseText, BadRead>;
@@ -143,7 +143,7 @@ impl Pack {
             mut files,
             mut reads,
         } = self;
-        let record = file_record(alloc, key.path(), &heard)?;
+        let record = file_record(alloc, ReadKind::LicenseFile, key.path(), &heard)?;
         reads.push(record)?;
         let kept = kept_of(alloc, heard)?;
         let told = Told::of(&kept);

@@ -1,9 +1,9 @@
 -- Places, as the load, gathering and the check say them.
-use Rattle.std.proofs.Common.{◌≡◌, sym, subst, ℕ, zero, suc, List, [], ◌∷◌, ◌++◌, map, Option, Some, None}
+use Rattle.std.proofs.Common.{sym, subst, ℕ, List, [], ◌∷◌, ◌++◌, map, Option, Some, None}
 use Rattle.std.specs.List.{AllByRecursion}
 use Rattle.std.proofs.lemmas.List.Elements.{All-from_recursion}
 use Rattle.deny_text.specs.declared.span.Span.{Span}
-use Rattle.diag_core.specs.File.{File, Grows, source_of}
+use Rattle.diag_core.specs.File.{File, Grows}
 use Rattle.policy_entries.specs.declared.licensee.Licensee.{Licensee}
 use Rattle.policy_parts.specs.declared.file_source.FileSource.{FileSource}
 use Rattle.valid_policy.specs.declared.policy.ValidClarification.{ValidClarification}
@@ -11,9 +11,10 @@ use Rattle.valid_policy.specs.declared.policy.ValidConfig.{ValidConfig}
 use Rattle.valid_policy.specs.declared.policy.ValidException.{ValidException}
 use Rattle.policy_core.specs.Places.{ClarificationStands, ExceptionStands, ExpressionStands, FileStands, LicenseeStands, LiesInFile, PolicyStands}
 use Rattle.priority_core.specs.Clarification.{PlacedFile}
-use Rattle.verdict_findings.specs.Places.{LiesIn}
+use Rattle.finding_core.specs.License.{PlaceLies, StandsIn}
+use Rattle.finding_core.proofs.LicenseLemmas.{place_grown}
 use Rattle.gather_core.specs.Entries.{Entry, clarification_of, entries_of, entry_of, placed_of}
-use Rattle.gather_core.specs.Premises.{ArePlacedIn, IsPlacedIn, PlaceLies, StandsIn}
+use Rattle.gather_core.specs.Premises.{ArePlacedIn, IsPlacedIn}
 use Rattle.unused_core.specs.Laws.{EntriesLie}
 
 -- ---- as gathering asks
@@ -56,26 +57,16 @@ are_placed files policy stands =
 
 -- ---- as the check asks
 
-source_on : (files more : List File) (id : ℕ) (source : List ℕ) → source_of files id ≡ Some source → source_of (files ++ more) id ≡ Some source
-source_on [] more zero source is = absurd (cc is)
-source_on [] more (suc id) source is = absurd (cc is)
-source_on (file ∷ files) more zero source is = is
-source_on (file ∷ files) more (suc id) source is = source_on files more id source is
-
-lies_on : (files more : List File) (file : ℕ) (span : Span) → LiesInFile files file span → LiesIn (files ++ more) file span
-lies_on files more file span lies = record {
-  source = lies.text;
-  is_source = source_on files more file lies.text lies.source;
-  lies = record { ordered = lies.lies.ordered; starts = lies.lies.start_border; ends = lies.lies.end_border };
-}
+lies_on : (files more : List File) (file : ℕ) (span : Span) → LiesInFile files file span → PlaceLies (files ++ more) file span
+lies_on files more file span lies = place_grown files more file span (place_lies files file span lies)
 
 licensees_lie : (files more : List File) (file : ℕ) (licensees : List Licensee) → AllByRecursion (LicenseeStands files file) licensees
-    → AllByRecursion (λ (licensee : Licensee). LiesIn (files ++ more) file licensee.0.span) licensees
+    → AllByRecursion (λ (licensee : Licensee). PlaceLies (files ++ more) file licensee.0.span) licensees
 licensees_lie files more file [] all = tt
 licensees_lie files more file (licensee ∷ licensees) all = (lies_on files more file licensee.0.span all.0, licensees_lie files more file licensees all.1)
 
 exceptions_lie : (files more : List File) (exceptions : List ValidException) → AllByRecursion (ExceptionStands files) exceptions
-    → AllByRecursion (λ (exception : ValidException). LiesIn (files ++ more) exception.file_id exception.spec.span) exceptions
+    → AllByRecursion (λ (exception : ValidException). PlaceLies (files ++ more) exception.file_id exception.spec.span) exceptions
 exceptions_lie files more [] all = tt
 exceptions_lie files more (exception ∷ exceptions) all =
     (lies_on files more exception.file_id exception.spec.span all.0.spec, exceptions_lie files more exceptions all.1)

@@ -3,16 +3,16 @@ ghost use Rattle.std.specs.Prelude.{◌≡◌, [], ◌++◌, false, IfOk, OnOk, 
 ghost use Rattle.key_rows.specs.Rows.{key_span};
 ghost use Rattle.policy_config.specs.OpenTable.{open_state};
 ghost use Rattle.policy_toml.specs.HelperState.{optional_of, after_optional, without_key, faults_at_end};
-ghost use Rattle.policy_toml.specs.HelperState.{given_value, faults_of, unexpected_faults};
+ghost use Rattle.policy_toml.specs.HelperState.{given_value, faults_of};
 ghost use Rattle.toml_shapes.specs.Shaped.{Gives, answer_of};
 ghost use Rattle.toml_value.specs.Lookup.{value_at};
-ghost use Rattle.toml_value.specs.Removal.{entries_without, names_in};
+ghost use Rattle.toml_value.specs.Removal.{entries_without};
 ghost use Rattle.toml_value.specs.Views.{value_view, entries_view};
 
 use crate::placed::push_place;
 use deny_text::Span;
 use key_rows::Spans;
-use policy_toml::{DeserError, Deserialize, Entries, ErrorKind, ShapeError, ShapeErrors, Value};
+use policy_toml::{DeserError, Deserialize, Entries, ShapeErrors, Value, add_unexpected};
 use std::alloc::{AllocError, Global};
 use toml_shapes::answer;
 
@@ -155,24 +155,4 @@ impl<'de> OpenTable<'de> {
         add_unexpected(alloc, &left, span, &mut faults)?;
         answer(faults, thing)
     }
-}
-
-/// Appends one fault for the keys that are left, where there are some.
-fn add_unexpected(
-    alloc: Global,
-    left: &Entries<'_>,
-    span: Span,
-    faults: &mut ShapeErrors,
-) -> Result<(), AllocError>
-    ensures { let names = names_in (entries_view left.now) in
-        OnOk result (faults.new ≡ faults.old ++ unexpected_faults names span) }
-{
-    let names = left.names(alloc)?;
-    if !names.items().is_empty() {
-        faults.push(ShapeError {
-            kind: ErrorKind::UnexpectedKeys(names),
-            span,
-        })?;
-    }
-    Ok(())
 }

@@ -1,6 +1,8 @@
 //! The whole policy, as it is written.
-ghost use Rattle.std.specs.Prelude.{◌≡◌, [], ◌++◌, IfOk, OnOk, unwrap_or};
+ghost use Rattle.std.specs.Prelude.{◌≡◌, [], ◌++◌, IfOk, OnOk, unwrap_or, codes};
 ghost use Rattle.key_rows.specs.Rows.{left_of_table};
+ghost use Rattle.policy_parts.specs.Tables.{graph_of};
+ghost use Rattle.policy_toml.specs.HelperState.{optional_of, after_optional};
 ghost use Rattle.policy_config.specs.OpenTable.{open_state, behind_rows};
 ghost use Rattle.policy_config.specs.Places.{places_of_keys};
 ghost use Rattle.policy_config.specs.Root as spec;
@@ -117,6 +119,33 @@ fn read_moved(
     })
 }
 
+/// The graph of a policy, and where keys of it stand at the root.
+#[derive(Drop)]
+struct RootGraph {
+    graph: GraphConfig,
+    places: Spans,
+}
+
+/// Reads the table `graph`, and behind it the keys that were moved there.
+fn read_graph(alloc: Global, table: &mut OpenTable<'_>) -> Result<RootGraph, AllocError>
+    ensures graph { let state = open_state table.old in
+        let own = unwrap_or (optional_of (codes "graph") graph_of state) no_graph in
+        let moved = moved_in (after_optional (codes "graph") graph_of state).left in
+        IfOk result (λ read. read.graph ≡ spec.with_moved moved own) }
+    ensures places { let behind = after_optional (codes "graph") graph_of (open_state table.old) in
+        IfOk result (λ read. read.places ≡ places_of_keys moved_keys behind.left) }
+    ensures after { let behind = after_optional (codes "graph") graph_of (open_state table.old) in
+        OnOk result (open_state table.new ≡ behind_rows moved_rows behind) }
+{
+    let graph = table.optional(alloc, "graph", &())?;
+    let mut places = Spans::new(alloc);
+    let moved = read_moved(alloc, table, &mut places)?;
+    Ok(RootGraph {
+        graph: with_moved(or_no_graph(alloc, graph), moved),
+        places,
+    })
+}
+
 /// Reads the keys of a policy of which none was read.
 fn read_root<C: Catalog>(
     alloc: Global,
@@ -131,16 +160,14 @@ fn read_root<C: Catalog>(
     table.pass_over("bans");
     table.pass_over("sources");
     let licenses = table.optional(alloc, "licenses", catalog)?;
-    let graph = table.optional(alloc, "graph", &())?;
-    let mut graph_deprecated = Spans::new(alloc);
-    let moved = read_moved(alloc, &mut table, &mut graph_deprecated)?;
+    let graph = read_graph(alloc, &mut table)?;
     let output = table.optional(alloc, "output", &())?;
     let depth = table.placed(alloc, "feature-depth", &())?;
     let root = RootConfig {
         licenses,
-        graph: with_moved(or_no_graph(alloc, graph), moved),
+        graph: graph.graph,
         output: with_depth(output, depth.value),
-        graph_deprecated,
+        graph_deprecated: graph.places,
         output_deprecated: depth.place,
     };
     table.finish(alloc, root)

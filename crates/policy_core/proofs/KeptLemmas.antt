@@ -28,7 +28,7 @@ use Rattle.spdx_core.specs.Reading.{ExpressionView, expression_of}
 use Rattle.term_core.specs.Faults.{first_fault}
 use Rattle.term_core.specs.declared.error.ParseError.{ParseError}
 use Rattle.toml_places.proofs.Texts.{text_placed}
-use Rattle.toml_places.specs.Placed.{LiesBetween}
+use Rattle.deny_text.specs.Spans.{LiesBetween}
 use Rattle.toml_shapes.specs.Shaped.{Shaped}
 use Rattle.toml_subset.proofs.Law.Whole.{text_sound}
 use Rattle.toml_subset.specs.Answer.{Read}

@@ -26,14 +26,13 @@ use Rattle.policy_places.specs.Parts.{target_keeps}
 use Rattle.policy_places.specs.Places.{IsToldIn, StaysIn, keeps_its_span, keeps_where}
 use Rattle.source_core.specs.Reading.{Read as AddressRead, address_of}
 use Rattle.spdx_core.proofs.FaultSpans.{fault_lies}
-use Rattle.spdx_core.specs.Laws.{LiesIn}
 use Rattle.spdx_core.specs.Reading.{ExpressionView, expression_of}
 use Rattle.term_core.specs.Faults.{first_fault}
 use Rattle.term_core.specs.declared.error.ParseError.{ParseError}
 use Rattle.tree_core.specs.Call.{Call}
 use Rattle.toml_faults.proofs.FirstFault.{first_fault as syntax_fault}
 use Rattle.toml_places.proofs.Texts.{text_placed}
-use Rattle.toml_places.specs.Placed.{LiesBetween}
+use Rattle.deny_text.specs.Spans.{LiesBetween}
 use Rattle.toml_shapes.specs.Shaped.{Shaped, faults_in}
 use Rattle.toml_subset.proofs.Law.Whole.{text_sound}
 use Rattle.toml_subset.specs.Answer.{Read}
@@ -137,7 +136,7 @@ module _ (files : List File) (file : ℕ) (text : List ℕ) (source : source_of 
         let whole = one.expression.span in
         let spelled = keeps.spelled plain in
         let inner = fault_lies strict lists one.expression.value fault laws (subst IsUtf8 (sym spelled) (part_is_text text whole is_text.utf8 keeps.expression)) is in
-        moved_lies text whole keeps.expression is_text.fits fault.span (subst (λ (s : List ℕ). LiesIn s fault.span) spelled inner)
+        moved_lies text whole keeps.expression is_text.fits fault.span (subst (λ (s : List ℕ). LiesBetween s fault.span) spelled inner)
 
     fault_place : (one : Clarification) (fault : ParseError) → ClarificationKeeps text one
         → first_fault strict lists one.expression.value ≡ Some fault → LiesBetween text (place_in one fault.span)

@@ -5,7 +5,7 @@ use Rattle.deny_text.specs.declared.span.Span.{Span}
 use Rattle.diag_core.specs.File.{File, source_of}
 use Rattle.diag_core.specs.declared.diagnostic.Diagnostic.{Diagnostic}
 use Rattle.diag_core.specs.declared.label.Label.{Label}
-use Rattle.toml_places.specs.Placed.{LiesBetween}
+use Rattle.deny_text.specs.Spans.{LiesBetween}
 use Rattle.policy_config.specs.declared.root.RootConfig.{RootConfig}
 use Rattle.policy_entries.specs.declared.licensee.Licensee.{Licensee}
 use Rattle.policy_parts.specs.declared.file_source.FileSource.{FileSource}

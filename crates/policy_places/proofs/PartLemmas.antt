@@ -3,7 +3,8 @@ use Rattle.std.proofs.Common.{ℕ, List, [], ◌∷◌}
 use Rattle.std.specs.Prelude.{codes, unwrap_or}
 use Rattle.deny_text.specs.declared.span.Span.{Span}
 use Rattle.deny_text.specs.declared.span.Spanned.{Spanned}
-use Rattle.toml_places.specs.Placed.{LiesBetween, IsContentPlaced}
+use Rattle.deny_text.specs.Spans.{LiesBetween}
+use Rattle.toml_places.specs.Placed.{IsContentPlaced}
 use Rattle.toml_subset.specs.Data.{Content, string, integer, decimal, boolean, array, table}
 use Rattle.toml_value.specs.Lookup.{value_at}
 use Rattle.policy_toml.specs.Readings.{text_of, boolean_of, u32_of, list_of, spanned_of}

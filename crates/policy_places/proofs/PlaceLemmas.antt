@@ -5,7 +5,8 @@ use Rattle.std.specs.List.{AllByRecursion, filter_map, flat_map, cons_option}
 use Rattle.std.specs.Result.{result_ok}
 use Rattle.std.specs.Str.{bytes_eq}
 use Rattle.deny_text.specs.declared.span.Span.{Span}
-use Rattle.toml_places.specs.Placed.{LiesBetween, IsPlaced, IsContentPlaced, AreItemsPlaced, AreEntriesPlaced}
+use Rattle.deny_text.specs.Spans.{LiesBetween}
+use Rattle.toml_places.specs.Placed.{IsPlaced, IsContentPlaced, AreItemsPlaced, AreEntriesPlaced}
 use Rattle.toml_shapes.specs.Kinds.{kind_word}
 use Rattle.toml_shapes.specs.Shaped.{Shaped, shaped_map, shaped_then, faults_in, answer_of}
 use Rattle.toml_shapes.specs.Shapes.{Fault}

@@ -3,7 +3,8 @@
 use Rattle.std.specs.Prelude.{ℕ, List, Option, Some, None, Ok, Err, ⊤}
 use Rattle.std.specs.List.{AllByRecursion}
 use Rattle.deny_text.specs.declared.span.Spanned.{Spanned}
-use Rattle.toml_places.specs.Placed.{LiesBetween, IsPlaced}
+use Rattle.deny_text.specs.Spans.{LiesBetween}
+use Rattle.toml_places.specs.Placed.{IsPlaced}
 use Rattle.toml_shapes.specs.Shaped.{Shaped}
 use Rattle.toml_shapes.specs.Shapes.{Fault}
 use Rattle.toml_subset.specs.Data.{Toml}

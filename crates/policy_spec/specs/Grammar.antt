@@ -1,6 +1,6 @@
 -- Package specs as texts: `name`, `name@requirement` and `name:requirement`.
-use Rattle.std.specs.Prelude.{ℕ, ◌-◌, ◌==◌, nat_lt, Bool, true, false, if◌then◌else◌, List, [], ◌∷◌, length, codes, Option, Some, None, option_map, Result, Ok, Err}
-use Rattle.std.specs.List.{position_or_len, before_first, after_first}
+use Rattle.std.specs.Prelude.{ℕ, ◌-◌, Bool, true, false, if◌then◌else◌, List, [], ◌∷◌, length, codes, Option, Some, None, option_map, Result, Ok, Err}
+use Rattle.deny_text.specs.Cut.{cut_at, is_at_sign, is_colon}
 use Rattle.deny_text.specs.declared.span.Span.{Span}
 use Rattle.semver.specs.Parse.{Held, req_of}
 use Rattle.semver.specs.declared.Op.TheVariants.{Exact}
@@ -11,18 +11,6 @@ use Rattle.toml_shapes.specs.Shapes.{Fault, fault_alone, custom}
 use Rattle.policy_spec.specs.Spec.{Spec}
 
 -- ---- the split
-
-abbrev pub is_at_sign : ℕ → Bool
-is_at_sign byte = byte == 64
-
-abbrev pub is_colon : ℕ → Bool
-is_colon byte = byte == 58
-
--- what stands before the first such byte, and what stands behind it; none without one
-abbrev pub cut_at : (ℕ → Bool) → List ℕ → Option (List ℕ × List ℕ)
-cut_at is_mark text =
-    if nat_lt (position_or_len is_mark text) (length text)
-    then Some (before_first is_mark text, after_first is_mark text) else None
 
 -- a name, the text of its requirement, and whether that is to have an exact first comparator
 pub record Split : Type 0 where

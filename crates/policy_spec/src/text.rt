@@ -3,13 +3,14 @@ ghost use Rattle.std.specs.Prelude.{◌≡◌, option_map, Some, Ok};
 ghost use Rattle.semver.specs.Parse.{req_of};
 ghost use Rattle.toml_shapes.specs.Shaped.{Gives, GivesBy};
 ghost use Rattle.policy_spec.specs.Grammar as spec;
-ghost use Rattle.policy_spec.specs.Grammar.{cut_at, exact_first, exact_first_where, is_at_sign, is_colon};
+ghost use Rattle.policy_spec.specs.Grammar.{exact_first, exact_first_where};
 ghost use Rattle.policy_spec.specs.Grammar.{requirement_at, spec_of_string};
 ghost use Rattle.policy_spec.specs.Spec.{comparators_of};
 ghost use Rattle.policy_spec.specs.Views.{split_view};
 
 use crate::fault::bad_requirement;
 use crate::package_spec::PackageSpec;
+use deny_text::cut::{cut_at_colon, cut_at_sign};
 use deny_text::{Span, Spanned, Text};
 use policy_toml::{DeserError, Str};
 use semver::{Op, VersionReq};
@@ -21,18 +22,6 @@ struct Split<'t> {
     name: &'t str,
     rest: &'t str,
     exact: bool,
-}
-
-fn cut_at_sign(text: &str) -> Option<(&str, &str)>
-    ensures { option_map (λ cut. (cut.0.now, cut.1.now)) result ≡ cut_at is_at_sign text.now }
-{
-    text.split_once('@')
-}
-
-fn cut_at_colon(text: &str) -> Option<(&str, &str)>
-    ensures { option_map (λ cut. (cut.0.now, cut.1.now)) result ≡ cut_at is_colon text.now }
-{
-    text.split_once(':')
 }
 
 fn split_of(text: &str) -> Option<Split<'_>>

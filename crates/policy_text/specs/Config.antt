@@ -12,7 +12,7 @@ use Rattle.toml_shapes.specs.declared.shape.DeserError.{DeserError}
 use Rattle.toml_shapes.specs.declared.shape.DeserError.TheVariants as shape
 use Rattle.policy_config.specs.Root.{root_of}
 use Rattle.policy_config.specs.declared.root.RootConfig.{RootConfig}
-use Rattle.context_core.specs.Asked.{is_uncarried}
+use Rattle.selection_core.specs.Choice.{is_uncarried}
 use Rattle.policy_text.specs.declared.error.ConfigError.{ConfigError}
 use Rattle.policy_text.specs.declared.error.ConfigError.TheVariants.{Memory, ConfigRead, ConfigSyntax}
 use Rattle.policy_text.specs.declared.error.ConfigError.TheVariants.{ConfigShape, NotCarried}

@@ -1,33 +1,15 @@
 //! The policy as it is written, from its text.
 ghost use Rattle.std.specs.Prelude.{◌≡◌, IfErr};
-ghost use Rattle.std.specs.List.{list_any};
-ghost use Rattle.context_core.specs.Asked as asked;
 ghost use Rattle.toml_value.specs.Views.{value_view};
 ghost use Rattle.policy_text.specs.Config.{HasAFault, IsOfText, IsTold, IsToldOf};
 ghost use Rattle.policy_text.specs.Config.{config_told, shape_told, value_told};
 
 use crate::error::ConfigError;
 use catalog_core::Catalog;
-use deny_text::{Text, Texts};
 use policy_config::RootConfig;
 use policy_toml::{Deserialize, Value, parse};
+use selection_core::has_uncarried;
 use std::alloc::Global;
-
-/// Whether a spec holds a `/` or a `#`.
-fn is_uncarried(text: &Text) -> bool
-    ensures { result ≡ asked.is_uncarried text.now }
-{
-    text.as_str()
-        .as_bytes()
-        .iter()
-        .any(|byte| *byte == b'/' || *byte == b'#')
-}
-
-fn has_uncarried(texts: &Texts) -> bool
-    ensures { result ≡ list_any asked.is_uncarried texts.now }
-{
-    texts.items().iter().any(|text| is_uncarried(text))
-}
 
 /// The value that a text stands for.
 fn value_of(alloc: Global, text: &str) -> Result<Value<'_>, ConfigError>

@@ -165,8 +165,8 @@ fn missing_field(alloc: Global, name: &'static str, span: Span) -> Result<ShapeE
     Ok(faults)
 }
 
-/// Appends one fault for the keys that are left, where there are some.
-fn add_unexpected(
+/// Appends one fault of a table for the keys that are left of it, where there are some. `span` is its place.
+pub fn add_unexpected(
     alloc: Global,
     left: &Entries<'_>,
     span: Span,

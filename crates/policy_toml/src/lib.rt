@@ -6,7 +6,7 @@ pub mod helper;
 pub mod hundredths;
 
 pub use deserialize::{Deserialize, deserialize_name};
-pub use helper::TableHelper;
+pub use helper::{TableHelper, add_unexpected};
 pub use hundredths::Hundredths;
 pub use toml_shapes::{DeserError, ErrorKind, ShapeError, ShapeErrors};
 pub use toml_subset::{Key, Str, SyntaxError, SyntaxReason, TomlError};

@@ -2,31 +2,16 @@
 use Rattle.std.proofs.Common.{◌≡◌, ℕ, Bool, true, false, not, ◌||◌, cond, List, [], ◌∷◌, map, Some, is_some, refl, sym, ap, ◌∙◌}
 use Rattle.std.specs.List.{fold, list_any}
 use Rattle.std.specs.Ordering.{is_lt}
-use Rattle.std.specs.Cmp.{eq_by_cmp_equiv}
-use Rattle.deny_text.specs.Path.{components_of, path_order, path_order_total}
+use Rattle.deny_text.specs.Path.{components_of, path_order}
 use Rattle.reads_core.specs.Heard.{Heard}
 use Rattle.pack_core.specs.Pack.{first_spellings, in_path_order, placed, same_path, without_path}
 use Rattle.pack_core.specs.View.{file_at, normal_heard, paths_of}
-use Rattle.pack_core.proofs.PackLemmas.{file_at-parts, has_path}
-use Rattle.pack_core.proofs.PathLemmas.{parts_of_same, same_itself}
-
-by_test : {G : Type 0} (b : Bool) → (b ≡ true → G) → (b ≡ false → G) → G
-by_test true holds differs = holds refl
-by_test false holds differs = differs refl
-
-first_false : (a b : Bool) → (a || b) ≡ false → a ≡ false
-first_false true b e = cc
-first_false false b e = refl
-
-second_false : (a b : Bool) → (a || b) ≡ false → b ≡ false
-second_false true b e = cc
-second_false false b e = e
+use Rattle.pack_core.proofs.PackLemmas.{by_test, file_at-parts, has_path}
+use Rattle.pack_core.proofs.PathLemmas.{parts_of_same, same_itself, symmetric}
+use Rattle.pack_core.proofs.CallLemmas.{first_false, second_false}
 
 both_false : (a b : Bool) → a ≡ false → b ≡ false → (a || b) ≡ false
 both_false a b first second = ap (λ x. x || b) first ∙ second
-
-symmetric : (x y : List ℕ) → same_path x y ≡ same_path y x
-symmetric x y = (eq_by_cmp_equiv path_order_total).symm x y
 
 -- no two of the paths have the same parts
 abbrev pub AreApart : List (List ℕ) → Type 0

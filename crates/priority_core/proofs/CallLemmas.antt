@@ -1,5 +1,5 @@
 -- The calls that are made for a crate's licence, and what is asked for where memory is wanting.
-use Rattle.std.proofs.Common.{◌≡◌, ◌∙◌, ℕ, true, cond, List, [], ◌∷◌, ◌++◌, map, Option, Result, Ok, Err, OnErr, refl, sym, ap, subst}
+use Rattle.std.proofs.Common.{◌≡◌, ◌∙◌, ℕ, true, cond, List, [], ◌∷◌, ◌++◌, map, Option, refl, sym, ap, subst}
 use Rattle.std.specs.List.{flat_map, fold}
 use Rattle.std.specs.Option.{option_to_list}
 use Rattle.std.proofs.lemmas.List.{map-append}
@@ -27,14 +27,6 @@ use Rattle.priority_core.specs.Priority.{folder_of, looks_at_files, records_of, 
 use Rattle.priority_core.specs.Steps.{IsLooked}
 use Rattle.priority_core.proofs.LookedLemmas.{paths_looked}
 use Rattle.priority_core.proofs.TriedLemmas.{looks}
-
-pub on_err : {A E : Type 0} (result : Result A E) (P : Type 0) → P → OnErr result P
-on_err (Ok x) P holds = tt
-on_err (Err e) P holds = holds
-
-pub on_err-weaker : {A E : Type 0} (result : Result A E) (P Q : Type 0) → (P → Q) → OnErr result P → OnErr result Q
-on_err-weaker (Ok x) P Q weaker holds = tt
-on_err-weaker (Err e) P Q weaker holds = weaker holds
 
 -- ---- clarifications, one after another
 

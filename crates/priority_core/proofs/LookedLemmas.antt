@@ -3,7 +3,6 @@ use Rattle.std.proofs.Common.{◌≡◌, ◌∙◌, ℕ, ◌++◌, true, false, 
 use Rattle.std.specs.Prelude.{option_map}
 use Rattle.std.specs.List.{flat_map, fold}
 use Rattle.std.proofs.lemmas.List.Sums.{fold-append}
-use Rattle.deny_text.specs.Path.{components_of}
 use Rattle.deny_text.specs.declared.span.Span.{Span}
 use Rattle.spdx_core.specs.Reading.{ExpressionView}
 use Rattle.graph_core.specs.Krate.{Record}
@@ -14,7 +13,7 @@ use Rattle.pack_core.specs.Ears.{Ears, looked_of, tried_of}
 use Rattle.pack_core.specs.NamedFile.{Named}
 use Rattle.pack_core.specs.Pack.{found_of, in_path_order, pack_of, reads_of, wanted_of}
 use Rattle.pack_core.specs.Steps.{Agrees, Begins, records_by, with_path}
-use Rattle.pack_core.specs.View.{PackView, is_listed, normal_heard, paths_of, paths_read}
+use Rattle.pack_core.specs.View.{PackView, paths_of, paths_read}
 use Rattle.pack_core.proofs.CallLemmas.{agrees_before}
 use Rattle.pack_core.proofs.PathLemmas.{look_ups_keep_first_spellings}
 use Rattle.expression_core.specs.Scanned.{Scanner, file_scanned}
@@ -23,11 +22,10 @@ use Rattle.priority_core.specs.declared.settle.Settled.{Settled}
 use Rattle.priority_core.specs.declared.settling.FilesSeen.{FilesSeen}
 use Rattle.priority_core.specs.declared.settling.Settling.TheVariants.{Field}
 use Rattle.priority_core.specs.Clarification.{Clarification, files_of, held_in}
-use Rattle.priority_core.specs.Priority.{field_of, files_heard, files_scanned, folder_of, holding, is_nothing, looks_at_files, records_with}
-use Rattle.priority_core.specs.Settled.{IsSettledBy, answer_in, by_seen, missing_of, seen_by, settling_by, settling_of}
-use Rattle.priority_core.specs.Steps.{IsLooked, IsOrderedBy, looked_at, seen_in}
+use Rattle.priority_core.specs.Priority.{by_seen, field_of, files_heard, files_scanned, folder_of, holding, is_nothing, looks_at_files, records_with, seen_by, settling_by}
+use Rattle.priority_core.specs.Settled.{IsSettledBy, missing_of}
+use Rattle.priority_core.specs.Steps.{IsLooked, IsOrderedBy, seen_in}
 use Rattle.priority_core.proofs.ApartLemmas.{AreApart, apart_in_order, apart_spellings, heard_at_paths}
-use Rattle.priority_core.proofs.SeenLemmas.{answer_is}
 
 -- what was found and then looked up was read in the order of the reads
 pub paths_looked : (ears : Ears) (license_file : Option (List ℕ)) (clarifications : List (List Named)) (listing : Heard) (begun last : List (List ℕ))
@@ -65,13 +63,9 @@ looked krate clarifications reads begun new held missing begins takes paths hold
 
 -- the files of the pack are what is heard of the paths of the pack
 files_looked : (ears : Ears) (pack : PackView) (paths : List (List ℕ)) → Agrees ears pack → paths_of pack.files ≡ in_path_order paths → AreApart paths
-    → looked_at pack ≡ files_heard ears (in_path_order paths)
+    → pack.files ≡ files_heard ears (in_path_order paths)
 files_looked ears pack paths agrees sorted apart =
-    let hears = λ (at : List ℕ). normal_heard (ears.file (components_of at)) in
-    ap (λ (files : List (List ℕ × Heard)). cond (is_listed pack.listing) files [])
-    (sym (heard_at_paths ears.file pack.files (subst AreApart (sym sorted) (apart_in_order paths apart)) agrees.files)
-    ∙ ap (map (λ path. (path, normal_heard (ears.file (components_of path))))) sorted)
-    ∙ ap (λ listing. cond (is_listed listing) (map (λ path. (path, normal_heard (ears.file (components_of path)))) (in_path_order paths)) []) (sym agrees.listing)
+    sym (heard_at_paths ears.file pack.files (subst AreApart (sym sorted) (apart_in_order paths apart)) agrees.files) ∙ ap (files_heard ears) sorted
 
 pub ordered : (scanner : Scanner) (krate : Record) (clarifications : List Clarification) (pack : PackView)
     → (held : Option Held) (missing : List Span) (field : Option ExpressionView) (settled : Settled) (ears : Ears) → IsLooked krate clarifications pack held missing
@@ -80,7 +74,7 @@ pub ordered : (scanner : Scanner) (krate : Record) (clarifications : List Clarif
     → Agrees ears pack → IsOrderedBy scanner clarifications krate ears settled
 ordered scanner krate clarifications pack held missing field settled ears is sorted field_is by_is missing_is reads agrees =
     let wanted = wanted_of ears krate.license_file (files_of clarifications) in
-    let files : looked_at pack ≡ files_heard ears (pack_of ears krate.license_file (files_of clarifications)) =
+    let files : pack.files ≡ files_heard ears (pack_of ears krate.license_file (files_of clarifications)) =
     files_looked ears pack (reads_of ears krate.license_file (files_of clarifications)) agrees (sorted ∙ ap (λ reads. in_path_order (paths_read reads)) reads ∙ ap in_path_order (is.paths ears agrees)) (apart_spellings wanted) in
     let seen : seen_in scanner pack ≡ seen_by ears.listing (files_scanned scanner clarifications krate ears) =
     ap (λ (files : List (List ℕ × Heard)). seen_by pack.listing (map (file_scanned scanner) files)) files
@@ -101,7 +95,6 @@ pub settled_by_files : (scanner : Scanner) (clarifications : List Clarification)
     → looks_at_files scanner clarifications krate ≡ true → IsOrderedBy scanner clarifications krate ears settled → IsSettledBy scanner clarifications krate ears settled
 settled_by_files scanner clarifications krate ears settled looks is = record {
   by_is = is.by;
-  answer = ap answer_in is.by ∙ answer_is scanner clarifications krate ears;
   missing_is = is.missing;
   reads_are = is.reads ∙ sym (ap (λ b. cond b (records_with clarifications krate ears) []) looks);
 }
@@ -110,12 +103,10 @@ pub settled_by_field : (scanner : Scanner) (clarifications : List Clarification)
     → is_nothing clarifications ≡ true → Some expression ≡ field_of scanner.lists krate → settled ≡ record { by = Field expression; missing = []; reads = [] }
     → IsSettledBy scanner clarifications krate ears settled
 settled_by_field scanner [] krate ears settled expression none field is =
-    let by : settled.by ≡ settling_of scanner [] krate ears =
-    ap (λ (s : Settled). s.by) is
-    ∙ ap (λ (one : Option ExpressionView). settling_by None one (by_seen scanner.lists (seen_by ears.listing (files_scanned scanner [] krate ears)))) field in
     record {
-      by_is = by;
-      answer = ap answer_in by ∙ answer_is scanner [] krate ears;
+      by_is =
+          ap (λ (s : Settled). s.by) is
+          ∙ ap (λ (one : Option ExpressionView). settling_by None one (by_seen scanner.lists (seen_by ears.listing (files_scanned scanner [] krate ears)))) field;
       missing_is = ap (λ (s : Settled). s.missing) is;
       reads_are = ap (λ (s : Settled). s.reads) is ∙ ap (λ (one : Option ExpressionView). cond (is_none one) (records_with [] krate ears) []) field;
     }

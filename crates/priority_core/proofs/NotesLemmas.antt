@@ -4,7 +4,7 @@ use Rattle.std.specs.List.{cons_option}
 use Rattle.std.specs.Option.{option_to_list}
 use Rattle.std.proofs.lemmas.List.Elements.{filter_map-append}
 use Rattle.expression_core.specs.declared.files.ScannedFile.{ScannedFile}
-use Rattle.priority_core.specs.Priority.{path_given, paths_given}
+use Rattle.priority_core.specs.Notes.{path_given, paths_given}
 
 one_given : (o : Option (List ℕ)) → cons_option o [] ≡ option_to_list o
 one_given None = refl

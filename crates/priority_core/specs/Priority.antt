@@ -1,8 +1,8 @@
 -- Which licence a crate is under, in one fixed order: a clarification of the policy whose files have the stated hashes, else
 -- the crate's own field, else what its licence files are identified as, else nothing.
-use Rattle.std.specs.Prelude.{ℕ, Bool, true, false, ◌||◌, not, List, [], ◌∷◌, ◌++◌, map, find, codes, Option, is_none, unwrap_or, if◌then◌else◌}
+use Rattle.std.specs.Prelude.{ℕ, Bool, true, false, ◌||◌, not, List, [], ◌∷◌, map, find, Option, Some, None, is_none, unwrap_or, if◌then◌else◌}
 use Rattle.std.specs.Prelude.{option_map, option_and_then}
-use Rattle.std.specs.List.{filter_map, flat_map}
+use Rattle.std.specs.List.{flat_map}
 use Rattle.deny_text.specs.Path.{components_of, parent_of}
 use Rattle.tree_core.specs.declared.reads.ReadRecord.{ReadRecord}
 use Rattle.catalog_core.specs.Catalog.{CatalogLists}
@@ -12,13 +12,73 @@ use Rattle.reads_core.specs.Heard.{Heard}
 use Rattle.pack_core.specs.Ears.{Ears, holds}
 use Rattle.pack_core.specs.Pack.{pack_of, reads_of}
 use Rattle.pack_core.specs.Steps.{records_by}
-use Rattle.pack_core.specs.View.{is_listed, normal_heard}
-use Rattle.expression_core.specs.declared.files.Scanned.{Scanned}
-use Rattle.expression_core.specs.declared.files.Scanned.TheVariants.{Bad, Unnamed, Low, Unknown, Joined}
+use Rattle.pack_core.specs.View.{normal_heard, unlisted_of}
 use Rattle.expression_core.specs.declared.files.ScannedFile.{ScannedFile}
-use Rattle.expression_core.specs.Scanned.{Scanner, file_scanned, joined_name, names_given}
-use Rattle.expression_core.specs.Taken.{field_read, joined_read, or_else}
-use Rattle.priority_core.specs.Clarification.{Clarification, files_of, named_in}
+use Rattle.expression_core.specs.Scanned.{Scanner, file_scanned, names_given}
+use Rattle.expression_core.specs.Taken.{field_read, joined_read}
+use Rattle.priority_core.specs.declared.clarification.Held.{Held}
+use Rattle.priority_core.specs.declared.settling.FilesSeen.{FilesSeen}
+use Rattle.priority_core.specs.declared.settling.FilesSeen.TheVariants.{Unlisted, Listed}
+use Rattle.priority_core.specs.declared.settling.JoinedNames.{JoinedNames}
+use Rattle.priority_core.specs.declared.settling.Settling.{Settling}
+use Rattle.priority_core.specs.declared.settling.Settling.TheVariants.{Clarified, Field, Files}
+use Rattle.priority_core.specs.Clarification.{Clarification, files_of, held_in, named_in}
+use Rattle.priority_core.specs.Notes.{file_notes, paths_given}
+
+-- ---- the first case: a clarification
+
+-- the first that holds
+abbrev pub holding : Ears → List Clarification → Option Clarification
+holding ears clarifications = find (λ clarification. holds ears (named_in clarification)) clarifications
+
+-- ---- the second case: the crate's field
+
+abbrev pub field_of : CatalogLists → Record → Option ExpressionView
+field_of lists krate = option_and_then (field_read lists) krate.license
+
+-- ---- the third case: the licence files
+
+-- what is heard of files, in order
+abbrev pub files_heard : Ears → List (List ℕ) → List (List ℕ × Heard)
+files_heard ears paths = map (λ path. (path, normal_heard (ears.file (components_of path)))) paths
+
+-- what comes of each file of the pack, in path order
+abbrev pub files_scanned : Scanner → List Clarification → Record → Ears → List ScannedFile
+files_scanned scanner clarifications krate ears =
+    map (file_scanned scanner) (files_heard ears (pack_of ears krate.license_file (files_of clarifications)))
+
+-- Why the folder was not listed, and then no file is looked at; else what comes of each file.
+abbrev pub seen_by : Heard → List ScannedFile → FilesSeen
+seen_by listing files = unwrap_or (option_map Unlisted (unlisted_of listing)) (Listed files)
+
+abbrev pub files_in : FilesSeen → List ScannedFile
+files_in (Unlisted error) = []
+files_in (Listed files) = files
+
+-- the names joined, where a file gives one, with the paths of these files and what is noted of all
+abbrev pub joined_of : CatalogLists → List ScannedFile → Option JoinedNames
+joined_of lists files =
+    option_map (λ (expression : ExpressionView). record { expression = expression; paths = paths_given files; notes = flat_map file_notes files })
+    (joined_read lists (names_given files))
+
+abbrev pub by_seen : CatalogLists → FilesSeen → Settling
+by_seen lists seen = Files seen (joined_of lists (files_in seen))
+
+-- ---- the cases, in order
+
+abbrev pub settling_by : Option Held → Option ExpressionView → Settling → Settling
+settling_by (Some held) field files = Clarified held
+settling_by None (Some expression) files = Field expression
+settling_by None None files = files
+
+-- what settles the licence of a crate, by the clarifications that are for it, in the policy's order, and what is heard of its
+-- files
+abbrev pub settling_of : Scanner → List Clarification → Record → Ears → Settling
+settling_of scanner clarifications krate ears =
+    settling_by (option_map held_in (holding ears clarifications)) (field_of scanner.lists krate)
+    (by_seen scanner.lists (seen_by ears.listing (files_scanned scanner clarifications krate ears)))
+
+-- ---- the expression that it gives
 
 -- where an expression comes from; licence files are told by the paths of those that give a name
 pub data Source : Type 0 where
@@ -35,78 +95,18 @@ pub record Answer : Type 0 where
 abbrev pub unnoted : Source → ExpressionView → Answer
 unnoted source expression = record { expression = expression; source = source; notes = [] }
 
--- ---- the first case: a clarification
+abbrev pub joined_answer : JoinedNames → Answer
+joined_answer joined = record { expression = joined.expression; source = license_files joined.paths; notes = joined.notes }
 
--- the first that holds
-abbrev pub holding : Ears → List Clarification → Option Clarification
-holding ears clarifications = find (λ clarification. holds ears (named_in clarification)) clarifications
+-- a clarification's as it stands in the policy, the field's, the names joined where a file gives one
+abbrev pub answer_in : Settling → Option Answer
+answer_in (Clarified held) = Some (unnoted user_override held.expression)
+answer_in (Field expression) = Some (unnoted metadata expression)
+answer_in (Files seen joined) = option_map joined_answer joined
 
--- its expression, as it stands in the policy
-abbrev pub clarified_of : Ears → List Clarification → Option ExpressionView
-clarified_of ears clarifications = option_map (λ clarification. clarification.expression) (holding ears clarifications)
-
--- ---- the second case: the crate's field
-
-abbrev pub field_of : CatalogLists → Record → Option ExpressionView
-field_of lists krate = option_and_then (field_read lists) krate.license
-
--- ---- the third case: the licence files
-
--- what is heard of files, in order, where the listing is heard as entries; else none is looked at
-abbrev pub files_heard : Ears → List (List ℕ) → List (List ℕ × Heard)
-files_heard ears paths =
-    if is_listed ears.listing then map (λ path. (path, normal_heard (ears.file (components_of path)))) paths else []
-
--- what comes of each file of the pack, in path order
-abbrev pub files_scanned : Scanner → List Clarification → Record → Ears → List ScannedFile
-files_scanned scanner clarifications krate ears =
-    map (file_scanned scanner) (files_heard ears (pack_of ears krate.license_file (files_of clarifications)))
-
--- the paths of the files that give a name
-abbrev pub path_given : ScannedFile → Option (List ℕ)
-path_given file = option_map (λ name. file.path) (joined_name file.scanned)
-
-abbrev pub paths_given : List ScannedFile → List (List ℕ)
-paths_given files = filter_map path_given files
-
--- ---- what is noted
-
-abbrev pub renamed_note : List ℕ → Bool → List (List ℕ)
-renamed_note path renamed =
-    if renamed then (codes "'" ++ path ++ codes "' fuzzy matched to Pixar license, but it is actually a normal Apache-2.0 license") ∷ [] else []
-
-abbrev pub deprecated_note : List ℕ → List ℕ → Bool → List (List ℕ)
-deprecated_note path name deprecated =
-    if deprecated then (codes "license '" ++ name ++ codes "' detected in '" ++ path ++ codes "' is deprecated in the catalogue") ∷ [] else []
-
--- a name in place of `Pixar` is noted whatever comes of it, a deprecated name where it is joined
-abbrev pub notes_by : List ℕ → Scanned → List (List ℕ)
-notes_by path (Bad error) = []
-notes_by path (Unnamed hash score) = []
-notes_by path (Low hash score name) = renamed_note path name.renamed
-notes_by path (Unknown hash score name) = renamed_note path name.renamed
-notes_by path (Joined hash name deprecated) = renamed_note path name.renamed ++ deprecated_note path name.name deprecated
-
-abbrev pub file_notes : ScannedFile → List (List ℕ)
-file_notes file = notes_by file.path file.scanned
-
--- the names joined, where a file gives one
-abbrev pub answer_by : CatalogLists → List ScannedFile → Option Answer
-answer_by lists files =
-    option_map (λ (expression : ExpressionView). record { expression = expression; source = license_files (paths_given files); notes = flat_map file_notes files })
-    (joined_read lists (names_given files))
-
--- ---- the four cases, in order
-
-abbrev pub by_cases : Option ExpressionView → Option ExpressionView → Option Answer → Option Answer
-by_cases clarified field files =
-    or_else (option_map (unnoted user_override) clarified) (or_else (option_map (unnoted metadata) field) files)
-
--- the expression of a crate, by the clarifications that are for it, in the policy's order, and what is heard of its files
+-- the expression of a crate, which what settles its licence gives
 abbrev pub priority_of : Scanner → List Clarification → Record → Ears → Option Answer
-priority_of scanner clarifications krate ears =
-    by_cases (clarified_of ears clarifications) (field_of scanner.lists krate)
-    (answer_by scanner.lists (files_scanned scanner clarifications krate ears))
+priority_of scanner clarifications krate ears = answer_in (settling_of scanner clarifications krate ears)
 
 -- ---- the records of a crate's reads
 

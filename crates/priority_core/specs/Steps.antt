@@ -1,27 +1,22 @@
 -- What the steps towards a crate's licence say, by whatever ears agree with the pack that is left.
-use Rattle.std.specs.Prelude.{◌≡◌, ℕ, List, [], map, Option, option_map, if◌then◌else◌}
+use Rattle.std.specs.Prelude.{◌≡◌, List, map, Option, option_map}
 use Rattle.deny_text.specs.declared.span.Span.{Span}
 use Rattle.graph_core.specs.Krate.{Record}
-use Rattle.reads_core.specs.Heard.{Heard}
 use Rattle.pack_core.specs.Ears.{Ears}
 use Rattle.pack_core.specs.Pack.{reads_of}
 use Rattle.pack_core.specs.Steps.{Agrees}
-use Rattle.pack_core.specs.View.{PackView, is_listed, paths_read}
+use Rattle.pack_core.specs.View.{PackView, paths_read}
 use Rattle.expression_core.specs.Scanned.{Scanner, file_scanned}
 use Rattle.priority_core.specs.declared.clarification.Held.{Held}
 use Rattle.priority_core.specs.declared.settle.Settled.{Settled}
 use Rattle.priority_core.specs.declared.settling.FilesSeen.{FilesSeen}
 use Rattle.priority_core.specs.Clarification.{Clarification, files_of, held_in}
-use Rattle.priority_core.specs.Priority.{folder_of, holding, records_with}
-use Rattle.priority_core.specs.Settled.{missing_of, seen_by, settling_of}
+use Rattle.priority_core.specs.Priority.{folder_of, holding, records_with, seen_by, settling_of}
+use Rattle.priority_core.specs.Settled.{missing_of}
 
--- the files of a pack that are looked at for a licence
-abbrev pub looked_at : PackView → List (List ℕ × Heard)
-looked_at pack = if is_listed pack.listing then pack.files else []
-
--- what is seen of them
+-- what is seen of the files of a pack
 abbrev pub seen_in : Scanner → PackView → FilesSeen
-seen_in scanner pack = seen_by pack.listing (map (file_scanned scanner) (looked_at pack))
+seen_in scanner pack = seen_by pack.listing (map (file_scanned scanner) pack.files)
 
 -- The clarifications of a crate were tried with its pack: the records, what is taken of the first that holds and what is not
 -- there are those by whatever ears agree with the pack.

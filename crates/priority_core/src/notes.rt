@@ -2,8 +2,8 @@
 ghost use Rattle.std.specs.Prelude.{◌≡◌, ◌++◌, IfOk, OnOk};
 ghost use Rattle.std.specs.List.{flat_map};
 ghost use Rattle.std.specs.Option.{option_to_list};
-ghost use Rattle.priority_core.specs.Priority as spec;
-ghost use Rattle.priority_core.specs.Priority.{deprecated_note, file_notes, path_given, renamed_note};
+ghost use Rattle.priority_core.specs.Notes as spec;
+ghost use Rattle.priority_core.specs.Notes.{deprecated_note, file_notes, path_given, renamed_note};
 
 use deny_text::{PathBuf, Text, Texts};
 use diag_core::Notes;

@@ -1,6 +1,7 @@
 //! What settles a licence.
 ghost use Rattle.std.specs.Prelude.{◌≡◌, IfOk};
-ghost use Rattle.priority_core.specs.Settled.{by_seen, files_in, joined_of, scanner_with, settling_by};
+ghost use Rattle.priority_core.specs.Priority.{by_seen, files_in, joined_of, settling_by};
+ghost use Rattle.priority_core.specs.Settled.{scanner_with};
 ghost use Rattle.priority_core.specs.Steps.{seen_in};
 
 use crate::clarification::Held;

@@ -119,14 +119,14 @@ not_less : (a b : ℕ) → ltb a b ≡ false → b ≤ a
 not_less a b is = grind (arith, Decides-ltb a b)
 
 -- a count that is counted on rose, or stands at the last number
-rose_counted : (count : ℕ) → RoseBy count (counted count)
-rose_counted count = record {
-  later = omega arith;
-  rose = elim (ltb count (2 ^ 64 - 1)) as (λ b. ltb count (2 ^ 64 - 1) ≡ b → Rose count (counted count)) [
-    | true ↦ λ below. let less : count < 2 ^ 64 - 1 = (Decides-ltb count (2 ^ 64 - 1)).0 below in inl (omega arith)
-    | false ↦ λ over. let most : 2 ^ 64 - 1 ≤ count = not_less count (2 ^ 64 - 1) over in inr (omega arith)
-  ] refl;
-}
+pub rose_counted : (count after : ℕ) → counted count ≤ after → Rose count after
+rose_counted count after later = elim (ltb count (2 ^ 64 - 1)) as (λ b. ltb count (2 ^ 64 - 1) ≡ b → Rose count after) [
+  | true ↦ λ below. let less : count < 2 ^ 64 - 1 = (Decides-ltb count (2 ^ 64 - 1)).0 below in inl (omega arith)
+  | false ↦ λ over. let most : 2 ^ 64 - 1 ≤ count = not_less count (2 ^ 64 - 1) over in inr (omega arith)
+] refl
+
+rose_by : (count : ℕ) → RoseBy count (counted count)
+rose_by count = record { later = omega arith; rose = rose_counted count (counted count) (omega arith) }
 
 -- bytes that were read say nothing of the count
 bytes_rise : (before : ℕ) (items : List ℕ) (Rest : ℕ → Type 0) → Rest before → RiseFrom before (answer_of (file_heard (Some (file items)))) Rest
@@ -143,7 +143,7 @@ file_rises before call.absent heard Rest is rest = let same : absent ≡ heard =
 file_rises before call.wrong_kind heard Rest is rest = let same : wrong_kind ≡ heard = cc in subst (λ (one : Heard). RiseFrom before (answer_of one) Rest) same rest
 file_rises before call.failed heard Rest is rest =
     let same : failed before (counted before) ≡ heard = cc in
-    subst (λ (one : Heard). RiseFrom before (answer_of one) Rest) same (omega arith, rose_counted before, rest)
+    subst (λ (one : Heard). RiseFrom before (answer_of one) Rest) same (omega arith, rose_by before, rest)
 file_rises before call.no_memory heard Rest is rest = cc
 
 folder_rises : (before : ℕ) (answer : Answered) (heard : Heard) (Rest : ℕ → Type 0) → folder_answered before (fault_behind before answer) answer ≡ Some heard → Rest (fault_behind before answer)
@@ -155,7 +155,7 @@ folder_rises before call.absent heard Rest is rest = let same : absent ≡ heard
 folder_rises before call.wrong_kind heard Rest is rest = let same : wrong_kind ≡ heard = cc in subst (λ (one : Heard). RiseFrom before (answer_of one) Rest) same rest
 folder_rises before call.failed heard Rest is rest =
     let same : failed before (counted before) ≡ heard = cc in
-    subst (λ (one : Heard). RiseFrom before (answer_of one) Rest) same (omega arith, rose_counted before, rest)
+    subst (λ (one : Heard). RiseFrom before (answer_of one) Rest) same (omega arith, rose_by before, rest)
 folder_rises before call.no_memory heard Rest is rest = cc
 
 kind_rises : (kind : ReadKind) (before : ℕ) (answer : Answered) (heard : Heard) (Rest : ℕ → Type 0) → kind_answered kind before (fault_behind before answer) answer ≡ Some heard

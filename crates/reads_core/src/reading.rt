@@ -4,7 +4,7 @@ ghost use Rattle.deny_text.specs.Path.{join_of};
 ghost use Rattle.tree_core.specs.Call as call;
 ghost use Rattle.tree_core.specs.Content.{file};
 ghost use Rattle.tree_core.specs.Hearing.{MadeSome};
-ghost use Rattle.tree_core.specs.declared.reads.ReadKind.TheVariants.{Listing, LicenseFile};
+ghost use Rattle.tree_core.specs.declared.reads.ReadKind.TheVariants.{Listing};
 ghost use Rattle.reads_core.specs.Answered.{IsListed, IsRead, call_of};
 ghost use Rattle.reads_core.specs.Heard.{file_heard, record_of};
 ghost use Rattle.reads_core.specs.Views.{heard_file, heard_folder};
@@ -98,24 +98,21 @@ pub fn list_folder<T: Tree>(
     }
 }
 
-/// The record of a read of a file.
+/// The record of a read of a file, be it a manifest or a licence file.
 pub fn file_record(
     alloc: Global,
+    kind: ReadKind,
     path: &PathBuf,
     heard: &FileHeard,
 ) -> Result<ReadRecord, AllocError>
-    ensures { IfOk result (λ read. read ≡ record_of LicenseFile path.now (heard_file heard.now)) }
+    ensures { IfOk result (λ read. read ≡ record_of kind path.now (heard_file heard.now)) }
 {
     let path = PathBuf::copy(alloc, path.as_path())?;
     let answer = match heard {
         Ok(_) => ReadAnswer::Got,
         Err(error) => ReadAnswer::from(*error),
     };
-    Ok(ReadRecord {
-        path,
-        kind: ReadKind::LicenseFile,
-        answer,
-    })
+    Ok(ReadRecord { path, kind, answer })
 }
 
 /// The record of a listing.

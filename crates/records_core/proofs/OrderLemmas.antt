@@ -10,7 +10,7 @@ use Rattle.std.proofs.lemmas.List.{length-map, get_or-set_same, get_or-set_other
 use Rattle.std.proofs.lemmas.Option.{slice_get-map, slice_get_within}
 use Rattle.graph_core.specs.declared.edge.Edge.{Edge}
 use Rattle.graph_core.specs.declared.krate.Krate.{Krate}
-use Rattle.graph_core.specs.Krate.{Record, record_of, id_of}
+use Rattle.graph_core.specs.Krate.{Record, record_of, id_of, ids_in}
 use Rattle.graph_core.specs.Metadata.{FitTogether, LeadWithin, IsPlace, id_at, link_of, nodes_of}
 use Rattle.graph_core.specs.Graph.{graph_with}
 use Rattle.records_core.specs.declared.order.Spot.{Spot}
@@ -18,7 +18,7 @@ use Rattle.records_core.specs.Nodes.{Member}
 use Rattle.records_core.specs.Order.{place_of, id_of_member, rank_at, rank_of_member, AreRanks, ranked_edge, ranked_edges}
 use Rattle.records_core.specs.Records.{spot_of, spots_of, id_of_package, link_to, edges_at, node_at}
 use Rattle.records_core.specs.Shape.{Known}
-use Rattle.records_core.specs.Sound.{StandsAt, AreApart, ids_told}
+use Rattle.records_core.specs.Sound.{StandsAt, AreApart}
 use Rattle.records_core.proofs.EntryLemmas.{by_bytes, AllEntries, find-place, keys-rise, values-apart, none_some, same_some}
 
 -- ---- taking out of slots
@@ -119,7 +119,7 @@ ranks-more places ranks k next at h before j place below e =
 
 -- ---- the whole
 
-ids-told : (crates : List Krate) → ids_told (map record_of crates) ≡ map id_of crates
+ids-told : (crates : List Krate) → ids_in (map record_of crates) ≡ map id_of crates
 ids-told [] = refl
 ids-told (krate ∷ crates) = ap (λ rest. krate.id ∷ rest) (ids-told crates)
 
@@ -156,7 +156,7 @@ all-every Q step [] = tt
 all-every Q step (x ∷ xs) = (step x, all-every Q step xs)
 
 module _ (known firsts : Known) (crates : List Krate) (lists : List (List Edge)) (ranks : List ℕ)
-    (located : AllEntries (StandsAt (ids_told (map record_of crates))) (finmap.entries known))
+    (located : AllEntries (StandsAt (ids_in (map record_of crates))) (finmap.entries known))
     (complete : (place : ℕ) (krate : Record) → slice_get (map record_of crates) place ≡ Some krate
     → finmap.get known krate.id ≡ Some place)
     (within : AllByRecursion (AllByRecursion (λ (edge : Edge). edge.to < length crates)) lists) where
@@ -239,7 +239,7 @@ module _ (known firsts : Known) (crates : List Krate) (lists : List (List Edge))
         ∙ (ap (λ rest. record { krate = record_of found.0; edges = map (link_to (map record_of crates)) (edges_at lists spot.node) } ∷ rest) (nodes spots h.1)
         ∙ ap (λ o. cons_option (option_map (λ krate. record { krate = krate; edges = map (link_to (map record_of crates)) (edges_at lists spot.node) }) o) (filter_map (node_at (map record_of crates) lists) spots)) (sym told)))
 
-    member-id : (member : Member) → StandsAt (ids_told (map record_of crates)) member.id member.place
+    member-id : (member : Member) → StandsAt (ids_in (map record_of crates)) member.id member.place
         → (member.place < length crates) × (id_at (crates_at crates (map place_of (spots_of known firsts))) (rank_at ranks member.place) ≡ member.id)
     member-id member at =
         let stands : slice_get (map id_of crates) member.place ≡ Some member.id =
@@ -254,7 +254,7 @@ module _ (known firsts : Known) (crates : List Krate) (lists : List (List Edge))
         )
 
     members-are : (members : List Member)
-        → AllByRecursion (λ (member : Member). StandsAt (ids_told (map record_of crates)) member.id member.place) members
+        → AllByRecursion (λ (member : Member). StandsAt (ids_in (map record_of crates)) member.id member.place) members
         → map (id_at (crates_at crates (map place_of (spots_of known firsts)))) (map (rank_of_member ranks) members) ≡ map id_of_member members
     members-are [] h = refl
     members-are (member ∷ members) h =
@@ -273,7 +273,7 @@ module _ (known firsts : Known) (crates : List Krate) (lists : List (List Edge))
     root-id (Some place) h = ap Some (id-is place h)
 
     pub fit : (members : List Member) (root : Option ℕ)
-        → AllByRecursion (λ (member : Member). StandsAt (ids_told (map record_of crates)) member.id member.place) members
+        → AllByRecursion (λ (member : Member). StandsAt (ids_in (map record_of crates)) member.id member.place) members
         → IfSome root (λ place. place < length crates)
         → FitTogether (crates_at crates (map place_of (spots_of known firsts))) (map (ranked_edges ranks lists) (spots_of known firsts))
         (map id_of_member members) (map (rank_of_member ranks) members) (option_map (rank_at ranks) root)
@@ -293,7 +293,7 @@ module _ (known firsts : Known) (crates : List Krate) (lists : List (List Edge))
       member_ids = members-are members stand;
       member_places = all-index (λ place. place < length (crates_at crates (map place_of (spots_of known firsts)))) (map (rank_of_member ranks) members)
           (all-map (λ place. place < length (crates_at crates (map place_of (spots_of known firsts)))) (rank_of_member ranks) members
-          (all-step (λ (member : Member). StandsAt (ids_told (map record_of crates)) member.id member.place)
+          (all-step (λ (member : Member). StandsAt (ids_in (map record_of crates)) member.id member.place)
           (λ (member : Member). rank_at ranks member.place < length (crates_at crates (map place_of (spots_of known firsts))))
           (λ member at. rank-below member.place (member-id member at).0) members stand));
       root_place = root-is root below;

@@ -6,11 +6,11 @@ use Rattle.std.proofs.lemmas.Option.{slice_get-map}
 use Rattle.serde_json.specs.Data.{Data}
 use Rattle.serde_json.specs.Read.{read}
 use Rattle.graph_core.specs.declared.edge.Edge.{Edge}
-use Rattle.graph_core.specs.Krate.{Record}
+use Rattle.graph_core.specs.Krate.{Record, ids_in}
 use Rattle.graph_core.specs.Metadata.{Graph, Node, AreRising, ids_of}
 use Rattle.records_core.specs.Records.{Rows, edges_at, graph_of, link_to, node_at, records_of, rows_in, spot_of, told_graph}
 use Rattle.records_core.specs.Shape.{Known}
-use Rattle.records_core.specs.Sound.{StandsAt, ids_told}
+use Rattle.records_core.specs.Sound.{StandsAt}
 use Rattle.records_core.specs.Told.{Told}
 use Rattle.records_core.proofs.EntryLemmas.{AllEntries, keys-rise, none_some, same_some}
 use Rattle.records_core.proofs.SoundLemmas.{sound}
@@ -23,7 +23,7 @@ module _ (firsts : Known) (crates : List Record) (lists : List (List Edge)) wher
   id-first None node id e rest = absurd (none_some id e)
   id-first (Some krate) node id e rest = ap (λ first. first ∷ map (λ one. one.krate.id) rest) (same_some krate.id id e)
 
-  ids-nodes : (es : List (List ℕ × ℕ)) → AllEntries (StandsAt (ids_told crates)) es
+  ids-nodes : (es : List (List ℕ × ℕ)) → AllEntries (StandsAt (ids_in crates)) es
       → map (λ one. one.krate.id) (filter_map (node_at crates lists) (map (spot_of firsts) es)) ≡ map (λ e. e.0) es
   ids-nodes [] h = refl
   ids-nodes (e ∷ es) h =

@@ -8,7 +8,7 @@ use Rattle.std.proofs.lemmas.List.{length-map}
 use Rattle.std.proofs.lemmas.Option.{slice_get-map, slice_get_within}
 use Rattle.serde_json.specs.Data.{Data, null, boolean, number, string, array, object, Items, no_items, item}
 use Rattle.graph_core.specs.declared.edge.Edge.{Edge}
-use Rattle.graph_core.specs.Krate.{Record}
+use Rattle.graph_core.specs.Krate.{Record, ids_in}
 use Rattle.records_core.specs.declared.fault.MetaFault.{MetaFault}
 use Rattle.records_core.specs.declared.fault.MetaReason.TheVariants.{RepeatedId}
 use Rattle.records_core.specs.declared.fault.Place.TheVariants.{Package, Root, Resolve, Dep}
@@ -17,7 +17,7 @@ use Rattle.records_core.specs.Nodes.{Member, RootTold, ResolveTold, NodeTold, No
 use Rattle.records_core.specs.Packages.{Named, id_row, manifest_row, version_row, named_row, described_row, listed_row, record_with, package_row, packages_in}
 use Rattle.records_core.specs.Records.{Rows, rows_in}
 use Rattle.records_core.specs.Shape.{Known, object_here, text_from, text_at, text_here, list_at, optional_text_at, id_from, id_of_item, with_place, known_in, known_of, known_from, known_place, new_from}
-use Rattle.records_core.specs.Sound.{StandsAt, ids_told, AreSound}
+use Rattle.records_core.specs.Sound.{StandsAt, AreSound}
 use Rattle.records_core.specs.Told.{Told, ◌>>=◌, each, items_in, fault_at, place_text, key_place, item_place}
 use Rattle.records_core.proofs.EntryLemmas.{by_bytes, AllEntries, all-put, all-find, all-weaker, none_some, same_some}
 
@@ -213,7 +213,7 @@ some_of_map f (x ∷ xs) (suc i) y e = some_of_map f xs i y e
 module _ (sparse_dir : List ℕ) (packages : Items) (crates : List Record)
     (told : packages_in sparse_dir (known_of packages) packages ≡ Ok crates) where
   stands : (id : List ℕ) (place : ℕ) → slice_get (map id_of_item (items_in packages)) place ≡ Some (Some id)
-      → StandsAt (ids_told crates) id place
+      → StandsAt (ids_in crates) id place
   stands id place at =
       let found = some_of_map id_of_item (items_in packages) place (Some id) at in
       let one = each-at (package_row sparse_dir (known_of packages)) 0 (items_in packages) crates told place found.0 found.1 in
@@ -221,7 +221,7 @@ module _ (sparse_dir : List ℕ) (packages : Items) (crates : List Record)
       slice_get-map (λ krate. krate.id) crates place
       ∙ (ap (option_map (λ krate. krate.id)) one.1 ∙ ap Some (same_some one.0.id id (sym is.0 ∙ found.2)))
 
-  pub located : AllEntries (StandsAt (ids_told crates)) (finmap.entries (known_of packages))
+  pub located : AllEntries (StandsAt (ids_in crates)) (finmap.entries (known_of packages))
   located = all-weaker _ _ stands (finmap.entries (known_of packages)) (known-has packages)
 
   pub complete : (place : ℕ) (krate : Record) → slice_get crates place ≡ Some krate
@@ -231,14 +231,14 @@ module _ (sparse_dir : List ℕ) (packages : Items) (crates : List Record)
       (package_is sparse_dir (known_of packages) (0 + place) one.0 krate one.1).1 ∙ ap Some (omega arith)
 
   -- an id that is known leads to the crate that has it
-  pub leads : (id : List ℕ) (place : ℕ) → finmap.get (known_of packages) id ≡ Some place → StandsAt (ids_told crates) id place
+  pub leads : (id : List ℕ) (place : ℕ) → finmap.get (known_of packages) id ≡ Some place → StandsAt (ids_in crates) id place
   leads id place e =
-      all-find (StandsAt (ids_told crates)) id place (finmap.entries (known_of packages)) located
+      all-find (StandsAt (ids_in crates)) id place (finmap.entries (known_of packages)) located
       (sym (finmap.get-entries (known_of packages) id) ∙ e)
 
   pub below : (id : List ℕ) (place : ℕ) → finmap.get (known_of packages) id ≡ Some place → place < length crates
   below id place e =
-      subst (λ n. place < n) (length-map crates (λ krate. krate.id)) (slice_get_within (ids_told crates) place id (leads id place e))
+      subst (λ n. place < n) (length-map crates (λ krate. krate.id)) (slice_get_within (ids_in crates) place id (leads id place e))
 
 -- ---- members, the root and edges
 
@@ -343,19 +343,19 @@ sound_with : (sparse_dir : List ℕ) (root : RootTold) (crates : List Record) (r
 sound_with sparse_dir root crates resolve nodes edges is packages told reach =
     let known : packages_in sparse_dir (known_of root.packages) root.packages ≡ Ok crates =
     subst (λ known. packages_in sparse_dir known root.packages ≡ Ok crates) is.known packages in
-    let lead : (id : List ℕ) (place : ℕ) → finmap.get root.known id ≡ Some place → StandsAt (ids_told crates) id place =
-    subst (λ known. (id : List ℕ) (place : ℕ) → finmap.get known id ≡ Some place → StandsAt (ids_told crates) id place)
+    let lead : (id : List ℕ) (place : ℕ) → finmap.get root.known id ≡ Some place → StandsAt (ids_in crates) id place =
+    subst (λ known. (id : List ℕ) (place : ℕ) → finmap.get known id ≡ Some place → StandsAt (ids_in crates) id place)
     (sym is.known) (leads sparse_dir root.packages crates known) in
     let low : (place : ℕ) → Reaches root.known place → place < length crates =
     subst (λ known. (place : ℕ) → Reaches known place → place < length crates) (sym is.known)
     (λ place r. below sparse_dir root.packages crates known r.0 place r.1) in
     record {
-      located = subst (λ known. AllEntries (StandsAt (ids_told crates)) (finmap.entries known)) (sym is.known)
+      located = subst (λ known. AllEntries (StandsAt (ids_in crates)) (finmap.entries known)) (sym is.known)
           (located sparse_dir root.packages crates known);
       complete = subst (λ known. (place : ℕ) (krate : Record) → slice_get crates place ≡ Some krate
           → finmap.get known krate.id ≡ Some place) (sym is.known) (complete sparse_dir root.packages crates known);
       members = every-weaker (λ (m : Member). finmap.get root.known m.id ≡ Some m.place)
-          (λ (m : Member). StandsAt (ids_told crates) m.id m.place) (λ m e. lead m.id m.place e) root.members is.members;
+          (λ (m : Member). StandsAt (ids_in crates) m.id m.place) (λ m e. lead m.id m.place e) root.members is.members;
       root = some-weaker (Reaches root.known) (λ place. place < length crates) low resolve.root told;
       within = every-weaker (AllByRecursion (λ (edge : Edge). Reaches root.known edge.to))
           (AllByRecursion (λ (edge : Edge). edge.to < length crates))

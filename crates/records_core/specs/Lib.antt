@@ -4,6 +4,7 @@ pub mod Known
 pub mod NodeRows
 pub mod Nodes
 pub mod Order
+pub mod Ordered
 pub mod Packages
 pub mod Records
 pub mod Rows

@@ -1,5 +1,5 @@
 -- The rows of the root, of `resolve`, of nodes, of dependencies and of their kinds.
-use Rattle.std.specs.Prelude.{ℕ, ◌+◌, List, true, false, codes, bytes_eq, Option, Some, None, Ok, if◌then◌else◌}
+use Rattle.std.specs.Prelude.{ℕ, ◌+◌, List, true, codes, bytes_eq, Option, Some, None, Ok, if◌then◌else◌}
 use Rattle.std.specs.FinMap as finmap
 use Rattle.serde_json.specs.Data.{Data, array, Items, no_items, item}
 use Rattle.serde_json.specs.Find.{get}
@@ -7,6 +7,7 @@ use Rattle.graph_core.specs.declared.edge.Edge.{Edge}
 use Rattle.graph_core.specs.declared.edge.Kinds.{Kinds}
 use Rattle.graph_core.specs.declared.edge.DepKind.{DepKind}
 use Rattle.graph_core.specs.declared.edge.DepKind.TheVariants.{Normal, Dev, Build}
+use Rattle.graph_core.specs.Metadata.{no_kinds}
 use Rattle.records_core.specs.declared.fault.MetaReason.TheVariants.{Missing, WrongKind, UnknownKind}
 use Rattle.records_core.specs.declared.fault.Place.{Place}
 use Rattle.records_core.specs.declared.fault.Place.TheVariants.{Root, Resolve, Node, Dep, Kind}
@@ -134,10 +135,7 @@ all_deps known nodes = each (deps_in known) 0 nodes
 
 -- ---- kinds
 
--- no kind, and a set with one more
-abbrev pub no_kinds : Kinds
-no_kinds = record { normal = false; dev = false; build = false }
-
+-- a set with one more
 abbrev pub with_kind : Kinds → DepKind → Kinds
 with_kind kinds Normal = record kinds { normal = true }
 with_kind kinds Dev = record kinds { dev = true }

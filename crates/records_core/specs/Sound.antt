@@ -1,8 +1,8 @@
 -- What holds of the rows of every text that has them: ids lead to the crates that have them, and places to crates.
-use Rattle.std.specs.Prelude.{◌≡◌, ℕ, ◌<◌, List, [], ◌∷◌, map, length, slice_get, Some, IfSome}
+use Rattle.std.specs.Prelude.{◌≡◌, ℕ, ◌<◌, List, [], ◌∷◌, length, slice_get, Some, IfSome}
 use Rattle.std.specs.List.{AllByRecursion}
 use Rattle.std.specs.FinMap as finmap
-use Rattle.graph_core.specs.Krate.{Record}
+use Rattle.graph_core.specs.Krate.{Record, ids_in}
 use Rattle.records_core.specs.Records.{Rows}
 
 -- the crate at a place has this id
@@ -14,13 +14,10 @@ abbrev pub AreApart : List ℕ → Type 0
 AreApart [] = Unit {0}
 AreApart (place ∷ places) = AllByRecursion (λ other. other ≡ place → ⊥) places × AreApart places
 
-abbrev pub ids_told : List Record → List (List ℕ)
-ids_told crates = map (λ krate. krate.id) crates
-
 pub record AreSound (rows : Rows) : Type 0 where
-  pub located : AllByRecursion (λ entry. StandsAt (ids_told rows.crates) entry.0 entry.1) (finmap.entries rows.root.known)
+  pub located : AllByRecursion (λ entry. StandsAt (ids_in rows.crates) entry.0 entry.1) (finmap.entries rows.root.known)
   pub complete : (place : ℕ) (krate : Record) → slice_get rows.crates place ≡ Some krate
       → finmap.get rows.root.known krate.id ≡ Some place
-  pub members : AllByRecursion (λ member. StandsAt (ids_told rows.crates) member.id member.place) rows.root.members
+  pub members : AllByRecursion (λ member. StandsAt (ids_in rows.crates) member.id member.place) rows.root.members
   pub root : IfSome rows.resolve.root (λ place. place < length rows.crates)
   pub within : AllByRecursion (AllByRecursion (λ edge. edge.to < length rows.crates)) rows.edges

@@ -1,6 +1,7 @@
 //! The rows of the root, of `resolve`, of nodes, of dependencies and of their kinds.
 ghost use Rattle.std.specs.Prelude.{◌≡◌, codes, map, option_map, option_copied};
 ghost use Rattle.serde_json.specs.View.{view, items_view};
+ghost use Rattle.graph_core.specs.Metadata.{no_kinds};
 ghost use Rattle.records_core.specs.Nodes as spec;
 ghost use Rattle.records_core.specs.NodeRows.{member_of, root_of, resolve_of, node_of, nodes_of, dep_of};
 ghost use Rattle.records_core.specs.NodeRows.{deps_of};
@@ -310,7 +311,7 @@ fn kind_row(alloc: Global, place: Place, value: &Value) -> Result<DepKind, MetaE
 }
 
 fn kinds_in(alloc: Global, i: usize, j: usize, items: &[Value]) -> Result<Kinds, MetaError>
-    ensures { Tells (λ kinds. kinds) result (spec.kinds_in i j 0 spec.no_kinds (items_view items.now)) }
+    ensures { Tells (λ kinds. kinds) result (spec.kinds_in i j 0 no_kinds (items_view items.now)) }
 {
     let mut kinds = NO_KINDS;
     'kinds: for (k, item) in items.iter().enumerate() {

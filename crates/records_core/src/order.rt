@@ -6,6 +6,7 @@ ghost use Rattle.records_core.specs.AllRows.{rows_told};
 ghost use Rattle.records_core.specs.NodeRows.{member_of};
 ghost use Rattle.records_core.specs.Order as spec;
 ghost use Rattle.records_core.specs.Order.{AreRanks, id_of_member, place_of, rank_at, rank_of_member};
+ghost use Rattle.records_core.specs.Ordered.{AreOrdered};
 ghost use Rattle.records_core.specs.Order.{ranked_edge, ranked_edges};
 ghost use Rattle.records_core.specs.Records as records;
 ghost use Rattle.records_core.specs.Records.{graph_of};
@@ -201,10 +202,23 @@ fn root_rank(ranks: &[usize], root: Option<usize>) -> Option<usize>
     }
 }
 
-/// The graph that the rows tell.
-pub(crate) fn in_order(alloc: Global, rows: AllRows<'_>) -> Result<Metadata, AllocError>
-    requires { AreSound (rows_told rows) }
-    ensures { IfOk result (λ metadata. metadata ≡ graph_of (rows_told rows.entry)) }
+/// What the graph is made of beside its crates, and the places that led to it.
+#[derive(Drop)]
+pub(crate) struct OrderedParts {
+    spots: Vec<Spot>,
+    ranks: Vec<usize>,
+    edges: Vec<Edges>,
+    members: Texts,
+    member_places: Vec<usize>,
+    workspace_root: PathBuf,
+    root: Option<usize>,
+}
+
+/// The parts of the graph that are made by looking at the rows.
+fn parts_of(alloc: Global, rows: &AllRows<'_>) -> Result<OrderedParts, AllocError>
+    requires { let spots = records.spots_of rows.now.root.known rows.now.nodes.firsts in
+        AllByRecursion (λ place. place < length rows.now.crates.items) (map place_of spots) }
+    ensures { IfOk result (λ parts. AreOrdered rows.now parts) }
 {
     let spots = spots_of(alloc, &rows.root.known, &rows.nodes.firsts)?;
     let ranks = ranks_of(alloc, rows.crates.len(), &spots)?;
@@ -213,6 +227,30 @@ pub(crate) fn in_order(alloc: Global, rows: AllRows<'_>) -> Result<Metadata, All
     let member_places = member_ranks(alloc, &ranks, &rows.root.members)?;
     let root = root_rank(&ranks, rows.resolve.root);
     let workspace_root = PathBuf::copy(alloc, rows.root.workspace_root)?;
-    let crates = crates_in_order(alloc, &spots, rows.crates)?;
-    Ok(Metadata::of_parts(crates, edges, members, member_places, workspace_root, root))
+    Ok(OrderedParts {
+        spots,
+        ranks,
+        edges,
+        members,
+        member_places,
+        workspace_root,
+        root,
+    })
+}
+
+/// The graph that the rows tell.
+pub(crate) fn in_order(alloc: Global, rows: AllRows<'_>) -> Result<Metadata, AllocError>
+    requires { AreSound (rows_told rows) }
+    ensures { IfOk result (λ metadata. metadata ≡ graph_of (rows_told rows.entry)) }
+{
+    let parts = parts_of(alloc, &rows)?;
+    let crates = crates_in_order(alloc, &parts.spots, rows.crates)?;
+    Ok(Metadata::of_parts(
+        crates,
+        parts.edges,
+        parts.members,
+        parts.member_places,
+        parts.workspace_root,
+        parts.root,
+    ))
 }

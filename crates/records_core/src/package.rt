@@ -10,10 +10,11 @@ ghost use Rattle.records_core.specs.Told.{Tells};
 
 use crate::fault::{MetaError, MetaReason, Place, fault_at};
 use crate::shape::{
-    Known, copied, new_at, object_here, optional_text_at, optional_texts_at, text_at, texts_in,
+    Known, new_at, object_here, optional_text_at, optional_texts_at, text_at, texts_in,
     texts_or_empty_at,
 };
 use deny_text::path::parent;
+use deny_text::text::copied;
 use deny_text::{PathBuf, Text, Texts};
 use graph_core::{FeatureMap, Krate, Source, SourceError};
 use semver::Version;

@@ -110,16 +110,6 @@ pub(crate) fn optional_list_at<'v>(
     }
 }
 
-/// A copy of a string, or of none.
-pub(crate) fn copied(alloc: Global, text: Option<&str>) -> Result<Option<Text>, AllocError>
-    ensures { IfOk result (λ copy. copy ≡ option_copied text.entry) }
-{
-    match text {
-        Some(text) => Ok(Some(Text::copy(alloc, text)?)),
-        None => Ok(None),
-    }
-}
-
 /// An item that has to be a string.
 pub(crate) fn text_here<'v>(
     alloc: Global,

@@ -97,7 +97,11 @@ sample_shape = subcommand_shape (codes "sample") sample_rules
 abbrev pub alone : Shape → App
 alone shape = record { top = shape; subs = [] }
 
--- the whole command line: it tells its version, and asks for a subcommand
+-- the command line but for its subcommand: it tells its version, and asks for a subcommand
+abbrev pub top_shape : Shape
+top_shape = record (new_app (codes "cargo-deny")).top { rules = main_rules; has_version = true; subcommand_required = true }
+
+-- the whole command line
 abbrev pub cli : App
 cli = record {
   top = record (new_app (codes "cargo-deny")).top {

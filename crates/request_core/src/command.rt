@@ -1,7 +1,7 @@
 //! The command line as a value.
 ghost use Rattle.std.specs.Prelude.{◌≡◌, IfOk, false, true, map};
 ghost use Rattle.clap.specs.Words.{rule_of, new_rule, app_of, shape_of, with_subcommand};
-ghost use Rattle.request_core.specs.Cli.{cli, alone, check_shape, list_shape, sample_shape};
+ghost use Rattle.request_core.specs.Cli.{cli, top_shape, alone, check_shape, list_shape, sample_shape};
 ghost use Rattle.request_core.specs.OptionRow.{rule_of_row, defaults_of, grown};
 
 use crate::options::{Kind, OptionRow, check_rows, list_rows, main_rows, sample_rows};
@@ -15,13 +15,29 @@ pub fn command<'a>(alloc: Global) -> Result<Command<'a>, AllocError>
     ensures { IfOk result (λ command. app_of command ≡ cli) }
 {
     let check = check_command(alloc)?;
+    match top_command(alloc) {
+        Ok(command) => add_subcommand(command, check),
+        Err(error) => {
+            let_go(check);
+            Err(error)
+        }
+    }
+}
+
+/// The command line without its subcommand.
+fn top_command<'a>(alloc: Global) -> Result<Command<'a>, AllocError>
+    ensures { IfOk result (λ command. app_of command ≡ alone top_shape) }
+{
     let command = Command::new(alloc, "cargo-deny")
         .version(VERSION)
         .about("Checks the licences of a project's crates against a policy")
         .subcommand_required(true);
     let command = with_rows(alloc, command, main_rows())?;
-    add_subcommand(command, check)
+    Ok(command)
 }
+
+/// Lets a command go.
+fn let_go(_command: Command<'_>) {}
 
 /// The subcommand `check`.
 pub(crate) fn check_command<'a>(alloc: Global) -> Result<Command<'a>, AllocError>

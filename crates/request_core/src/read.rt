@@ -55,9 +55,22 @@ fn given_by(alloc: Global, words: &[&str], cwd: &str) -> Result<Given, AllocErro
     ensures { IfOk result (IsGivenFor (map (λ word. word.now) words.now) cwd.now) }
 {
     let mut command = command(alloc)?;
-    match matches_of(&mut command, words) {
-        Ok(matches) => asked(alloc, &mut command, &matches, cwd),
-        Err(error) => told(alloc, &error),
+    given_with(alloc, &mut command, words, cwd)
+}
+
+/// The answer to words of a command line.
+fn given_with<'a>(
+    alloc: Global,
+    command: &mut Command<'a>,
+    words: &'a [&'a str],
+    cwd: &str,
+) -> Result<Given, AllocError>
+    requires { app_of command.old ≡ cli }
+    ensures { IfOk result (IsGivenFor (map (λ word. word.now) words.entry.now) cwd.now) }
+{
+    match matches_of(command, words) {
+        Ok(matches) => asked_by(alloc, command, matches, cwd),
+        Err(error) => told_by(alloc, error),
     }
 }
 
@@ -68,6 +81,13 @@ fn matches_of<'a>(command: &mut Command<'a>, words: &'a [&'a str]) -> Result<Arg
     ensures err { IfErr result (HasKind (fault_of cli (map (λ word. word.now) words.entry.now))) }
 {
     command.try_get_matches_from_mut(words)
+}
+
+/// The answer to an error, which is let go.
+fn told_by(alloc: Global, error: Error) -> Result<Given, AllocError>
+    ensures { IfOk result (IsTold (kind_of error.entry)) }
+{
+    told(alloc, &error)
 }
 
 /// The answer to an error: help and the version are shown, and mistakes refused.
@@ -85,6 +105,19 @@ fn told(alloc: Global, error: &Error) -> Result<Given, AllocError>
             Ok(Given::Usage(Text::from(text)))
         }
     }
+}
+
+/// The request that matches ask for, or the refusal of a value. The matches are let go.
+fn asked_by(
+    alloc: Global,
+    command: &mut Command<'_>,
+    matches: ArgMatches<'_>,
+    cwd: &str,
+) -> Result<Given, AllocError>
+    ensures { IfOk result
+        (IsAsked (rows_of (found_of matches.entry)) (subcommand_rows_of matches.entry) cwd.now) }
+{
+    asked(alloc, command, &matches, cwd)
 }
 
 /// The request that matches ask for, or the refusal of a value.

@@ -9,10 +9,10 @@ use Rattle.std.proofs.lemmas.List.Elements.{All-from_recursion}
 use Rattle.std.proofs.lemmas.Option.{slice_get_within, unwrap_or-slice_get, get_or_from_slice_get}
 use Rattle.graph_core.specs.declared.krate.Krate.{Krate}
 use Rattle.graph_core.specs.declared.edge.Kinds.{Kinds}
-use Rattle.graph_core.specs.Krate.{Record, record_of}
+use Rattle.graph_core.specs.Krate.{Record, record_of, ids_in}
 use Rattle.graph_core.specs.Metadata.{Graph, Node, AreRising, ids_of, id_of_node}
 use Rattle.selection_core.specs.Roots.{crates_of}
-use Rattle.selection_core.specs.Listed.{IsListOf, Item, crates_in, ids_in, items_of}
+use Rattle.selection_core.specs.Listed.{IsListOf, Item, crates_in, items_of}
 use Rattle.selection_core.specs.Places.{AreMarksOf, is_marked, kept, kinds_at, kinds_kept}
 use Rattle.selection_core.proofs.GraphPlaces.{within-some}
 use Rattle.selection_core.proofs.PutLemmas.{true-false}

@@ -13,4 +13,5 @@ mod KeepLemmas
 mod ChosenLemmas
 mod CountLemmas
 pub mod SelectedLemmas
+mod ReadLemmas
 mod Examples

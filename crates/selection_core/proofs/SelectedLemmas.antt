@@ -8,12 +8,13 @@ use Rattle.std.proofs.lemmas.List.Elements.{All-contains, All-from_recursion, re
 use Rattle.graph_core.specs.declared.edge.DepKind.{DepKind}
 use Rattle.graph_core.specs.declared.edge.DepKind.TheVariants.{Normal, Dev, Build}
 use Rattle.graph_core.specs.declared.edge.Kinds.{Kinds}
+use Rattle.graph_core.specs.Krate.{ids_in}
 use Rattle.graph_core.specs.Metadata.{Graph, AreRising}
 use Rattle.selection_core.specs.declared.selection.Include.{Include}
 use Rattle.selection_core.specs.Choice.{Choice}
 use Rattle.selection_core.specs.Roots.{crates_of}
 use Rattle.selection_core.specs.Walks.{Reached, Selected}
-use Rattle.selection_core.specs.Listed.{Chosen, IsChosen, IsListOf, Item, crates_in, has_kind, ids_in, is_selected, reached_in, selected_in}
+use Rattle.selection_core.specs.Listed.{Chosen, IsChosen, IsListOf, Item, crates_in, has_kind, is_selected, reached_in, selected_in}
 use Rattle.selection_core.specs.Places.{covers, left_out, only_kind}
 use Rattle.selection_core.proofs.PutLemmas.{both-left, both-right, true-false}
 use Rattle.selection_core.proofs.LeftLemmas.{both}

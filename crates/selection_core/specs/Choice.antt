@@ -1,7 +1,8 @@
 -- What crates are selected by, and which crates a spec leaves out.
-use Rattle.std.specs.Prelude.{ℕ, ◌==◌, ◌&&◌, nat_lt, Bool, true, List, length, map, bytes_eq, Option, Some, None, option_map, Result, Ok, Err, if◌then◌else◌}
-use Rattle.std.specs.Option.{option_or}
-use Rattle.std.specs.List.{list_any, position_or_len, before_first, after_first}
+use Rattle.std.specs.Prelude.{ℕ, ◌==◌, ◌&&◌, ◌||◌, Bool, true, List, map, bytes_eq, Option, Some, None, option_map, Result, Ok, Err, if◌then◌else◌}
+use Rattle.std.specs.Option.{option_or, option_to_list}
+use Rattle.std.specs.List.{list_any}
+use Rattle.deny_text.specs.Cut.{cut_at, is_at_sign, is_colon}
 use Rattle.semver.specs.Identifiers.{parts_of}
 use Rattle.semver.specs.Parse.{version_parts}
 use Rattle.semver.specs.declared.error.Error.{Error}
@@ -54,18 +55,6 @@ is_excluded specs krate = list_any (λ spec. excludes spec krate) specs
 
 -- ---- a readable spec: `name@version`, `name:version` or `name`
 
-abbrev pub is_at_sign : ℕ → Bool
-is_at_sign byte = byte == 64
-
-abbrev pub is_colon : ℕ → Bool
-is_colon byte = byte == 58
-
--- what stands before the first such sign, and what stands behind it; none without one
-abbrev pub cut_at : (ℕ → Bool) → List ℕ → Option (List ℕ × List ℕ)
-cut_at is_sign text =
-    if nat_lt (position_or_len is_sign text) (length text)
-    then Some (before_first is_sign text, after_first is_sign text) else None
-
 -- at the first `@`, else at the first `:`
 abbrev pub first_cut : List ℕ → Option (List ℕ × List ℕ)
 first_cut text = option_or (cut_at is_at_sign text) (cut_at is_colon text)
@@ -82,3 +71,15 @@ spec_of_cut text (Some (name, rest)) = spec_with name (version_parts rest)
 -- the spec that a text is read as; none where it is unreadable
 abbrev pub spec_read : List ℕ → Option Spec
 spec_read text = spec_of_cut text (first_cut text)
+
+-- the specs of a text: one, or none
+abbrev pub read_one : List ℕ → List Spec
+read_one text = option_to_list (spec_read text)
+
+-- ---- a spec that is not carried: it holds a `/` or a `#`
+
+abbrev pub is_uncarried_sign : ℕ → Bool
+is_uncarried_sign byte = (byte == 47) || (byte == 35)
+
+abbrev pub is_uncarried : List ℕ → Bool
+is_uncarried text = list_any is_uncarried_sign text

@@ -1,19 +1,16 @@
 -- Lists of crates that have a property, in the order of their ids.
-use Rattle.std.specs.Prelude.{◌≡◌, ℕ, List, [], ◌∷◌, ◌&&◌, ◌||◌, map, filter, Bool, false, All, Contains, Some, None}
+use Rattle.std.specs.Prelude.{◌≡◌, ℕ, List, [], ◌∷◌, ◌&&◌, ◌||◌, map, filter, Bool, All, Contains, Some, None}
 use Rattle.std.specs.Borrow.{Bor}
 use Rattle.graph_core.specs.declared.krate.Krate.{Krate}
 use Rattle.graph_core.specs.declared.edge.DepKind.{DepKind}
 use Rattle.graph_core.specs.declared.edge.DepKind.TheVariants.{Normal, Dev, Build}
 use Rattle.graph_core.specs.declared.edge.Kinds.{Kinds}
-use Rattle.graph_core.specs.Krate.{Record, record_of}
-use Rattle.graph_core.specs.Metadata.{Graph, AreRising}
+use Rattle.graph_core.specs.Krate.{Record, ids_in, record_of}
+use Rattle.graph_core.specs.Metadata.{Graph, AreRising, no_kinds}
 use Rattle.selection_core.specs.declared.selection.Include.{Include}
 use Rattle.selection_core.specs.Choice.{Choice}
 use Rattle.selection_core.specs.Roots.{crates_of}
 use Rattle.selection_core.specs.Walks.{Reached}
-
-abbrev pub ids_in : List Record → List (List ℕ)
-ids_in crates = map (λ krate. krate.id) crates
 
 -- the ids rise strictly, each has the property, each that has it stands in the list, and each item is the crate of its id
 pub record IsListOf (graph : Graph) (Has : List ℕ → Type 0) (crates : List Record) : Type 0 where
@@ -62,9 +59,6 @@ pub record IsChosen (graph : Graph) (choice : Choice) (chosen : Chosen) : Type 0
   pub workspace_root : chosen.workspace_root ≡ graph.workspace_root
 
 -- ---- the same of crates in memory
-
-abbrev pub no_kinds : Kinds
-no_kinds = record { normal = false; dev = false; build = false }
 
 -- a crate of which nothing stands beside is reached without no kind
 abbrev pub items_of : List Krate → List Kinds → List Item

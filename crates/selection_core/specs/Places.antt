@@ -6,7 +6,7 @@ use Rattle.graph_core.specs.declared.edge.DepKind.TheVariants.{Normal, Dev, Buil
 use Rattle.graph_core.specs.declared.edge.Edge.{Edge}
 use Rattle.graph_core.specs.declared.edge.Kinds.{Kinds}
 use Rattle.graph_core.specs.Krate.{Record}
-use Rattle.graph_core.specs.Metadata.{Graph, id_of_node}
+use Rattle.graph_core.specs.Metadata.{Graph, id_of_node, no_kinds}
 use Rattle.selection_core.specs.declared.selection.BuildError.{BuildError}
 use Rattle.selection_core.specs.declared.selection.BuildError.TheVariants.{NoRoots}
 use Rattle.selection_core.specs.declared.selection.Include.{Include}
@@ -15,7 +15,6 @@ use Rattle.selection_core.specs.declared.marks.Found.{Found}
 use Rattle.selection_core.specs.Choice.{Choice, is_excluded}
 use Rattle.selection_core.specs.Roots.{crates_of, is_member, is_base, is_unpublished, is_published_nowhere}
 use Rattle.selection_core.specs.Walks.{Reached}
-use Rattle.selection_core.specs.Listed.{no_kinds}
 
 -- ---- marks
 

@@ -1,5 +1,6 @@
 //! Specs of crates that are left out.
-ghost use Rattle.std.specs.Prelude.{◌≡◌, map, option_map, IfOk};
+ghost use Rattle.std.specs.Prelude.{◌≡◌, ◌++◌, map, option_map, IfOk, OnOk};
+ghost use Rattle.std.specs.List.{filter_map, list_any};
 ghost use Rattle.std.specs.Result.{result_ok};
 ghost use Rattle.semver.specs.Identifiers.{parts_of};
 ghost use Rattle.semver.specs.Parse.{version_parts};
@@ -7,7 +8,8 @@ ghost use Rattle.graph_core.specs.Krate.{record_of};
 ghost use Rattle.selection_core.specs.Choice as spec;
 ghost use Rattle.selection_core.specs.Choice.{spec_of, spec_read};
 
-use deny_text::{ListOf, Text};
+use deny_text::cut::{cut_at_colon, cut_at_sign};
+use deny_text::{ListOf, Text, Texts};
 use graph_core::Krate;
 use semver::Version;
 use std::alloc::{AllocError, Global};
@@ -22,18 +24,6 @@ pub struct ExcludeSpec {
 
 /// Specs, of which each leaves crates out.
 pub type ExcludeSpecs = ListOf<ExcludeSpec>;
-
-fn cut_at_sign(text: &str) -> Option<(&str, &str)>
-    ensures { option_map (λ cut. (cut.0.now, cut.1.now)) result ≡ spec.cut_at spec.is_at_sign text.now }
-{
-    text.split_once('@')
-}
-
-fn cut_at_colon(text: &str) -> Option<(&str, &str)>
-    ensures { option_map (λ cut. (cut.0.now, cut.1.now)) result ≡ spec.cut_at spec.is_colon text.now }
-{
-    text.split_once(':')
-}
 
 /// What stands before the first `@`, or without one before the first `:`, and what stands behind it.
 fn first_cut(text: &str) -> Option<(&str, &str)>
@@ -109,6 +99,43 @@ impl ExcludeSpec {
     {
         self.name.as_str() == krate.name.as_str() && fits(&self.version, &krate.version)
     }
+}
+
+/// Appends the spec that a text is read as. An unreadable one is passed over.
+fn push_spec(alloc: Global, specs: &mut ExcludeSpecs, text: &Text) -> Result<(), AllocError>
+    ensures { OnOk result (map spec_of specs.new ≡ map spec_of specs.old ++ spec.read_one text.now) }
+{
+    if let Some(read) = ExcludeSpec::read(alloc, text.as_str())? {
+        specs.push(read)?;
+    }
+    Ok(())
+}
+
+/// Appends the specs that texts are read as. Unreadable ones are passed over.
+pub fn read_specs(alloc: Global, specs: &mut ExcludeSpecs, texts: &[Text]) -> Result<(), AllocError>
+    ensures { OnOk result (map spec_of specs.new ≡ map spec_of specs.old ++ filter_map spec_read texts.now) }
+{
+    'texts: for text in texts {
+        push_spec(alloc, specs, text)?;
+    }
+    Ok(())
+}
+
+/// Whether a spec holds a `/` or a `#`. Such a spec is not carried.
+fn is_uncarried(text: &Text) -> bool
+    ensures { result ≡ spec.is_uncarried text.now }
+{
+    text.as_str()
+        .as_bytes()
+        .iter()
+        .any(|byte| *byte == b'/' || *byte == b'#')
+}
+
+/// Whether one of the specs holds a `/` or a `#`.
+pub fn has_uncarried(texts: &Texts) -> bool
+    ensures { result ≡ list_any spec.is_uncarried texts.now }
+{
+    texts.items().iter().any(|text| is_uncarried(text))
 }
 
 /// Whether one of the specs leaves a crate out.

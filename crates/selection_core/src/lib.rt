@@ -7,7 +7,7 @@ mod marks;
 pub mod selection;
 mod standing;
 
-pub use exclude::{ExcludeSpec, ExcludeSpecs};
+pub use exclude::{ExcludeSpec, ExcludeSpecs, has_uncarried, read_specs};
 pub use graph_core::{DepKind, Edge, Edges, Kinds, Krate, Metadata};
 pub use krates::{KrateRefs, Krates};
 pub use selection::{BuildError, Include, Selection};

@@ -6,6 +6,7 @@ use Rattle.std.proofs.lemmas.List.{get_or-drop, length-drop}
 use Rattle.std.proofs.lemmas.Str.{IsCharBoundary-start, IsCharBoundary-end}
 use Rattle.std.specs.Str.{IsUtf8, IsCharBoundary}
 use Rattle.deny_text.specs.declared.span.Span.{Span}
+use Rattle.deny_text.specs.Spans.{LiesBetween}
 use Rattle.catalog_core.specs.Catalog.{CatalogLists, IsCatalog}
 use Rattle.term_core.specs.declared.mode.ParseMode.{ParseMode}
 use Rattle.term_core.specs.declared.error.ParseError.{ParseError}
@@ -22,7 +23,6 @@ use Rattle.term_core.specs.Spans.{Rise}
 use Rattle.term_core.specs.Items.{item_at, term_of, plus_behind, items_of, wanted_after}
 use Rattle.term_core.specs.Faults.{unless, fault_over, takes_term, takes_exception, takes_operator, takes_with, word_reason, mark_fault, first_of, fault_at, opened_after, has_open, last_open, end_fault, fault_from, fault_of, first_fault, is_alone, lone_fault, licensee_mode, licensee_fault, licensee_fault_from, licensee_fault_of}
 use Rattle.term_core.proofs.ItemSpans.{items_rise}
-use Rattle.spdx_core.specs.Laws.{LiesIn}
 use Rattle.spdx_core.proofs.ItemKinds.{is_other, Kinds, Each, each_item}
 
 -- ---- where names end
@@ -141,14 +141,14 @@ names_lie mode lists text =
 
 Told : List ℕ → Option ParseError → Type 0
 Told text None = Unit {0}
-Told text (Some fault) = LiesIn text fault.span
+Told text (Some fault) = LiesBetween text fault.span
 
-told_unless : (text : List ℕ) (fine : Bool) (reason : ParseReason) (span : Span) → LiesIn text span → Told text (unless fine reason span)
+told_unless : (text : List ℕ) (fine : Bool) (reason : ParseReason) (span : Span) → LiesBetween text span → Told text (unless fine reason span)
 unfolding Told
 told_unless text true reason span lies = tt
 told_unless text false reason span lies = lies
 
-told_over : (text : List ℕ) (reason : ParseReason) (span : Span) → LiesIn text span → Told text (fault_over reason span)
+told_over : (text : List ℕ) (reason : ParseReason) (span : Span) → LiesBetween text span → Told text (fault_over reason span)
 unfolding Told
 told_over text reason span lies = lies
 
@@ -161,9 +161,9 @@ told_cond : (text : List ℕ) (t : Bool) (a b : Option ParseError) → Told text
 told_cond text true a b p q = p
 told_cond text false a b p q = q
 
-name_in : (text : List ℕ) (named : Simple) (span : Span) → LiesIn text span → NameLies text named span → LiesIn text (record { start = span.start; end = named.name_end })
+name_in : (text : List ℕ) (named : Simple) (span : Span) → LiesBetween text span → NameLies text named span → LiesBetween text (record { start = span.start; end = named.name_end })
 name_in text named span lies name = record {
-  order = name.behind;
+  ordered = name.behind;
   start_border = lies.start_border;
   end_border = elim name.border as (λ _. IsCharBoundary text named.name_end) [
     | inl same ↦ subst (λ k. IsCharBoundary text k) same lies.end_border
@@ -171,13 +171,13 @@ name_in text named span lies name = record {
   ];
 }
 
-told_marks : (text : List ℕ) (mode : ParseMode) (named : Simple) (span : Span) → LiesIn text span → NameLies text named span → Told text (mark_fault mode named span)
+told_marks : (text : List ℕ) (mode : ParseMode) (named : Simple) (span : Span) → LiesBetween text span → NameLies text named span → Told text (mark_fault mode named span)
 told_marks text mode named span lies name =
     told_cond text (named.marks.deprecated && not mode.allow_deprecated) _ _
     (told_over text DeprecatedId (record { start = span.start; end = named.name_end }) (name_in text named span lies name))
     (told_unless text (not (named.marks.gnu && named.marks.plus) || mode.allow_postfix_plus_on_gpl) GplNoPlus span lies)
 
-told_at : (text : List ℕ) (mode : ParseMode) (wanted : Wanted) (opened : Bool) (what : What) (span : Span) → LiesIn text span → Lies text what span → Told text (fault_at mode wanted opened what span)
+told_at : (text : List ℕ) (mode : ParseMode) (wanted : Wanted) (opened : Bool) (what : What) (span : Span) → LiesBetween text span → Lies text what span → Told text (fault_at mode wanted opened what span)
 unfolding Lies
 told_at text mode wanted opened (Term named) span lies name = told_first text (unless (takes_term wanted) Unexpected span) (mark_fault mode named span) (told_unless text (takes_term wanted) Unexpected span lies) (told_marks text mode named span lies name)
 told_at text mode wanted opened (Exception name) span lies there = told_unless text (takes_exception wanted) Unexpected span lies
@@ -193,14 +193,14 @@ told_at text mode wanted opened Other span lies there = told_over text _ span li
 -- open parentheses lie in the text
 AllIn : List ℕ → List Span → Type 0
 AllIn text [] = Unit {0}
-AllIn text (span ∷ spans) = LiesIn text span × AllIn text spans
+AllIn text (span ∷ spans) = LiesBetween text span × AllIn text spans
 
 all_but_first : (text : List ℕ) (opened : List Span) → AllIn text opened → AllIn text (drop 1 opened)
 unfolding AllIn
 all_but_first text [] all = tt
 all_but_first text (span ∷ spans) all = all.1
 
-opened_lie : (text : List ℕ) (opened : List Span) (what : What) (span : Span) → AllIn text opened → LiesIn text span → AllIn text (opened_after opened what span)
+opened_lie : (text : List ℕ) (opened : List Span) (what : What) (span : Span) → AllIn text opened → LiesBetween text span → AllIn text (opened_after opened what span)
 unfolding AllIn
 opened_lie text opened (Term named) span all lies = all
 opened_lie text opened (Exception name) span all lies = all
@@ -213,16 +213,16 @@ opened_lie text opened Plus span all lies = all
 opened_lie text opened Word span all lies = all
 opened_lie text opened Other span all lies = all
 
-at_end : (text : List ℕ) → LiesIn text (record { start = length text; end = length text })
-at_end text = record { order = omega arith; start_border = IsCharBoundary-end text; end_border = IsCharBoundary-end text }
+at_end : (text : List ℕ) → LiesBetween text (record { start = length text; end = length text })
+at_end text = record { ordered = omega arith; start_border = IsCharBoundary-end text; end_border = IsCharBoundary-end text }
 
 told_unclosed : (text : List ℕ) (opened : List Span) (wanted : Wanted) → AllIn text opened → Told text (end_fault (length text) wanted (last_open opened))
 unfolding AllIn Told
 told_unclosed text [] wanted all = told_cond text (takes_operator wanted) _ _ tt (at_end text)
 told_unclosed text (last ∷ rest) wanted all = told_cond text (takes_operator wanted) _ _ all.0 (at_end text)
 
-item_in : (text : List ℕ) (place : ℕ) (it : Item) (items : List Item) (end : ℕ) → Rise text place (map (λ item. item.span) (it ∷ items)) end → LiesIn text it.span
-item_in text place it items end rise = let some : it.span.start < it.span.end = rise.0.some in record { order = omega arith; start_border = rise.0.start_border; end_border = rise.0.end_border }
+item_in : (text : List ℕ) (place : ℕ) (it : Item) (items : List Item) (end : ℕ) → Rise text place (map (λ item. item.span) (it ∷ items)) end → LiesBetween text it.span
+item_in text place it items end rise = let some : it.span.start < it.span.end = rise.0.some in record { ordered = omega arith; start_border = rise.0.start_border; end_border = rise.0.end_border }
 
 told_from : (text : List ℕ) (mode : ParseMode) (wanted : Wanted) (opened : List Span) (place : ℕ) (items : List Item) → AllIn text opened → Rise text place (map (λ item. item.span) items) (length text) → NamesLie text items
     → Told text (fault_from mode (length text) wanted opened items)
@@ -233,8 +233,8 @@ told_from text mode wanted opened place (it ∷ items) all rise names =
     (told_at text mode wanted (has_open opened) it.what it.span lies names.0)
     (told_from text mode (wanted_after wanted it.what) (opened_after opened it.what it.span) it.span.end items (opened_lie text opened it.what it.span all lies) rise.1 names.1)
 
-told_empty : (text : List ℕ) (reason : ParseReason) → IsUtf8 text → LiesIn text (record { start = 0; end = length text })
-told_empty text reason utf8 = record { order = omega arith; start_border = IsCharBoundary-start text utf8; end_border = IsCharBoundary-end text }
+told_empty : (text : List ℕ) (reason : ParseReason) → IsUtf8 text → LiesBetween text (record { start = 0; end = length text })
+told_empty text reason utf8 = record { ordered = omega arith; start_border = IsCharBoundary-start text utf8; end_border = IsCharBoundary-end text }
 
 told_of : (text : List ℕ) (mode : ParseMode) (items : List Item) → IsUtf8 text → Rise text 0 (map (λ item. item.span) items) (length text) → NamesLie text items → Told text (fault_of mode (length text) items)
 unfolding AllIn Told
@@ -242,7 +242,7 @@ told_of text mode [] utf8 rise names = told_empty text Unexpected utf8
 told_of text mode (it ∷ items) utf8 rise names = told_from text mode wants_term [] 0 (it ∷ items) tt rise names
 
 -- the same of licensees
-told_lone : (text : List ℕ) (mode : ParseMode) (wanted : Wanted) (what : What) (span : Span) → LiesIn text span → Lies text what span → Told text (lone_fault mode wanted what span)
+told_lone : (text : List ℕ) (mode : ParseMode) (wanted : Wanted) (what : What) (span : Span) → LiesBetween text span → Lies text what span → Told text (lone_fault mode wanted what span)
 told_lone text mode wanted what span lies name =
     told_first text (unless (is_alone what) Unexpected span) (fault_at mode wanted false what span) (told_unless text (is_alone what) Unexpected span lies) (told_at text mode wanted false what span lies name)
 
@@ -259,16 +259,16 @@ unfolding Told
 told_licensee text mode [] utf8 rise names = told_empty text Unexpected utf8
 told_licensee text mode (it ∷ items) utf8 rise names = told_alone text mode wants_term 0 (it ∷ items) rise names
 
-found_in : (text : List ℕ) (found : Option ParseError) (fault : ParseError) → Told text found → found ≡ Some fault → LiesIn text fault.span
+found_in : (text : List ℕ) (found : Option ParseError) (fault : ParseError) → Told text found → found ≡ Some fault → LiesBetween text fault.span
 unfolding Told
 found_in text found fault told is = subst (λ (one : Option ParseError). Told text one) is told
 
-pub fault_lies : (mode : ParseMode) (lists : CatalogLists) (text : List ℕ) (fault : ParseError) → IsCatalog lists → IsUtf8 text → first_fault mode lists text ≡ Some fault → LiesIn text fault.span
+pub fault_lies : (mode : ParseMode) (lists : CatalogLists) (text : List ℕ) (fault : ParseError) → IsCatalog lists → IsUtf8 text → first_fault mode lists text ≡ Some fault → LiesBetween text fault.span
 fault_lies mode lists text fault laws utf8 is =
     found_in text (first_fault mode lists text) fault
     (told_of text mode (items_of mode lists text) utf8 (items_rise mode lists laws text utf8) (names_lie mode lists text)) is
 
-pub licensee_fault_lies : (mode : ParseMode) (lists : CatalogLists) (text : List ℕ) (fault : ParseError) → IsCatalog lists → IsUtf8 text → licensee_fault mode lists text ≡ Some fault → LiesIn text fault.span
+pub licensee_fault_lies : (mode : ParseMode) (lists : CatalogLists) (text : List ℕ) (fault : ParseError) → IsCatalog lists → IsUtf8 text → licensee_fault mode lists text ≡ Some fault → LiesBetween text fault.span
 licensee_fault_lies mode lists text fault laws utf8 is =
     let plain = licensee_mode mode in
     found_in text (licensee_fault mode lists text) fault

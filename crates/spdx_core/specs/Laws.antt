@@ -1,7 +1,7 @@
 -- What holds of all licence expressions.
-use Rattle.std.specs.Prelude.{◌≡◌, ◌↔◌, ◌≤◌, ℕ, true, false, IsTrue, List, Option, Some, None, length, map}
-use Rattle.std.specs.Str.{IsUtf8, IsCharBoundary}
-use Rattle.deny_text.specs.declared.span.Span.{Span}
+use Rattle.std.specs.Prelude.{◌≡◌, ◌↔◌, ℕ, true, false, IsTrue, List, Option, Some, None, length, map}
+use Rattle.std.specs.Str.{IsUtf8}
+use Rattle.deny_text.specs.Spans.{LiesBetween}
 use Rattle.catalog_core.specs.Catalog.{CatalogLists, IsCatalog}
 use Rattle.term_core.specs.declared.error.ParseError.{ParseError}
 use Rattle.term_core.specs.declared.mode.ParseMode.{ParseMode}
@@ -47,12 +47,6 @@ TermsRise = (mode : ParseMode) (lists : CatalogLists) (text : List ℕ) (tree : 
 abbrev pub LicenseeOrFault : Type 0
 LicenseeOrFault = (mode : ParseMode) (lists : CatalogLists) (text : List ℕ) → (licensee_fault mode lists text ≡ None) ↔ ((req : LicenseReq) × IsLicensee mode lists text req)
 
--- a span lies in a text, on character borders
-pub record LiesIn (text : List ℕ) (span : Span) : Type 0 where
-  pub order : span.start ≤ span.end
-  pub start_border : IsCharBoundary text span.start
-  pub end_border : IsCharBoundary text span.end
-
 -- what is wrong with a text is told at a place of it
 abbrev pub FaultsLieIn : (ParseMode → CatalogLists → List ℕ → Option ParseError) → Type 0
-FaultsLieIn fault_in = (mode : ParseMode) (lists : CatalogLists) (text : List ℕ) (fault : ParseError) → IsCatalog lists → IsUtf8 text → fault_in mode lists text ≡ Some fault → LiesIn text fault.span
+FaultsLieIn fault_in = (mode : ParseMode) (lists : CatalogLists) (text : List ℕ) (fault : ParseError) → IsCatalog lists → IsUtf8 text → fault_in mode lists text ≡ Some fault → LiesBetween text fault.span

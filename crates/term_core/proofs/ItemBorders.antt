@@ -23,7 +23,8 @@ use Rattle.term_core.specs.declared.item.Wanted.TheVariants.{Term as wants_term,
 use Rattle.term_core.specs.declared.item.What.{What}
 use Rattle.term_core.specs.declared.item.Item.{Item}
 use Rattle.term_core.specs.declared.term.LicenseItem.{LicenseItem}
-use Rattle.term_core.specs.Tokens.{in_word, goes_on, is_white, token_of, rest_len, spanned, reference_of}
+use Rattle.deny_text.specs.Character.{goes_on}
+use Rattle.term_core.specs.Tokens.{in_word, is_white, token_of, rest_len, spanned, reference_of}
 use Rattle.term_core.specs.Items.{item_at, term_of, licence_of, licence_at, reference_at, plus_behind, begins, longest, imprecise_at, imprecise_if, plain_item, word_item, token_item, first_item, has_reading, operator_of, items_from, item_here, with_item, wanted_behind, used_behind, wanted_after}
 use Rattle.term_core.proofs.ImpreciseLemmas.{both_true, same_letters, to_begins, same_length, Pairs, longest_sound}
 use Rattle.term_core.proofs.ItemLemmas.{items_at, passed, unused}

@@ -1,7 +1,8 @@
 -- The tokens of a licence expression: words, marks, and characters of neither kind (SPDX 2.3, Annex D).
-use Rattle.std.specs.Prelude.{ℕ, false, ◌==◌, nat_lt, nat_le, Bool, ◌&&◌, ◌||◌, List, [], ◌∷◌, Option, Some, None, if◌then◌else◌, codes, nat_eq, drop, length}
+use Rattle.std.specs.Prelude.{ℕ, false, ◌==◌, Bool, ◌&&◌, ◌||◌, List, [], ◌∷◌, Option, Some, None, if◌then◌else◌, codes, nat_eq, drop, length}
 use Rattle.std.specs.Str.{byte, bytes_eq}
 use Rattle.std.specs.List.{list_any, prefix_len, starts_with, before_first, after_first}
+use Rattle.deny_text.specs.Character.{goes_on}
 use Rattle.term_core.specs.declared.item.Token.{Token}
 use Rattle.term_core.specs.declared.item.Token.TheVariants.{Word, Plus, Open, Close, Slash, Other}
 use Rattle.term_core.specs.declared.term.LicenseItem.{LicenseItem}
@@ -15,10 +16,6 @@ is_white b = b == byte " " || b == 9 || b == 10 || b == 13
 -- a byte of a word: an ASCII letter, a digit, `-`, `.` or `:`
 abbrev pub in_word : ℕ → Bool
 in_word b = is_word_byte b || b == byte ":"
-
--- a byte that goes on with a character (UTF-8)
-abbrev pub goes_on : ℕ → Bool
-goes_on b = nat_le 128 b && nat_lt b 192
 
 -- the token that begins with a byte which is no white space; a slash is a mark where the mode has it
 abbrev pub token_of : Bool → ℕ → Token

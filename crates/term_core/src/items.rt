@@ -16,6 +16,7 @@ use crate::mode::ParseMode;
 use crate::term::LicenseItem;
 use crate::words;
 use catalog_core::{Catalog, Imprecise, LicenseEntry};
+use deny_text::text::copied;
 use deny_text::{ListOf, Span, Text};
 use std::alloc::{AllocError, Global};
 
@@ -128,19 +129,6 @@ fn find_licence<C: Catalog>(
         Some(entry) => {
             let name = Text::copy(alloc, name)?;
             Ok(Some(licence(name, entry, has_plus(text, len), place, len)))
-        }
-    }
-}
-
-/// A copy of a text that may be there.
-fn copied(alloc: Global, text: Option<&str>) -> Result<Option<Text>, AllocError>
-    ensures { IfOk result (λ copy. copy ≡ option_copied text.entry) }
-{
-    match text {
-        None => Ok(None),
-        Some(text) => {
-            let copy = Text::copy(alloc, text)?;
-            Ok(Some(copy))
         }
     }
 }

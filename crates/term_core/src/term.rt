@@ -3,6 +3,7 @@ ghost use Rattle.std.specs.Prelude.{◌≡◌, ◌↔◌, ◌⊎◌, IfOk, IsTru
 ghost use Rattle.term_core.specs.Terms.{item_text, req_text, family_of};
 ghost use Rattle.term_core.specs.Satisfaction.{SatisfiesItem, Satisfies, IsSameVersion, IsLaterVersion};
 
+use deny_text::text::copied_text;
 use deny_text::{Span, Text};
 use std::alloc::{AllocError, Global};
 use std::fmt;
@@ -63,19 +64,6 @@ impl LicenseReq {
     }
 }
 
-/// A copy of a text that may be there.
-fn copied(alloc: Global, text: &Option<Text>) -> Result<Option<Text>, AllocError>
-    ensures { IfOk result (λ copy. copy ≡ text.now) }
-{
-    match text {
-        None => Ok(None),
-        Some(text) => {
-            let copy = Text::copy(alloc, text.as_str())?;
-            Ok(Some(copy))
-        }
-    }
-}
-
 impl LicenseItem {
     pub fn copy(&self, alloc: Global) -> Result<LicenseItem, AllocError>
         ensures { IfOk result (λ copy. copy ≡ self.now) }
@@ -98,7 +86,7 @@ impl LicenseItem {
                 })
             }
             LicenseItem::Reference { doc, id } => {
-                let doc = copied(alloc, doc)?;
+                let doc = copied_text(alloc, doc)?;
                 let id = Text::copy(alloc, id.as_str())?;
                 Ok(LicenseItem::Reference { doc, id })
             }
@@ -111,7 +99,7 @@ impl ExpressionReq {
         ensures { IfOk result (λ copy. copy ≡ self.now) }
     {
         let item = self.req.item.copy(alloc)?;
-        let exception = copied(alloc, &self.req.exception)?;
+        let exception = copied_text(alloc, &self.req.exception)?;
         Ok(ExpressionReq {
             req: LicenseReq { item, exception },
             span: self.span,

@@ -3,7 +3,7 @@ ghost use Rattle.std.specs.Prelude.{◌≡◌, ◌≤◌, length, Some};
 ghost use Rattle.std.specs.Option.{option_map, option_copied};
 ghost use Rattle.std.specs.List.{list_all};
 ghost use Rattle.catalog_core.specs.Words.{is_word_byte as word_byte, is_word as word_text};
-ghost use Rattle.term_core.specs.Tokens.{is_white as white, in_word as inside_word, goes_on as continues};
+ghost use Rattle.term_core.specs.Tokens.{is_white as white, in_word as inside_word};
 ghost use Rattle.term_core.specs.Tokens.{token_of as token_with, rest_len, says_and as and_text};
 ghost use Rattle.term_core.specs.Tokens.{says_or as or_text, says_with as with_text};
 ghost use Rattle.term_core.specs.Tokens.{after_prefix as behind_prefix, own_licence as own};
@@ -11,6 +11,7 @@ ghost use Rattle.term_core.specs.Tokens.{in_document as within_document, spanned
 ghost use Rattle.term_core.specs.References.{parts_item};
 
 use crate::item::Token;
+use deny_text::character::goes_on;
 
 /// Space, tab, LF or CR.
 pub fn is_white(byte: u8) -> bool
@@ -29,13 +30,6 @@ fn in_word(byte: u8) -> bool
     ensures { result ≡ inside_word byte }
 {
     is_word_byte(byte) || byte == b':'
-}
-
-/// A byte that goes on with a character.
-fn goes_on(byte: u8) -> bool
-    ensures { result ≡ continues byte }
-{
-    128 <= byte && byte < 192
 }
 
 /// The token that begins with a byte.

@@ -6,7 +6,8 @@ use Rattle.std.proofs.lemmas.Str.{IsCharBoundary-end, IsCharBoundary-before_asci
 use Rattle.std.specs.List.{prefix_len}
 use Rattle.std.specs.Prelude.{is_some as option_is_some}
 use Rattle.std.specs.Str.{IsCharBoundary, IsUtf8}
-use Rattle.toml_subset.specs.Bytes.{backslash, hash, is_blank, is_bare, is_run, goes_on, may_stand}
+use Rattle.deny_text.specs.Character.{goes_on}
+use Rattle.toml_subset.specs.Bytes.{backslash, hash, is_blank, is_bare, is_run, may_stand}
 use Rattle.toml_subset.specs.Numbers.{is_digit_in, digit_value}
 use Rattle.toml_subset.specs.Places.{stands, run_end, after_blanks, after_comment, after_blanks_and_comment, lines_over, after_lines_of, after_space, line_end, next_line, char_end}
 use Rattle.toml_subset.specs.Strings.{Quoting, basic, literal, long_basic, long_literal, Part, piece, closing, broken, mark_of, is_long, has_escapes, marks_at, escaped_piece, plain_piece, scalar_of, letter_escape, scalar_escape, trimming_escape, escape_by, escape_at, mark_at, plain_at, part_at}

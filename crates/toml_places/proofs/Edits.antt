@@ -4,7 +4,8 @@ use Rattle.deny_text.specs.declared.span.Span.{Span}
 use Rattle.toml_subset.specs.Tables.{Mark, by_header, implicit, dotted, Node, Branches, Bodies, closed, growing, tables, unbranched, branch, last, body, same_key, has_key, added, changed, in_last, through_any, through_dotted, along, put_new, put, take_over, open_table, with_table, append_to, open_array, within}
 use Rattle.toml_subset.specs.declared.string.Key.{Key}
 use Rattle.toml_subset.proofs.Law.Basics.{map_some, is_some, if_is}
-use Rattle.toml_places.specs.Placed.{LiesBetween, IsKeyPlaced}
+use Rattle.deny_text.specs.Spans.{LiesBetween}
+use Rattle.toml_places.specs.Placed.{IsKeyPlaced}
 use Rattle.toml_places.proofs.Trees.{ArePartsPlaced, IsNodePlaced, AreBranchesPlaced, AreBodiesPlaced}
 
 module _ (text : List ℕ) where

@@ -11,7 +11,8 @@ use Rattle.toml_subset.specs.Text.{IsText}
 use Rattle.toml_subset.specs.declared.string.Key.{Key}
 use Rattle.toml_subset.proofs.Law.Basics.{map_some, then_some, is_some}
 use Rattle.toml_subset.proofs.Law.Whole.{statement_goes}
-use Rattle.toml_places.specs.Placed.{LiesBetween, IsPlaced}
+use Rattle.deny_text.specs.Spans.{LiesBetween}
+use Rattle.toml_places.specs.Placed.{IsPlaced}
 use Rattle.toml_places.proofs.Edits.{put_placed, within_placed, header_placed, array_header_placed}
 use Rattle.toml_places.proofs.Trees.{AreBranchesPlaced, branches_entries}
 use Rattle.toml_places.proofs.Written.{from_places, at_byte, closes, keys_placed, value_placed}

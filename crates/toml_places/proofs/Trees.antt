@@ -2,7 +2,8 @@
 use Rattle.std.proofs.Common.{ℕ, List, [], ◌∷◌}
 use Rattle.toml_subset.specs.Tables.{Node, Branches, Bodies, closed, growing, tables, unbranched, branch, last, body, span_of, content_of, entries_of, items_of}
 use Rattle.toml_subset.specs.declared.string.Key.{Key}
-use Rattle.toml_places.specs.Placed.{LiesBetween, IsKeyPlaced, IsContentPlaced, AreItemsPlaced, AreEntriesPlaced}
+use Rattle.deny_text.specs.Spans.{LiesBetween}
+use Rattle.toml_places.specs.Placed.{IsKeyPlaced, IsContentPlaced, AreItemsPlaced, AreEntriesPlaced}
 
 -- the parts of a key
 abbrev pub ArePartsPlaced : List ℕ → List Key → Type 0

@@ -24,7 +24,8 @@ use Rattle.toml_subset.proofs.PlainRuns.{passes_is}
 use Rattle.toml_subset.proofs.PlainStrings.{plain_string}
 use Rattle.toml_faults.proofs.Borders.{run_low, low_run_border}
 use Rattle.toml_faults.proofs.Parts.{IsSpanFrom, string_span, key_span}
-use Rattle.toml_places.specs.Placed.{LiesBetween, IsSpelled, IsKeyPlaced, IsContentPlaced, AreItemsPlaced}
+use Rattle.deny_text.specs.Spans.{LiesBetween}
+use Rattle.toml_places.specs.Placed.{IsSpelled, IsKeyPlaced, IsContentPlaced, AreItemsPlaced}
 use Rattle.toml_places.proofs.Edits.{put_placed}
 use Rattle.toml_places.proofs.Trees.{ArePartsPlaced, AreBranchesPlaced, branches_entries}
 

@@ -1,16 +1,10 @@
 -- Where values and keys stand in a text.
-use Rattle.std.specs.Prelude.{◌≡◌, ℕ, ◌≤◌, false, List, slice_range, ⊤}
-use Rattle.std.specs.Str.{IsCharBoundary}
+use Rattle.std.specs.Prelude.{◌≡◌, ℕ, false, List, slice_range, ⊤}
+use Rattle.deny_text.specs.Spans.{LiesBetween}
 use Rattle.deny_text.specs.declared.span.Span.{Span}
 use Rattle.toml_subset.specs.Data.{Content, Items, Entries, Toml, string, integer, decimal, boolean, array, table, no_item, item, no_entry, entry}
 use Rattle.toml_subset.specs.Written.{Written}
 use Rattle.toml_subset.specs.declared.string.Key.{Key}
-
--- a span lies in the text, between characters
-pub record LiesBetween (text : List ℕ) (span : Span) : Type 0 where
-  pub ordered : span.start ≤ span.end
-  pub start_border : IsCharBoundary text span.start
-  pub end_border : IsCharBoundary text span.end
 
 -- what was written without an escape is the text at its span
 abbrev pub IsSpelled : List ℕ → Span → Written → Type 0

@@ -3,7 +3,8 @@ use Rattle.std.proofs.Common.{◌≡◌, ℕ, ◌+◌, ◌-◌, ◌<◌, ◌≤�
 use Rattle.std.proofs.lemmas.List.{get_or-drop}
 use Rattle.std.proofs.lemmas.List.Sums.{prefix_len_stops, prefix_len_passes}
 use Rattle.std.proofs.lemmas.Bool.Decides.{nat_tests}
-use Rattle.toml_subset.specs.Bytes.{goes_on, may_stand}
+use Rattle.deny_text.specs.Character.{goes_on}
+use Rattle.toml_subset.specs.Bytes.{may_stand}
 use Rattle.toml_subset.specs.Places.{run_end, passes_at}
 
 -- the byte behind a run does not belong to it

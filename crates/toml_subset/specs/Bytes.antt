@@ -99,7 +99,3 @@ is_run c = is_bare c || (c == plus) || (c == dot) || (c == colon)
 -- what a number run that has a value begins with
 abbrev pub begins_run : ℕ → Bool
 begins_run c = is_digit c || is_sign c
-
--- a byte that goes on with a character of more than one byte (UTF-8)
-abbrev pub goes_on : ℕ → Bool
-goes_on c = nat_le 128 c && nat_lt c 192

@@ -19,10 +19,6 @@ use Rattle.toml_subset.specs.declared.error.SyntaxReason.TheVariants.{Unexpected
 abbrev pub begins_number : List ℕ → ℕ → Bool
 begins_number text i = passes_at begins_run text i || is_special (run_at is_run text i)
 
--- a span lies in the text
-abbrev pub LiesIn : List ℕ → Span → Type 0
-LiesIn text span = (span.start ≤ span.end) × (span.end ≤ length text)
-
 -- a number run of a class stands here
 pub record IsRunOf (class : Class) (text : List ℕ) (span : Span) : Type 0 where
   pub begins : IsTrue (begins_number text span.start)

@@ -3,7 +3,8 @@
 use Rattle.std.specs.Prelude.{ℕ, zero, suc, ◌+◌, Bool, false, not, ◌&&◌, ◌==◌, if◌then◌else◌, List, [], ◌∷◌, Option, Some, None, length, take, drop}
 use Rattle.std.specs.List.{prefix_len}
 use Rattle.deny_text.specs.declared.span.Span.{Span}
-use Rattle.toml_subset.specs.Bytes.{line_feed, carriage_return, hash, is_blank, is_bare, is_run, is_digit, is_point, is_e, may_stand, goes_on}
+use Rattle.deny_text.specs.Character.{goes_on}
+use Rattle.toml_subset.specs.Bytes.{line_feed, carriage_return, hash, is_blank, is_bare, is_run, is_digit, is_point, is_e, may_stand}
 use Rattle.toml_subset.specs.declared.scan.Run.{Run}
 use Rattle.toml_subset.specs.declared.scan.Run.TheVariants as run
 

@@ -3,7 +3,7 @@ ghost use Rattle.std.specs.Prelude.{◌≡◌, ◌<◌, ◌≤◌, ℕ, List, So
 ghost use Rattle.deny_text.specs.declared.span.Span.{Span};
 ghost use Rattle.toml_subset.specs.Data.{Content, Toml, depth_limit};
 ghost use Rattle.toml_subset.specs.declared.error.SyntaxError.{SyntaxError};
-ghost use Rattle.toml_subset.specs.Faults.{LiesIn};
+ghost use Rattle.deny_text.specs.Spans.{LiesIn};
 ghost use Rattle.toml_subset.specs.Reading.{enough, read_value, value_at, read_text};
 ghost use Rattle.toml_subset.specs.Strings.{Quoting, IsString};
 ghost use Rattle.toml_subset.specs.TableFaults.{put_fault, header_fault, array_header_fault};

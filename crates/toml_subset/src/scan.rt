@@ -3,13 +3,15 @@ ghost use Rattle.std.specs.Prelude.{◌≡◌, ◌+◌, ◌<◌, ◌≤◌, leng
 ghost use Rattle.std.specs.Str.{IsCharBoundary};
 ghost use Rattle.toml_subset.specs.Bytes.{is_blank as blank, may_stand as may, is_digit as digit};
 ghost use Rattle.toml_subset.specs.Bytes.{is_letter as letter, is_sign as sign, is_bare as bare};
-ghost use Rattle.toml_subset.specs.Bytes.{is_run as run, goes_on as on};
+ghost use Rattle.toml_subset.specs.Bytes.{is_run as run};
 ghost use Rattle.toml_subset.specs.Gaps.{goes_over};
 ghost use Rattle.toml_subset.specs.Places.{stands as stands_at, belongs, run_end as run_ends};
 ghost use Rattle.toml_subset.specs.Places.{after_blanks as blanks_end, line_end as line_ends};
 ghost use Rattle.toml_subset.specs.Places.{after_comment as comment_end, next_line as line_after};
 ghost use Rattle.toml_subset.specs.Places.{after_lines_of, after_space, in_comment as ends_in_comment};
 ghost use Rattle.toml_subset.specs.Places.{after_white as white_end, char_end as character_end};
+
+use deny_text::character::goes_on;
 
 /// What may stand before a line's end in a gap.
 #[derive(Clone, Copy)]
@@ -104,13 +106,6 @@ pub fn is_sign(byte: u8) -> bool
     ensures { result ≡ sign byte }
 {
     byte == b'+' || byte == b'-'
-}
-
-/// A byte that goes on with a character.
-fn goes_on(byte: u8) -> bool
-    ensures { result ≡ on byte }
-{
-    128 <= byte && byte < 192
 }
 
 /// Whether this byte stands at a place, which may lie behind the text.

@@ -6,16 +6,12 @@ use Rattle.toml_subset.specs.Data.{Entries, Items, Toml}
 use Rattle.toml_subset.specs.Tables.{Branches, entries_of, items_of}
 use Rattle.toml_subset.specs.declared.string.Key.{Key}
 use Rattle.toml_frames.specs.Levels.{bodies_to}
-use Rattle.toml_value.specs.BranchViews.{joined, node_view, branches_view, body_view, body_items, finished}
+use Rattle.toml_value.specs.BranchViews.{node_view, branches_view, body_view, body_items, finished}
+use Rattle.toml_value.specs.FinishViews.{followed, left_of, item_of}
 use Rattle.toml_value.specs.Lookup.{with_item, with_entry}
 use Rattle.toml_value.specs.declared.tree.Body.{Body as BodyOf}
 use Rattle.toml_value.proofs.LevelLemmas.{body_view-is}
 use Rattle.toml_value.specs.declared.tree.Node.{Node as NodeOf}
-
--- entries, and others behind them
-abbrev pub followed : Entries → Entries → Entries
-followed data.no_entry others = others
-followed (data.entry key span content more) others = data.entry key span content (followed more others)
 
 pub followed_none : (entries : Entries) → followed entries data.no_entry ≡ entries
 followed_none data.no_entry = refl
@@ -25,10 +21,6 @@ pub followed_push : (entries : Entries) (key : Key) (value : Toml) (others : Ent
     → followed (with_entry entries key value) others ≡ followed entries (data.entry key value.span value.content others)
 followed_push data.no_entry key value others = refl
 followed_push (data.entry k span content more) key value others = ap (data.entry k span content) (followed_push more key value others)
-
--- what is left of a table
-abbrev pub left_of : List Key → List NodeOf → Entries
-left_of keys nodes = entries_of (joined keys (map (λ n. node_view n) nodes))
 
 pub left_step : (entries new : Entries) (key : Key) (node : NodeOf) (keys : List Key) (nodes : List NodeOf) (value : Toml)
     → value ≡ finished (node_view node) → new ≡ with_entry entries key value
@@ -58,17 +50,13 @@ pub items_followed_push : (items : Items) (value : Toml) (others : Items)
 items_followed_push data.no_item value others = refl
 items_followed_push (data.item span content more) value others = ap (data.item span content) (items_followed_push more value others)
 
--- a table of an array of tables as an item
-abbrev pub body_item : Span → Branches → Toml
-body_item span table = record { content = data.table (entries_of table); span = span }
-
-pub items_step : (items new : Items) (body : BodyOf) (bodies : List BodyOf) → new ≡ with_item items (body_item body.span (branches_view body.table))
+pub items_step : (items new : Items) (body : BodyOf) (bodies : List BodyOf) → new ≡ with_item items (item_of (body.span, branches_view body.table))
     → items_followed items (body_items (map (λ b. body_view b) (body ∷ bodies))) ≡ items_followed new (body_items (map (λ b. body_view b) bodies))
 items_step items new body bodies pushed =
     ap (λ (x : Span × Branches). items_followed items (data.item x.0 (data.table (entries_of x.1)) (body_items (map (λ b. body_view b) bodies)))) (body_view-is body)
     ∙ sym (ap (λ is. items_followed is (body_items (map (λ b. body_view b) bodies))) pushed
-    ∙ items_followed_push items (body_item body.span (branches_view body.table)) (body_items (map (λ b. body_view b) bodies)))
+    ∙ items_followed_push items (item_of (body.span, branches_view body.table)) (body_items (map (λ b. body_view b) bodies)))
 
-pub last_items : (before : List (Span × Branches)) (at : Span) (inner : Branches) → items_of (bodies_to before at inner) ≡ with_item (body_items before) (body_item at inner)
+pub last_items : (before : List (Span × Branches)) (at : Span) (inner : Branches) → items_of (bodies_to before at inner) ≡ with_item (body_items before) (item_of (at, inner))
 last_items [] at inner = refl
 last_items (x ∷ xs) at inner = ap (data.item x.0 (data.table (entries_of x.1))) (last_items xs at inner)

@@ -7,14 +7,17 @@ use Rattle.key_index.specs.KeyPlaces.{place_of}
 use Rattle.toml_subset.specs.Answer.{Answers, then_read}
 use Rattle.toml_subset.specs.TableFaults.{last_of}
 use Rattle.toml_subset.specs.Tables.{Node, Branches, growing, unbranched, branch, tables, same_key, added}
+use Rattle.toml_subset.specs.declared.error.SyntaxError.{SyntaxError}
+use Rattle.toml_subset.specs.declared.error.SyntaxReason.TheVariants.{RedefinedTable}
 use Rattle.toml_subset.specs.declared.error.TomlError.{TomlError}
 use Rattle.toml_subset.specs.declared.error.TomlError.TheVariants.{Syntax, Memory}
 use Rattle.toml_subset.specs.declared.string.Key.{Key}
-use Rattle.toml_subset.proofs.Law.Basics.{map_some, is_some, if_is}
+use Rattle.toml_subset.proofs.Law.Basics.{map_some, is_some, is_ok, not_ok, if_is}
 use Rattle.toml_frames.proofs.Levels.{plugged_last}
-use Rattle.toml_frames.specs.Levels.{Around, behind, Cursor, replaced, found_at, size, bodies_to, before_last, last_place, all_of, plugged, all_plugged, steps_in, opened, fresh, further, into_old, into_new, into_found, into_part, into_parts, into_header}
+use Rattle.toml_frames.specs.Levels.{Around, behind, Cursor, replaced, found_at, size, bodies_to, before_last, last_place, all_of, plugged, all_plugged, steps_in, opened, fresh, refusal, further, into_old, into_new, into_found, into_part, into_parts, into_header}
 use Rattle.toml_frames.specs.declared.part.Part.{Part}
 use Rattle.toml_frames.specs.declared.part.Part.TheVariants.{Through, Array}
+use Rattle.toml_value.specs.AroundViews.{or_redefined}
 use Rattle.toml_value.specs.BranchViews.{mark_of, joined, node_view, branches_view, body_view, is_whole, is_whole_node, is_whole_body}
 use Rattle.toml_value.specs.LevelViews.{level_view}
 use Rattle.toml_value.specs.declared.tree.Mark.{Mark}
@@ -159,6 +162,26 @@ module _ (table : BranchesOf) (whole : IsTrue (is_whole table)) where
 pub into_is_old : (part : Part) (key : Key) (c : Cursor) (i : ℕ) (node : Node) (o : Option (Around × Branches)) → found_at key c.here ≡ Some (i, node) → o ≡ opened part node
     → into_part part key c ≡ into_old key c i o
 into_is_old part key c i node o there is = ap (into_found part key c) there ∙ ap (into_old key c i) (sym is)
+
+-- a table that stands there was opened, or is refused
+
+pub found_there : (key : Key) (table : Branches) (i : ℕ) → option_map (λ (f : ℕ × Node). f.0) (found_at key table) ≡ Some i → (node : Node) × (found_at key table ≡ Some (i, node))
+found_there key table i e =
+    let found = map_some (λ (f : ℕ × Node). f.0) (found_at key table) i e in
+    (found.0.1, found.1 ∙ ap (λ (n : ℕ). Some (n, found.0.1)) found.2)
+
+pub redefined_ok : {A : Type 0} (key : Key) (o : Option A) (x : A) → or_redefined key o ≡ Ok x → o ≡ Some x
+redefined_ok key (Some y) x e = ap (λ z. Some z) (is_ok y x e)
+redefined_ok key None x e = absurd (not_ok (refusal RedefinedTable key) x e)
+
+old_refused : (key : Key) (c : Cursor) (i : ℕ) (o : Option (Around × Branches)) (fault : SyntaxError) → or_redefined key o ≡ Err fault → into_old key c i o ≡ Err fault
+old_refused key c i (Some found) fault e = absurd (cc)
+old_refused key c i None fault e = let same : refusal RedefinedTable key ≡ fault = cc in ap (λ f. Err f) same
+
+pub old_stops : {B C : Type 0} (view : B → Around × Branches) (see : C → Cursor) (part : Part) (key : Key) (c : Cursor) (i : ℕ) (node : Node) (error : TomlError)
+    → found_at key c.here ≡ Some (i, node) → Answers {B = B} view (or_redefined key (opened part node)) (Err error) → Answers {B = C} see (into_part part key c) (Err error)
+old_stops view see part key c i node (Syntax fault) there is = into_is_old part key c i node (opened part node) there refl ∙ old_refused key c i (opened part node) fault is
+old_stops view see part key c i node Memory there is = tt
 
 pub into_is_new : (part : Part) (key : Key) (c : Cursor) (o : Option Around) → found_at key c.here ≡ None → o ≡ fresh part key c.above
     → into_part part key c ≡ into_new key c o

@@ -1,18 +1,17 @@
 -- A value at the end of a dotted key, part by part.
-use Rattle.std.proofs.Common.{◌≡◌, ℕ, Bool, true, false, cond, List, [], ◌∷◌, Option, Some, None, option_map, is_some, map, set, get_or, refl, ap, sym, ◌∙◌}
-use Rattle.std.proofs.lemmas.List.{length-map}
+use Rattle.std.proofs.Common.{◌≡◌, ℕ, suc, ◌<◌, ⊎_elim, Bool, true, false, cond, List, [], ◌∷◌, Option, Some, None, option_map, is_some, refl, ap, sym, subst, ◌∙◌, arith}
 use Rattle.deny_text.specs.declared.span.Span.{Span}
 use Rattle.toml_subset.specs.TableFaults.{node_at, refused, new_key_fault}
 use Rattle.toml_subset.specs.declared.error.SyntaxReason.TheVariants.{DuplicateKey}
-use Rattle.toml_subset.specs.Tables.{by_header, implicit, dotted, Node, Branches, closed, growing, tables, unbranched, branch, same_key, has_key, added, changed, through_dotted, put_new, put}
+use Rattle.toml_subset.specs.Tables.{by_header, implicit, dotted, Node, Branches, closed, growing, tables, unbranched, branch, same_key, has_key, added, through_dotted, put_new, put}
 use Rattle.toml_subset.specs.declared.string.Key.{Key}
-use Rattle.toml_subset.proofs.Law.Basics.{is_some as one_of, if_false}
+use Rattle.toml_subset.proofs.Law.Basics.{map_some, is_some as one_of, if_is, if_false}
 use Rattle.toml_subset.proofs.Law.Ways.{along_by, along_step, new_table}
-use Rattle.key_index.specs.KeyPlaces.{place_of}
-use Rattle.toml_value.specs.BranchViews.{joined, node_view, branches_view, parts_of_dotted}
-use Rattle.toml_value.specs.declared.tree.Node.{Node as NodeOf}
-use Rattle.toml_value.specs.declared.tree.Branches.{Branches as BranchesOf}
-use Rattle.toml_value.proofs.TreeLemmas.{Found, is_found, AreWhole, branches_view-is, seen-at}
+use Rattle.toml_frames.specs.Levels.{found_at, hole, replaced, size}
+use Rattle.toml_frames.proofs.Levels.{is_found, is_missing}
+use Rattle.toml_value.specs.BelowViews.{LeadsOn, IsTakenOut, HasRoom, placed}
+use Rattle.toml_value.specs.BranchViews.{parts_of_dotted}
+use Rattle.toml_value.proofs.LevelLemmas.{size_replaced}
 
 pub has_is : (key : Key) (table : Branches) → has_key key table ≡ is_some (node_at key table)
 has_is key unbranched = refl
@@ -52,62 +51,66 @@ module _ (key next : Key) (more : List Key) (node : Node) (table : Branches) whe
   new_put inner new made = step false new ∙ ap (option_map (new_table dotted key table)) made
 
   -- a part that it has leads into a table that a dotted key made
-  pub record Leads (here : Node) : Type 0 where
-    pub span : Span
-    pub inner : Branches
-    pub parts : parts_of_dotted here ≡ Some (span, inner)
-    pub is : here ≡ growing span dotted inner
-    pub free : is_some (rest inner) ≡ true
-
-  leads_by : (here : Node) → is_some (through_dotted rest here) ≡ true → Leads here
+  leads_by : (here : Node) → is_some (through_dotted rest here) ≡ true → is_some (parts_of_dotted here) ≡ true
   leads_by (closed span content) e = absurd (cc)
   leads_by (growing span by_header branches) e = absurd (cc)
   leads_by (growing span implicit branches) e = absurd (cc)
-  leads_by (growing span dotted branches) e =
-      record { span = span; inner = branches; parts = refl; is = refl; free = some_of_map (growing span dotted) (rest branches) e }
+  leads_by (growing span dotted branches) e = refl
   leads_by (tables span bodies) e = absurd (cc)
 
-module _ (key next : Key) (more : List Key) (node : Node) (table : BranchesOf) (i : ℕ) (here : NodeOf) (whole : AreWhole table.keys table.nodes.items)
-    (place : place_of key.name.text table.keys ≡ Some i) (is : here ≡ get_or table.nodes.items i here) (free : is_some (put (key ∷ next ∷ more) node (branches_view table)) ≡ true) where
-  abbrev seen : List Node
-  seen = map (λ n. node_view n) table.nodes.items
+  goes : (i : ℕ) (here : Node) → found_at key table ≡ Some (i, here)
+      → put (key ∷ next ∷ more) node table ≡ option_map (λ (new : Node). replaced i new table) (through_dotted rest here)
+  goes i here there = let at = is_found key table i here there in step true at.has ∙ at.change (through_dotted rest)
 
-  abbrev tail : Branches → Option Branches
-  tail = put (next ∷ more) node
+  goes_free : (i : ℕ) (here : Node) → found_at key table ≡ Some (i, here) → is_some (put (key ∷ next ∷ more) node table) ≡ true
+      → is_some (through_dotted rest here) ≡ true
+  goes_free i here there free = some_of_map (λ (new : Node). replaced i new table) (through_dotted rest here) (sym (ap is_some (goes i here there)) ∙ free)
 
-  found : Found key table.keys seen i (node_view here)
-  found = is_found key table.keys seen i (node_view here) (whole.same ∙ sym (length-map table.nodes.items (λ n. node_view n))) place
+  pub leads_on : (o : Option (ℕ × Node)) → found_at key table ≡ o → is_some (put (key ∷ next ∷ more) node table) ≡ true → LeadsOn o
+  leads_on None there free = tt
+  leads_on (Some found) there free = leads_by found.1 (goes_free found.0 found.1 there free)
 
-  there : get_or seen i (node_view here) ≡ node_view here
-  there = seen-at table.nodes.items i here ∙ ap (λ n. node_view n) (sym is)
+  -- the table below a part, which was taken out
+  pub below_free : (place : Option ℕ) (new : Branches) (span : Span) (inner : Branches) → IsTakenOut key table new place span inner
+      → is_some (put (key ∷ next ∷ more) node table) ≡ true → is_some (rest inner) ≡ true
+  below_free None new span inner is free = subst (λ b. is_some (rest b) ≡ true) (sym is.3) (new_free free (is_missing key table is.0).has)
+  below_free (Some i) new span inner is free = some_of_map (growing span dotted) (rest inner) (goes_free i (growing span dotted inner) is.0 free)
 
-  has : has_key key (branches_view table) ≡ true
-  has = ap (has_key key) (branches_view-is table) ∙ found.has
+  pub below_put : (place : Option ℕ) (new : Branches) (span : Span) (inner made : Branches) → IsTakenOut key table new place span inner → rest inner ≡ Some made
+      → put (key ∷ next ∷ more) node table ≡ Some (placed place key (growing span dotted made) new)
+  below_put None new span inner made is e =
+      new_put made (is_missing key table is.0).has (subst (λ b. rest b ≡ Some made) is.3 e)
+      ∙ ap (λ (s : Span). Some (added key (growing s dotted made) table)) (sym is.2)
+      ∙ ap (λ (b : Branches). Some (added key (growing span dotted made) b)) (sym is.1)
+  below_put (Some i) new span inner made is e =
+      let at = is_found key table i (growing span dotted inner) is.0 in
+      goes i (growing span dotted inner) is.0
+      ∙ ap (λ (o : Option Branches). option_map (λ (n : Node). replaced i n table) (option_map (growing span dotted) o)) e
+      ∙ ap Some (sym (ap (replaced i (growing span dotted made)) is.1 ∙ at.twice (hole key) (growing span dotted made)))
 
-  goes : put (key ∷ next ∷ more) node (branches_view table) ≡ option_map (λ new. joined table.keys (set seen i new)) (through_dotted tail (node_view here))
-  goes = step key next more node (branches_view table) true has
-      ∙ ap (changed (through_dotted tail) key) (branches_view-is table) ∙ found.change (through_dotted tail)
-      ∙ ap (λ n. option_map (λ new. joined table.keys (set seen i new)) (through_dotted tail n)) there
+found_within : (key : Key) (table : Branches) (i : ℕ) (node : Node) → found_at key table ≡ Some (i, node) → i < size table
+found_within key unbranched i node e = absurd (cc)
+found_within key (branch other here more) i node e =
+    ⊎_elim
+    (λ h. let first : 0 ≡ i = ap (λ (f : ℕ × Node). f.0) (one_of (0, here) (i, node) h.1) in omega arith)
+    (λ h.
+    let rest = map_some (λ (f : ℕ × Node). (suc f.0, f.1)) (found_at key more) (i, node) h.1 in
+    let under : rest.0.0 < size more = found_within key more rest.0.0 rest.0.1 rest.1 in
+    let same : suc rest.0.0 ≡ i = ap (λ (f : ℕ × Node). f.0) rest.2 in
+    omega arith)
+    (if_is (same_key key other) (Some (0, here)) (option_map (λ (f : ℕ × Node). (suc f.0, f.1)) (found_at key more)) (Some (i, node)) e)
 
-  -- a part that its table has leads into a table that a dotted key made
-  pub leads_into : Leads key next more node (branches_view table) (node_view here)
-  leads_into = leads_by key next more node (branches_view table) (node_view here)
-      (some_of_map key next more node (branches_view table) (λ new. joined table.keys (set seen i new)) (through_dotted tail (node_view here)) (sym (ap is_some goes) ∙ free))
+pub below_room : (key : Key) (table new : Branches) (place : Option ℕ) (span : Span) (inner : Branches) → IsTakenOut key table new place span inner → HasRoom place key new
+below_room key table new None span inner is = ap (has_key key) is.1 ∙ (is_missing key table is.0).has
+below_room key table new (Some i) span inner is =
+    let inside = found_within key table i (growing span dotted inner) is.0 in
+    let same = ap size is.1 ∙ size_replaced i (hole key) table in
+    omega arith
 
-module _ (key next : Key) (more : List Key) (node : Node) (table : BranchesOf) (i : ℕ) (here : NodeOf) (span : Span) (inner made : Branches) where
-  pub put_into : (whole : AreWhole table.keys table.nodes.items) → place_of key.name.text table.keys ≡ Some i → here ≡ get_or table.nodes.items i here
-      → is_some (put (key ∷ next ∷ more) node (branches_view table)) ≡ true → Some (span, inner) ≡ parts_of_dotted (node_view here) → put (next ∷ more) node inner ≡ Some made
-      → put (key ∷ next ∷ more) node (branches_view table) ≡ Some (joined table.keys (set (map (λ n. node_view n) table.nodes.items) i (growing span dotted made)))
-  put_into whole place is free parts put_in =
-      let into = leads_into key next more node table i here whole place is free in
-      let same : Some (span, inner) ≡ Some (into.span, into.inner) = parts ∙ into.parts in
-      let pairs = one_of (span, inner) (into.span, into.inner) same in
-      let same_span : span ≡ into.span = ap (λ (p : Span × Branches). p.0) pairs in
-      let same_inner : inner ≡ into.inner = ap (λ (p : Span × Branches). p.1) pairs in
-      goes key next more node table i here whole place is free
-      ∙ ap (λ n. option_map (λ new. joined table.keys (set (map (λ n. node_view n) table.nodes.items) i new)) (through_dotted (put (next ∷ more) node) n))
-      (into.is ∙ ap (λ s. growing s dotted into.inner) (sym same_span) ∙ ap (growing span dotted) (sym same_inner))
-      ∙ ap (λ o. option_map (λ new. joined table.keys (set (map (λ n. node_view n) table.nodes.items) i new)) (option_map (growing span dotted) o)) put_in
-
-pub not_some : {A : Type 0} (x : A) → ◌≡◌ {A = Option A} None (Some x) → ⊥
-not_some x e = cc
+-- a node with those parts
+pub dotted_is : (node : Node) (span : Span) (inner : Branches) → Some (span, inner) ≡ parts_of_dotted node → node ≡ growing span dotted inner
+dotted_is (closed s content) span inner e = absurd (cc)
+dotted_is (growing s by_header branches) span inner e = absurd (cc)
+dotted_is (growing s implicit branches) span inner e = absurd (cc)
+dotted_is (growing s dotted branches) span inner e = sym (ap (λ (p : Span × Branches). growing p.0 dotted p.1) (one_of (span, inner) (s, branches) e))
+dotted_is (tables s bodies) span inner e = absurd (cc)

@@ -7,21 +7,16 @@ use Rattle.std.specs.Str.{bytes_eq}
 use Rattle.key_index.specs.KeyPlaces.{place_of}
 use Rattle.toml_subset.specs.TableFaults.{node_at}
 use Rattle.deny_text.specs.declared.span.Span.{Span}
-use Rattle.toml_subset.specs.Tables.{Node, growing, dotted, branch, same_key, has_key, added, changed}
+use Rattle.toml_subset.specs.Tables.{Node, growing, dotted, branch, same_key, has_key, added}
 use Rattle.toml_subset.specs.declared.string.Key.{Key}
 use Rattle.toml_subset.proofs.Law.Basics.{map_some, is_some, if_is, if_true, if_false}
 use Rattle.toml_value.specs.BranchViews.{joined, node_view, branches_view, is_whole, is_whole_node}
 use Rattle.toml_value.specs.declared.tree.Mark.TheVariants.{Dotted}
 use Rattle.toml_value.specs.declared.tree.Node.{Node as NodeOf, Growing, the_lemmas}
-use Rattle.toml_value.specs.declared.tree.Node.TheOpen.{Branches-F}
-use Rattle.toml_value.specs.declared.tree.Body.{Body as BodyOf}
-use Rattle.toml_value.specs.declared.tree.Branches.{Branches as BranchesOf, out-Branches, roll-Branches}
+use Rattle.toml_value.specs.declared.tree.Branches.{Branches as BranchesOf, out-Branches}
 
 pub branches_view-is : (b : BranchesOf) → branches_view b ≡ joined (out-Branches b).keys (map (λ n. node_view n) (out-Branches b).nodes.items)
 branches_view-is b = search (rules, the_lemmas)
-
-pub branches_view-roll : (r : Branches-F NodeOf BodyOf BranchesOf) → branches_view (roll-Branches r) ≡ joined r.keys (map (λ n. node_view n) r.nodes.items)
-branches_view-roll r = search (rules, the_lemmas)
 
 abbrev all_whole : List NodeOf → Bool
 all_whole nodes = list_all (λ whole. whole) (map (λ n. is_whole_node n) nodes)
@@ -31,9 +26,6 @@ test_whole keys nodes = eqb (length keys) (length (map (λ n. is_whole_node n) n
 
 is_whole-is : (b : BranchesOf) → is_whole b ≡ test_whole (out-Branches b).keys (out-Branches b).nodes.items
 is_whole-is b = search (rules, the_lemmas)
-
-is_whole-roll : (r : Branches-F NodeOf BodyOf BranchesOf) → is_whole (roll-Branches r) ≡ test_whole r.keys r.nodes.items
-is_whole-roll r = search (rules, the_lemmas)
 
 -- a whole table has a node for each key, and whole nodes
 pub record AreWhole (keys : List Key) (nodes : List NodeOf) : Type 0 where
@@ -52,12 +44,6 @@ opened_whole b whole =
     let longs : length (out-Branches b).keys ≡ length (map (λ n. is_whole_node n) (out-Branches b).nodes.items) = grind (arith, nat_tests, parts.0) in
     record { same = longs ∙ length-map (out-Branches b).nodes.items (λ n. is_whole_node n); all = parts.1 }
 
-pub closed_whole : (r : Branches-F NodeOf BodyOf BranchesOf) → AreWhole r.keys r.nodes.items → IsTrue (is_whole (roll-Branches r))
-closed_whole r whole =
-    let longs : length r.keys ≡ length (map (λ n. is_whole_node n) r.nodes.items) = whole.same ∙ sym (length-map r.nodes.items (λ n. is_whole_node n)) in
-    let test : eqb (length r.keys) (length (map (λ n. is_whole_node n) r.nodes.items)) ≡ true = grind (arith, nat_tests, longs) in
-    is_whole-roll r ∙ ap (λ b. b && all_whole r.nodes.items) test ∙ whole.all
-
 pub whole_closed : (b : BranchesOf) → AreWhole (out-Branches b).keys (out-Branches b).nodes.items → IsTrue (is_whole b)
 whole_closed b whole =
     let longs : length (out-Branches b).keys ≡ length (map (λ n. is_whole_node n) (out-Branches b).nodes.items)
@@ -72,11 +58,6 @@ pub is_whole-dotted : (span : Span) (b : BranchesOf) → is_whole_node (Growing 
 is_whole-dotted span b = search (rules, the_lemmas)
 
 -- lists of nodes
-
-pub set_twice : (nodes : List NodeOf) (i : ℕ) (first new : NodeOf) → set (set nodes i first) i new ≡ set nodes i new
-set_twice [] i first new = refl
-set_twice (n ∷ ns) zero first new = refl
-set_twice (n ∷ ns) (suc i) first new = ap (λ l. n ∷ l) (set_twice ns i first new)
 
 pub whole_at : (nodes : List NodeOf) (i : ℕ) (d : NodeOf) → all_whole nodes ≡ true → i < length nodes → is_whole_node (get_or nodes i d) ≡ true
 whole_at [] i d all inside = absurd (omega arith)
@@ -118,59 +99,29 @@ seen-at (n ∷ ns) (suc i) d = seen-at ns i d
 
 -- look-ups
 
-pub record Found (key : Key) (keys : List Key) (nodes : List Node) (i : ℕ) (d : Node) : Type 0 where
-  pub inside : i < length nodes
-  pub node : node_at key (joined keys nodes) ≡ Some (get_or nodes i d)
-  pub has : has_key key (joined keys nodes) ≡ true
-  pub change : (f : Node → Option Node) → changed f key (joined keys nodes) ≡ option_map (λ new. joined keys (set nodes i new)) (f (get_or nodes i d))
-
-map_twice : {A B C : Type 0} (g : B → C) (f : A → B) (o : Option A) → option_map g (option_map f o) ≡ option_map (λ x. g (f x)) o
-map_twice g f None = refl
-map_twice g f (Some x) = refl
-
-pub is_found : (key : Key) (keys : List Key) (nodes : List Node) (i : ℕ) (d : Node) → length keys ≡ length nodes → place_of key.name.text keys ≡ Some i → Found key keys nodes i d
+pub is_found : (key : Key) (keys : List Key) (nodes : List Node) (i : ℕ) (d : Node) → length keys ≡ length nodes → place_of key.name.text keys ≡ Some i
+    → node_at key (joined keys nodes) ≡ Some (get_or nodes i d)
 is_found key [] nodes i d same e = absurd (cc)
 is_found key (k ∷ ks) [] i d same e = absurd (omega arith)
 is_found key (k ∷ ks) (n ∷ ns) i d same e =
     ⊎_elim
-    (λ h. subst (λ j. Found key (k ∷ ks) (n ∷ ns) j d) (is_some 0 i h.1) (record {
-      inside = omega arith;
-      node = if_true (same_key key k) (Some n) (node_at key (joined ks ns)) h.0;
-      has = if_true (same_key key k) true (has_key key (joined ks ns)) h.0;
-      change = λ f. if_true (same_key key k) (option_map (λ new. branch k new (joined ks ns)) (f n)) (option_map (branch k n) (changed f key (joined ks ns))) h.0;
-    }))
+    (λ h. subst (λ j. node_at key (joined (k ∷ ks) (n ∷ ns)) ≡ Some (get_or (n ∷ ns) j d)) (is_some 0 i h.1) (if_true (same_key key k) (Some n) (node_at key (joined ks ns)) h.0))
     (λ h.
     let more = map_some suc (place_of key.name.text ks) i h.1 in
     let rest = is_found key ks ns more.0 d (omega arith) more.1 in
-    subst (λ j. Found key (k ∷ ks) (n ∷ ns) j d) more.2 (record {
-      inside = let under = rest.inside in omega arith;
-      node = if_false (same_key key k) (Some n) (node_at key (joined ks ns)) h.0 ∙ rest.node;
-      has = if_false (same_key key k) true (has_key key (joined ks ns)) h.0 ∙ rest.has;
-      change = λ f. if_false (same_key key k) (option_map (λ new. branch k new (joined ks ns)) (f n)) (option_map (branch k n) (changed f key (joined ks ns))) h.0
-          ∙ ap (option_map (branch k n)) (rest.change f)
-          ∙ map_twice (branch k n) (λ new. joined ks (set ns more.0 new)) (f (get_or ns more.0 d));
-    }))
+    subst (λ j. node_at key (joined (k ∷ ks) (n ∷ ns)) ≡ Some (get_or (n ∷ ns) j d)) more.2 (if_false (same_key key k) (Some n) (node_at key (joined ks ns)) h.0 ∙ rest))
     (if_is (bytes_eq key.name.text k.name.text) (Some 0) (option_map suc (place_of key.name.text ks)) (Some i) e)
-
-pub record Missing (key : Key) (keys : List Key) (nodes : List Node) : Type 0 where
-  pub node : node_at key (joined keys nodes) ≡ None
-  pub has : has_key key (joined keys nodes) ≡ false
 
 map_none : {A B : Type 0} (f : A → B) (o : Option A) → option_map f o ≡ None → o ≡ None
 map_none f None e = refl
 map_none f (Some x) e = absurd (cc)
 
-pub is_missing : (key : Key) (keys : List Key) (nodes : List Node) → place_of key.name.text keys ≡ None → Missing key keys nodes
-is_missing key [] nodes e = record { node = refl; has = refl }
-is_missing key (k ∷ ks) [] e = record { node = refl; has = refl }
+pub is_missing : (key : Key) (keys : List Key) (nodes : List Node) → place_of key.name.text keys ≡ None → node_at key (joined keys nodes) ≡ None
+is_missing key [] nodes e = refl
+is_missing key (k ∷ ks) [] e = refl
 is_missing key (k ∷ ks) (n ∷ ns) e =
     ⊎_elim (λ h. let other : Some 0 ≡ None = h.1 in absurd (cc))
-    (λ h.
-    let rest = is_missing key ks ns (map_none suc (place_of key.name.text ks) h.1) in
-    record {
-      node = if_false (same_key key k) (Some n) (node_at key (joined ks ns)) h.0 ∙ rest.node;
-      has = if_false (same_key key k) true (has_key key (joined ks ns)) h.0 ∙ rest.has;
-    })
+    (λ h. if_false (same_key key k) (Some n) (node_at key (joined ks ns)) h.0 ∙ is_missing key ks ns (map_none suc (place_of key.name.text ks) h.1))
     (if_is (bytes_eq key.name.text k.name.text) (Some 0) (option_map suc (place_of key.name.text ks)) None e)
 
 -- a key that its table does not have has no place in it

@@ -1,8 +1,12 @@
 -- What stands around a table that was taken out.
-use Rattle.std.specs.Prelude.{Bool, true, map}
+use Rattle.std.specs.Prelude.{Bool, true, map, Option, Some, None, Ok, Err}
 use Rattle.std.specs.List.{list_all}
 use Rattle.toml_frames.specs.Levels as levels
+use Rattle.toml_frames.specs.Levels.{refusal}
+use Rattle.toml_subset.specs.Answer.{Read}
 use Rattle.toml_subset.specs.Tables.{Branches}
+use Rattle.toml_subset.specs.declared.error.SyntaxReason.TheVariants.{RedefinedTable}
+use Rattle.toml_subset.specs.declared.string.Key.{Key}
 use Rattle.toml_value.specs.BranchViews.{mark_of, body_view, branches_view, is_whole_body}
 use Rattle.toml_value.specs.declared.tree.Branches.{Branches as BranchesOf}
 use Rattle.toml_value.specs.declared.tree.levels.Around.{Around}
@@ -15,6 +19,11 @@ around_view (Behind span bodies at) = levels.behind span (map (λ b. body_view b
 -- a table that was taken out, and what it is where it stands
 abbrev pub opened_view : Around × BranchesOf → levels.Around × Branches
 opened_view found = (around_view found.0, branches_view found.1)
+
+-- what a part of a header opens of what stands at its key, or the fault of a key that it may not open
+abbrev pub or_redefined : {A : Type 0} → Key → Option A → Read A
+or_redefined key (Some opened) = Ok opened
+or_redefined key None = Err (refusal RedefinedTable key)
 
 abbrev pub is_whole_around : Around → Bool
 is_whole_around (Alone span mark) = true

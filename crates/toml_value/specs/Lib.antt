@@ -1,5 +1,7 @@
 pub mod AroundViews
+pub mod BelowViews
 pub mod BranchViews
+pub mod FinishViews
 pub mod Kinds
 pub mod LevelViews
 pub mod Lookup

@@ -74,7 +74,10 @@ fn ended_line<'de>(text: &'de str, document: Document<'de>, place: usize) -> Lin
 {
     match line_rest(text, place) {
         Ok(next) => Ok((document, next)),
-        Err(fault) => Err(TomlError::Syntax(fault)),
+        Err(fault) => {
+            document.let_go();
+            Err(TomlError::Syntax(fault))
+        }
     }
 }
 
@@ -97,7 +100,10 @@ fn behind_equals<'de>(
             let document = pending.put(alloc, value)?;
             ended_line(text, document, next)
         }
-        Err(error) => Err(error),
+        Err(error) => {
+            pending.let_go();
+            Err(error)
+        }
     }
 }
 
@@ -114,7 +120,10 @@ fn pair_line<'de>(alloc: Global, text: &'de str, document: Document<'de>, place:
             Ok(pending) => behind_equals(alloc, text, pending, value),
             Err(fault) => Err(TomlError::Syntax(fault)),
         },
-        Err(error) => Err(error),
+        Err(error) => {
+            document.let_go();
+            Err(error)
+        }
     }
 }
 
@@ -141,6 +150,11 @@ fn opened_line<'de>(
     }
 }
 
+/// Lets a document and the key of a header go.
+fn let_go(document: Document<'_>, _keys: Keys<'_>) {
+    document.let_go();
+}
+
 /// A header, from behind the parts of its key on.
 fn behind_parts<'de>(
     alloc: Global,
@@ -160,6 +174,7 @@ fn behind_parts<'de>(
     let bytes = text.as_bytes();
     let close = after_blanks(bytes, place);
     if !stands(bytes, close, b']') {
+        let_go(document, keys);
         return Err(TomlError::Syntax(stuck(text, close)));
     }
     let end = close + 1;
@@ -192,9 +207,11 @@ fn behind_array_parts<'de>(
     let bytes = text.as_bytes();
     let close = after_blanks(bytes, place);
     if !stands(bytes, close, b']') {
+        let_go(document, keys);
         return Err(TomlError::Syntax(stuck(text, close)));
     }
     if !stands(bytes, close + 1, b']') {
+        let_go(document, keys);
         return Err(TomlError::Syntax(stuck(text, close + 1)));
     }
     let end = close + 2;
@@ -225,12 +242,18 @@ fn header_line<'de>(
     if stands(bytes, place + 1, b'[') {
         match read_keys(alloc, text, after_blanks(bytes, place + 2)) {
             Ok((keys, end)) => behind_array_parts(alloc, text, document, place, keys, end),
-            Err(error) => Err(error),
+            Err(error) => {
+                document.let_go();
+                Err(error)
+            }
         }
     } else {
         match read_keys(alloc, text, after_blanks(bytes, place + 1)) {
             Ok((keys, end)) => behind_parts(alloc, text, document, place, keys, end),
-            Err(error) => Err(error),
+            Err(error) => {
+                document.let_go();
+                Err(error)
+            }
         }
     }
 }

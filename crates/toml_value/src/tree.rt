@@ -1,5 +1,5 @@
 //! Tables that grow key by key, as the table rules of the subset have them.
-ghost use Rattle.std.specs.Prelude.{◌≡◌, ◌<◌, length, get_or, set, false, IsTrue, IfOk, IfSome, option_map};
+ghost use Rattle.std.specs.Prelude.{◌≡◌, ◌<◌, ◌++◌, [], ◌∷◌, length, get_or, set, false, IsTrue, IfOk, IfSome, option_map};
 ghost use Rattle.key_index.specs.KeyPlaces.{place_of};
 ghost use Rattle.toml_subset.specs.TableFaults.{node_at};
 ghost use Rattle.toml_subset.specs.Tables.{unbranched, has_key, added};
@@ -106,10 +106,14 @@ impl<'de> Branches<'de> {
             ≡ added key.entry (node_view node.entry) (branches_view self.entry)) }
         ensures whole { IfOk result (λ new. IsTrue (is_whole new)) }
     {
-        let Branches { keys, mut nodes } = self;
-        let keys = keys.with(alloc, key)?;
-        nodes.push(node)?;
-        Ok(Branches { keys, nodes })
+        let Branches { keys, nodes } = self;
+        match keys.with(alloc, key) {
+            Ok(keys) => of_parts(keys, nodes, node),
+            Err(error) => {
+                let_nodes_go(nodes, node);
+                Err(error)
+            }
+        }
     }
 
     /// Puts another node at a place, and hands out the one that was there.
@@ -121,6 +125,17 @@ impl<'de> Branches<'de> {
         ensures value { result ≡ get_or (out-Branches self.old).nodes.items place result }
     {
         mem::replace(&mut self.nodes[place], node)
+    }
+
+    /// Puts another node at a place. The one that was there is let go.
+    fn put_back(&mut self, place: usize, node: Node<'de>)
+        requires { place < length (out-Branches self.old).nodes.items }
+        ensures keys { (out-Branches self.new).keys ≡ (out-Branches self.old).keys }
+        ensures nodes { (out-Branches self.new).nodes.items
+            ≡ set (out-Branches self.old).nodes.items place node.entry }
+    {
+        let old = self.replace(place, node);
+        old.let_go();
     }
 
     /// How many keys it has.
@@ -141,6 +156,33 @@ impl<'de> Branches<'de> {
     {
         self.replace(place, hole(key))
     }
+
+    /// Lets the table go.
+    fn let_go(self) {}
+}
+
+impl Node<'_> {
+    /// Lets the node go.
+    fn let_go(self) {}
+}
+
+/// Lets nodes and a further one go.
+fn let_nodes_go(_nodes: Vec<Node<'_>>, node: Node<'_>) {
+    node.let_go();
+}
+
+/// A table of some keys and as many nodes, of which this is the last.
+fn of_parts<'de>(
+    keys: KeyIndex<'de>,
+    nodes: Vec<Node<'de>>,
+    node: Node<'de>,
+) -> Result<Branches<'de>, AllocError>
+    ensures { IfOk result (λ new. ((out-Branches new).keys ≡ keys.entry)
+        × ((out-Branches new).nodes.items ≡ nodes.entry.items ++ node.entry ∷ [])) }
+{
+    let mut nodes = nodes;
+    nodes.push(node)?;
+    Ok(Branches { keys, nodes })
 }
 
 /// What stands at the place of a table that was taken out.

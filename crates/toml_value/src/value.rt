@@ -1,5 +1,5 @@
 //! Values with their places.
-ghost use Rattle.std.specs.Prelude.{◌≡◌, ◌==◌, [], ◌∷◌, map, option_map, true, false, IfOk, OnOk, OnErr};
+ghost use Rattle.std.specs.Prelude.{◌≡◌, ◌==◌, ◌++◌, [], ◌∷◌, map, option_map, true, false, IfOk, OnOk, OnErr};
 ghost use Rattle.std.specs.List.{slice_split};
 ghost use Rattle.std.specs.Option.{option_copied};
 ghost use Rattle.toml_subset.specs.Data.{boolean};
@@ -56,6 +56,9 @@ impl<'de> Value<'de> {
     {
         Value { inner, span }
     }
+
+    /// Lets the value go.
+    pub(crate) fn let_go(self) {}
 
     /// Where the value stands in the text.
     pub fn span(&self) -> Span
@@ -138,6 +141,28 @@ fn place_of_part(part: &[u8]) -> Option<usize>
     }
 }
 
+/// Appends an item to others. One that finds no room is dropped.
+fn push_item<'de>(items: &mut Vec<Value<'de>>, item: Value<'de>) -> Result<(), AllocError>
+    ensures ok { OnOk result (items.new.items ≡ items.old.items ++ item.entry ∷ []) }
+    ensures err { OnErr result (items.new.items ≡ items.old.items) }
+{
+    items.push(item)?;
+    Ok(())
+}
+
+/// Appends an entry to others. One that finds no room is dropped.
+fn push_pair<'de>(
+    items: &mut Vec<(Key<'de>, Value<'de>)>,
+    key: Key<'de>,
+    value: Value<'de>,
+) -> Result<(), AllocError>
+    ensures ok { OnOk result (items.new.items ≡ items.old.items ++ (key.entry, value.entry) ∷ []) }
+    ensures err { OnErr result (items.new.items ≡ items.old.items) }
+{
+    items.push((key, value))?;
+    Ok(())
+}
+
 impl<'de> Values<'de> {
     /// The item at a place.
     pub(crate) fn get(&self, place: usize) -> Option<&Value<'de>>
@@ -166,13 +191,26 @@ impl<'de> Values<'de> {
         &self.items
     }
 
+    /// Lets the items go.
+    pub(crate) fn let_go(self) {}
+
+    /// The items and a further one. Where memory ends, nothing is left.
+    pub(crate) fn with(self, item: Value<'de>) -> Result<Values<'de>, AllocError>
+        ensures { IfOk result (λ new. values_view new
+            ≡ with_item (values_view self.entry) (value_view item.entry)) }
+    {
+        let mut values = self;
+        values.push(item)?;
+        Ok(values)
+    }
+
     /// Appends an item. An item that finds no room is dropped.
     pub fn push(&mut self, item: Value<'de>) -> Result<(), AllocError>
         ensures ok { OnOk result (values_view self.new
             ≡ with_item (values_view self.old) (value_view item.entry)) }
         ensures err { OnErr result (values_view self.new ≡ values_view self.old) }
     {
-        self.items.push(item)?;
+        push_item(&mut self.items, item)?;
         Ok(())
     }
 }
@@ -192,7 +230,7 @@ impl<'de> Entries<'de> {
             ≡ with_entry (entries_view self.old) key.entry (value_view value.entry)) }
         ensures err { OnErr result (entries_view self.new ≡ entries_view self.old) }
     {
-        self.items.push((key, value))?;
+        push_pair(&mut self.items, key, value)?;
         Ok(())
     }
 

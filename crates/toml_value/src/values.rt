@@ -137,7 +137,10 @@ fn entry_turn<'de>(
             Ok(awaiting) => Ok(Turn::Waits(Frame::Table(at, awaiting), next)),
             Err(fault) => Err(TomlError::Syntax(fault)),
         },
-        Err(error) => Err(error),
+        Err(error) => {
+            tree.let_go();
+            Err(error)
+        }
     }
 }
 
@@ -218,11 +221,13 @@ fn behind_value<'de>(
     ensures { TakesTurn text.now (next + 1) at.above (on_with text.now
         (in_array at.place at.above (values_view items.entry)) (value_found (value.entry, next))) result }
 {
-    let mut items = items;
-    items.push(value)?;
+    let items = items.with(value)?;
     match behind_item(text, next) {
         Ok(next) => Ok(array_turn(at, items, next)),
-        Err(fault) => Err(TomlError::Syntax(fault)),
+        Err(fault) => {
+            items.let_go();
+            Err(TomlError::Syntax(fault))
+        }
     }
 }
 
@@ -245,7 +250,10 @@ fn behind_pair<'de>(
     let tree = awaiting.put(alloc, value)?;
     match behind_entry(text, next) {
         Ok(next) => table_turn(alloc, text, at, tree, next),
-        Err(fault) => Err(TomlError::Syntax(fault)),
+        Err(fault) => {
+            tree.let_go();
+            Err(TomlError::Syntax(fault))
+        }
     }
 }
 
@@ -278,6 +286,58 @@ fn open_further<'de>(open: &mut Vec<Frame<'de>>, frame: Frame<'de>) -> Result<()
     Ok(())
 }
 
+/// One more that stands open, whose value stands at a place.
+fn deeper<'de>(
+    alloc: Global,
+    text: &'de str,
+    open: &mut Vec<Frame<'de>>,
+    frame: Frame<'de>,
+    place: usize,
+) -> Result<Turn<'de>, TomlError>
+    requires inside { place ≤ length text.now }
+    requires shallow { IsShallow (frame_view frame) }
+    requires room { inside_of (frame_view frame) ≤ depth_limit }
+    ensures stack { OnOk result (open.new.items ≡ open.old.items ++ frame.entry ∷ []) }
+    ensures turn { let above = inside_of (frame_view frame.entry) in
+        TakesTurn text.now (place + 1) above (value_at text.now above place) result }
+{
+    let above = frame.inside();
+    open_further(open, frame)?;
+    first_turn(alloc, text, above, place)
+}
+
+/// The value at a place, read with a stack on which nothing stands open at first.
+fn read_with<'de>(
+    alloc: Global,
+    text: &'de str,
+    open: &mut Vec<Frame<'de>>,
+    above: usize,
+    place: usize,
+) -> Result<(Value<'de>, usize), TomlError>
+    requires inside { place ≤ length text.now }
+    requires shallow { above ≤ depth_limit }
+    requires none { open.old.items ≡ [] }
+    ensures answer { Answers value_found (value_at text.now above place) result }
+    ensures within { IfOk result (λ found. found.1 ≤ length text.now) }
+{
+    let mut turn = first_turn(alloc, text, above, place)?;
+    'turns: loop {
+        match turn {
+            Turn::Waits(frame, place) => match deeper(alloc, text, open, frame, place) {
+                Ok(first) => turn = first,
+                Err(error) => return Err(error),
+            },
+            Turn::Read(value, next) => match open.pop() {
+                Some(frame) => match next_turn(alloc, text, frame, value, next) {
+                    Ok(further) => turn = further,
+                    Err(error) => return Err(error),
+                },
+                None => return Ok((value, next)),
+            },
+        }
+    }
+}
+
 /// The value at a place, so many tables and arrays standing around it, and the place behind it.
 pub fn read_value(
     alloc: Global,
@@ -291,24 +351,5 @@ pub fn read_value(
     ensures within { IfOk result (λ found. found.1 ≤ length text.now) }
 {
     let mut open = Vec::new(alloc);
-    let mut turn = first_turn(alloc, text, above, place)?;
-    'turns: loop {
-        match turn {
-            Turn::Waits(frame, place) => {
-                let above = frame.inside();
-                open_further(&mut open, frame)?;
-                match first_turn(alloc, text, above, place) {
-                    Ok(first) => turn = first,
-                    Err(error) => return Err(error),
-                }
-            }
-            Turn::Read(value, next) => match open.pop() {
-                Some(frame) => match next_turn(alloc, text, frame, value, next) {
-                    Ok(further) => turn = further,
-                    Err(error) => return Err(error),
-                },
-                None => return Ok((value, next)),
-            },
-        }
-    }
+    read_with(alloc, text, &mut open, above, place)
 }

@@ -10,13 +10,13 @@ use Rattle.diag_core.specs.declared.pack.Diag.{Diag}
 use Rattle.diag_core.specs.declared.severity.Severity.{Severity}
 use Rattle.diag_core.specs.declared.severity.Severity.TheVariants.{Warning, Error}
 use Rattle.diag_core.specs.File.{File}
+use Rattle.finding_core.specs.License.{PlaceLies}
 use Rattle.policy_entries.specs.declared.licensee.Licensee.{Licensee}
 use Rattle.policy_parts.specs.declared.names.LintLevel.{LintLevel}
 use Rattle.policy_parts.specs.declared.names.LintLevel.TheVariants.{Allow, Warn, Deny}
 use Rattle.policy_parts.specs.Names.{severity_of_lint}
 use Rattle.valid_policy.specs.declared.policy.ValidConfig.{ValidConfig}
 use Rattle.valid_policy.specs.declared.policy.ValidException.{ValidException}
-use Rattle.verdict_findings.specs.Places.{LiesIn}
 use Rattle.unused_core.specs.Laws.{EntriesLie, ExceptionIsHit, ExceptionIsTold, LabelsLie, LicenseIsHit, LicenseIsTold, Tell, TellUnused}
 use Rattle.unused_core.specs.Unused.{allows, excepts, exception_findings, is_exception_hit, is_license_hit, is_own, license_findings, severity_asked, unhit, unused_exception, unused_findings, unused_license}
 
@@ -154,8 +154,8 @@ asked_lie Q told each (Some severity) = each severity
 
 pub labels_lie : (files : List File) (policy : ValidConfig) (hits : List Hit) → EntriesLie files policy → AllByRecursion (LabelsLie files) (unused_findings policy hits)
 labels_lie files policy hits lie =
-    let LicenseLies : Licensee → Type 0 = λ licensee. LiesIn files policy.file_id licensee.0.span in
-    let ExceptionLies : ValidException → Type 0 = λ exception. LiesIn files exception.file_id exception.spec.span in
+    let LicenseLies : Licensee → Type 0 = λ licensee. PlaceLies files policy.file_id licensee.0.span in
+    let ExceptionLies : ValidException → Type 0 = λ exception. PlaceLies files exception.file_id exception.spec.span in
     both_parts (LabelsLie files) (license_findings policy (is_license_hit hits)) (exception_findings policy (is_exception_hit hits))
     (asked_lie (LabelsLie files) (λ severity. map (unused_license severity policy.file_id) (unhit (is_license_hit hits) 0 policy.allowed))
     (λ severity. told_lie LicenseLies (LabelsLie files) (unused_license severity policy.file_id) (λ x lies. (lies, tt)) (unhit (is_license_hit hits) 0 policy.allowed)

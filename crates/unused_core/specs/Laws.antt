@@ -6,13 +6,13 @@ use Rattle.certificate_core.specs.declared.verdict.Hit.TheVariants.{Allowed, Exc
 use Rattle.diag_core.specs.declared.label.Label.{Label}
 use Rattle.diag_core.specs.declared.pack.Diag.{Diag}
 use Rattle.diag_core.specs.File.{File}
+use Rattle.finding_core.specs.License.{PlaceLies}
 use Rattle.policy_entries.specs.declared.licensee.Licensee.{Licensee}
 use Rattle.policy_parts.specs.declared.names.LintLevel.{LintLevel}
 use Rattle.policy_parts.specs.declared.names.LintLevel.TheVariants.{Allow}
 use Rattle.policy_parts.specs.Names.{severity_of_lint}
 use Rattle.valid_policy.specs.declared.policy.ValidConfig.{ValidConfig}
 use Rattle.valid_policy.specs.declared.policy.ValidException.{ValidException}
-use Rattle.verdict_findings.specs.Places.{LiesIn}
 use Rattle.unused_core.specs.Unused.{unused_exception, unused_findings, unused_license}
 
 -- ---- which entries are told
@@ -60,11 +60,11 @@ TellsTheUnused = (policy : ValidConfig) (hits : List Hit) → TellUnused policy 
 
 -- the places of licensees lie in the policy's file, and those of exceptions each in its own
 pub record EntriesLie (files : List File) (policy : ValidConfig) : Type 0 where
-  pub allowed : AllByRecursion (λ (licensee : Licensee). LiesIn files policy.file_id licensee.0.span) policy.allowed
-  pub exceptions : AllByRecursion (λ (exception : ValidException). LiesIn files exception.file_id exception.spec.span) policy.exceptions
+  pub allowed : AllByRecursion (λ (licensee : Licensee). PlaceLies files policy.file_id licensee.0.span) policy.allowed
+  pub exceptions : AllByRecursion (λ (exception : ValidException). PlaceLies files exception.file_id exception.spec.span) policy.exceptions
 
 abbrev pub LabelLies : List File → Label → Type 0
-LabelLies files label = LiesIn files label.file_id label.range
+LabelLies files label = PlaceLies files label.file_id label.range
 
 abbrev pub LabelsLie : List File → Diag → Type 0
 LabelsLie files told = AllByRecursion (LabelLies files) told.diag.labels

@@ -29,13 +29,13 @@ crate_a = record {
 abbrev alone : List ℕ → ℕ → LicenseReq
 alone name family = record { item = Spdx name family 0 false false; exception = None }
 
-abbrev mit : LicenseReq
+abbrev pub mit : LicenseReq
 mit = alone (codes "MIT") 1
 
-abbrev isc : LicenseReq
+abbrev pub isc : LicenseReq
 isc = alone (codes "ISC") 2
 
-abbrev zlib : LicenseReq
+abbrev pub zlib : LicenseReq
 zlib = alone (codes "Zlib") 3
 
 abbrev x11 : LicenseReq
@@ -61,10 +61,10 @@ reference doc id = record { item = Reference doc id; exception = None }
 
 -- ---- policies
 
-abbrev grant : List ℕ → List LicenseReq → Grant
+abbrev pub grant : List ℕ → List LicenseReq → Grant
 grant name licensees = record { spec = record { name = name; span = record { start = 0; end = 0 }; requirement = None }; allowed = licensees }
 
-abbrev policy : List LicenseReq → List Grant → Policy
+abbrev pub policy : List LicenseReq → List Grant → Policy
 policy licensees grants = record { ignores = false; registries = []; ignore_sources = []; allowed = licensees; exceptions = grants }
 
 pub record Row : Type 0 where

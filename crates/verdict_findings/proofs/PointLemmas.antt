@@ -1,21 +1,24 @@
 -- Places in a text that stands in another.
-use Rattle.std.proofs.Common.{◌≡◌, ◌∙◌, refl, sym, ap, subst, ℕ, zero, suc, ◌+◌, ◌-◌, ◌<◌, ◌≤◌, ◌⊎◌, inl, inr, List, [], ◌∷◌, ◌++◌, length, map, take, drop, get_or, Option, Some, None, arith}
+use Rattle.std.proofs.Common.{◌≡◌, ◌∙◌, refl, sym, ap, subst, ℕ, ◌+◌, ◌-◌, ◌<◌, ◌≤◌, ◌⊎◌, inl, inr, List, [], ◌∷◌, length, map, take, drop, get_or, Option, Some, None, arith}
 use Rattle.std.specs.Prelude.{slice_range}
 use Rattle.std.specs.List.{AllZip}
 use Rattle.std.specs.Str.{IsCharBoundary}
 use Rattle.std.proofs.Math.Nat.{eq-or-lt_of_le}
 use Rattle.std.proofs.lemmas.List.{get_or-take, get_or-drop, take-take, drop-take, drop-drop}
+use Rattle.deny_text.specs.Spans.{moved}
 use Rattle.deny_text.specs.declared.span.Span.{Span}
 use Rattle.term_core.specs.declared.term.ExpressionReq.{ExpressionReq}
 use Rattle.term_core.specs.Spans.{LiesFrom, Rise}
 use Rattle.spdx_core.specs.Expressions.{IsExpression}
 use Rattle.spdx_core.specs.Reading.{ExpressionView}
 use Rattle.certificate_core.specs.declared.verdict.Hit.{Hit}
-use Rattle.diag_core.specs.File.{File, source_of}
-use Rattle.verdict_findings.specs.declared.place.ExprPlace.{ExprPlace}
+use Rattle.diag_core.specs.File.{File}
+use Rattle.location_core.specs.Location.{PointsAt}
+use Rattle.finding_core.specs.declared.license.LicenseExprInfo.{LicenseExprInfo}
+use Rattle.finding_core.specs.License.{Stands, StandsIn}
 use Rattle.verdict_findings.specs.Findings.{term_label, term_labels}
 use Rattle.verdict_findings.specs.Laws.{LabelsPoint, words_of}
-use Rattle.verdict_findings.specs.Places.{all_of, span_by, LabelPoints, PointsBy, Stands}
+use Rattle.verdict_findings.specs.Places.{all_of, span_by, LabelPoints, PointsBy}
 use Rattle.verdict_findings.proofs.PlaceLemmas.{span_of}
 
 -- ---- a text that stands in another from a place on
@@ -56,63 +59,56 @@ module _ (source text : List ℕ) (start : ℕ) (is : slice_range source start (
 
 -- ---- in a table of files
 
-part_points : (files : List File) (file start : ℕ) (text : List ℕ) (span : Span) → span.start ≤ span.end → IsCharBoundary text span.start → IsCharBoundary text span.end
-    → (whole : Option Span) → PointsBy files file (span_by start (all_of text) whole) text whole
-    → PointsBy files file (span_by start span whole) (slice_range text span.start span.end) whole
-part_points files file start text span ordered starts ends None points =
-    let none_more : start + 0 ≡ start = omega arith in
-    let is : slice_range points.source start (start + length text) ≡ text =
-    ap (λ (n : ℕ). slice_range points.source n (start + length text)) (sym none_more) ∙ points.cuts.cut_out in
-    let last : IsCharBoundary points.source (start + length text) = points.cuts.lies.ends in
+-- in a file of the table, a part of the text that stands there
+part_cut : (files : List File) (file start : ℕ) (text : List ℕ) (span : Span) → span.start ≤ span.end → IsCharBoundary text span.start → IsCharBoundary text span.end
+    → PointsAt files (record { file = file; span = record { start = start; end = start + length text } }) text
+    → PointsAt files (record { file = file; span = moved start span }) (slice_range text span.start span.end)
+part_cut files file start text span ordered starts ends points =
+    let is : slice_range points.source start (start + length text) ≡ text = points.cuts.cut_out in
+    let last : IsCharBoundary points.source (start + length text) = points.cuts.ends in
     let within : span.end ≤ length text = ends.0 in
     record {
       source = points.source;
       is_source = points.is_source;
       cuts = record {
-        lies = record {
-          ordered = omega arith;
-          starts = border points.source text start is last span.start starts;
-          ends = border points.source text start is last span.end ends;
-        };
+        ordered = omega arith;
+        starts = border points.source text start is last span.start starts;
+        ends = border points.source text start is last span.end ends;
         cut_out = part points.source text start is last span.start span.end ordered within;
       };
     }
-part_points files file start text span ordered starts ends (Some whole) points = points
 
-term_points : (files : List File) (at : ExprPlace) (text : List ℕ) (place : ℕ) (term : ExpressionReq) (hit : Option Hit) → Stands files at text → LiesFrom text place term.span
-    → LabelPoints files at (words_of text term) (term_label at term.span hit)
-term_points files at text place term hit stands lies =
+part_points : (files : List File) (file start : ℕ) (text : List ℕ) (span : Span) → span.start ≤ span.end → IsCharBoundary text span.start → IsCharBoundary text span.end
+    → (whole : Option Span) → StandsIn files file start whole text
+    → PointsBy files file (span_by start span whole) (slice_range text span.start span.end) whole
+part_points files file start text span ordered starts ends None stands = part_cut files file start text span ordered starts ends stands
+part_points files file start text span ordered starts ends (Some whole) stands = (stands, refl)
+
+-- the text as a whole
+whole_points : (files : List File) (file start : ℕ) (text : List ℕ) (whole : Option Span) → StandsIn files file start whole text
+    → PointsBy files file (span_by start (all_of text) whole) text whole
+whole_points files file start text None stands =
+    let none_more : start + 0 ≡ start = omega arith in
+    subst (λ (n : ℕ). PointsAt files (record { file = file; span = record { start = n; end = start + length text } }) text) (sym none_more) stands
+whole_points files file start text (Some whole) stands = (stands, refl)
+
+term_points : (files : List File) (nfo : LicenseExprInfo) (text : List ℕ) (place : ℕ) (term : ExpressionReq) (hit : Option Hit) → Stands files nfo text → LiesFrom text place term.span
+    → LabelPoints files nfo (words_of text term) (term_label nfo term.span hit)
+term_points files nfo text place term hit stands lies =
     let some : term.span.start < term.span.end = lies.some in
-    record { of_file = refl; points = part_points files at.file_id at.offset text term.span (omega arith) lies.start_border lies.end_border at.whole stands }
+    record { of_file = refl; points = part_points files nfo.file_id nfo.offset text term.span (omega arith) lies.start_border lies.end_border nfo.whole stands }
 
-each_points : (files : List File) (at : ExprPlace) (text : List ℕ) (place : ℕ) (terms : List ExpressionReq) (hits : List (Option Hit)) → Stands files at text
-    → Rise text place (map span_of terms) (length text) → AllZip (λ term label. LabelPoints files at (words_of text term) label) terms (term_labels at terms hits)
-each_points files at text place [] hits stands rise = tt
-each_points files at text place (term ∷ terms) [] stands rise =
-    (term_points files at text place term None stands rise.0, each_points files at text term.span.end terms [] stands rise.1)
-each_points files at text place (term ∷ terms) (hit ∷ hits) stands rise =
-    (term_points files at text place term hit stands rise.0, each_points files at text term.span.end terms hits stands rise.1)
+each_points : (files : List File) (nfo : LicenseExprInfo) (text : List ℕ) (place : ℕ) (terms : List ExpressionReq) (hits : List (Option Hit)) → Stands files nfo text
+    → Rise text place (map span_of terms) (length text) → AllZip (λ term label. LabelPoints files nfo (words_of text term) label) terms (term_labels nfo terms hits)
+each_points files nfo text place [] hits stands rise = tt
+each_points files nfo text place (term ∷ terms) [] stands rise =
+    (term_points files nfo text place term None stands rise.0, each_points files nfo text term.span.end terms [] stands rise.1)
+each_points files nfo text place (term ∷ terms) (hit ∷ hits) stands rise =
+    (term_points files nfo text place term hit stands rise.0, each_points files nfo text term.span.end terms hits stands rise.1)
 
-pub labels_point : (files : List File) (at : ExprPlace) (source : List ℕ) (expression : ExpressionView) (hits : List (Option Hit))
-    → IsExpression expression.text expression.terms expression.tree → Stands files at expression.text → LabelsPoint files at source expression hits
-labels_point files at source expression hits facts stands = record {
-  whole = record { of_file = refl; points = stands };
-  terms = each_points files at expression.text 0 expression.terms hits stands facts.spans;
+pub labels_point : (files : List File) (expression : ExpressionView) (nfo : LicenseExprInfo) (hits : List (Option Hit))
+    → IsExpression expression.text expression.terms expression.tree → Stands files nfo expression.text → LabelsPoint files expression nfo hits
+labels_point files expression nfo hits facts stands = record {
+  whole = record { of_file = refl; points = whole_points files nfo.file_id nfo.offset expression.text nfo.whole stands };
+  terms = each_points files nfo expression.text 0 expression.terms hits stands facts.spans;
 }
-
--- ---- a longer table
-
-source_still : (files more : List File) (id : ℕ) (source : List ℕ) → source_of files id ≡ Some source → source_of (files ++ more) id ≡ Some source
-source_still [] more zero source is = absurd (cc is)
-source_still [] more (suc id) source is = absurd (cc is)
-source_still (file ∷ files) more zero source is = is
-source_still (file ∷ files) more (suc id) source is = source_still files more id source is
-
-points_on : (files more : List File) (file : ℕ) (span : Span) (part : List ℕ) (whole : Option Span) → PointsBy files file span part whole → PointsBy (files ++ more) file span part whole
-points_on files more file span part None points =
-    record { source = points.source; is_source = source_still files more file points.source points.is_source; cuts = points.cuts }
-points_on files more file span part (Some whole) points =
-    (record { source = points.0.source; is_source = source_still files more file points.0.source points.0.is_source; lies = points.0.lies }, points.1)
-
-pub stands_on : (files more : List File) (at : ExprPlace) (words : List ℕ) → Stands files at words → Stands (files ++ more) at words
-stands_on files more at words stands = points_on files more at.file_id (span_by at.offset (all_of words) at.whole) words at.whole stands

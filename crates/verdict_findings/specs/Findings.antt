@@ -1,12 +1,11 @@
 -- The verdict on a crate, as a finding.
 use Rattle.std.specs.Prelude.{ℕ, Bool, true, false, List, [], ◌∷◌, ◌++◌, map, codes, Option, Some, None}
-use Rattle.semver.specs.Identifiers.{parts_text}
 use Rattle.deny_text.specs.declared.span.Span.{Span}
 use Rattle.term_core.specs.declared.term.ExpressionReq.{ExpressionReq}
 use Rattle.spdx_core.specs.Reading.{ExpressionView}
 use Rattle.certificate_core.specs.declared.verdict.Hit.{Hit}
 use Rattle.certificate_core.specs.declared.verdict.Hit.TheVariants.{Allowed, Exception}
-use Rattle.graph_core.specs.Krate.{Record}
+use Rattle.graph_core.specs.Krate.{Record, title_of}
 use Rattle.diag_core.specs.declared.code.DiagnosticCode.TheVariants.{License}
 use Rattle.diag_core.specs.declared.label.Label.{Label}
 use Rattle.diag_core.specs.declared.label.LabelStyle.TheVariants.{Primary, Secondary}
@@ -19,8 +18,9 @@ use Rattle.diag_core.specs.declared.severity.Severity.TheVariants.{Note, Error}
 use Rattle.diag_core.specs.Code.{code_name}
 use Rattle.diag_core.specs.Label.{heap, label_at}
 use Rattle.diag_core.specs.Pack.{PackOf, with_crate}
-use Rattle.verdict_findings.specs.declared.place.ExprPlace.{ExprPlace}
+use Rattle.finding_core.specs.declared.license.LicenseExprInfo.{LicenseExprInfo}
 use Rattle.verdict_findings.specs.Places.{all_of, span_at}
+use Rattle.verdict_findings.specs.Sources.{source_text}
 
 -- what the licence check tells, about no crate yet
 abbrev pub finding : Severity → Code → List ℕ → List Label → List (List ℕ) → Diag
@@ -39,21 +39,21 @@ hit_text (Some (Allowed entry)) = codes "accepted: license is explicitly allowed
 hit_text (Some (Exception exception entry)) = codes "accepted: allowed by exception"
 hit_text None = codes "rejected: license is not explicitly allowed"
 
-abbrev pub term_label : ExprPlace → Span → Option Hit → Label
-term_label at span hit = label_at Primary at.file_id (span_at at span) (hit_text hit)
+abbrev pub term_label : LicenseExprInfo → Span → Option Hit → Label
+term_label nfo span hit = label_at Primary nfo.file_id (span_at nfo span) (hit_text hit)
 
 -- one for each term, in text order, by its own hit; a term behind the end of the hits has none
-abbrev pub term_labels : ExprPlace → List ExpressionReq → List (Option Hit) → List Label
-term_labels at [] hits = []
-term_labels at (term ∷ terms) [] = term_label at term.span None ∷ term_labels at terms []
-term_labels at (term ∷ terms) (hit ∷ hits) = term_label at term.span hit ∷ term_labels at terms hits
+abbrev pub term_labels : LicenseExprInfo → List ExpressionReq → List (Option Hit) → List Label
+term_labels nfo [] hits = []
+term_labels nfo (term ∷ terms) [] = term_label nfo term.span None ∷ term_labels nfo terms []
+term_labels nfo (term ∷ terms) (hit ∷ hits) = term_label nfo term.span hit ∷ term_labels nfo terms hits
 
 -- the whole expression, and where it comes from
-abbrev pub whole_label : ExprPlace → List ℕ → List ℕ → Label
-whole_label at words source = label_at Secondary at.file_id (span_at at (all_of words)) (codes "license expression retrieved via " ++ source)
+abbrev pub whole_label : LicenseExprInfo → List ℕ → Label
+whole_label nfo words = label_at Secondary nfo.file_id (span_at nfo (all_of words)) (codes "license expression retrieved via " ++ source_text nfo.source)
 
-abbrev pub labels_of : ExprPlace → List ℕ → ExpressionView → List (Option Hit) → List Label
-labels_of at source expression hits = whole_label at expression.text source ∷ term_labels at expression.terms hits
+abbrev pub labels_of : ExpressionView → LicenseExprInfo → List (Option Hit) → List Label
+labels_of expression nfo hits = whole_label nfo expression.text ∷ term_labels nfo expression.terms hits
 
 -- ---- findings
 
@@ -62,10 +62,6 @@ labels_of at source expression hits = whole_label at expression.text source ∷ 
 abbrev pub judged : Bool → List Label → List (List ℕ) → Diag
 judged true labels notes = finding Note code.Accepted (codes "license requirements satisfied") labels notes
 judged false labels notes = finding Error code.Rejected (codes "failed to satisfy license requirements") labels notes
-
--- `{name} = {version}`
-abbrev pub title_of : Record → List ℕ
-title_of krate = krate.name ++ codes " = " ++ parts_text krate.version
 
 -- the crate has no expression
 abbrev pub unlicensed : Record → List (List ℕ) → Diag

@@ -6,9 +6,10 @@ use Rattle.spdx_core.specs.Expressions.{IsExpression}
 use Rattle.spdx_core.specs.Reading.{ExpressionView}
 use Rattle.certificate_core.specs.declared.verdict.Hit.{Hit}
 use Rattle.diag_core.specs.File.{File}
-use Rattle.verdict_findings.specs.declared.place.ExprPlace.{ExprPlace}
+use Rattle.finding_core.specs.declared.license.LicenseExprInfo.{LicenseExprInfo}
+use Rattle.finding_core.specs.License.{Stands}
 use Rattle.verdict_findings.specs.Findings.{term_labels, whole_label}
-use Rattle.verdict_findings.specs.Places.{LabelPoints, Stands}
+use Rattle.verdict_findings.specs.Places.{LabelPoints}
 
 -- what a term is written as
 abbrev pub words_of : List ℕ → ExpressionReq → List ℕ
@@ -16,15 +17,15 @@ words_of text term = slice_range text term.span.start term.span.end
 
 -- The labels of an expression point at it: the first at its whole text, and then one for each term, in text order, at the
 -- words of just that term.
-pub record LabelsPoint (files : List File) (at : ExprPlace) (source : List ℕ) (expression : ExpressionView) (hits : List (Option Hit)) : Type 0 where
-  pub whole : LabelPoints files at expression.text (whole_label at expression.text source)
-  pub terms : AllZip (λ term label. LabelPoints files at (words_of expression.text term) label) expression.terms (term_labels at expression.terms hits)
+pub record LabelsPoint (files : List File) (expression : ExpressionView) (nfo : LicenseExprInfo) (hits : List (Option Hit)) : Type 0 where
+  pub whole : LabelPoints files nfo expression.text (whole_label nfo expression.text)
+  pub terms : AllZip (λ term label. LabelPoints files nfo (words_of expression.text term) label) expression.terms (term_labels nfo expression.terms hits)
 
 -- so they do where the expression's text stands where it is said to
 abbrev pub LabelsAlwaysPoint : Type 0
-LabelsAlwaysPoint = (files : List File) (at : ExprPlace) (source : List ℕ) (expression : ExpressionView) (hits : List (Option Hit))
-    → IsExpression expression.text expression.terms expression.tree → Stands files at expression.text → LabelsPoint files at source expression hits
+LabelsAlwaysPoint = (files : List File) (expression : ExpressionView) (nfo : LicenseExprInfo) (hits : List (Option Hit))
+    → IsExpression expression.text expression.terms expression.tree → Stands files nfo expression.text → LabelsPoint files expression nfo hits
 
 -- a text that stands in a table of files stands in each longer one
 abbrev pub StandsOn : Type 0
-StandsOn = (files more : List File) (at : ExprPlace) (words : List ℕ) → Stands files at words → Stands (files ++ more) at words
+StandsOn = (files more : List File) (nfo : LicenseExprInfo) (words : List ℕ) → Stands files nfo words → Stands (files ++ more) nfo words

@@ -2,3 +2,4 @@ pub mod Findings
 pub mod Laws
 pub mod Places
 pub mod Rows
+pub mod Sources

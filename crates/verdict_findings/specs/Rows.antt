@@ -15,8 +15,31 @@ use Rattle.diag_core.specs.declared.severity.Severity.{Severity}
 use Rattle.diag_core.specs.declared.severity.Severity.TheVariants.{Note, Error}
 use Rattle.diag_core.specs.declared.pack.Diag.{Diag}
 use Rattle.diag_core.specs.Label.{label_at}
-use Rattle.verdict_findings.specs.declared.place.ExprPlace.{ExprPlace}
+use Rattle.finding_core.specs.declared.license.LicenseExprInfo.{LicenseExprInfo}
+use Rattle.finding_core.specs.declared.license.LicenseExprSource.{LicenseExprSource}
+use Rattle.finding_core.specs.declared.license.LicenseExprSource.TheVariants.{Metadata, UserOverride, LicenseFiles}
 use Rattle.verdict_findings.specs.Findings.{judged, labels_of, skipped, unlicensed}
+use Rattle.verdict_findings.specs.Sources.{source_text}
+
+-- ---- sources in words
+
+pub record SourceRow : Type 0 where
+  pub source : LicenseExprSource
+  pub text : List ℕ
+
+abbrev pub worded : SourceRow → SourceRow
+worded row = record { source = row.source; text = source_text row.source }
+
+abbrev source_row : LicenseExprSource → List ℕ → SourceRow
+source_row source text = record { source = source; text = text }
+
+abbrev pub source_rows : List SourceRow
+source_rows =
+    source_row (Metadata None) (codes "Cargo.toml `license`")
+    ∷ source_row UserOverride (codes "user override")
+    ∷ source_row (LicenseFiles (codes "COPYING" ∷ [])) (codes "license files: COPYING")
+    ∷ source_row (LicenseFiles (codes "COPYING" ∷ codes "a/LICENSE" ∷ codes "b" ∷ [])) (codes "license files: COPYING, a/LICENSE, b")
+    ∷ []
 
 -- ---- labels
 
@@ -36,12 +59,12 @@ abbrev both_of : ExpressionView
 both_of = record { text = codes "MIT AND ISC"; terms = term (codes "MIT") 1 0 3 ∷ term (codes "ISC") 3 8 11 ∷ []; tree = both (leaf 0) (leaf 1) }
 
 -- in the first file, from a byte on
-abbrev at_byte : ℕ → ExprPlace
-at_byte offset = record { file_id = 0; offset = offset; whole = None }
+abbrev at_byte : ℕ → LicenseExprSource → LicenseExprInfo
+at_byte offset source = record { file_id = 0; offset = offset; whole = None; source = source }
 
 -- in the second file, as a string with escapes
-abbrev escaped : ℕ → ℕ → ExprPlace
-escaped start end = record { file_id = 1; offset = start; whole = Some (from_to start end) }
+abbrev escaped : ℕ → ℕ → LicenseExprSource → LicenseExprInfo
+escaped start end source = record { file_id = 1; offset = start; whole = Some (from_to start end); source = source }
 
 -- a label without the file
 pub record Seen : Type 0 where
@@ -58,18 +81,17 @@ all_seen file [] = []
 all_seen file (one ∷ more) = label_at one.style file (from_to one.start one.end) one.message ∷ all_seen file more
 
 pub record LabelRow : Type 0 where
-  pub at : ExprPlace
-  pub source : List ℕ
   pub expression : ExpressionView
+  pub nfo : LicenseExprInfo
   pub hits : List (Option Hit)
   pub labels : List Label
 
 -- what the definition makes of a row
 abbrev pub labelled : LabelRow → LabelRow
-labelled row = record { at = row.at; source = row.source; expression = row.expression; hits = row.hits; labels = labels_of row.at row.source row.expression row.hits }
+labelled row = record { expression = row.expression; nfo = row.nfo; hits = row.hits; labels = labels_of row.expression row.nfo row.hits }
 
-abbrev row : ExprPlace → List ℕ → ExpressionView → List (Option Hit) → List Seen → LabelRow
-row at source expression hits labels = record { at = at; source = source; expression = expression; hits = hits; labels = all_seen at.file_id labels }
+abbrev row : LicenseExprInfo → ExpressionView → List (Option Hit) → List Seen → LabelRow
+row nfo expression hits labels = record { expression = expression; nfo = nfo; hits = hits; labels = all_seen nfo.file_id labels }
 
 abbrev allowed : List ℕ
 allowed = codes "accepted: license is explicitly allowed"
@@ -80,27 +102,27 @@ excepted = codes "accepted: allowed by exception"
 abbrev not_allowed : List ℕ
 not_allowed = codes "rejected: license is not explicitly allowed"
 
-abbrev manifest : List ℕ
-manifest = codes "Cargo.toml `license`"
+abbrev manifest : LicenseExprSource
+manifest = Metadata None
 
 abbrev pub label_rows : List LabelRow
 label_rows =
     -- the field of a manifest, whose text begins at byte 50
-    row (at_byte 50) manifest mit (Some (Allowed 0) ∷ [])
+    row (at_byte 50 manifest) mit (Some (Allowed 0) ∷ [])
     (seen Secondary 50 53 (codes "license expression retrieved via Cargo.toml `license`") ∷ seen Primary 50 53 allowed ∷ [])
-    ∷ row (at_byte 50) manifest mit (None ∷ [])
+    ∷ row (at_byte 50 manifest) mit (None ∷ [])
     (seen Secondary 50 53 (codes "license expression retrieved via Cargo.toml `license`") ∷ seen Primary 50 53 not_allowed ∷ [])
     -- an accepted expression has a term that is not allowed
-    ∷ row (at_byte 50) manifest slash (None ∷ Some (Allowed 0) ∷ [])
+    ∷ row (at_byte 50 manifest) slash (None ∷ Some (Allowed 0) ∷ [])
     (seen Secondary 50 64 (codes "license expression retrieved via Cargo.toml `license`") ∷ seen Primary 50 60 not_allowed ∷ seen Primary 61 64 allowed ∷ [])
     -- at the start of a file, by an exception
-    ∷ row (at_byte 0) (codes "user override") both_of (Some (Exception 2 1) ∷ Some (Allowed 3) ∷ [])
+    ∷ row (at_byte 0 UserOverride) both_of (Some (Exception 2 1) ∷ Some (Allowed 3) ∷ [])
     (seen Secondary 0 11 (codes "license expression retrieved via user override") ∷ seen Primary 0 3 excepted ∷ seen Primary 8 11 allowed ∷ [])
     -- written with escapes: each label is the whole string
-    ∷ row (escaped 30 38) (codes "user override") both_of (None ∷ Some (Exception 0 0) ∷ [])
+    ∷ row (escaped 30 38 UserOverride) both_of (None ∷ Some (Exception 0 0) ∷ [])
     (seen Secondary 30 38 (codes "license expression retrieved via user override") ∷ seen Primary 30 38 not_allowed ∷ seen Primary 30 38 excepted ∷ [])
     -- a term behind the end of the hits has none
-    ∷ row (at_byte 7) (codes "license files: COPYING, LICENSE") both_of (Some (Allowed 0) ∷ [])
+    ∷ row (at_byte 7 (LicenseFiles (codes "COPYING" ∷ codes "LICENSE" ∷ []))) both_of (Some (Allowed 0) ∷ [])
     (seen Secondary 7 18 (codes "license expression retrieved via license files: COPYING, LICENSE") ∷ seen Primary 7 10 allowed ∷ seen Primary 15 18 not_allowed ∷ [])
     ∷ []
 

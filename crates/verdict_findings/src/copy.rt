@@ -2,21 +2,9 @@
 ghost use Rattle.std.specs.Prelude.{◌≡◌, IfOk};
 
 use deny_text::Text;
+use deny_text::text::copied_text;
 use diag_core::{Diag, Diagnostic, GraphNode, GraphNodes, Label, LabelStyle, Labels, Notes};
 use std::alloc::{AllocError, Global};
-
-/// A copy of a text that may be there.
-fn text_copy(alloc: Global, text: &Option<Text>) -> Result<Option<Text>, AllocError>
-    ensures { IfOk result (λ copy. copy ≡ text.now) }
-{
-    match text {
-        None => Ok(None),
-        Some(text) => {
-            let copy = Text::copy(alloc, text.as_str())?;
-            Ok(Some(copy))
-        }
-    }
-}
 
 fn label_copy(alloc: Global, label: &Label) -> Result<Label, AllocError>
     ensures { IfOk result (λ copy. copy ≡ label.now) }
@@ -55,7 +43,7 @@ fn node_copy(alloc: Global, node: &GraphNode) -> Result<GraphNode, AllocError>
     ensures { IfOk result (λ copy. copy ≡ node.now) }
 {
     let kid = Text::copy(alloc, node.kid.as_str())?;
-    let feature = text_copy(alloc, &node.feature)?;
+    let feature = copied_text(alloc, &node.feature)?;
     Ok(GraphNode { kid, feature })
 }
 
@@ -74,7 +62,7 @@ fn diagnostic_copy(alloc: Global, diag: &Diagnostic) -> Result<Diagnostic, Alloc
     ensures { IfOk result (λ copy. copy ≡ diag.now) }
 {
     let mut copy = Diagnostic::new(alloc, diag.severity).with_message(diag.message.as_str())?;
-    copy.code = text_copy(alloc, &diag.code)?;
+    copy.code = copied_text(alloc, &diag.code)?;
     copy.labels = labels_copy(alloc, diag.labels.items())?;
     copy.notes = notes_copy(alloc, diag.notes.items())?;
     Ok(copy)

@@ -5,10 +5,12 @@ ghost use Rattle.verdict_findings.specs.Findings as spec;
 ghost use Rattle.verdict_findings.specs.Findings.{hit_text, labels_of};
 ghost use Rattle.verdict_findings.specs.Places.{Fits, TermHasRoom};
 
-use crate::place::ExprPlace;
+use crate::place::span_at;
+use crate::source::source_text;
 use certificate_core::Hit;
 use deny_text::Span;
 use diag_core::{Label, Labels};
+use finding_core::LicenseExprInfo;
 use spdx_core::{Expression, ExpressionReq};
 use std::alloc::{AllocError, Global};
 
@@ -35,63 +37,63 @@ fn hit_at(hits: &[Option<Hit>], place: usize) -> Option<Hit>
 
 fn term_label(
     alloc: Global,
-    at: ExprPlace,
+    nfo: &LicenseExprInfo,
     term: &ExpressionReq,
     hit: Option<Hit>,
 ) -> Result<Label, AllocError>
-    requires { TermHasRoom at term.now }
-    ensures { IfOk result (λ label. label ≡ spec.term_label at term.now.span hit) }
+    requires { TermHasRoom nfo.now term.now }
+    ensures { IfOk result (λ label. label ≡ spec.term_label nfo.now term.now.span hit) }
 {
-    let span = at.span(term.span);
-    Label::primary(alloc, at.file_id, span).with_message(said_of(hit))
+    let span = span_at(nfo, term.span);
+    Label::primary(alloc, nfo.file_id, span).with_message(said_of(hit))
 }
 
 /// Appends a label of each term, in order.
 fn push_terms(
     alloc: Global,
     labels: &mut Labels,
-    at: ExprPlace,
+    nfo: &LicenseExprInfo,
     terms: &[ExpressionReq],
     hits: &[Option<Hit>],
 ) -> Result<(), AllocError>
-    requires { All (TermHasRoom at) terms.now }
-    ensures { OnOk result (labels.new ≡ labels.old ++ spec.term_labels at terms.now hits.now) }
+    requires { All (TermHasRoom nfo.now) terms.now }
+    ensures { OnOk result (labels.new ≡ labels.old ++ spec.term_labels nfo.now terms.now hits.now) }
 {
     'terms: for (place, term) in terms.iter().enumerate() {
         let hit = hit_at(hits, place);
-        let label = term_label(alloc, at, term, hit)?;
+        let label = term_label(alloc, nfo, term, hit)?;
         labels.push(label)?;
     }
     Ok(())
 }
 
-fn whole_label(alloc: Global, at: ExprPlace, words: &str, source: &str) -> Result<Label, AllocError>
-    requires { Fits at (length words.now) }
-    ensures { IfOk result (λ label. label ≡ spec.whole_label at words.now source.now) }
+fn whole_label(alloc: Global, nfo: &LicenseExprInfo, words: &str) -> Result<Label, AllocError>
+    requires { Fits nfo.now (length words.now) }
+    ensures { IfOk result (λ label. label ≡ spec.whole_label nfo.now words.now) }
 {
+    let source = source_text(alloc, &nfo.source)?;
     let message = format!(in alloc; "license expression retrieved via {source}")?;
     let whole = Span {
         start: 0,
         end: words.len(),
     };
-    let span = at.span(whole);
-    Label::secondary(alloc, at.file_id, span).with_message(message.as_str())
+    let span = span_at(nfo, whole);
+    Label::secondary(alloc, nfo.file_id, span).with_message(message.as_str())
 }
 
-/// The labels of an expression that came from a source, with what allows each of its terms.
+/// The labels of an expression, with what allows each of its terms.
 pub(crate) fn labels(
     alloc: Global,
-    at: ExprPlace,
-    source: &str,
     expression: &Expression,
+    nfo: &LicenseExprInfo,
     hits: &[Option<Hit>],
 ) -> Result<Labels, AllocError>
-    requires { Fits at (length expression.now.text) }
-    ensures { IfOk result (λ labels. labels ≡ labels_of at source.now expression.now hits.now) }
+    requires { Fits nfo.now (length expression.now.text) }
+    ensures { IfOk result (λ labels. labels ≡ labels_of expression.now nfo.now hits.now) }
 {
     let mut labels = Labels::new(alloc);
-    let whole = whole_label(alloc, at, expression.as_ref(), source)?;
+    let whole = whole_label(alloc, nfo, expression.as_ref())?;
     labels.push(whole)?;
-    push_terms(alloc, &mut labels, at, expression.requirements(), hits)?;
+    push_terms(alloc, &mut labels, nfo, expression.requirements(), hits)?;
     Ok(labels)
 }

@@ -6,9 +6,11 @@ pub mod label;
 pub mod laws;
 pub mod pack;
 pub mod place;
+pub mod source;
 pub mod told;
 
 pub use copy::copied;
 pub use pack::pack_of;
-pub use place::ExprPlace;
-pub use told::{Retrieved, finding, judged, skipped, unlicensed};
+pub use place::fits;
+pub use source::source_text;
+pub use told::{finding, judged, skipped, unlicensed};

@@ -7,23 +7,14 @@ ghost use Rattle.verdict_findings.specs.Places.{Fits};
 
 use crate::copy::notes_copy;
 use crate::label::labels;
-use crate::place::ExprPlace;
 use certificate_core::Hit;
 use deny_text::Text;
 use diag_core::licenses::Code;
 use diag_core::{Diag, Diagnostic, DiagnosticCode, Labels, Notes, Severity};
+use finding_core::LicenseExprInfo;
 use graph_core::Krate;
 use spdx_core::Expression;
 use std::alloc::{AllocError, Global};
-
-/// A licence expression as it was retrieved.
-#[derive(Clone, Copy)]
-pub struct Retrieved<'a> {
-    pub expression: &'a Expression,
-    pub place: ExprPlace,
-    /// What it was retrieved via, in words.
-    pub source: &'a str,
-}
 
 /// What the licence check tells, about no crate yet.
 pub fn finding(
@@ -77,22 +68,16 @@ fn judged_by(
 pub fn judged(
     alloc: Global,
     accepted: bool,
-    retrieved: &Retrieved<'_>,
+    expression: &Expression,
+    nfo: &LicenseExprInfo,
     hits: &[Option<Hit>],
     notes: &[Text],
 ) -> Result<Diag, AllocError>
-    requires { Fits retrieved.now.place (length retrieved.now.expression.now.text) }
-    ensures { let labels = labels_of retrieved.now.place retrieved.now.source.now
-        retrieved.now.expression.now hits.now in
+    requires { Fits nfo.now (length expression.now.text) }
+    ensures { let labels = labels_of expression.now nfo.now hits.now in
         IfOk result (λ told. told ≡ spec.judged accepted labels notes.now) }
 {
-    let labels = labels(
-        alloc,
-        retrieved.place,
-        retrieved.source,
-        retrieved.expression,
-        hits,
-    )?;
+    let labels = labels(alloc, expression, nfo, hits)?;
     let notes = notes_copy(alloc, notes)?;
     judged_by(alloc, accepted, labels, notes)
 }

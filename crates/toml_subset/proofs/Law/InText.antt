@@ -4,9 +4,11 @@ use Rattle.std.proofs.lemmas.Bool.Decides.{nat_tests}
 use Rattle.std.proofs.lemmas.List.Sums.{prefix_len-le-length}
 use Rattle.std.specs.List.{prefix_len}
 use Rattle.toml_subset.specs.Answer.{Read, fault_at, stuck, then_read, unless}
-use Rattle.toml_subset.specs.Bytes.{quote, apostrophe, backslash, dot, equals, hash, comma, open_bracket, close_bracket, open_brace, close_brace, is_bare, is_run, may_stand, goes_on}
+use Rattle.deny_text.specs.Character.{goes_on}
+use Rattle.toml_subset.specs.Bytes.{quote, apostrophe, backslash, dot, equals, hash, comma, open_bracket, close_bracket, open_brace, close_brace, is_bare, is_run, may_stand}
 use Rattle.toml_subset.specs.Data.{depth_limit}
-use Rattle.toml_subset.specs.Faults.{begins_number, LiesIn}
+use Rattle.deny_text.specs.Spans.{LiesIn}
+use Rattle.toml_subset.specs.Faults.{begins_number}
 use Rattle.toml_subset.specs.Keys.{IsKey, AreKeys}
 use Rattle.toml_subset.specs.Lines.{Document, no_lines}
 use Rattle.toml_subset.specs.Numbers.{Class, unsupported, number_form, number_range, integer, decimal, class_of, is_digit_in}

@@ -1,11 +1,15 @@
 //! The tables that the lines of a text make.
-ghost use Rattle.std.specs.Prelude.{◌≡◌, ◌+◌, ◌≤◌, length, None};
+ghost use Rattle.std.specs.Prelude.{◌≡◌, ◌+◌, ◌≤◌, length, Some, None, IsTrue, IfOk, option_map};
+ghost use Rattle.toml_subset.specs.Answer.{Answers};
 ghost use Rattle.toml_subset.specs.Data.{depth_limit};
 ghost use Rattle.toml_subset.specs.TableFaults.{put_fault};
-ghost use Rattle.toml_frames.specs.Levels.{refusal};
+ghost use Rattle.toml_subset.specs.Tables.{Node};
+ghost use Rattle.toml_frames.specs.Levels.{refusal, found_at, replaced, hole as hole_at, opened as opened_in};
+ghost use Rattle.toml_value.specs.AroundViews.{opened_view, or_redefined, is_whole_around};
+ghost use Rattle.toml_value.specs.BranchViews.{branches_view, is_whole};
 ghost use Rattle.toml_value.specs.TreeViews.{tree_view};
 
-use super::levels::{Level, fresh, opened};
+use super::levels::{Around, Level, fresh, opened};
 use super::{Awaiting, Branches, Tree, hole};
 use crate::value::{Entries, Value};
 use key_index::KeyParts;
@@ -75,8 +79,17 @@ impl<'de> Document<'de> {
                 awaiting,
                 above,
             }),
-            Err(fault) => Err(fault),
+            Err(fault) => {
+                let_levels_go(around);
+                Err(fault)
+            }
         }
+    }
+
+    /// Lets the document go.
+    pub(crate) fn let_go(self) {
+        let Document { around, body, .. } = self;
+        let_way_go(around, body.into_root());
     }
 
     /// The document with the root as the open table.
@@ -130,7 +143,7 @@ impl<'de> Document<'de> {
         ensures { Answers cursor_view (into_part part key.entry (cursor_view self.entry)) result }
     {
         match self.body.find(&key) {
-            Some(place) => self.enter_old(alloc, key, part, place),
+            Some(place) => self.enter_old(alloc, &key, part, place),
             None => self.enter_new(alloc, key, part),
         }
     }
@@ -139,13 +152,14 @@ impl<'de> Document<'de> {
     fn enter_old(
         self,
         alloc: Global,
-        key: Key<'de>,
+        key: &Key<'_>,
         part: Part,
         place: usize,
     ) -> Result<Document<'de>, TomlError>
         requires shallow { IsShallow (cursor_view self) }
-        requires found { option_map (λ found. found.0) (found_at key (cursor_view self).here) ≡ Some place }
-        ensures { Answers cursor_view (into_part part key.entry (cursor_view self.entry)) result }
+        requires found { option_map (λ found. found.0) (found_at key.now (cursor_view self).here)
+            ≡ Some place }
+        ensures { Answers cursor_view (into_part part key.now (cursor_view self.entry)) result }
     {
         let Document {
             around,
@@ -153,17 +167,21 @@ impl<'de> Document<'de> {
             above,
         } = self;
         let mut table = body.into_root();
-        let node = table.take(place, &key);
-        let Some((kind, inner)) = opened(alloc, part, node)? else {
-            return Err(TomlError::Syntax(refuse(SyntaxReason::RedefinedTable, &key)));
-        };
-        let level = Level {
-            table,
-            place,
-            around: kind,
-        };
-        let document = Document::further(around, above, level, inner)?;
-        Ok(document)
+        match take_opened(alloc, &mut table, place, key, part) {
+            Ok((kind, inner)) => {
+                let level = Level {
+                    table,
+                    place,
+                    around: kind,
+                };
+                let document = Document::further(around, above, level, inner)?;
+                Ok(document)
+            }
+            Err(error) => {
+                let_way_go(around, table);
+                Err(error)
+            }
+        }
     }
 
     /// A part of a header whose key the open table does not have.
@@ -177,20 +195,29 @@ impl<'de> Document<'de> {
             body,
             above,
         } = self;
+        let root = body.into_root();
         let Some(kind) = fresh(alloc, part, &key, above) else {
+            let_way_go(around, root);
             return Err(TomlError::Syntax(refuse(SyntaxReason::TooDeep, &key)));
         };
-        let table = body.into_root();
-        let place = table.size();
+        let place = root.size();
         let empty = hole(&key);
-        let table = table.with(alloc, key, empty)?;
-        let level = Level {
-            table,
-            place,
-            around: kind,
-        };
-        let document = Document::further(around, above, level, Branches::new(alloc))?;
-        Ok(document)
+        match root.with(alloc, key, empty) {
+            Ok(table) => {
+                let level = Level {
+                    table,
+                    place,
+                    around: kind,
+                };
+                let document = Document::further(around, above, level, Branches::new(alloc))?;
+                Ok(document)
+            }
+            Err(_) => {
+                kind.let_go();
+                let_levels_go(around);
+                Err(TomlError::Memory)
+            }
+        }
     }
 
     /// The table of a header, whose last part this is, as the open one. Where it is refused, nothing is left.
@@ -255,14 +282,64 @@ impl<'de> Pending<'de> {
             awaiting,
             above,
         } = self;
-        let body = awaiting.put(alloc, value)?;
-        Ok(Document {
+        match awaiting.put(alloc, value) {
+            Ok(body) => Ok(Document {
+                around,
+                body,
+                above,
+            }),
+            Err(error) => {
+                let_levels_go(around);
+                Err(error)
+            }
+        }
+    }
+
+    /// Lets the document and the key go.
+    pub(crate) fn let_go(self) {
+        let Pending {
             around,
-            body,
-            above,
-        })
+            awaiting,
+            ..
+        } = self;
+        let_levels_go(around);
+        awaiting.let_go();
     }
 }
+
+/// Takes out what a part of a header opens at the place of its key.
+fn take_opened<'de>(
+    alloc: Global,
+    table: &mut Branches<'de>,
+    place: usize,
+    key: &Key<'_>,
+    part: Part,
+) -> Result<(Around<'de>, Branches<'de>), TomlError>
+    requires whole { IsTrue (is_whole table.old) }
+    requires found { option_map (λ found. found.0) (found_at key.now (branches_view table.old)) ≡ Some place }
+    ensures opened { (node : Node) → found_at key.now (branches_view table.old) ≡ Some (place, node)
+        → Answers opened_view (or_redefined key.now (opened_in part node)) result }
+    ensures left { branches_view table.new ≡ replaced place (hole_at key.now) (branches_view table.old) }
+    ensures whole { IsTrue (is_whole table.new) }
+    ensures around { IfOk result (λ found. IsTrue (is_whole_around found.0)) }
+    ensures inner { IfOk result (λ found. IsTrue (is_whole found.1)) }
+{
+    let node = table.take(place, key);
+    let seen = opened(alloc, part, node)?;
+    match seen {
+        Some(found) => Ok(found),
+        None => Err(TomlError::Syntax(refuse(SyntaxReason::RedefinedTable, key))),
+    }
+}
+
+/// Lets the levels of a way and the table at its end go.
+fn let_way_go(around: Vec<Level<'_>>, table: Branches<'_>) {
+    let_levels_go(around);
+    table.let_go();
+}
+
+/// Lets levels go.
+fn let_levels_go(_around: Vec<Level<'_>>) {}
 
 /// The fault at a part of a header.
 fn refuse(reason: SyntaxReason, key: &Key<'_>) -> SyntaxError

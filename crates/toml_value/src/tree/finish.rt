@@ -1,11 +1,15 @@
 //! What a table came to.
-ghost use Rattle.std.specs.Prelude.{◌≡◌, map, IfOk};
+ghost use Rattle.std.specs.Prelude.{◌≡◌, ◌∷◌, List, map, IfOk, OnOk};
 ghost use Rattle.toml_subset.specs.Tables.{entries_of};
 ghost use Rattle.toml_value.specs.BranchViews.{node_view, branches_view, body_view, body_items, finished};
+ghost use Rattle.toml_value.specs.FinishViews.{followed, left_of, array_with};
 ghost use Rattle.toml_value.specs.Views.{value_view, values_view, entries_view};
+ghost use Rattle.toml_value.specs.declared.tree.Node.{Node as NodeOf};
 
 use super::{Body, Branches, Node};
 use crate::value::{Entries, Value, ValueInner, Values};
+use deny_text::Span;
+use key_index::KeyParts;
 use std::alloc::{AllocError, Global};
 
 /// What stands at a key, as a value.
@@ -19,13 +23,34 @@ fn into_value<'de>(alloc: Global, node: Node<'de>) -> Result<Value<'de>, AllocEr
             let entries = into_entries(alloc, inner)?;
             Ok(Value::new(ValueInner::Table(entries), span))
         }
-        Node::Tables(span, before, last, inner) => {
-            let mut items = into_items(alloc, before)?;
-            let entries = into_entries(alloc, inner)?;
-            items.push(Value::new(ValueInner::Table(entries), last))?;
-            Ok(Value::new(ValueInner::Array(items), span))
-        }
+        Node::Tables(span, before, last, inner) => match into_items(alloc, before) {
+            Ok(items) => match into_entries(alloc, inner) {
+                Ok(entries) => into_array(span, items, last, entries),
+                Err(error) => {
+                    items.let_go();
+                    Err(error)
+                }
+            },
+            Err(error) => {
+                inner.let_go();
+                Err(error)
+            }
+        },
     }
+}
+
+/// The array of some items and a last one, a table.
+fn into_array<'de>(
+    span: Span,
+    items: Values<'de>,
+    last: Span,
+    entries: Entries<'de>,
+) -> Result<Value<'de>, AllocError>
+    ensures { IfOk result (λ value. value_view value
+        ≡ array_with span (values_view items.entry) last (entries_view entries.entry)) }
+{
+    let all = items.with(Value::new(ValueInner::Table(entries), last))?;
+    Ok(Value::new(ValueInner::Array(all), span))
 }
 
 /// Tables of an array of tables.
@@ -55,10 +80,26 @@ pub(crate) fn into_entries<'de>(
     let mut keys = keys.into_parts();
     let mut entries = Entries::new(alloc);
     'nodes: for node in nodes {
-        let Some(key) = keys.next() else {
-            return Ok(entries);
-        };
-        entries.push(key, into_value(alloc, node)?)?;
+        let value = into_value(alloc, node)?;
+        push_value(&mut entries, &mut keys, value)?;
     }
     Ok(entries)
+}
+
+/// A further entry of a table, at the first key that is left. A value without a key is no entry.
+fn push_value<'de>(
+    entries: &mut Entries<'de>,
+    keys: &mut KeyParts<'de>,
+    value: Value<'de>,
+) -> Result<(), AllocError>
+    ensures { (node : NodeOf) (nodes : List NodeOf) → value_view value.entry ≡ finished (node_view node)
+        → OnOk result (followed (entries_view entries.old) (left_of keys.old (node ∷ nodes))
+        ≡ followed (entries_view entries.new) (left_of keys.new nodes)) }
+{
+    let Some(key) = keys.next() else {
+        value.let_go();
+        return Ok(());
+    };
+    entries.push(key, value)?;
+    Ok(())
 }

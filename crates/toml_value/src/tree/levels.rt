@@ -1,5 +1,5 @@
 //! Tables that are taken out of one another, and put back.
-ghost use Rattle.std.specs.Prelude.{◌≡◌, ◌<◌, length, IsTrue, IfOk, IfSome, option_map};
+ghost use Rattle.std.specs.Prelude.{◌≡◌, ◌<◌, ◌++◌, [], ◌∷◌, length, IsTrue, IfOk, IfSome, option_map};
 ghost use Rattle.toml_frames.specs.Levels.{steps_in, around_node, opened as opened_in, fresh as fresh_in};
 ghost use Rattle.toml_value.specs.BranchViews.{node_view, branches_view, is_whole, is_whole_node};
 ghost use Rattle.toml_value.specs.AroundViews.{around_view, is_whole_around, opened_view};
@@ -46,6 +46,9 @@ impl<'de> Around<'de> {
         }
     }
 
+    /// Lets go what stands around the table.
+    pub(crate) fn let_go(self) {}
+
     /// What stands there with the table put back.
     fn with(self, inner: Branches<'de>) -> Node<'de>
         requires around { IsTrue (is_whole_around self) }
@@ -77,7 +80,7 @@ impl<'de> Level<'de> {
             place,
             around,
         } = self;
-        table.replace(place, around.with(inner));
+        table.put_back(place, around.with(inner));
         table
     }
 }
@@ -90,7 +93,10 @@ fn opened_through(node: Node<'_>) -> Opened<'_>
     ensures inner { IfSome result (λ o. IsTrue (is_whole o.1)) }
 {
     match node {
-        Node::Closed(_) => None,
+        Node::Closed(value) => {
+            value.let_go();
+            None
+        }
         Node::Growing(span, mark, inner) => Some((Around::Alone(span, mark), inner)),
         Node::Tables(span, before, last, inner) => {
             Some((Around::Behind(span, before, last), inner))
@@ -107,8 +113,20 @@ fn taken_over(node: Node<'_>, at: Span) -> Opened<'_>
 {
     match node {
         Node::Growing(_, Mark::Implicit, inner) => Some((Around::Alone(at, Mark::Header), inner)),
-        _ => None,
+        other => {
+            other.let_go();
+            None
+        }
     }
+}
+
+/// The tables of an array of tables, and a further one.
+fn with_body<'de>(before: Vec<Body<'de>>, body: Body<'de>) -> Result<Vec<Body<'de>>, AllocError>
+    ensures { IfOk result (λ new. new.items ≡ before.entry.items ++ body.entry ∷ []) }
+{
+    let mut before = before;
+    before.push(body)?;
+    Ok(before)
 }
 
 /// A further table of an array of tables.
@@ -121,14 +139,17 @@ fn appended(alloc: Global, node: Node<'_>, at: Span) -> Result<Opened<'_>, Alloc
 {
     match node {
         Node::Tables(span, before, last, inner) => {
-            let mut before = before;
-            before.push(Body {
+            let body = Body {
                 span: last,
                 table: inner,
-            })?;
-            Ok(Some((Around::Behind(span, before, at), Branches::new(alloc))))
+            };
+            let tables = with_body(before, body)?;
+            Ok(Some((Around::Behind(span, tables, at), Branches::new(alloc))))
         }
-        _ => Ok(None),
+        other => {
+            other.let_go();
+            Ok(None)
+        }
     }
 }
 

@@ -1,11 +1,15 @@
 //! A value at the end of a dotted key.
-ghost use Rattle.std.specs.Prelude.{◌≡◌, ◌∷◌, Some, true, is_some, IsTrue, IfOk, IfSome, option_map};
+ghost use Rattle.std.specs.Prelude.{◌≡◌, ◌<◌, ◌∷◌, length, Some, true, is_some, IsTrue, IfOk, IfSome};
+ghost use Rattle.std.specs.Prelude.{option_map};
 ghost use Rattle.toml_subset.specs.Tables.{put};
+ghost use Rattle.toml_frames.specs.Levels.{found_at, replaced};
+ghost use Rattle.toml_value.specs.BelowViews.{LeadsOn, IsTakenOut, HasRoom, placed};
 ghost use Rattle.toml_value.specs.BranchViews.{node_view, branches_view, is_whole, is_whole_node, shut};
 ghost use Rattle.toml_value.specs.BranchViews.{parts_of_dotted};
+ghost use Rattle.toml_value.specs.declared.tree.Branches.{out-Branches};
 
 use super::{Branches, Mark, Node};
-use crate::value::{Value, ValueInner};
+use crate::value::Value;
 use deny_text::Span;
 use key_index::KeyParts;
 use std::alloc::{AllocError, Global};
@@ -20,8 +24,97 @@ fn dotted_parts(node: Node<'_>) -> Option<(Span, Branches<'_>)>
 {
     match node {
         Node::Growing(span, Mark::Dotted, inner) => Some((span, inner)),
-        _ => None,
+        other => {
+            other.let_go();
+            None
+        }
     }
+}
+
+/// What stands below a key that has further parts: the key's place, where its table has it, and the table there
+/// with its own place.
+struct Below<'de> {
+    place: Option<usize>,
+    span: Span,
+    table: Branches<'de>,
+}
+
+/// Takes the table below a key out, or makes one where nothing stands.
+fn take_below<'de>(alloc: Global, table: &mut Branches<'de>, key: &Key<'_>) -> Below<'de>
+    requires whole { IsTrue (is_whole table.old) }
+    requires leads { LeadsOn (found_at key.now (branches_view table.old)) }
+    ensures taken { IsTakenOut key.now (branches_view table.old) (branches_view table.new) result.place
+        result.span (branches_view result.table) }
+    ensures whole { IsTrue (is_whole table.new) }
+    ensures inner { IsTrue (is_whole result.table) }
+{
+    match table.find(key) {
+        Some(place) => below_at(table, place, key),
+        None => Below {
+            place: None,
+            span: key.span,
+            table: Branches::new(alloc),
+        },
+    }
+}
+
+/// The same of a key that its table has at a place.
+fn below_at<'de>(table: &mut Branches<'de>, place: usize, key: &Key<'_>) -> Below<'de>
+    requires whole { IsTrue (is_whole table.old) }
+    requires found { option_map (λ found. found.0) (found_at key.now (branches_view table.old)) ≡ Some place }
+    requires leads { LeadsOn (found_at key.now (branches_view table.old)) }
+    ensures taken { IsTakenOut key.now (branches_view table.old) (branches_view table.new) result.place
+        result.span (branches_view result.table) }
+    ensures whole { IsTrue (is_whole table.new) }
+    ensures inner { IsTrue (is_whole result.table) }
+{
+    match dotted_parts(table.take(place, key)) {
+        Some((span, inner)) => Below {
+            place: Some(place),
+            span,
+            table: inner,
+        },
+        None => unreachable!(),
+    }
+}
+
+/// The table with a node at a place, or behind all others at a further key where there is none.
+fn with_below<'de>(
+    alloc: Global,
+    table: Branches<'de>,
+    place: Option<usize>,
+    key: Key<'de>,
+    node: Node<'de>,
+) -> Result<Branches<'de>, AllocError>
+    requires whole { IsTrue (is_whole table) }
+    requires node { IsTrue (is_whole_node node) }
+    requires room { HasRoom place key (branches_view table) }
+    ensures view { IfOk result (λ new. branches_view new
+        ≡ placed place key.entry (node_view node.entry) (branches_view table.entry)) }
+    ensures whole { IfOk result (λ new. IsTrue (is_whole new)) }
+{
+    match place {
+        Some(place) => Ok(with_node(table, place, node)),
+        None => table.with(alloc, key, node),
+    }
+}
+
+/// The table with another node at a place.
+fn with_node<'de>(table: Branches<'de>, place: usize, node: Node<'de>) -> Branches<'de>
+    requires whole { IsTrue (is_whole table) }
+    requires node { IsTrue (is_whole_node node) }
+    requires inside { place < length (out-Branches table).nodes.items }
+    ensures view { branches_view result ≡ replaced place (node_view node.entry) (branches_view table.entry) }
+    ensures whole { IsTrue (is_whole result) }
+{
+    let mut table = table;
+    table.put_back(place, node);
+    table
+}
+
+/// Lets a table and a key go.
+fn let_go(table: Branches<'_>, _key: Key<'_>) {
+    table.let_go();
 }
 
 /// Puts a value at a key of which `rest` are the further parts, where the table rules let it stand.
@@ -42,17 +135,20 @@ pub(crate) fn put_along<'de>(
     let Some(next) = rest.next() else {
         return table.with(alloc, key, Node::Closed(value));
     };
-    let Some(place) = table.find(&key) else {
-        let span = key.span;
-        let inner = put_along(alloc, Branches::new(alloc), next, rest, value)?;
-        return table.with(alloc, key, Node::Growing(span, Mark::Dotted, inner));
-    };
     let mut table = table;
-    let hole = Node::Closed(Value::new(ValueInner::Boolean(false), key.span));
-    let Some((span, inner)) = dotted_parts(table.replace(place, hole)) else {
-        unreachable!()
-    };
-    let inner = put_along(alloc, inner, next, rest, value)?;
-    table.replace(place, Node::Growing(span, Mark::Dotted, inner));
-    Ok(table)
+    let Below {
+        place,
+        span,
+        table: below,
+    } = take_below(alloc, &mut table, &key);
+    match put_along(alloc, below, next, rest, value) {
+        Ok(inner) => {
+            let node = Node::Growing(span, Mark::Dotted, inner);
+            with_below(alloc, table, place, key, node)
+        }
+        Err(error) => {
+            let_go(table, key);
+            Err(error)
+        }
+    }
 }

@@ -62,6 +62,11 @@ impl<'de> Tree<'de> {
         Tree { root }
     }
 
+    /// Lets the table go.
+    pub(crate) fn let_go(self) {
+        self.root.let_go();
+    }
+
     pub(super) fn into_root(self) -> Branches<'de>
         ensures view { branches_view result ≡ tree_view self.entry }
         ensures whole { IsTrue (is_whole result) }
@@ -104,6 +109,12 @@ impl<'de> Awaiting<'de> {
     ghost use Rattle.toml_subset.specs.Tables.{put};
     ghost use Rattle.toml_value.specs.BranchViews.{shut};
     ghost use Rattle.toml_value.specs.TreeViews.{tree_view};
+
+    /// Lets the table and the key go.
+    pub(super) fn let_go(self) {
+        let Awaiting { tree, .. } = self;
+        tree.let_go();
+    }
 
     /// How many parts the key has.
     pub(crate) fn parts(&self) -> usize

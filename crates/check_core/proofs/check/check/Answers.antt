@@ -15,7 +15,7 @@ returns-clause-labels g c =
     let licenses = c.items-licenses.result.now in
     let placed : All (IsPlacedAt files) licenses = subst (All (IsPlacedAt files)) (sym c.items-licenses.ensures) c.requires.placed in
     let points = all_point files (policy_of policy) licenses c.most_nodes-nodes.ensures.facts placed in
-    any_gain files policy licenses c.args.sink.now c.check_licenses.new.sink c.check_licenses.result placed points c.check_licenses.ensures.packs c.check_licenses.ensures.front
+    any_gain files policy licenses c.args.sink.now c.judge_with_room.new.sink c.judge_with_room.result placed points c.judge_with_room.ensures.packs c.judge_with_room.ensures.front
 
 pub returns-clause-terms : goal.returns-clause-terms
 returns-clause-terms g c =

@@ -1,9 +1,15 @@
-use Rattle.std.proofs.Common.{Err, sym, subst}
+use Rattle.std.proofs.Common.{◌≡◌, Result, Ok, Err, sym, subst}
 use Rattle.std.proofs.lemmas.Result.{err_from_is_err_and}
 use Rattle.tree_core.specs.Faults.{Gained, GainedPrefix}
 use Rattle.tree_core.specs.Script.{FaultCounts, Written}
+use Rattle.heard_core.specs.declared.fault.ReadFault.TheVariants.{Absent}
 use Rattle.load_core.specs.Print.{HasReasonSince, printed_packs}
-use Rattle.deny_run.specs.Error.{error_of}
+use Rattle.print_core.specs.declared.printer.PrintError.{PrintError}
+use Rattle.print_core.specs.declared.printer.PrintError.TheVariants as print
+use Rattle.deny_run.specs.declared.error.Error.{Error}
+use Rattle.deny_run.specs.declared.error.Error.TheVariants.{ConfigRead, NotYet}
+use Rattle.deny_run.specs.declared.error.Part.TheVariants.{Words}
+use Rattle.deny_run.specs.Error.{error_of, error_of_print}
 use Rattle.deny_run.specs.Given.{given_of}
 use Rattle.deny_run.specs.Hearing.{seen}
 use Rattle.deny_run.specs.Script.{WritesFirst, plain_log}
@@ -30,6 +36,31 @@ returns-in-Err-clause-written g c =
     let new = g.E.Sink.written c.report.new.err in
     subst (λ error. WritesFirst given tree counts (record { out = out; err = old }) (record { out = out; err = new }) (Err error)) (sym c.from.ensures)
     (first_refused given tree counts out old new (error_of c.in-Err.refusal) c.in-Err.ensures.written)
+
+-- a finding that could not be printed refuses neither the words nor the policy
+words_apart : {T : Type 0} (result : Result T Error) (error : Error) (refused : PrintError) → result ≡ Err error → error ≡ error_of_print refused → result ≡ Err (NotYet Words) → ⊥
+words_apart result error print.Memory is of told = absurd (cc)
+words_apart result error (print.WriteFault before after) is of told = absurd (cc)
+
+policy_apart : {T : Type 0} (result : Result T Error) (error : Error) (refused : PrintError) → result ≡ Err error → error ≡ error_of_print refused → result ≡ Err (ConfigRead Absent) → ⊥
+policy_apart result error print.Memory is of told = absurd (cc)
+policy_apart result error (print.WriteFault before after) is of told = absurd (cc)
+
+no_refusal : {T : Type 0} (value : T) (error : Error) → (let it : Result T Error = Ok value in it) ≡ Err error → ⊥
+no_refusal value error is = absurd (cc)
+
+pub returns-in_err-print_packs-clause-words : goal.returns-in_err-print_packs-clause-words
+returns-in_err-print_packs-clause-words g c =
+    let p = err_from_is_err_and c.from_residual.result c.from_residual.ensures.1 in
+    (
+      λ told. absurd (words_apart c.from_residual.result p.0 c.in_err-print_packs.field-0.0 p.1 p.2 told),
+      λ none. absurd (no_refusal c.in-Ok.report (NotYet Words) (c.in-Ok.ensures.words.1 none)),
+    )
+
+pub returns-in_err-print_packs-clause-policy : goal.returns-in_err-print_packs-clause-policy
+returns-in_err-print_packs-clause-policy g c told =
+    let p = err_from_is_err_and c.from_residual.result c.from_residual.ensures.1 in
+    policy_apart c.from_residual.result p.0 c.in_err-print_packs.field-0.0 p.1 p.2 told
 
 -- what was found was printed in part
 pub returns-in_err-print_packs-clause-written : goal.returns-in_err-print_packs-clause-written

@@ -2,6 +2,7 @@
 use Rattle.std.proofs.Common.{Ok, Err, ◌∙◌, sym, subst, arith}
 use Rattle.std.proofs.lemmas.Result.{err_from_is_err_and}
 use Rattle.search_core.specs.Search.{search_cause}
+use Rattle.tree_core.proofs.MadeLemmas.{some-later}
 use Rattle.deny_run.specs.Error.{cause_of, error_of}
 use Rattle.deny_run.specs.Given.{given_of}
 use Rattle.deny_run.specs.Heard.{scanner_in}
@@ -10,7 +11,7 @@ use Rattle.deny_run.specs.Report.{LabelsLie}
 use Rattle.deny_run.specs.Script.{WritesLoad}
 use Rattle.deny_run.proofs.EndLemmas.{checks_at, counts_at, crates_end, ends_at, load_ends, report_ends}
 use Rattle.deny_run.proofs.ReportLemmas.{memory_before, search_writes, words_before}
-use Rattle.deny_run.proofs.StepLemmas.{made_later, since_begun}
+use Rattle.deny_run.proofs.StepLemmas.{since_begun}
 use Rattle.deny_run.proofs.run.report.Goals as goal
 
 -- ---- the words
@@ -132,7 +133,7 @@ returns-in_err-checked-clause-counts g c =
     let after = g.T.Tree.fault_count c.check_crates.new.tree in
     let refused = c.in_err-checked.field-0.0 in
     let early = c.in_ok-paths.ensures.later in
-    let then = made_later c.in_ok-policy.ensures.made in
+    let then = some-later c.in_ok-policy.ensures.made in
     let p = err_from_is_err_and c.from_residual-in_err-checked.result c.from_residual-in_err-checked.ensures.1 in
     rw (p.1, p.2)
     (since_begun begun middle after (cause_of (error_of refused)) (omega arith)
@@ -142,7 +143,7 @@ returns-in_err-checked-clause-counts g c =
 pub check_crates-requires-clause-begun : goal.check_crates-requires-clause-begun
 check_crates-requires-clause-begun g c =
     let early = c.in_ok-paths.ensures.later in
-    let then = made_later c.in_ok-policy.ensures.made in
+    let then = some-later c.in_ok-policy.ensures.made in
     let start = c.faults-begun.ensures in
     omega arith
 

@@ -6,11 +6,11 @@ use Rattle.graph_core.specs.Krate.{Record}
 use Rattle.priority_core.specs.Settled.{scanner_with}
 use Rattle.selection_core.specs.Listed.{record_behind}
 use Rattle.pack_core.specs.Calls.{IsFront}
+use Rattle.pack_core.proofs.CallLemmas.{on_err}
 use Rattle.finding_core.proofs.GrowLemmas.{grows_itself}
 use Rattle.gather_core.specs.Calls.{AreTurnsByReads}
 use Rattle.gather_core.specs.Gathered.{krate_of}
 use Rattle.gather_core.specs.Premises.{Grows, IsPlacedAt}
-use Rattle.gather_core.proofs.CallLemmas.{on_err}
 use Rattle.gather_core.proofs.GatheredLemmas.{map_push}
 use Rattle.gather_core.proofs.PlacedLemmas.{entries_grown, grows_then, licenses_grown}
 use Rattle.gather_core.proofs.TurnCalls.{front_next, no_turns, starves_next, starves_told, turns_then}

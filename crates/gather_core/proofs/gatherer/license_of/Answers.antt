@@ -2,6 +2,7 @@ use Rattle.std.proofs.Common.{◌≡◌, ◌∙◌, List, map, refl, sym, ap, su
 use Rattle.std.specs.List.{All}
 use Rattle.graph_core.specs.Krate.{record_of}
 use Rattle.pack_core.specs.Ears.{ears_by}
+use Rattle.pack_core.proofs.CallLemmas.{on_err}
 use Rattle.location_core.specs.Calls.{manifest_by}
 use Rattle.priority_core.specs.Clarification.{Clarification, behind}
 use Rattle.priority_core.specs.Settled.{scanner_with}
@@ -12,7 +13,7 @@ use Rattle.gather_core.specs.Entries.{clarifications_of}
 use Rattle.gather_core.specs.Premises.{IsPlacedIn, TextIs}
 use Rattle.gather_core.specs.Taken.{IsTaken, turn_with}
 use Rattle.gather_core.specs.Turns.{field_text, records_in}
-use Rattle.gather_core.proofs.CallLemmas.{on_err, starves_before, starves_behind}
+use Rattle.gather_core.proofs.CallLemmas.{starves_before, starves_behind}
 use Rattle.gather_core.proofs.PlacedLemmas.{for_krate, grows_then, held_taken, missing_taken}
 use Rattle.gather_core.proofs.ToldLemmas.{text_settles}
 use Rattle.gather_core.proofs.TurnCalls.{license_answered}

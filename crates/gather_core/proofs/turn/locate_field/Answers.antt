@@ -1,8 +1,8 @@
 use Rattle.std.proofs.Common.{◌≡◌, ◌∙◌, ℕ, List, Some, is_some, sym, ap}
-use Rattle.std.proofs.lemmas.Result.{IfOk-weaker}
+use Rattle.std.proofs.lemmas.Result.{IfOk-weaker, on_err_weaker}
 use Rattle.graph_core.specs.Krate.{record_of}
 use Rattle.finding_core.proofs.GrowLemmas.{grows_itself}
-use Rattle.gather_core.proofs.CallLemmas.{grows_located_by, none_located, on_err-weaker, own_located, own_starved}
+use Rattle.gather_core.proofs.CallLemmas.{grows_located_by, none_located, own_located, own_starved}
 use Rattle.gather_core.proofs.turn.locate_field.Goals as goal
 
 pub returns-in-Some-clause-answered : goal.returns-in-Some-clause-answered
@@ -15,7 +15,7 @@ pub returns-in-Some-clause-no_memory : goal.returns-in-Some-clause-no_memory
 returns-in-Some-clause-no_memory g c =
     let krate = record_of c.args.krate.now in
     let license : krate.license ≡ Some c.as_str.result.now = c.in-Some.is ∙ ap (λ (field : List ℕ). Some field) (sym c.as_str.ensures) in
-    on_err-weaker c.locate.result _ _ (own_starved krate c.as_str.result.now c.args.files.now license) c.locate.ensures.no_memory
+    on_err_weaker c.locate.result (own_starved krate c.as_str.result.now c.args.files.now license) c.locate.ensures.no_memory
 
 -- the manifest is not asked for
 pub returns-in-None-clause-answered : goal.returns-in-None-clause-answered

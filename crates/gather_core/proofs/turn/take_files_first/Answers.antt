@@ -5,7 +5,8 @@ use Rattle.graph_core.specs.Krate.{record_of}
 use Rattle.priority_core.specs.Clarification.{behind}
 use Rattle.priority_core.specs.Settled.{scanner_with}
 use Rattle.finding_core.proofs.GrowLemmas.{grows_itself}
-use Rattle.gather_core.proofs.CallLemmas.{on_err, own_last, starves_last, starves_last_locating, starves_taken}
+use Rattle.pack_core.proofs.CallLemmas.{on_err}
+use Rattle.gather_core.proofs.CallLemmas.{own_last, starves_last, starves_last_locating, starves_taken}
 use Rattle.gather_core.proofs.turn.take_files_first.Goals as goal
 
 pub returns-clause-answered : goal.returns-clause-answered

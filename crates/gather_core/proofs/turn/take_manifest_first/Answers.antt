@@ -4,7 +4,8 @@ use Rattle.tree_core.specs.declared.reads.ReadRecord.{ReadRecord}
 use Rattle.graph_core.specs.Krate.{record_of}
 use Rattle.priority_core.specs.Clarification.{behind}
 use Rattle.priority_core.specs.Settled.{scanner_with}
-use Rattle.gather_core.proofs.CallLemmas.{on_err, own_first, starves_first, starves_first_settling, starves_taken}
+use Rattle.pack_core.proofs.CallLemmas.{on_err}
+use Rattle.gather_core.proofs.CallLemmas.{own_first, starves_first, starves_first_settling, starves_taken}
 use Rattle.gather_core.proofs.turn.take_manifest_first.Goals as goal
 
 pub returns-clause-answered : goal.returns-clause-answered

@@ -1,6 +1,6 @@
 use Rattle.std.proofs.Common.{◌-◌, length, sym, ap, ◌∙◌, rules, arith}
 use Rattle.std.specs.Option.{option_map}
-use Rattle.manifest_core.specs.SpanSearch.{moved}
+use Rattle.deny_text.specs.Spans.{moved}
 use Rattle.manifest_core.proofs.SpanLemmas.{next_key, value_found, none_at_all}
 use Rattle.manifest_core.proofs.span_search.license_span.Goals as goal
 

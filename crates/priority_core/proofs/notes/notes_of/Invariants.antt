@@ -1,6 +1,6 @@
 use Rattle.std.proofs.Common.{◌≡◌, take}
 use Rattle.std.specs.List.{flat_map}
-use Rattle.priority_core.specs.Priority.{file_notes}
+use Rattle.priority_core.specs.Notes.{file_notes}
 use Rattle.priority_core.proofs.notes.notes_of.Given as goal
 
 abbrev pub invariant-files : goal.invariant-files

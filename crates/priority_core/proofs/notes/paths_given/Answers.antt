@@ -2,8 +2,8 @@ use Rattle.std.proofs.Common.{take, sym, ap, ◌∙◌, ◌∷◌, [], ◌++◌}
 use Rattle.std.specs.Option.{option_to_list}
 use Rattle.std.proofs.lemmas.List.{take_more}
 use Rattle.expression_core.specs.declared.files.ScannedFile.{ScannedFile}
-use Rattle.priority_core.specs.Priority as spec
-use Rattle.priority_core.specs.Priority.{path_given}
+use Rattle.priority_core.specs.Notes as spec
+use Rattle.priority_core.specs.Notes.{path_given}
 use Rattle.priority_core.proofs.NotesLemmas.{paths_push}
 use Rattle.priority_core.proofs.notes.paths_given.Goals as goal
 

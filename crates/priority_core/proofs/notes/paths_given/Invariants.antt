@@ -1,5 +1,5 @@
 use Rattle.std.proofs.Common.{◌≡◌, take}
-use Rattle.priority_core.specs.Priority as spec
+use Rattle.priority_core.specs.Notes as spec
 use Rattle.priority_core.proofs.notes.paths_given.Given as goal
 
 abbrev pub invariant-files : goal.invariant-files

@@ -2,10 +2,10 @@ use Rattle.std.proofs.Common.{◌≡◌, ◌∙◌, List, ℕ, subst, map, optio
 use Rattle.graph_core.specs.Krate.{record_of}
 use Rattle.pack_core.specs.Calls.{IsMadeBy}
 use Rattle.pack_core.specs.Steps.{Begins}
-use Rattle.pack_core.proofs.CallLemmas.{made_then}
+use Rattle.pack_core.proofs.CallLemmas.{made_then, on_err}
 use Rattle.priority_core.specs.Clarification.{behind}
 use Rattle.priority_core.specs.Priority.{folder_of}
-use Rattle.priority_core.proofs.CallLemmas.{on_err, starves_beginning, starves_looking}
+use Rattle.priority_core.proofs.CallLemmas.{starves_beginning, starves_looking}
 use Rattle.priority_core.proofs.LookedLemmas.{looked}
 use Rattle.priority_core.proofs.settle.look.Goals as goal
 

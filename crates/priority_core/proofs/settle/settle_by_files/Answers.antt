@@ -1,10 +1,11 @@
 use Rattle.std.proofs.Common.{refl, sym, map, ◌∙◌}
 use Rattle.graph_core.specs.Krate.{record_of}
 use Rattle.pack_core.specs.Ears.{ears_by}
+use Rattle.pack_core.proofs.CallLemmas.{on_err}
 use Rattle.priority_core.specs.declared.settle.Settled.{Settled}
 use Rattle.priority_core.specs.Clarification.{behind}
 use Rattle.priority_core.specs.Settled.{scanner_with}
-use Rattle.priority_core.proofs.CallLemmas.{on_err, starves_looked}
+use Rattle.priority_core.proofs.CallLemmas.{starves_looked}
 use Rattle.priority_core.proofs.LookedLemmas.{ordered}
 use Rattle.priority_core.proofs.settle.settle_by_files.Goals as goal
 

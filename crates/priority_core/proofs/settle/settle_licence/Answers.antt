@@ -1,5 +1,5 @@
 use Rattle.std.proofs.Common.{◌≡◌, ◌∙◌, true, false, [], map, sym, ap, rules}
-use Rattle.std.proofs.lemmas.Result.{IfOk-weaker}
+use Rattle.std.proofs.lemmas.Result.{IfOk-weaker, on_err_weaker}
 use Rattle.graph_core.specs.Krate.{record_of}
 use Rattle.pack_core.specs.Ears.{ears_by}
 use Rattle.reads_core.proofs.ReadLemmas.{no_reads}
@@ -7,7 +7,7 @@ use Rattle.priority_core.specs.declared.settle.Settled.{Settled}
 use Rattle.priority_core.specs.Clarification.{behind}
 use Rattle.priority_core.specs.Priority.{folder_of}
 use Rattle.priority_core.specs.Settled.{scanner_with}
-use Rattle.priority_core.proofs.CallLemmas.{on_err-weaker, starves_at_files}
+use Rattle.priority_core.proofs.CallLemmas.{starves_at_files}
 use Rattle.priority_core.proofs.LookedLemmas.{looks_for_none, looks_for_some, settled_by_field, settled_by_files}
 use Rattle.priority_core.proofs.settle.settle_licence.Goals as goal
 
@@ -32,7 +32,7 @@ returns-then-not-is_nothing-clause-no_memory g c =
     let krate = record_of c.args.krate.now in
     let all = map behind c.args.clarifications.now in
     let off : c.is_nothing.result ≡ false = search rules in
-    on_err-weaker c.settle_by_files.result _ _ (starves_at_files scanner all krate (looks_for_some scanner all krate (sym c.is_nothing.ensures ∙ off))) c.settle_by_files.ensures.no_memory
+    on_err_weaker c.settle_by_files.result (starves_at_files scanner all krate (looks_for_some scanner all krate (sym c.is_nothing.ensures ∙ off))) c.settle_by_files.ensures.no_memory
 
 pub returns-in-None-clause-answered : goal.returns-in-None-clause-answered
 returns-in-None-clause-answered g c =
@@ -53,7 +53,7 @@ returns-in-None-clause-no_memory g c =
     let scanner = scanner_with g.C.Catalog.lists g.I.Identifier.match_of c.args.scan.now in
     let krate = record_of c.args.krate.now in
     let all = map behind c.args.clarifications.now in
-    on_err-weaker c.settle_by_files-in-None.result _ _ (starves_at_files scanner all krate (looks_for_none scanner all krate (sym c.in-None.is ∙ c.requires))) c.settle_by_files-in-None.ensures.no_memory
+    on_err_weaker c.settle_by_files-in-None.result (starves_at_files scanner all krate (looks_for_none scanner all krate (sym c.in-None.is ∙ c.requires))) c.settle_by_files-in-None.ensures.no_memory
 
 -- no file is looked at, and no call is made
 pub returns-in-Some-clause-answered : goal.returns-in-Some-clause-answered

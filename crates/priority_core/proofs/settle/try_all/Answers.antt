@@ -7,12 +7,12 @@ use Rattle.deny_text.specs.declared.span.Span.{Span}
 use Rattle.pack_core.specs.Ears.{holds, looked_of, missing_from}
 use Rattle.pack_core.specs.Steps.{with_path}
 use Rattle.pack_core.specs.View.{paths_read}
-use Rattle.pack_core.proofs.CallLemmas.{agrees_before, goes_itself, goes_then}
+use Rattle.pack_core.proofs.CallLemmas.{agrees_before, goes_itself, goes_then, on_err}
 use Rattle.priority_core.specs.declared.clarification.Held.{Held}
 use Rattle.priority_core.specs.Clarification.{PlacedFile, behind, held_in}
 use Rattle.priority_core.specs.Priority.{holding}
 use Rattle.priority_core.specs.Settled.{missing_of, span_at}
-use Rattle.priority_core.proofs.CallLemmas.{on_err, starves_tried, starves_trying}
+use Rattle.priority_core.proofs.CallLemmas.{starves_tried, starves_trying}
 use Rattle.priority_core.proofs.TriedLemmas.{held_here, held_on, looks, looks_last, looks_on, missing_last, missing_on}
 use Rattle.priority_core.proofs.settle.try_all.Goals as goal
 

@@ -1,7 +1,8 @@
 -- The kinds of all items are those so far, with those of the rest.
 use Rattle.std.proofs.Common.{◌≡◌, drop}
 use Rattle.serde_json.specs.View.{items_view}
-use Rattle.records_core.specs.Nodes.{kinds_in, no_kinds}
+use Rattle.graph_core.specs.Metadata.{no_kinds}
+use Rattle.records_core.specs.Nodes.{kinds_in}
 use Rattle.records_core.proofs.nodes.kinds_in.Given as goal
 
 abbrev pub invariant-kinds : goal.invariant-kinds

@@ -1,5 +1,5 @@
 use Rattle.std.proofs.Common.{◌≡◌, ◌+◌, arith}
-use Rattle.toml_subset.specs.Bytes.{goes_on}
+use Rattle.deny_text.specs.Character.{goes_on}
 use Rattle.toml_subset.proofs.Runs.{run_end_stops, begins_character}
 use Rattle.toml_subset.proofs.scan.char_end.Goals as goal
 

@@ -14,8 +14,8 @@ read_value-requires-clause-shallow c =
     let above = c.inside.ensures in
     omega arith
 
-pub returns-in-Ok-clause-answer : goal.returns-in-Ok-clause-answer
-returns-in-Ok-clause-answer c seen way =
+pub returns-in_ok-document-in-Ok-clause-answer : goal.returns-in_ok-document-in-Ok-clause-answer
+returns-in_ok-document-in-Ok-clause-answer c seen way =
     let text = c.args.text.now in
     let p = c.args.pending in
     let keys = p.awaiting.keys in
@@ -28,8 +28,8 @@ returns-in-Ok-clause-answer c seen way =
     pair_ends text seen (pending_view p) (cursor_view c.in_ok-document-in-Ok.document) keys v (value_at text above c.args.place) c.ended_line.result way p.free read low
     c.in_ok-document-in-Ok.ensures.0 c.in_ok-document-in-Ok.ensures.1 c.ended_line.ensures.answer
 
-pub returns-clause-answer : goal.returns-clause-answer
-returns-clause-answer c seen way =
+pub returns-in-Err-clause-answer : goal.returns-in-Err-clause-answer
+returns-in-Err-clause-answer c seen way =
     let text = c.args.text.now in
     let p = c.args.pending in
     let keys = p.awaiting.keys in

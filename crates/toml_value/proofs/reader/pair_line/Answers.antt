@@ -9,7 +9,7 @@ returns-in-Ok-await_value-clause-answer c seen way =
     pair_is c.args.text.now seen (cursor_view c.args.document) left c.args.place way c.in-Ok.ensures.answer c.in-Ok-await_value.pending c.behind_equals.result c.in-Ok-await_value.ensures
     c.behind_equals.ensures.answer
 
-pub returns-in-Ok-clause-answer : goal.returns-in-Ok-clause-answer
-returns-in-Ok-clause-answer c seen way =
+pub returns-in-Err-await_value-clause-answer : goal.returns-in-Err-await_value-clause-answer
+returns-in-Err-await_value-clause-answer c seen way =
     let left : KeysFound = (c.in-Ok.keys, c.in-Ok.value) in
     pair_refused c.args.text.now seen (cursor_view c.args.document) left c.args.place way c.in-Ok.ensures.answer c.in-Err-await_value.fault c.in-Err-await_value.ensures

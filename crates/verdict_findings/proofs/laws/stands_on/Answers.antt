@@ -1,5 +1,5 @@
-use Rattle.verdict_findings.proofs.PointLemmas as lemma
+use Rattle.finding_core.proofs.LicenseLemmas.{stands_grown}
 use Rattle.verdict_findings.proofs.laws.stands_on.Goals as goal
 
 pub returns : goal.returns
-returns c = lemma.stands_on
+returns c = λ files more nfo words stands. stands_grown files more nfo.file_id nfo.offset nfo.whole words stands

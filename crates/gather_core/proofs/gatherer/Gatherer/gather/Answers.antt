@@ -4,11 +4,11 @@ use Rattle.tree_core.proofs.MadeLemmas.{made_none}
 use Rattle.selection_core.specs.Listed.{IsListOf, record_behind}
 use Rattle.selection_core.specs.Walks.{Selected}
 use Rattle.finding_core.proofs.GrowLemmas.{grows_itself}
+use Rattle.pack_core.proofs.CallLemmas.{on_err}
 use Rattle.gather_core.specs.Calls.{AreTurnsByReads, StarvesGathering}
 use Rattle.gather_core.specs.Entries.{Entry, entries_of, entry_of}
 use Rattle.gather_core.specs.Gathered.{include_of, scanner_of}
 use Rattle.gather_core.specs.Premises.{ArePlacedIn}
-use Rattle.gather_core.proofs.CallLemmas.{on_err}
 use Rattle.gather_core.proofs.gatherer.Gatherer.gather.Goals as goal
 
 pub returns-clause-listed : goal.returns-clause-listed

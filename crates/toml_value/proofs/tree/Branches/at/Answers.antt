@@ -9,7 +9,7 @@ pub returns-in_err-place-clause-value : goal.returns-in_err-place-clause-value
 returns-in_err-place-clause-value c =
     let table = c.args.self.now in
     ap (option_map (λ node. node_view node.now)) c.from_residual.ensures
-    ∙ sym (is_missing c.args.key.now table.keys (map (λ n. node_view n) table.nodes.items) (sym c.in_err-place.ensures)).node
+    ∙ sym (is_missing c.args.key.now table.keys (map (λ n. node_view n) table.nodes.items) (sym c.in_err-place.ensures))
     ∙ ap (node_at c.args.key.now) (sym (branches_view-is table))
 
 pub index-requires : goal.index-requires
@@ -29,7 +29,7 @@ returns-clause-value c =
     let found = is_found c.args.key.now table.keys nodes c.in_ok-place.place (node_view node)
     (whole.same ∙ sym (length-map table.nodes.items (λ n. node_view n))) (sym c.in_ok-place.ensures) in
     ap Some (ap (λ n. node_view n) c.index.ensures ∙ sym (seen-at table.nodes.items c.in_ok-place.place node))
-    ∙ sym found.node ∙ ap (node_at c.args.key.now) (sym (branches_view-is table))
+    ∙ sym found ∙ ap (node_at c.args.key.now) (sym (branches_view-is table))
 
 pub returns-clause-whole : goal.returns-clause-whole
 returns-clause-whole c =

@@ -1,8 +1,10 @@
-use Rattle.std.proofs.Common.{[], ◌∷◌, ◌++◌, map, sym, ap, subst, ◌∙◌}
+use Rattle.std.proofs.Common.{[], ◌∷◌, ◌++◌, ◌≡◌, IsTrue, map, sym, ap, subst, ◌∙◌}
 use Rattle.std.proofs.lemmas.List.{length-map}
+use Rattle.std.proofs.lemmas.Result.{IfOk-weaker}
 use Rattle.toml_subset.specs.Tables.{has_key, added}
-use Rattle.toml_value.specs.BranchViews.{joined, node_view}
-use Rattle.toml_value.proofs.TreeLemmas.{branches_view-is, branches_view-roll, AreWhole, opened_whole, closed_whole, are_whole-push, has_no_place, added-joined, seen-push}
+use Rattle.toml_value.specs.BranchViews.{joined, node_view, branches_view, is_whole}
+use Rattle.toml_value.specs.declared.tree.Branches.{out-Branches}
+use Rattle.toml_value.proofs.TreeLemmas.{branches_view-is, AreWhole, opened_whole, whole_closed, are_whole-push, has_no_place, added-joined, seen-push}
 use Rattle.toml_value.proofs.tree.Branches.with.Goals as goal
 
 pub with-requires : goal.with-requires
@@ -14,19 +16,25 @@ with-requires c =
           (ap (has_key c.args.key) (sym (branches_view-is c.args.self)) ∙ c.requires.new);
     }
 
-pub returns-clause-view : goal.returns-clause-view
-returns-clause-view c =
+pub returns-in-Ok-clause-view : goal.returns-in-Ok-clause-view
+returns-in-Ok-clause-view c =
     let whole = opened_whole c.args.self c.requires.whole in
     let nodes = map (λ n. node_view n) c.args.self.nodes.items in
-    branches_view-roll _
-    ∙ ap (λ ks. joined ks (map (λ n. node_view n) c.push.new.self.items)) c.in_ok-keys.ensures
-    ∙ ap (joined (c.args.self.keys ++ c.args.key ∷ [])) (ap (map (λ n. node_view n)) c.in_ok-push.ensures.items ∙ seen-push c.args.self.nodes.items c.args.node)
+    IfOk-weaker c.of_parts.result _ (λ new. branches_view new ≡ added c.args.key (node_view c.args.node) (branches_view c.args.self))
+    (λ new is.
+    branches_view-is new
+    ∙ ap (λ ks. joined ks (map (λ n. node_view n) (out-Branches new).nodes.items)) (is.0 ∙ c.in-Ok.ensures)
+    ∙ ap (joined (c.args.self.keys ++ c.args.key ∷ [])) (ap (map (λ n. node_view n)) is.1 ∙ seen-push c.args.self.nodes.items c.args.node)
     ∙ sym (added-joined c.args.key (node_view c.args.node) c.args.self.keys nodes (whole.same ∙ sym (length-map c.args.self.nodes.items (λ n. node_view n))))
-    ∙ ap (added c.args.key (node_view c.args.node)) (sym (branches_view-is c.args.self))
+    ∙ ap (added c.args.key (node_view c.args.node)) (sym (branches_view-is c.args.self)))
+    c.of_parts.ensures
 
-pub returns-clause-whole : goal.returns-clause-whole
-returns-clause-whole c =
-    closed_whole _
-    (subst (λ ks. AreWhole ks c.push.new.self.items) (sym c.in_ok-keys.ensures)
-    (subst (λ ns. AreWhole (c.args.self.keys ++ c.args.key ∷ []) ns) (sym c.in_ok-push.ensures.items)
-    (are_whole-push c.args.self.keys c.args.self.nodes.items c.args.key c.args.node (opened_whole c.args.self c.requires.whole) c.requires.node)))
+pub returns-in-Ok-clause-whole : goal.returns-in-Ok-clause-whole
+returns-in-Ok-clause-whole c =
+    IfOk-weaker c.of_parts.result _ (λ new. IsTrue (is_whole new))
+    (λ new is.
+    whole_closed new
+    (subst (λ ks. AreWhole ks (out-Branches new).nodes.items) (sym (is.0 ∙ c.in-Ok.ensures))
+    (subst (λ ns. AreWhole (c.args.self.keys ++ c.args.key ∷ []) ns) (sym is.1)
+    (are_whole-push c.args.self.keys c.args.self.nodes.items c.args.key c.args.node (opened_whole c.args.self c.requires.whole) c.requires.node))))
+    c.of_parts.ensures

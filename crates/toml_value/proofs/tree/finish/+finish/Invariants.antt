@@ -2,8 +2,9 @@ use Rattle.std.proofs.Common.{◌≡◌, map}
 use Rattle.std.specs.Vec.Iter.{into_iter_items}
 use Rattle.toml_subset.specs.Tables.{entries_of}
 use Rattle.toml_value.specs.BranchViews.{branches_view, body_view, body_items}
+use Rattle.toml_value.specs.FinishViews.{followed, left_of}
 use Rattle.toml_value.specs.Views.{entries_view, values_view}
-use Rattle.toml_value.proofs.FinishLemmas.{followed, left_of, items_followed}
+use Rattle.toml_value.proofs.FinishLemmas.{items_followed}
 use Rattle.toml_value.proofs.tree.finish.+finish.Given as goal
 
 -- the entries so far, and those of what is left

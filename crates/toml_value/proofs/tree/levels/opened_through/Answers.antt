@@ -5,8 +5,8 @@ use Rattle.toml_value.specs.BranchViews.{node_view, branches_view, body_view}
 use Rattle.toml_value.proofs.LevelLemmas.{node_view-tables, through_tables}
 use Rattle.toml_value.proofs.tree.levels.opened_through.Goals as goal
 
-pub returns-clause-view : goal.returns-clause-view
-returns-clause-view c =
+pub returns-in-Tables-clause-view : goal.returns-in-Tables-clause-view
+returns-in-Tables-clause-view c =
     let t = c.in-Tables in
     sym (ap (λ n. opened Through (node_view n)) t.is ∙ ap (opened Through) (node_view-tables t.span t.before t.last t.inner)
     ∙ through_tables t.span t.last (map (λ b. body_view b) t.before.items) (branches_view t.inner))

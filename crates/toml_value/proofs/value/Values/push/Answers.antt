@@ -7,5 +7,5 @@ use Rattle.toml_value.proofs.value.Values.push.Goals as goal
 
 pub returns-clause-ok : goal.returns-clause-ok
 returns-clause-ok c =
-    values_view-roll _ ∙ ap (λ xs. items_from_list (map (λ x. value_view x) xs)) c.in_ok-push.ensures.items
+    values_view-roll _ ∙ ap (λ xs. items_from_list (map (λ x. value_view x) xs)) c.in_ok-push_item.ensures.ok
     ∙ rw map-append (items_of-push _ (value_view c.args.item)) ∙ ap (λ xs. with_item xs (value_view c.args.item)) (sym (values_view-is c.args.self.now))

@@ -9,13 +9,13 @@ use Rattle.toml_value.proofs.tree.document.Document.enter_new.Goals as goal
 
 pub with-requires-clause-new : goal.with-requires-clause-new
 with-requires-clause-new c =
-    ap (has_key c.args.key) c.into_root-table.ensures.view ∙ (is_missing c.args.key (cursor_view c.args.self).here c.requires.new).has
+    ap (has_key c.args.key) c.into_root-root.ensures.view ∙ (is_missing c.args.key (cursor_view c.args.self).here c.requires.new).has
 
 pub invariant_of-level : goal.invariant_of-level
 invariant_of-level c =
-    let old = branches_view c.into_root-table.result in
-    let new = sized c.in_ok-table.table c.in_ok-table.ensures.whole in
-    let more = ap size c.in_ok-table.ensures.view ∙ size_added c.args.key (node_view c.hole-empty.result) old in
+    let old = branches_view c.into_root-root.result in
+    let new = sized c.in-Ok.table c.in-Ok.ensures.whole in
+    let more = ap size c.in-Ok.ensures.view ∙ size_added c.args.key (node_view c.hole-empty.result) old in
     let place : c.size-place.result ≡ size old = c.size-place.ensures in
-    let inside : c.size-place.result < length c.in_ok-table.table.nodes.items = omega arith in
-    record { whole = c.in_ok-table.ensures.whole; inside = inside; around_whole = c.in-Some.ensures.around }
+    let inside : c.size-place.result < length c.in-Ok.table.nodes.items = omega arith in
+    record { whole = c.in-Ok.ensures.whole; inside = inside; around_whole = c.in-Some.ensures.around }

@@ -7,10 +7,10 @@ use Rattle.toml_value.proofs.tree.levels.Level.with.Goals as goal
 pub returns-clause-view : goal.returns-clause-view
 returns-clause-view c =
     let level = c.args.self in
-    put_back-view level.table c.replace.new.self level.place c.with.result c.replace.ensures.keys c.replace.ensures.nodes
+    put_back-view level.table c.put_back.new.self level.place c.with.result c.put_back.ensures.keys c.put_back.ensures.nodes
     ∙ ap (λ n. replaced level.place n (branches_view level.table)) c.with.ensures.view
 
 pub returns-clause-whole : goal.returns-clause-whole
 returns-clause-whole c =
     let level = c.args.self in
-    put_back-whole level.table c.replace.new.self level.place c.with.result c.replace.ensures.keys c.replace.ensures.nodes level.whole c.with.ensures.whole
+    put_back-whole level.table c.put_back.new.self level.place c.with.result c.put_back.ensures.keys c.put_back.ensures.nodes level.whole c.with.ensures.whole

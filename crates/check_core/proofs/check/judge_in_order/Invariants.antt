@@ -1,0 +1,19 @@
+-- Of the crates so far.
+use Rattle.std.proofs.Common.{◌≡◌, ◌≤◌, take}
+use Rattle.valid_policy.specs.View.{policy_of}
+use Rattle.unused_core.specs.Flags.{flags_by}
+use Rattle.check_core.specs.Check.{AreVerdicts, all_hits, gained, packs_of}
+use Rattle.check_core.specs.Summary.{all_asked}
+use Rattle.check_core.proofs.check.judge_in_order.Given as goal
+
+abbrev pub invariant-licenses : goal.invariant-licenses
+invariant-licenses g l =
+    let asked = all_asked (take l.license-index l.licenses) in
+    record {
+      nodes : l.checker.nodes ≡ l.fn.checker.nodes;
+      names : l.checker.names ≡ l.fn.checker.names;
+      verdicts : AreVerdicts (policy_of l.policy) asked l.verdicts;
+      flags : l.checker.flags ≡ flags_by l.policy (all_hits (policy_of l.policy) asked l.verdicts);
+      sink : l.sink ≡ gained l.fn.sink (packs_of (policy_of l.policy) asked l.verdicts);
+      steps : l.fn.steps ≤ l.steps;
+    }

@@ -1,0 +1,16 @@
+use Rattle.std.proofs.Common.{◌≡◌, sym, subst, [], ◌∷◌, ◌++◌, IfOk}
+use Rattle.finding_core.specs.declared.license.LicenseInfo.{LicenseInfo}
+use Rattle.gather_core.specs.Gathered.{krate_of}
+use Rattle.valid_policy.specs.View.{policy_of}
+use Rattle.verdict_findings.specs.Findings.{pack_of}
+use Rattle.check_core.specs.declared.crate_check.CrateCheck.{CrateCheck}
+use Rattle.check_core.specs.Turns.{verdict_finding}
+use Rattle.check_core.proofs.crate_check.Checker.ask.Goals as goal
+
+pub returns-in-SpdxExpression-clause-pack : goal.returns-in-SpdxExpression-clause-pack
+returns-in-SpdxExpression-clause-pack g c =
+    let license = c.args.license.now in
+    let krate = krate_of license in
+    let policy = policy_of c.args.policy.now in
+    subst (λ (info : LicenseInfo). IfOk c.certify.result (λ (checked : CrateCheck). checked.pack ≡ pack_of krate (license.diags ++ verdict_finding policy krate info license.notes ∷ [])))
+    (sym c.in-SpdxExpression.is) c.certify.ensures.pack

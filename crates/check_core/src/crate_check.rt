@@ -1,0 +1,208 @@
+//! The check of one crate.
+ghost use Rattle.std.specs.Prelude.{◌≡◌, ◌≤◌, ◌++◌, ◌∷◌, [], List, IfOk, length, false};
+ghost use Rattle.graph_core.specs.Krate.{record_of};
+ghost use Rattle.spdx_core.specs.Reading.{postfix};
+ghost use Rattle.certificate_core.specs.declared.verdict.Hit.{Hit};
+ghost use Rattle.valid_policy.specs.View.{policy_of};
+ghost use Rattle.evaluate_core.specs.Evaluation.{exception_names};
+ghost use Rattle.unused_core.specs.Flags.{flags_by};
+ghost use Rattle.unused_core.specs.Unused as unused;
+ghost use Rattle.verdict_findings.specs.Findings as findings;
+ghost use Rattle.verdict_findings.specs.Places.{Fits};
+ghost use Rattle.check_core.specs.Summary.{InfoFits, asked_in, nodes_in};
+ghost use Rattle.check_core.specs.Turns.{expression_of, hits_by, hits_of, pack_by, verdict_finding};
+ghost use Rattle.check_core.specs.Verdicts.{IsAnswered, IsCertified, IsVerdict, is_skipped};
+
+use deny_text::Steps;
+use diag_core::Pack;
+use evaluate_core::{Evaluator, Verdict};
+use gather_core::{KrateLicense, LicenseExprInfo, LicenseInfo};
+use graph_core::Krate;
+use spdx_core::Expression;
+use std::alloc::{AllocError, Global};
+use std::marker::Model;
+use std::sync::ledger::Ledger;
+use unused_core::{Encountered, last_pack};
+use valid_policy::ValidConfig;
+use verdict_findings::{judged, pack_of, skipped, unlicensed};
+
+/// What the check of a crate comes to.
+#[derive(Drop)]
+pub struct CrateCheck {
+    pub verdict: Verdict,
+    pub pack: Pack,
+}
+
+/// Checks crates one after another under a policy. It has taken the memory that their expressions want when it
+/// was made, and keeps which entries of the policy allowed a term so far.
+#[derive(Drop)]
+pub struct Checker {
+    evaluator: Evaluator,
+    encountered: Encountered,
+}
+
+impl Model for Checker {
+    ghost use Rattle.check_core.specs.Turns.{Checking};
+
+    ghost Value = { Checking };
+
+    ghost view = { λ c. record {
+      nodes = c.evaluator.nodes;
+      names = c.evaluator.names;
+      flags = c.encountered;
+    } };
+}
+
+/// A crate that the policy passes over: nothing of what was gathered is told.
+fn skip(alloc: Global, krate: &Krate) -> Result<CrateCheck, AllocError>
+    ensures verdict { IfOk result (λ checked. checked.verdict ≡ Verdict.Skipped) }
+    ensures pack { let krate = record_of krate.now in
+        IfOk result (λ checked. checked.pack ≡ findings.pack_of krate (findings.skipped krate ∷ [])) }
+{
+    let told = skipped(alloc, krate)?;
+    let pack = pack_of(alloc, krate, &[], told)?;
+    Ok(CrateCheck {
+        verdict: Verdict::Skipped,
+        pack,
+    })
+}
+
+/// A crate without an expression.
+fn tell_unlicensed(alloc: Global, license: &KrateLicense<'_>) -> Result<CrateCheck, AllocError>
+    ensures verdict { IfOk result (λ checked. checked.verdict ≡ Verdict.Unlicensed) }
+    ensures pack { let krate = record_of license.now.krate.now in
+        IfOk result (λ checked. checked.pack ≡ findings.pack_of krate
+        (license.now.diags ++ findings.unlicensed krate license.now.notes ∷ [])) }
+{
+    let told = unlicensed(alloc, license.krate, license.notes.items())?;
+    let pack = pack_of(alloc, license.krate, license.diags.items(), told)?;
+    Ok(CrateCheck {
+        verdict: Verdict::Unlicensed,
+        pack,
+    })
+}
+
+impl Checker {
+    /// A checker with room for so many nodes of an expression, made for a policy. Nothing was encountered yet.
+    pub fn with_room(
+        alloc: Global,
+        nodes: usize,
+        policy: &ValidConfig,
+    ) -> Result<Checker, AllocError>
+        ensures { IfOk result (λ checker. checker ≡ record {
+          nodes = nodes;
+          names = exception_names (policy_of policy.now);
+          flags = flags_by policy.now [];
+        }) }
+    {
+        let evaluator = Evaluator::with_room(alloc, nodes, policy)?;
+        let encountered = Encountered::of(alloc, policy)?;
+        Ok(Checker {
+            evaluator,
+            encountered,
+        })
+    }
+
+    /// A crate that is not passed over and has an expression: whether that is accepted, with what shows it.
+    fn certify<L: Ledger>(
+        &mut self,
+        alloc: Global,
+        policy: &ValidConfig,
+        license: &KrateLicense<'_>,
+        expr: &Expression,
+        nfo: &LicenseExprInfo,
+        steps: &mut Steps<L>,
+    ) -> Result<CrateCheck, AllocError>
+        requires room { length (postfix expr.now.tree) ≤ self.old.nodes }
+        requires exceptions { exception_names (policy_of policy.now) ≡ self.old.names }
+        requires fits { Fits nfo.now (length expr.now.text) }
+        ensures nodes { self.new.nodes ≡ self.old.nodes }
+        ensures names { self.new.names ≡ self.old.names }
+        ensures verdict { let krate = record_of license.now.krate.now in
+            IfOk result (λ checked. IsCertified (policy_of policy.now) krate expr.now checked.verdict) }
+        ensures pack { let krate = record_of license.now.krate.now in
+            let info = LicenseInfo.SpdxExpression expr.now nfo.now in
+            IfOk result (λ checked. checked.pack ≡ findings.pack_of krate (license.now.diags
+            ++ verdict_finding (policy_of policy.now) krate info license.now.notes ∷ [])) }
+        ensures hits { let info = LicenseInfo.SpdxExpression expr.now nfo.now in
+            (before : List Hit) → self.old.flags ≡ flags_by policy.now before
+            → self.new.flags ≡ flags_by policy.now
+            (before ++ hits_of (policy_of policy.now) (record_of license.now.krate.now) info) }
+        ensures steps { steps.old ≤ steps.new }
+    {
+        let accepted = self.evaluator.evaluate(expr, license.krate, policy, steps);
+        self.encountered.mark_all(self.evaluator.hits());
+        let verdict = self.evaluator.certificate(alloc, expr)?;
+        let hits = self.evaluator.hits();
+        let told = judged(alloc, accepted, expr, nfo, hits, license.notes.items())?;
+        let pack = pack_of(alloc, license.krate, license.diags.items(), told)?;
+        Ok(CrateCheck { verdict, pack })
+    }
+
+    /// A crate that is not passed over.
+    fn ask<L: Ledger>(
+        &mut self,
+        alloc: Global,
+        policy: &ValidConfig,
+        license: &KrateLicense<'_>,
+        steps: &mut Steps<L>,
+    ) -> Result<CrateCheck, AllocError>
+        requires room { nodes_in license.now.lic_info ≤ self.old.nodes }
+        requires exceptions { exception_names (policy_of policy.now) ≡ self.old.names }
+        requires fits { InfoFits license.now.lic_info }
+        ensures nodes { self.new.nodes ≡ self.old.nodes }
+        ensures names { self.new.names ≡ self.old.names }
+        ensures verdict { let asked = asked_in license.now in IfOk result (λ checked.
+            IsAnswered (policy_of policy.now) asked.krate (expression_of asked.info) checked.verdict) }
+        ensures pack { IfOk result (λ checked.
+            checked.pack ≡ pack_by false (policy_of policy.now) (asked_in license.now)) }
+        ensures hits { (before : List Hit) → self.old.flags ≡ flags_by policy.now before
+            → self.new.flags ≡ flags_by policy.now
+            (before ++ hits_by false (policy_of policy.now) (asked_in license.now)) }
+        ensures steps { steps.old ≤ steps.new }
+    {
+        match &license.lic_info {
+            LicenseInfo::SpdxExpression { expr, nfo } => {
+                self.certify(alloc, policy, license, expr, nfo, steps)
+            }
+            LicenseInfo::Unlicensed => tell_unlicensed(alloc, license),
+        }
+    }
+
+    /// The check of one crate: its verdict, and its findings. A crate that the policy passes over is skipped,
+    /// also where it has no expression; what it has hits no entry.
+    pub fn judge<L: Ledger>(
+        &mut self,
+        alloc: Global,
+        policy: &ValidConfig,
+        license: &KrateLicense<'_>,
+        steps: &mut Steps<L>,
+    ) -> Result<CrateCheck, AllocError>
+        requires room { nodes_in license.now.lic_info ≤ self.old.nodes }
+        requires exceptions { exception_names (policy_of policy.now) ≡ self.old.names }
+        requires fits { InfoFits license.now.lic_info }
+        ensures nodes { self.new.nodes ≡ self.old.nodes }
+        ensures names { self.new.names ≡ self.old.names }
+        ensures verdict { let asked = asked_in license.now in IfOk result (λ checked.
+            IsVerdict (policy_of policy.now) asked.krate (expression_of asked.info) checked.verdict) }
+        ensures pack { IfOk result (λ checked.
+            checked.pack ≡ pack_by (is_skipped checked.verdict) (policy_of policy.now) (asked_in license.now)) }
+        ensures hits { (before : List Hit) → self.old.flags ≡ flags_by policy.now before
+            → IfOk result (λ checked. self.new.flags ≡ flags_by policy.now
+            (before ++ hits_by (is_skipped checked.verdict) (policy_of policy.now) (asked_in license.now))) }
+        ensures steps { steps.old ≤ steps.new }
+    {
+        if policy.is_private(license.krate) {
+            return skip(alloc, license.krate);
+        }
+        self.ask(alloc, policy, license, steps)
+    }
+
+    /// What is told after all crates: the entries of the policy that were no hit. It may be empty.
+    pub fn finish(&self, alloc: Global, policy: &ValidConfig) -> Result<Pack, AllocError>
+        ensures { (hits : List Hit) → self.now.flags ≡ flags_by policy.now hits
+            → IfOk result (λ pack. pack ≡ unused.last_pack policy.now hits) }
+    {
+        last_pack(alloc, policy, &self.encountered)
+    }
+}

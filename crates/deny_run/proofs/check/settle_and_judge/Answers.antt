@@ -1,0 +1,106 @@
+use Rattle.std.proofs.Common.{◌≡◌, ◌∙◌, ◌⊎◌, ap, subst, rules, []}
+use Rattle.std.proofs.lemmas.Int.{to_z-of_z}
+use Rattle.std.proofs.lemmas.Result.{IfOk-weaker, err_from_is_err_and}
+use mir.Syntax.{w64}
+use mir.Val.{SFits}
+use Rattle.std.specs.Prelude.{All}
+use Rattle.graph_core.specs.Metadata.{Graph}
+use Rattle.selection_core.specs.Choice.{Choice}
+use Rattle.selection_core.specs.Listed.{IsChosen, selected_in}
+use Rattle.tree_core.specs.Hearing.{Made}
+use Rattle.tree_core.proofs.MadeLemmas.{made-later}
+use Rattle.valid_policy.specs.View.{policy_of}
+use Rattle.check_core.specs.Labels.{VerdictPoints}
+use Rattle.check_core.specs.Summary.{all_asked}
+use Rattle.pack_core.proofs.CallLemmas.{on_err}
+use Rattle.deny_run.proofs.CheckLemmas.{both_of}
+use Rattle.deny_run.proofs.StageLemmas.{check_cut, checked_on, gather_cut}
+use Rattle.expression_core.specs.Scanned.{Scanner}
+use Rattle.gather_core.specs.Calls.{AreTurnsByReads, StarvesGathering}
+use Rattle.gather_core.specs.Entries.{entries_of}
+use Rattle.gather_core.specs.Gathered.{include_of, scanner_of, threshold_of}
+use Rattle.deny_run.specs.Hearing.{seen}
+use Rattle.deny_run.specs.Steps.{IsCheckOf, IsCheckedOn, scanner_by}
+use Rattle.placed_policy.proofs.PlaceLemmas.{are_placed, entries_lie}
+use Rattle.deny_run.proofs.StepLemmas.{gathering_later}
+use Rattle.deny_run.proofs.check.settle_and_judge.Goals as goal
+
+-- what the check asks of the files
+pub judge_and_report-requires-clause-placed : goal.judge_and_report-requires-clause-placed
+judge_and_report-requires-clause-placed g c = c.in_ok-summary.ensures.placed (are_placed c.args.files.now c.args.policy c.requires)
+
+pub judge_and_report-requires-clause-entries : goal.judge_and_report-requires-clause-entries
+judge_and_report-requires-clause-entries g c = entries_lie c.args.files.now c.gather.new.files c.args.policy c.requires c.gather.ensures.grows
+
+pub returns-clause-checked : goal.returns-clause-checked
+returns-clause-checked g c =
+    let policy = c.args.policy in
+    let lists = g.C.Catalog.lists c.args.catalog.now in
+    let own = scanner_by lists (g.I.Identifier.match_of c.args.identifier.now) policy in
+    let nfos = c.in_ok-summary.summary.nfos in
+    let last = c.gather.new.files in
+    let fits : SFits w64 c.args.policy.confidence_threshold = search rules in
+    let cut = simp to_z-of_z at c.with_confidence_threshold-gatherer.ensures in
+    let same : ◌≡◌ {A = Scanner} (scanner_of lists g.I.Identifier.match_of c.with_confidence_threshold-gatherer.result) own =
+    ap (scanner_of lists g.I.Identifier.match_of) cut
+    ∙ ap (λ one. scanner_of lists g.I.Identifier.match_of (record one { threshold = threshold_of policy.confidence_threshold })) c.with_store.ensures in
+    let told = g.T.Tree.content c.args.tree.now in
+    let tells = g.T.Tree.content c.gather.new.tree in
+    let before = g.T.Tree.fault_count c.args.tree.now in
+    let after = g.T.Tree.fault_count c.gather.new.tree in
+    let old = g.T.Tree.trace c.args.tree.now in
+    let new = g.T.Tree.trace c.gather.new.tree in
+    let reads = subst (λ scanner. AreTurnsByReads told tells before after old new scanner policy.file_id (entries_of policy) c.args.files.now nfos last) same c.in_ok-summary.ensures.answered in
+    IfOk-weaker c.judge_and_report.result (λ checked. IsCheckOf policy nfos checked × All (VerdictPoints last (policy_of policy)) (all_asked nfos))
+    (λ checked. (graph : Graph) (choice : Choice) → IsChosen graph choice c.args.krates.now → IsCheckedOn own policy (seen told tells before after old new) c.args.files.now last graph choice checked)
+    (λ checked both graph choice chosen. checked_on own policy (seen told tells before after old new) c.args.files.now last graph choice nfos (c.in_ok-summary.ensures.listed graph choice chosen) reads checked both.0 both.1)
+    (both_of c.judge_and_report.result (IsCheckOf policy nfos) (λ _. All (VerdictPoints last (policy_of policy)) (all_asked nfos)) c.judge_and_report.ensures.check c.judge_and_report.ensures.terms)
+
+pub returns-clause-cut : goal.returns-clause-cut
+returns-clause-cut g c =
+    let policy = c.args.policy in
+    let lists = g.C.Catalog.lists c.args.catalog.now in
+    let own = scanner_by lists (g.I.Identifier.match_of c.args.identifier.now) policy in
+    let nfos = c.in_ok-summary.summary.nfos in
+    let last = c.gather.new.files in
+    let fits : SFits w64 c.args.policy.confidence_threshold = search rules in
+    let cut = simp to_z-of_z at c.with_confidence_threshold-gatherer.ensures in
+    let same : ◌≡◌ {A = Scanner} (scanner_of lists g.I.Identifier.match_of c.with_confidence_threshold-gatherer.result) own =
+    ap (scanner_of lists g.I.Identifier.match_of) cut
+    ∙ ap (λ one. scanner_of lists g.I.Identifier.match_of (record one { threshold = threshold_of policy.confidence_threshold })) c.with_store.ensures in
+    let told = g.T.Tree.content c.args.tree.now in
+    let tells = g.T.Tree.content c.gather.new.tree in
+    let before = g.T.Tree.fault_count c.args.tree.now in
+    let after = g.T.Tree.fault_count c.gather.new.tree in
+    let old = g.T.Tree.trace c.args.tree.now in
+    let new = g.T.Tree.trace c.gather.new.tree in
+    let reads = subst (λ scanner. AreTurnsByReads told tells before after old new scanner policy.file_id (entries_of policy) c.args.files.now nfos last) same c.in_ok-summary.ensures.answered in
+    on_err c.judge_and_report.result _
+    (λ graph choice chosen. check_cut own policy (seen told tells before after old new) c.args.files.now last graph choice nfos (c.in_ok-summary.ensures.listed graph choice chosen) reads)
+
+pub returns-in_err-summary-clause-cut : goal.returns-in_err-summary-clause-cut
+returns-in_err-summary-clause-cut g c =
+    let policy = c.args.policy in
+    let lists = g.C.Catalog.lists c.args.catalog.now in
+    let own = scanner_by lists (g.I.Identifier.match_of c.args.identifier.now) policy in
+    let fits : SFits w64 c.args.policy.confidence_threshold = search rules in
+    let cut = simp to_z-of_z at c.with_confidence_threshold-gatherer.ensures in
+    let same : ◌≡◌ {A = Scanner} (scanner_of lists g.I.Identifier.match_of c.with_confidence_threshold-gatherer.result) own =
+    ap (scanner_of lists g.I.Identifier.match_of) cut
+    ∙ ap (λ one. scanner_of lists g.I.Identifier.match_of (record one { threshold = threshold_of policy.confidence_threshold })) c.with_store.ensures in
+    let told = g.T.Tree.content c.args.tree.now in
+    let tells = g.T.Tree.content c.gather.new.tree in
+    let before = g.T.Tree.fault_count c.args.tree.now in
+    let after = g.T.Tree.fault_count c.gather.new.tree in
+    let old = g.T.Tree.trace c.args.tree.now in
+    let new = g.T.Tree.trace c.gather.new.tree in
+    let starves = subst (λ scanner. Made told tells before after old new [] ⊎ StarvesGathering told tells before after old new scanner policy.file_id (entries_of policy) c.args.files.now (selected_in (include_of policy) c.args.krates.now))
+    same c.in_err-summary.ensures.no_memory in
+    let p = err_from_is_err_and c.from_residual.result c.from_residual.ensures.1 in
+    rw p.1 (λ graph choice chosen. gather_cut own policy (seen told tells before after old new) c.args.files.now graph choice c.args.krates.now chosen starves)
+
+pub returns-clause-later : goal.returns-clause-later
+returns-clause-later g c = made-later c.in_ok-summary.ensures.answered.made
+
+pub returns-in_err-summary-clause-later : goal.returns-in_err-summary-clause-later
+returns-in_err-summary-clause-later g c = gathering_later c.in_err-summary.ensures.no_memory
