@@ -49,9 +49,11 @@ starve:
 calls:
 	@sh tools/calls.sh
 
-# Times the lower layers, beside plain Rust and xxhsum where these are installed.
-bench:
+# Times the lower layers, beside plain Rust and xxhsum where these are installed, and counts whole runs beside a plain gate
+# where cargo, valgrind and serde_json are.
+bench: build
 	sh bench/compare.sh
+	if command -v cargo > /dev/null && command -v valgrind > /dev/null; then sh bench/gates.sh; fi
 
 # Puts the proved program where `cargo deny ..` finds it, and its completion where the shell looks.
 install: build

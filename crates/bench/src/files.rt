@@ -71,6 +71,7 @@ pub(crate) fn placed(meter: &mut Meter<'_>, alloc: Global, text: &str) -> Result
     let name = Text::copy(alloc, "deny.toml")?;
     let source = Text::copy(alloc, text)?;
     let file = files.add_unnamed(name, source)?;
+    files.index(file);
     meter.start();
     columns(&files, text, file)
 }

@@ -1,6 +1,8 @@
 mod CopyrightLemmas
 mod ImpreciseLemmas
 mod LineLemmas
+mod NameLemmas
+mod OrderedLemmas
 mod PlaceLemmas
 mod RunLemmas
 mod SpelledLemmas

@@ -3,10 +3,12 @@ ghost use Rattle.std.specs.Prelude.{◌≡◌, ◌↔◌, IsTrue, IfSome, IfNone
 ghost use Rattle.std.specs.List.{list_any};
 ghost use Rattle.std.specs.Str.{bytes_eq};
 ghost use Rattle.catalog_core.specs.Catalog.{entry_of, IsLongestImprecise, BeginsNone, Begins};
+ghost use Rattle.catalog_core.specs.NameOrder.{name_order, AreInOrder, told};
 ghost use Rattle.catalog_core.specs.Words.{ends_word};
 ghost use Rattle.catalog_core.specs.Table.{table_lists, table_is_catalog};
 
 use crate::catalog::{Catalog, Imprecise, LicenseEntry};
+use std::cmp::Ordering;
 
 /// A licence of the table.
 struct Listed {
@@ -20,131 +22,144 @@ struct Meaning {
     name: &'static str,
 }
 
-/// The licences of the table: beside each name its family and its rank. A name of a GNU family stands for
-/// three.
+/// The marks of a licence that no version stands for and no mark of the GNU licences is on.
+const PLAIN: LicenseEntry = LicenseEntry {
+    family: 0,
+    rank: 0,
+    later: false,
+    deprecated: false,
+    gnu: false,
+};
+
+/// The marks of a name of a GNU family that does not say whether later versions count.
+const GNU_BARE: LicenseEntry = LicenseEntry {
+    family: 0,
+    rank: 0,
+    later: false,
+    deprecated: true,
+    gnu: true,
+};
+
+/// The marks of a GNU licence of one version.
+const GNU_ONLY: LicenseEntry = LicenseEntry {
+    family: 0,
+    rank: 0,
+    later: false,
+    deprecated: false,
+    gnu: true,
+};
+
+/// The marks of a GNU licence and its later versions.
+const GNU_LATER: LicenseEntry = LicenseEntry {
+    family: 0,
+    rank: 0,
+    later: true,
+    deprecated: false,
+    gnu: true,
+};
+
+/// The licences of the table: beside each name its family, its rank and its marks.
 macro_rules! licences {
-    (
-        plain { $($name:literal: $family:literal, $rank:literal;)* }
-        gnu { $($gnu_name:literal: $gnu_family:literal, $gnu_rank:literal;)* }
-    ) => {
+    ($($name:literal: $family:literal, $rank:literal, $marks:ident;)*) => {
         [
             $(Listed {
                 name: $name,
                 entry: LicenseEntry {
                     family: $family,
                     rank: $rank,
-                    later: false,
-                    deprecated: false,
-                    gnu: false,
-                },
-            },)*
-            $(Listed {
-                name: $gnu_name,
-                entry: LicenseEntry {
-                    family: $gnu_family,
-                    rank: $gnu_rank,
-                    later: false,
-                    deprecated: true,
-                    gnu: true,
-                },
-            },
-            Listed {
-                name: concat!($gnu_name, "-only"),
-                entry: LicenseEntry {
-                    family: $gnu_family,
-                    rank: $gnu_rank,
-                    later: false,
-                    deprecated: false,
-                    gnu: true,
-                },
-            },
-            Listed {
-                name: concat!($gnu_name, "-or-later"),
-                entry: LicenseEntry {
-                    family: $gnu_family,
-                    rank: $gnu_rank,
-                    later: true,
-                    deprecated: false,
-                    gnu: true,
+                    ..$marks
                 },
             },)*
         ]
     };
 }
 
+/// In the order in which names are looked up: by length, and those of one length in byte order.
 static LICENCES: [Listed; 84] = licences! {
-    plain {
-        "0BSD": 0, 10;
-        "BlueOak-1.0.0": 1, 10;
-        "BSD-1-Clause": 2, 10;
-        "BSD-2-Clause": 3, 10;
-        "BSD-2-Clause-Patent": 4, 10;
-        "BSD-3-Clause": 5, 10;
-        "BSD-3-Clause-Clear": 6, 10;
-        "BSD-4-Clause": 7, 10;
-        "BSL-1.0": 8, 10;
-        "BUSL-1.1": 9, 10;
-        "bzip2-1.0.6": 10, 10;
-        "CC0-1.0": 11, 10;
-        "CDLA-Permissive-2.0": 12, 10;
-        "curl": 13, 10;
-        "FTL": 14, 10;
-        "HPND": 15, 10;
-        "ICU": 16, 10;
-        "IJG": 17, 10;
-        "ISC": 18, 10;
-        "MIT": 19, 10;
-        "MIT-0": 20, 10;
-        "MPL-2.0-no-copyleft-exception": 21, 10;
-        "MulanPSL-2.0": 22, 10;
-        "NCSA": 23, 10;
-        "OpenSSL": 24, 10;
-        "Pixar": 25, 10;
-        "PostgreSQL": 26, 10;
-        "PSF-2.0": 27, 10;
-        "Python-2.0": 28, 10;
-        "Ruby": 29, 10;
-        "Unicode-3.0": 30, 10;
-        "Unicode-DFS-2016": 31, 10;
-        "Unlicense": 32, 10;
-        "UPL-1.0": 33, 10;
-        "Vim": 34, 10;
-        "W3C": 35, 10;
-        "WTFPL": 36, 10;
-        "X11": 37, 10;
-        "Zlib": 38, 10;
-        "zlib-acknowledgement": 39, 10;
-        "Apache-1.0": 40, 10;
-        "Apache-1.1": 40, 11;
-        "Apache-2.0": 40, 20;
-        "Artistic-1.0": 41, 10;
-        "Artistic-2.0": 41, 20;
-        "CC-BY-3.0": 42, 30;
-        "CC-BY-4.0": 42, 40;
-        "CC-BY-SA-3.0": 43, 30;
-        "CC-BY-SA-4.0": 43, 40;
-        "CDDL-1.0": 44, 10;
-        "CDDL-1.1": 44, 11;
-        "EPL-1.0": 45, 10;
-        "EPL-2.0": 45, 20;
-        "EUPL-1.1": 46, 11;
-        "EUPL-1.2": 46, 12;
-        "MPL-1.0": 47, 10;
-        "MPL-1.1": 47, 11;
-        "MPL-2.0": 47, 20;
-        "OFL-1.0": 48, 10;
-        "OFL-1.1": 48, 11;
-    }
-    gnu {
-        "AGPL-3.0": 49, 30;
-        "GFDL-1.3": 50, 13;
-        "GPL-1.0": 51, 10;
-        "GPL-2.0": 51, 20;
-        "GPL-3.0": 51, 30;
-        "LGPL-2.0": 52, 20;
-        "LGPL-2.1": 52, 21;
-        "LGPL-3.0": 52, 30;
-    }
+    "FTL": 14, 10, PLAIN;
+    "ICU": 16, 10, PLAIN;
+    "IJG": 17, 10, PLAIN;
+    "ISC": 18, 10, PLAIN;
+    "MIT": 19, 10, PLAIN;
+    "Vim": 34, 10, PLAIN;
+    "W3C": 35, 10, PLAIN;
+    "X11": 37, 10, PLAIN;
+    "0BSD": 0, 10, PLAIN;
+    "HPND": 15, 10, PLAIN;
+    "NCSA": 23, 10, PLAIN;
+    "Ruby": 29, 10, PLAIN;
+    "Zlib": 38, 10, PLAIN;
+    "curl": 13, 10, PLAIN;
+    "MIT-0": 20, 10, PLAIN;
+    "Pixar": 25, 10, PLAIN;
+    "WTFPL": 36, 10, PLAIN;
+    "BSL-1.0": 8, 10, PLAIN;
+    "CC0-1.0": 11, 10, PLAIN;
+    "EPL-1.0": 45, 10, PLAIN;
+    "EPL-2.0": 45, 20, PLAIN;
+    "GPL-1.0": 51, 10, GNU_BARE;
+    "GPL-2.0": 51, 20, GNU_BARE;
+    "GPL-3.0": 51, 30, GNU_BARE;
+    "MPL-1.0": 47, 10, PLAIN;
+    "MPL-1.1": 47, 11, PLAIN;
+    "MPL-2.0": 47, 20, PLAIN;
+    "OFL-1.0": 48, 10, PLAIN;
+    "OFL-1.1": 48, 11, PLAIN;
+    "OpenSSL": 24, 10, PLAIN;
+    "PSF-2.0": 27, 10, PLAIN;
+    "UPL-1.0": 33, 10, PLAIN;
+    "AGPL-3.0": 49, 30, GNU_BARE;
+    "BUSL-1.1": 9, 10, PLAIN;
+    "CDDL-1.0": 44, 10, PLAIN;
+    "CDDL-1.1": 44, 11, PLAIN;
+    "EUPL-1.1": 46, 11, PLAIN;
+    "EUPL-1.2": 46, 12, PLAIN;
+    "GFDL-1.3": 50, 13, GNU_BARE;
+    "LGPL-2.0": 52, 20, GNU_BARE;
+    "LGPL-2.1": 52, 21, GNU_BARE;
+    "LGPL-3.0": 52, 30, GNU_BARE;
+    "CC-BY-3.0": 42, 30, PLAIN;
+    "CC-BY-4.0": 42, 40, PLAIN;
+    "Unlicense": 32, 10, PLAIN;
+    "Apache-1.0": 40, 10, PLAIN;
+    "Apache-1.1": 40, 11, PLAIN;
+    "Apache-2.0": 40, 20, PLAIN;
+    "PostgreSQL": 26, 10, PLAIN;
+    "Python-2.0": 28, 10, PLAIN;
+    "Unicode-3.0": 30, 10, PLAIN;
+    "bzip2-1.0.6": 10, 10, PLAIN;
+    "Artistic-1.0": 41, 10, PLAIN;
+    "Artistic-2.0": 41, 20, PLAIN;
+    "BSD-1-Clause": 2, 10, PLAIN;
+    "BSD-2-Clause": 3, 10, PLAIN;
+    "BSD-3-Clause": 5, 10, PLAIN;
+    "BSD-4-Clause": 7, 10, PLAIN;
+    "CC-BY-SA-3.0": 43, 30, PLAIN;
+    "CC-BY-SA-4.0": 43, 40, PLAIN;
+    "GPL-1.0-only": 51, 10, GNU_ONLY;
+    "GPL-2.0-only": 51, 20, GNU_ONLY;
+    "GPL-3.0-only": 51, 30, GNU_ONLY;
+    "MulanPSL-2.0": 22, 10, PLAIN;
+    "AGPL-3.0-only": 49, 30, GNU_ONLY;
+    "BlueOak-1.0.0": 1, 10, PLAIN;
+    "GFDL-1.3-only": 50, 13, GNU_ONLY;
+    "LGPL-2.0-only": 52, 20, GNU_ONLY;
+    "LGPL-2.1-only": 52, 21, GNU_ONLY;
+    "LGPL-3.0-only": 52, 30, GNU_ONLY;
+    "GPL-1.0-or-later": 51, 10, GNU_LATER;
+    "GPL-2.0-or-later": 51, 20, GNU_LATER;
+    "GPL-3.0-or-later": 51, 30, GNU_LATER;
+    "Unicode-DFS-2016": 31, 10, PLAIN;
+    "AGPL-3.0-or-later": 49, 30, GNU_LATER;
+    "GFDL-1.3-or-later": 50, 13, GNU_LATER;
+    "LGPL-2.0-or-later": 52, 20, GNU_LATER;
+    "LGPL-2.1-or-later": 52, 21, GNU_LATER;
+    "LGPL-3.0-or-later": 52, 30, GNU_LATER;
+    "BSD-3-Clause-Clear": 6, 10, PLAIN;
+    "BSD-2-Clause-Patent": 4, 10, PLAIN;
+    "CDLA-Permissive-2.0": 12, 10, PLAIN;
+    "zlib-acknowledgement": 39, 10, PLAIN;
+    "MPL-2.0-no-copyleft-exception": 21, 10, PLAIN;
 };
 
 static EXCEPTIONS: [&str; 10] = [
@@ -187,19 +202,30 @@ static IMPRECISE: [Meaning; 33] = meanings! {
 #[derive(Clone, Copy, Debug)]
 pub struct Table;
 
-/// What is known of a name among licences.
-fn entry_among(licences: &[Listed], name: &str) -> Option<LicenseEntry>
-    ensures { result ≡ entry_of (map (λ listed. (listed.name.now, listed.entry)) licences.now) name.now }
+/// The order in which names are looked up.
+fn name_order(name: &[u8], other: &[u8]) -> Ordering
+    ensures { result ≡ name_order name.now other.now }
 {
-    match licences.split_first() {
+    match name.len().cmp(&other.len()) {
+        Ordering::Less => Ordering::Less,
+        Ordering::Equal => name.cmp(other),
+        Ordering::Greater => Ordering::Greater,
+    }
+}
+
+/// What is known of a name among licences, which stand in the order of their names.
+fn entry_among(licences: &[Listed], name: &[u8]) -> Option<LicenseEntry>
+    requires { AreInOrder (told licences.now) }
+    ensures { result ≡ entry_of (told licences.now) name.now }
+{
+    let (before, rest) = licences.split_at(licences.len() / 2);
+    match rest.split_first() {
         None => None,
-        Some((first, rest)) => {
-            if name == first.name {
-                Some(first.entry)
-            } else {
-                entry_among(rest, name)
-            }
-        }
+        Some((middle, behind)) => match name_order(name, middle.name.as_bytes()) {
+            Ordering::Less => entry_among(before, name),
+            Ordering::Equal => Some(middle.entry),
+            Ordering::Greater => entry_among(behind, name),
+        },
     }
 }
 
@@ -264,7 +290,7 @@ impl Catalog for Table {
     ghost lawful = { λ _. table_is_catalog };
 
     fn license(&self, name: &str) -> Option<LicenseEntry> {
-        entry_among(&LICENCES, name)
+        entry_among(&LICENCES, name.as_bytes())
     }
 
     fn exception(&self, name: &str) -> bool {

@@ -24,7 +24,7 @@ use crate::report::{AllStats, Ended, Outcome, Report};
 use crate::stages::{check_crates, policy_paths};
 use crate::words::Request;
 use diag_core::{Files, LevelFilter};
-use load_core::{load, print_packs};
+use load_core::{index_packs, load, print_packs};
 use print_core::{Color, Format, LogContext};
 use spdx_core::{Catalog, Identifier};
 use std::alloc::Global;
@@ -41,7 +41,8 @@ fn plain_log() -> LogContext
     }
 }
 
-/// The report of a check, and the files that it points into.
+/// The report of a check, and the files that it points into, in which the places that are printed are found
+/// fast.
 fn report_of(checked: CheckedCrates, files: Files) -> Report
     ensures { result ≡ report_with checked files }
 {
@@ -50,6 +51,8 @@ fn report_of(checked: CheckedCrates, files: Files) -> Report
         crates,
         findings,
     } = checked;
+    let mut files = files;
+    index_packs(plain_log(), findings.items(), &mut files);
     Report {
         stats: AllStats::of_findings(findings.items()),
         policy,

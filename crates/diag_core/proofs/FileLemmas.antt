@@ -1,6 +1,7 @@
 -- A file's text is replaced in its place, and what paths find in files that grow or change.
-use Rattle.std.proofs.Common.{◌≡◌, ℕ, zero, suc, ◌+◌, ◌<◌, true, false, ◌&&◌, cond, T, List, [], ◌∷◌, ◌++◌, length, get_or, set, refl, sym, ap, subst, ◌∙◌, Option, Some, None, is_some, Result, Ok, Err, OnOk, arith}
+use Rattle.std.proofs.Common.{◌≡◌, ℕ, zero, suc, ◌+◌, ◌<◌, true, false, ◌&&◌, cond, T, List, [], ◌∷◌, ◌++◌, length, get_or, set, refl, sym, ap, subst, ◌∙◌, Option, Some, None, is_some, arith}
 use Rattle.std.specs.List.{position_from}
+use Rattle.std.proofs.lemmas.List.{set-get_or}
 use Rattle.std.proofs.lemmas.Iterator.Adapters.{position_from-zero}
 use Rattle.std.specs.declared.cmp.Ordering.{Ordering}
 use Rattle.std.specs.declared.cmp.Ordering.TheVariants.{Less, Equal, Greater}
@@ -19,10 +20,13 @@ set-with_source (file ∷ files) zero source d within = refl
 set-with_source (file ∷ files) (suc id) source d within = ap (λ rest. file ∷ rest) (set-with_source files id source d (omega arith))
 
 -- where the file in its place takes the text, so do the files
-pub on_ok_with_source_at : {T E : Type 0} (r : Result T E) (files : List File) (id : ℕ) (source : List ℕ) (old new : File)
-    → id < length files → old ≡ get_or files id old → OnOk r (new ≡ with_source source old) → OnOk r (set files id new ≡ with_source_at files id source)
-on_ok_with_source_at (Ok x) files id source old new within there e = ap (set files id) (e ∙ ap (with_source source) there) ∙ set-with_source files id source old within
-on_ok_with_source_at (Err x) files id source old new within there e = tt
+pub set_with_source_at : (files : List File) (id : ℕ) (source : List ℕ) (old new : File)
+    → id < length files → old ≡ get_or files id old → new ≡ with_source source old → set files id new ≡ with_source_at files id source
+set_with_source_at files id source old new within there is = ap (set files id) (is ∙ ap (with_source source) there) ∙ set-with_source files id source old within
+
+-- a file that stays as it was leaves the files as they were
+pub set_itself : (files : List File) (id : ℕ) (old new : File) → old ≡ get_or files id old → new ≡ old → set files id new ≡ files
+set_itself files id old new there is = ap (set files id) (is ∙ there) ∙ set-get_or files id old
 
 -- the number of the first file that is found by the path, where the first file has the number i
 abbrev id_from : ℕ → List File → List ℕ → Option ℕ

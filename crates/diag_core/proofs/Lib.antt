@@ -4,3 +4,4 @@ pub mod FileLemmas
 pub mod ListLemmas
 pub mod OrderLemmas
 pub mod PositionLemmas
+pub mod ScanLemmas

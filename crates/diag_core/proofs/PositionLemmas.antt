@@ -5,7 +5,6 @@ use Rattle.std.specs.List.Sorted.{IsPartitionPoint}
 use Rattle.std.proofs.lemmas.Bool.{le-leb, leb-true}
 use Rattle.std.proofs.lemmas.Bool.Decides.{nat_tests}
 use Rattle.std.proofs.lemmas.List.Sums.{sum_by-cons}
-use Rattle.diag_core.specs.File.{File}
 use Rattle.diag_core.specs.Lines.{FoundLine}
 use Rattle.diag_core.specs.Position.{is_line_feed, line_of, line_count, line_starts, places_behind_line_feeds}
 
@@ -50,15 +49,15 @@ pub line_starts_rise : (text : List ℕ) → Rises (line_starts text)
 unfolding line_starts
 line_starts_rise text = rises_cons 0 _ (all_behind 0 text) (behind_rise 0 text)
 
-count_by-cons : (q : ℕ → Bool) (x : ℕ) (xs : List ℕ) → count_by q (x ∷ xs) ≡ cond {A = ℕ} (q x) 1 0 + count_by q xs
+pub count_by-cons : (q : ℕ → Bool) (x : ℕ) (xs : List ℕ) → count_by q (x ∷ xs) ≡ cond {A = ℕ} (q x) 1 0 + count_by q xs
 count_by-cons q x xs = sum_by-cons (λ y. cond (q y) 1 0) x xs
 
-count_by-yes : (q : ℕ → Bool) (x : ℕ) (xs : List ℕ) (n : ℕ) → q x ≡ true → count_by q xs ≡ n → count_by q (x ∷ xs) ≡ suc n
+pub count_by-yes : (q : ℕ → Bool) (x : ℕ) (xs : List ℕ) (n : ℕ) → q x ≡ true → count_by q xs ≡ n → count_by q (x ∷ xs) ≡ suc n
 count_by-yes q x xs n here rest =
     let one : cond {A = ℕ} (q x) 1 0 ≡ 1 = rw here refl in
     omega (arith, count_by-cons q x xs)
 
-count_by-no : (q : ℕ → Bool) (x : ℕ) (xs : List ℕ) (n : ℕ) → q x ≡ false → count_by q xs ≡ n → count_by q (x ∷ xs) ≡ n
+pub count_by-no : (q : ℕ → Bool) (x : ℕ) (xs : List ℕ) (n : ℕ) → q x ≡ false → count_by q xs ≡ n → count_by q (x ∷ xs) ≡ n
 count_by-no q x xs n here rest =
     let none : cond {A = ℕ} (q x) 1 0 ≡ 0 = rw here refl in
     omega (arith, count_by-cons q x xs)
@@ -130,7 +129,3 @@ pub FoundLine-from_split : (text xs : List ℕ) (place n : ℕ) → xs ≡ line_
 FoundLine-from_split text xs place n e within parts =
     let P : List ℕ → Type 0 = λ ys. n ≤ length ys → IsPartitionPoint (λ start. leb start place ≡ true) (λ start. leb start place ≡ false) ys n → FoundLine text place n in
     subst P (sym e) (found text place n) within parts
-
--- the starts that a file keeps are as many as its lines
-pub length-kept_starts : (starts : List ℕ) (file : File) (source : List ℕ) → starts ≡ line_starts source → source ≡ file.source → length starts ≡ line_count file.source
-length-kept_starts starts file source kept same = ap length kept ∙ length-line_starts source ∙ ap line_count same

@@ -6,6 +6,7 @@ pub mod Diagnostic
 pub mod File
 pub mod FileName
 pub mod GeneralCode
+pub mod Kept
 pub mod Label
 pub mod LicenseCode
 pub mod Lines

@@ -2,10 +2,11 @@
 ghost use Rattle.std.specs.Prelude.{◌≡◌, ◌<◌, ◌+◌, ◌^◌, ◌⊎◌, ◌↔◌, [], ◌∷◌, ◌++◌, length};
 ghost use Rattle.std.specs.Prelude.{IfOk, IfErr, OnOk, OnErr};
 ghost use Rattle.std.specs.Prelude.{IsSome, Some, None, Ok, Err, true, false, slice_get};
-ghost use Rattle.std.specs.Option.{option_copied, option_and_then};
+ghost use Rattle.std.specs.Option.{ForSome, option_copied, option_and_then};
 ghost use Rattle.deny_text.specs.Path.{key_of};
 ghost use Rattle.diag_core.specs.File.{File, with_source_at, source_of, name_of, id_at, asked_of_text};
 ghost use Rattle.diag_core.specs.FileName.{name_text, is_path};
+ghost use Rattle.diag_core.specs.Kept.{IsFound};
 ghost use Rattle.diag_core.specs.Position.{line_of, line_range_of, location_of};
 
 use crate::position::{FileId, FilesErr, Location};
@@ -56,21 +57,32 @@ impl Model for Files {
 }
 
 /// Puts a file at the end.
-fn append(
-    alloc: Global,
-    files: &mut Vec<SourceFile>,
-    name: FileName,
-    source: Text,
-) -> Result<FileId, AllocError>
+fn append(files: &mut Vec<SourceFile>, name: FileName, source: Text) -> Result<FileId, AllocError>
     ensures number { IfOk result (λ id. id ≡ length files.old.items) }
     ensures ok { OnOk result (files.new.items ≡ files.old.items
         ++ record { name = name_text name; source = source; has_path = is_path name } ∷ []) }
     ensures err { OnErr result (files.new.items ≡ files.old.items) }
 {
     let id = files.len();
-    let file = SourceFile::new(alloc, name, source)?;
-    files.push(file)?;
+    files.push(SourceFile::new(name, source))?;
     Ok(id)
+}
+
+/// Makes the index of a file, which is seen as it was.
+fn make_index_at(files: &mut Vec<SourceFile>, id: FileId, alloc: Global)
+    requires { id < length files.old.items }
+    ensures { files.new.items ≡ files.old.items }
+{
+    files[id].make_index(alloc);
+}
+
+/// The place of the licence field of a file, which is seen as it was.
+fn license_span_at(files: &mut Vec<SourceFile>, id: FileId) -> Option<Span>
+    requires { id < length files.old.items }
+    ensures found { ForSome (source_of files.old.items id) (λ text. IsFound text result) }
+    ensures same { files.new.items ≡ files.old.items }
+{
+    files[id].license_span()
 }
 
 /// The number of the file that is found by the path. It asks one file after another, and takes no memory.
@@ -106,7 +118,7 @@ impl Files {
             return Err(AddError::PathTaken(path, source));
         }
         let key = key?;
-        let id = append(self.alloc, &mut self.files, FileName::Path(path), source)?;
+        let id = append(&mut self.files, FileName::Path(path), source)?;
         match self.ids.insert(key, id) {
             Ok(_) => Ok(id),
             Err(_) => {
@@ -123,7 +135,7 @@ impl Files {
             ≡ self.old ++ record { name = name; source = source; has_path = false } ∷ []) }
         ensures err { OnErr result (self.new ≡ self.old) }
     {
-        append(self.alloc, &mut self.files, FileName::Label(name), source)
+        append(&mut self.files, FileName::Label(name), source)
     }
 
     /// Gives a file another text. The other files stay.
@@ -132,8 +144,50 @@ impl Files {
         ensures ok { OnOk result (self.new ≡ with_source_at self.old id source) }
         ensures err { OnErr result (self.new ≡ self.old) }
     {
-        let alloc = self.alloc;
-        self.files[id].update(alloc, source)
+        self.files[id].update(source);
+        Ok(())
+    }
+
+    /// Adds a file that many labels may point into: places in it are found fast at once.
+    pub fn add_indexed(&mut self, path: PathBuf, source: Text) -> Result<FileId, AddError>
+        ensures number { IfOk result (λ id. id ≡ length self.old) }
+        ensures ok { OnOk result (self.new
+            ≡ self.old ++ record { name = path; source = source; has_path = true } ∷ []) }
+        ensures taken { (result ≡ Err (AddError.PathTaken path source)) ↔ IsSome (id_at self.old path) }
+        ensures otherwise { IfErr result (λ error. (error ≡ AddError.PathTaken path source)
+            ⊎ (error ≡ AddError.Memory)) }
+        ensures err { OnErr result (self.new ≡ self.old) }
+    {
+        match self.add(path, source) {
+            Ok(id) => {
+                self.index(id);
+                Ok(id)
+            }
+            Err(error) => Err(error),
+        }
+    }
+
+    /// Makes the index of a file's lines, where there is none and memory for it: places in it are found fast
+    /// from then on. Without an index all that stands before a place is gone over.
+    pub fn index(&mut self, id: FileId)
+        ensures { self.new ≡ self.old }
+    {
+        if id < self.files.len() {
+            make_index_at(&mut self.files, id, self.alloc);
+        }
+    }
+
+    /// The place of the licence field of a file, as in a manifest; none where there is no such file. A file is
+    /// searched once.
+    pub fn license_span(&mut self, id: FileId) -> Option<Span>
+        ensures found { ForSome (source_of self.old id) (λ text. IsFound text result) }
+        ensures same { self.new ≡ self.old }
+    {
+        if id < self.files.len() {
+            license_span_at(&mut self.files, id)
+        } else {
+            None
+        }
     }
 
     /// The file of that number.

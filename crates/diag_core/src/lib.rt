@@ -10,6 +10,8 @@ pub mod files;
 pub mod general;
 pub mod label;
 pub mod licenses;
+mod line_index;
+mod line_scan;
 pub mod overrides;
 pub mod pack;
 pub mod position;

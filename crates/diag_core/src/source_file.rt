@@ -1,18 +1,19 @@
-//! A file with the places of its lines.
-ghost use Rattle.std.specs.Prelude.{◌≡◌, ◌<◌, ◌≤◌, ◌+◌, ◌^◌, count_by, length, take, IfOk, OnOk, OnErr};
-ghost use Rattle.std.specs.Prelude.{true, false};
+//! A file, in which places are found by line and column.
+ghost use Rattle.std.specs.Prelude.{◌≡◌, ◌<◌, ◌≤◌, ◌+◌, ◌^◌, length, IfOk, true, false};
 ghost use Rattle.diag_core.specs.File.{with_source, is_at};
 ghost use Rattle.diag_core.specs.FileName.{name_text, is_path};
-ghost use Rattle.diag_core.specs.Position.{line_of, line_start, line_end, line_range_of, location_of};
-ghost use Rattle.diag_core.specs.Position.{line_count, line_starts as starts_of, begins_character as begins};
+ghost use Rattle.diag_core.specs.Kept.{IsFound};
+ghost use Rattle.diag_core.specs.Position.{line_of, line_range_of, location_of, column_of};
 ghost use Rattle.diag_core.specs.Position.{is_inside_character as is_inside};
-ghost use Rattle.diag_core.specs.Lines.{FoundLine};
 
-use crate::characters::{begins_character, characters_before, count_blocks};
+use crate::characters::begins_character;
+use crate::line_index::LineIndex;
+use crate::line_scan;
 use crate::position::{FilesErr, Location};
 use deny_text::path::compare;
 use deny_text::{PathBuf, Span, Text};
-use std::alloc::{AllocError, Global};
+use manifest_core::license_span;
+use std::alloc::Global;
 use std::marker::Model;
 
 /// What a file is called.
@@ -24,20 +25,21 @@ pub(crate) enum FileName {
     Label(Text),
 }
 
-/// A text with its name and with the places at which its lines start.
+/// A text with its name, and with its index once that was made.
 #[derive(Drop)]
 pub(crate) struct SourceFile {
     name: FileName,
     source: Text,
-    line_starts: Vec<usize>,
-    /// How many characters stand before each block of the text.
-    character_counts: Vec<usize>,
+    /// Without it places are found by going over the text.
+    index: Option<LineIndex>,
+    /// Where its licence field stands, once that was searched for.
+    license: Option<Option<Span>>,
 }
 
 impl Model for SourceFile {
     ghost use Rattle.diag_core.specs.File.{File};
     ghost use Rattle.diag_core.specs.FileName.{name_text, is_path};
-    ghost use Rattle.diag_core.specs.Blocks.{IsIndexOf};
+    ghost use Rattle.diag_core.specs.Kept.{IsKept};
 
     ghost Value = { File };
 
@@ -47,21 +49,7 @@ impl Model for SourceFile {
       has_path = is_path file.name;
     } };
 
-    ghost invariant = { λ file. IsIndexOf file.source file.line_starts.items file.character_counts.items };
-}
-
-/// The places at which the lines of a text start.
-fn line_starts(alloc: Global, text: &str) -> Result<Vec<usize>, AllocError>
-    ensures { IfOk result (λ starts. starts.items ≡ starts_of text.now) }
-{
-    let mut starts = Vec::new(alloc);
-    starts.push(0)?;
-    'bytes: for (place, byte) in text.as_bytes().iter().enumerate() {
-        if *byte == b'\n' {
-            starts.push(place + 1)?;
-        }
-    }
-    Ok(starts)
+    ghost invariant = { λ file. IsKept file.index file.license file.source };
 }
 
 /// Whether the place is neither at the first byte of a character nor at the end of the text.
@@ -72,31 +60,49 @@ fn is_inside_character(text: &str, place: usize) -> bool
 }
 
 impl SourceFile {
-    pub(crate) fn new(alloc: Global, name: FileName, source: Text) -> Result<SourceFile, AllocError>
-        ensures { IfOk result (λ file. file
-            ≡ record { name = name_text name; source = source; has_path = is_path name }) }
+    pub(crate) fn new(name: FileName, source: Text) -> SourceFile
+        ensures { result ≡ record { name = name_text name; source = source; has_path = is_path name } }
     {
-        let line_starts = line_starts(alloc, source.as_str())?;
-        let character_counts = count_blocks(alloc, source.as_str().as_bytes())?;
-        Ok(SourceFile {
+        SourceFile {
             name,
             source,
-            line_starts,
-            character_counts,
-        })
+            index: None,
+            license: None,
+        }
     }
 
     /// Takes another text.
-    pub(crate) fn update(&mut self, alloc: Global, source: Text) -> Result<(), AllocError>
-        ensures ok { OnOk result (self.new ≡ with_source source self.old) }
-        ensures err { OnErr result (self.new ≡ self.old) }
+    pub(crate) fn update(&mut self, source: Text)
+        ensures { self.new ≡ with_source source self.old }
     {
-        let line_starts = line_starts(alloc, source.as_str())?;
-        let character_counts = count_blocks(alloc, source.as_str().as_bytes())?;
+        self.index = None;
+        self.license = None;
         self.source = source;
-        self.line_starts = line_starts;
-        self.character_counts = character_counts;
-        Ok(())
+    }
+
+    /// Makes the index, where there is none. It stays without one where memory is wanting.
+    pub(crate) fn make_index(&mut self, alloc: Global)
+        ensures { self.new ≡ self.old }
+    {
+        if self.index.is_some() {
+            return;
+        }
+        if let Ok(index) = LineIndex::new(alloc, self.source.as_str()) {
+            self.index = Some(index);
+        }
+    }
+
+    /// The place of its licence field, as in a manifest.
+    pub(crate) fn license_span(&mut self) -> Option<Span>
+        ensures found { IsFound self.old.source result }
+        ensures same { self.new ≡ self.old }
+    {
+        if let Some(found) = self.license {
+            return found;
+        }
+        let found = license_span(self.source.as_str());
+        self.license = Some(found);
+        found
     }
 
     pub(crate) fn name(&self) -> &str
@@ -124,70 +130,38 @@ impl SourceFile {
         self.source.as_str()
     }
 
-    /// How many lines start at or before a place.
-    fn lines_until(&self, place: usize) -> usize
-        ensures { FoundLine self.now.source place result }
-    {
-        self.line_starts.partition_point(|start| *start <= place)
-    }
-
     /// The line of a place.
     pub(crate) fn line_index(&self, place: usize) -> usize
-        ensures line { result ≡ line_of self.now.source place }
-        ensures within { result < line_count self.now.source }
-        ensures start { line_start self.now.source result ≤ place }
+        ensures { result ≡ line_of self.now.source place }
     {
-        self.lines_until(place) - 1
-    }
-
-    fn line_count(&self) -> usize
-        ensures { result ≡ line_count self.now.source }
-    {
-        self.line_starts.len()
-    }
-
-    fn line_start(&self, line: usize) -> usize
-        requires { line < line_count self.now.source }
-        ensures { result ≡ line_start self.now.source line }
-    {
-        self.line_starts[line]
-    }
-
-    /// Where the line after this one starts, or the end of the text.
-    fn line_end(&self, line: usize) -> usize
-        requires { line < line_count self.now.source }
-        ensures { result ≡ line_end self.now.source line }
-    {
-        match self.line_starts.get(line + 1) {
-            Some(next) => *next,
-            None => self.source.as_str().len(),
+        let text = self.source.as_str();
+        match &self.index {
+            Some(index) => index.line_index(text, place),
+            None => line_scan::line_index(text, place),
         }
-    }
-
-    /// How many characters stand before a place.
-    fn characters_before(&self, place: usize) -> usize
-        requires { place ≤ length self.now.source }
-        ensures { result ≡ count_by begins (take place self.now.source) }
-    {
-        characters_before(
-            &self.character_counts,
-            self.source.as_str().as_bytes(),
-            place,
-        )
     }
 
     /// The bytes of a line.
     pub(crate) fn line_range(&self, line: usize) -> Result<Span, FilesErr>
         ensures { result ≡ line_range_of line self.now.source }
     {
-        let max = self.line_count();
-        if line < max {
-            Ok(Span {
-                start: self.line_start(line),
-                end: self.line_end(line),
-            })
-        } else {
-            Err(FilesErr::LineTooLarge { given: line, max })
+        let text = self.source.as_str();
+        match &self.index {
+            Some(index) => index.line_range(text, line),
+            None => line_scan::line_range(text, line),
+        }
+    }
+
+    /// The line and the column of a place up to the end.
+    fn location_within(&self, place: usize) -> Location
+        requires { place ≤ length self.now.source }
+        ensures line { result.line ≡ line_of self.now.source place }
+        ensures column { result.column ≡ column_of self.now.source place }
+    {
+        let text = self.source.as_str();
+        match &self.index {
+            Some(index) => index.location(text, place),
+            None => line_scan::location(text, place),
         }
     }
 
@@ -208,11 +182,6 @@ impl SourceFile {
         if is_inside_character(text, place) {
             return Err(FilesErr::InvalidCharBoundary { given: place });
         }
-        let line = self.line_index(place);
-        let start = self.line_start(line);
-        Ok(Location {
-            line,
-            column: self.characters_before(place) - self.characters_before(start),
-        })
+        Ok(self.location_within(place))
     }
 }

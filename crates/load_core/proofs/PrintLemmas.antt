@@ -12,7 +12,7 @@ use Rattle.diag_core.specs.Pack.{PackOf}
 use Rattle.diag_core.specs.declared.pack.Diag.{Diag}
 use Rattle.print_core.specs.Printed.{all_printed_at, is_heard, printed_of}
 use Rattle.print_core.specs.declared.context.LogContext.{LogContext}
-use Rattle.load_core.specs.Print.{printed_findings, printed_packs}
+use Rattle.load_core.specs.Print.{IsPending, printed_findings, printed_packs}
 
 module _ {A : Type 0} (f : A → List ℕ) (xs : List A) where
   -- the whole text, cut before and behind an item
@@ -22,32 +22,79 @@ module _ {A : Type 0} (f : A → List ℕ) (xs : List A) where
       ∙ flat_map-append f (take i xs) (drop i xs)
       ∙ ap (λ rest. flat_map f (take i xs) ++ flat_map f rest) (drop_more xs i x within ∙ ap (λ y. y ∷ drop (i + 1) xs) (sym at))
 
-  -- a front of one more item is a front of the whole
-  pub one_cut : (i : ℕ) (x : A) (old mid new : Option (List ℕ)) → i < length xs → x ≡ get_or xs i x
-      → Gained old mid (flat_map f (take i xs)) → GainedPrefix mid new (f x) → GainedPrefix old new (flat_map f xs)
-  one_cut i x old mid new within at before cut =
-      let earlier = flat_map f (take i xs) in
-      let later = flat_map f (drop (i + 1) xs) in
-      record {
-        front = earlier ++ cut.front;
-        rest = cut.rest ++ later;
-        parts =
-            text_cut i x within at
-            ∙ ap (λ text. earlier ++ (text ++ later)) cut.parts
-            ∙ ap (λ text. earlier ++ text) (append_assoc cut.front cut.rest later)
-            ∙ sym (append_assoc earlier cut.front (cut.rest ++ later));
-        gained = Gained-then old mid new earlier cut.front before cut.gained;
-      }
-
-  -- the texts of one item more
-  pub one_more : (i : ℕ) (x : A) (old mid new : Option (List ℕ)) → i < length xs → x ≡ get_or xs i x
-      → Gained old mid (flat_map f (take i xs)) → Gained mid new (f x) → Gained old new (flat_map f (take (i + 1) xs))
-  one_more i x old mid new within at before gained =
-      subst (Gained old new)
-      (sym (ap (flat_map f) (take_more xs i x within ∙ ap (λ y. take i xs ++ y ∷ []) (sym at))
+  -- the text of one item more
+  pub text_more : (i : ℕ) (x : A) → i < length xs → x ≡ get_or xs i x → flat_map f (take (i + 1) xs) ≡ flat_map f (take i xs) ++ f x
+  text_more i x within at =
+      ap (flat_map f) (take_more xs i x within ∙ ap (λ y. take i xs ++ y ∷ []) (sym at))
       ∙ flat_map-append f (take i xs) (x ∷ [])
-      ∙ ap (λ text. flat_map f (take i xs) ++ text) (append-nil (f x))))
-      (Gained-then old mid new (flat_map f (take i xs)) (f x) before gained)
+      ∙ ap (λ text. flat_map f (take i xs) ++ text) (append-nil (f x))
+
+-- ---- what is pending
+
+same_gained : (held : Option (List ℕ)) → Gained held held []
+same_gained None = refl
+same_gained (Some bytes) = ap Some (sym (append-nil bytes))
+
+-- nothing was written
+pub still_pending : (held : Option (List ℕ)) (pending : List ℕ) → IsPending held held pending pending
+still_pending held pending = record { front = []; gained = same_gained held; parts = refl }
+
+pub unwritten : {T E : Type 0} (result : Result T E) (held : Option (List ℕ)) (text : List ℕ) → OnErr result (GainedPrefix held held text)
+unwritten (Ok value) held text = tt
+unwritten (Err error) held text = record { front = []; rest = text; parts = refl; gained = same_gained held }
+
+-- all that was pending was written
+pub all_written : (old new : Option (List ℕ)) (left pending : List ℕ) → Gained old new pending → left ≡ [] → IsPending old new left pending
+all_written old new left pending gained none = record { front = pending; gained = gained; parts = ap (λ rest. pending ++ rest) none ∙ append-nil pending }
+
+module _ (old mid new : Option (List ℕ)) (pending text : List ℕ) (before : IsPending old mid pending text) where
+  -- a text was put behind what was pending
+  pub pending_more : (left more : List ℕ) → IsPending mid new left (pending ++ more) → IsPending old new left (text ++ more)
+  pending_more left more next = record {
+    front = before.front ++ next.front;
+    gained = Gained-then old mid new before.front next.front before.gained next.gained;
+    parts =
+        append_assoc before.front next.front left
+        ∙ ap (λ rest. before.front ++ rest) next.parts
+        ∙ sym (append_assoc before.front pending more)
+        ∙ ap (λ rest. rest ++ more) before.parts;
+  }
+
+  -- what is pending was written
+  pub pending_written : Gained mid new pending → Gained old new text
+  pending_written gained = subst (Gained old new) before.parts (Gained-then old mid new before.front pending before.gained gained)
+
+  -- a front of what was pending and of a text behind it is a front of the whole
+  pub pending_cut : (more rest whole : List ℕ) → whole ≡ text ++ (more ++ rest) → GainedPrefix mid new (pending ++ more) → GainedPrefix old new whole
+  pending_cut more rest whole is cut = record {
+    front = before.front ++ cut.front;
+    rest = cut.rest ++ rest;
+    parts =
+        is
+        ∙ ap (λ front. front ++ (more ++ rest)) (sym before.parts)
+        ∙ append_assoc before.front pending (more ++ rest)
+        ∙ ap (λ behind. before.front ++ behind) (sym (append_assoc pending more rest) ∙ ap (λ front. front ++ rest) cut.parts ∙ append_assoc cut.front cut.rest rest)
+        ∙ sym (append_assoc before.front cut.front (cut.rest ++ rest));
+    gained = Gained-then old mid new before.front cut.front before.gained cut.gained;
+  }
+
+  -- a front of what was pending is a front of the text
+  pub pending_left : GainedPrefix mid new pending → GainedPrefix old new text
+  pending_left cut = record {
+    front = before.front ++ cut.front;
+    rest = cut.rest;
+    parts = sym before.parts ∙ ap (λ behind. before.front ++ behind) cut.parts ∙ sym (append_assoc before.front cut.front cut.rest);
+    gained = Gained-then old mid new before.front cut.front before.gained cut.gained;
+  }
+
+module _ {A : Type 0} (f : A → List ℕ) (xs : List A) (i : ℕ) (x : A) (old mid new : Option (List ℕ)) (pending : List ℕ) (within : i < length xs) (at : x ≡ get_or xs i x) (before : IsPending old mid pending (flat_map f (take i xs))) where
+  -- the texts of one item more
+  pub one_pending : (left : List ℕ) → IsPending mid new left (pending ++ f x) → IsPending old new left (flat_map f (take (i + 1) xs))
+  one_pending left next = subst (IsPending old new left) (sym (text_more f xs i x within at)) (pending_more old mid new pending (flat_map f (take i xs)) before left (f x) next)
+
+  -- a front of them is a front of the whole
+  pub one_pending_cut : GainedPrefix mid new (pending ++ f x) → GainedPrefix old new (flat_map f xs)
+  one_pending_cut cut = pending_cut old mid new pending (flat_map f (take i xs)) before (f x) (flat_map f (drop (i + 1) xs)) (flat_map f xs) (text_cut f xs i x within at) cut
 
 -- nothing is printed at level off
 pub off_is_silent : (context : LogContext) (files : List File) (findings : List Diagnostic) → context.log_level ≡ Off → printed_findings context files findings ≡ []

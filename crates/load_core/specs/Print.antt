@@ -1,7 +1,7 @@
 -- Findings that are printed.
-use Rattle.std.specs.Prelude.{◌≡◌, ℕ, Bool, List, All, ⊤}
+use Rattle.std.specs.Prelude.{◌≡◌, ℕ, Bool, List, ◌++◌, Option, All, ⊤}
 use Rattle.std.specs.List.{flat_map}
-use Rattle.tree_core.specs.Faults.{Rose}
+use Rattle.tree_core.specs.Faults.{Gained, Rose}
 use Rattle.diag_core.specs.File.{File}
 use Rattle.diag_core.specs.Severity.{is_same_severity}
 use Rattle.diag_core.specs.declared.diagnostic.Diagnostic.{Diagnostic}
@@ -32,6 +32,12 @@ PacksAreInside files packs = All (λ (pack : PackOf). AllLabelsAreInside files p
 -- the lines of the findings of packs, in order
 abbrev pub printed_packs : LogContext → List File → List PackOf → List ℕ
 printed_packs context files packs = flat_map (λ (pack : PackOf). all_printed_at context files pack.findings) packs
+
+-- what was written, and what is pending behind it, are the text
+pub record IsPending (old new : Option (List ℕ)) (pending text : List ℕ) : Type 0 where
+  pub front : List ℕ
+  pub gained : Gained old new front
+  pub parts : front ++ pending ≡ text
 
 -- a refused write tells the sink's count of faults at the start of the call and the one after that, and it rose between
 abbrev pub HasReasonSince : ℕ → ℕ → PrintError → Type 0

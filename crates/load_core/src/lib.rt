@@ -9,4 +9,4 @@ pub use error::LoadError;
 pub use loading::{PolicyPaths, load};
 pub use policy_core::{Diagnostics, GraphConfig, LoadedPolicy, OutputConfig, ValidConfig};
 pub use policy_text::{ErrorKind, ReadFault, ShapeError, ShapeErrors, SyntaxError, SyntaxReason};
-pub use print::{print_findings, print_packs};
+pub use print::{index_packs, print_findings, print_packs};

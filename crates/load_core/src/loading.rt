@@ -84,7 +84,7 @@ fn add_policy(
     ensures err { OnErr result (files.new ≡ files.old) }
 {
     let name = name_of(alloc, path)?;
-    match files.add(name, text) {
+    match files.add_indexed(name, text) {
         Ok(id) => Ok(id),
         Err(_) => Err(AllocError),
     }

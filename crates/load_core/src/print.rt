@@ -1,16 +1,16 @@
 //! Findings that are printed.
-ghost use Rattle.std.specs.Prelude.{◌≡◌, ◌≤◌, IfErr, OnOk, OnErr};
+ghost use Rattle.std.specs.Prelude.{◌≡◌, ◌≤◌, ◌++◌, [], string_bytes, IfErr, OnOk, OnErr};
 ghost use Rattle.std.specs.List.{list_any};
 ghost use Rattle.tree_core.specs.Faults.{Gained, GainedPrefix};
 ghost use Rattle.print_core.specs.Places.{AllLabelsAreInside, LabelsAreInside};
 ghost use Rattle.print_core.specs.Printed.{all_printed_at, printed_at};
-ghost use Rattle.load_core.specs.Print.{AreInside, HasReasonSince, PacksAreInside, is_error, printed_findings};
-ghost use Rattle.load_core.specs.Print.{printed_packs};
+ghost use Rattle.load_core.specs.Print.{AreInside, HasReasonSince, IsPending, PacksAreInside, is_error};
+ghost use Rattle.load_core.specs.Print.{printed_findings, printed_packs};
 
 use diag_core::{Diagnostic, Files, Pack, Severity};
 use print_core::{DiagPrinter, LogContext, PrintError};
 use std::alloc::Global;
-use tree_core::Sink;
+use tree_core::{Sink, SinkFailed, write_all};
 use validation_core::Diagnostics;
 
 /// Whether one of the findings is an error.
@@ -23,33 +23,68 @@ pub fn has_error(findings: &Diagnostics) -> bool
         .any(|finding| finding.severity == Severity::Error)
 }
 
-/// Prints a finding. `begun` is the sink's count of faults when the printing of all began.
-fn print_one<S: Sink>(
+/// How many bytes are gathered before they are written.
+const ROOM: usize = 65_536;
+
+/// Writes what is pending. `begun` is the sink's count of faults when the printing of all began.
+fn flush<S: Sink>(pending: &mut String, sink: &mut S, begun: u64) -> Result<(), PrintError>
+    requires { begun ≤ S.fault_count sink.old }
+    ensures ok { OnOk result (Gained (S.written sink.old) (S.written sink.new) (string_bytes pending.old)) }
+    ensures empty { OnOk result (string_bytes pending.new ≡ []) }
+    ensures err { OnErr result
+        (GainedPrefix (S.written sink.old) (S.written sink.new) (string_bytes pending.old)) }
+    ensures reason { IfErr result (HasReasonSince begun (S.fault_count sink.new)) }
+    ensures later { S.fault_count sink.old ≤ S.fault_count sink.new }
+{
+    match write_all(sink, pending.as_str().as_bytes()) {
+        Ok(()) => {
+            pending.clear();
+            Ok(())
+        }
+        Err(SinkFailed) => Err(PrintError::WriteFault {
+            before: begun,
+            after: sink.faults(),
+        }),
+    }
+}
+
+/// The same, once much is pending.
+fn flush_much<S: Sink>(pending: &mut String, sink: &mut S, begun: u64) -> Result<(), PrintError>
+    requires { begun ≤ S.fault_count sink.old }
+    ensures ok { OnOk result (IsPending (S.written sink.old) (S.written sink.new)
+        (string_bytes pending.new) (string_bytes pending.old)) }
+    ensures err { OnErr result
+        (GainedPrefix (S.written sink.old) (S.written sink.new) (string_bytes pending.old)) }
+    ensures reason { IfErr result (HasReasonSince begun (S.fault_count sink.new)) }
+    ensures later { S.fault_count sink.old ≤ S.fault_count sink.new }
+{
+    if pending.len() < ROOM {
+        return Ok(());
+    }
+    flush(pending, sink, begun)
+}
+
+/// Puts the lines of a finding behind what is pending.
+fn add_one<S: Sink>(
     alloc: Global,
     printer: &DiagPrinter,
     finding: &Diagnostic,
     files: &Files,
+    pending: &mut String,
     sink: &mut S,
     begun: u64,
 ) -> Result<(), PrintError>
     requires inside { LabelsAreInside files.now finding.now }
     requires begun { begun ≤ S.fault_count sink.old }
-    ensures ok { OnOk result (Gained (S.written sink.old) (S.written sink.new)
-        (printed_at printer.now files.now finding.now)) }
+    ensures ok { OnOk result (IsPending (S.written sink.old) (S.written sink.new) (string_bytes pending.new)
+        (string_bytes pending.old ++ printed_at printer.now files.now finding.now)) }
     ensures err { OnErr result (GainedPrefix (S.written sink.old) (S.written sink.new)
-        (printed_at printer.now files.now finding.now)) }
+        (string_bytes pending.old ++ printed_at printer.now files.now finding.now)) }
     ensures reason { IfErr result (HasReasonSince begun (S.fault_count sink.new)) }
     ensures later { S.fault_count sink.old ≤ S.fault_count sink.new }
 {
-    let mut lock = printer.lock(sink);
-    match lock.print(alloc, finding, files) {
-        Ok(()) => Ok(()),
-        Err(PrintError::WriteFault { before: _, after }) => Err(PrintError::WriteFault {
-            before: begun,
-            after,
-        }),
-        Err(PrintError::Memory) => Err(PrintError::Memory),
-    }
+    printer.push_text(pending, alloc, finding, files)?;
+    flush_much(pending, sink, begun)
 }
 
 /// Prints findings, one after another.
@@ -70,10 +105,11 @@ fn print_all<S: Sink>(
     ensures reason { IfErr result (HasReasonSince begun (S.fault_count sink.new)) }
     ensures later { S.fault_count sink.old ≤ S.fault_count sink.new }
 {
+    let mut pending = String::new(alloc);
     'findings: for finding in findings {
-        print_one(alloc, printer, finding, files, sink, begun)?;
+        add_one(alloc, printer, finding, files, &mut pending, sink, begun)?;
     }
-    Ok(())
+    flush(&mut pending, sink, begun)
 }
 
 /// Prints the findings at or above the context's level, in order. A refused write tells the sink's counts of
@@ -100,33 +136,27 @@ pub fn print_findings<S: Sink>(
     }
 }
 
-/// Prints the findings of a pack. `begun` is the sink's count of faults when the printing of all began.
-fn print_pack<S: Sink>(
+/// Puts the lines of the findings of a pack behind what is pending.
+fn add_pack<S: Sink>(
     alloc: Global,
     printer: &DiagPrinter,
     pack: &Pack,
     files: &Files,
+    pending: &mut String,
     sink: &mut S,
     begun: u64,
 ) -> Result<(), PrintError>
     requires inside { AllLabelsAreInside files.now pack.now.findings }
     requires begun { begun ≤ S.fault_count sink.old }
-    ensures ok { OnOk result (Gained (S.written sink.old) (S.written sink.new)
-        (all_printed_at printer.now files.now pack.now.findings)) }
+    ensures ok { OnOk result (IsPending (S.written sink.old) (S.written sink.new) (string_bytes pending.new)
+        (string_bytes pending.old ++ all_printed_at printer.now files.now pack.now.findings)) }
     ensures err { OnErr result (GainedPrefix (S.written sink.old) (S.written sink.new)
-        (all_printed_at printer.now files.now pack.now.findings)) }
+        (string_bytes pending.old ++ all_printed_at printer.now files.now pack.now.findings)) }
     ensures reason { IfErr result (HasReasonSince begun (S.fault_count sink.new)) }
     ensures later { S.fault_count sink.old ≤ S.fault_count sink.new }
 {
-    let mut lock = printer.lock(sink);
-    match lock.print_krate_pack(alloc, pack, files) {
-        Ok(()) => Ok(()),
-        Err(PrintError::WriteFault { before: _, after }) => Err(PrintError::WriteFault {
-            before: begun,
-            after,
-        }),
-        Err(PrintError::Memory) => Err(PrintError::Memory),
-    }
+    printer.push_pack_text(pending, alloc, pack, files)?;
+    flush_much(pending, sink, begun)
 }
 
 /// Prints the findings of packs, one pack after another.
@@ -147,10 +177,39 @@ fn print_each<S: Sink>(
     ensures reason { IfErr result (HasReasonSince begun (S.fault_count sink.new)) }
     ensures later { S.fault_count sink.old ≤ S.fault_count sink.new }
 {
+    let mut pending = String::new(alloc);
     'packs: for pack in packs {
-        print_pack(alloc, printer, pack, files, sink, begun)?;
+        add_pack(alloc, printer, pack, files, &mut pending, sink, begun)?;
     }
-    Ok(())
+    flush(&mut pending, sink, begun)
+}
+
+/// Makes the indexes of the files that the findings of a pack point into.
+fn index_pack(printer: &DiagPrinter, pack: &Pack, files: &mut Files)
+    ensures { files.new ≡ files.old }
+{
+    'findings: for finding in pack.iter() {
+        printer.index(&finding.diag, files);
+    }
+}
+
+/// The same for packs.
+fn index_each(printer: &DiagPrinter, packs: &[Pack], files: &mut Files)
+    ensures { files.new ≡ files.old }
+{
+    'packs: for pack in packs {
+        index_pack(printer, pack, files);
+    }
+}
+
+/// Makes the indexes of the files that findings of packs point into, of those at or above the context's level.
+/// The files are seen as they were, and `print_packs` finds the places in them fast.
+pub fn index_packs(context: LogContext, packs: &[Pack], files: &mut Files)
+    ensures { files.new ≡ files.old }
+{
+    if let Some(printer) = DiagPrinter::new(context) {
+        index_each(&printer, packs, files);
+    }
 }
 
 /// Prints the findings of packs at or above the context's level, in order. A refused write tells `begun`, which

@@ -11,7 +11,7 @@ ghost use Rattle.location_core.specs.Location as spec;
 ghost use Rattle.location_core.specs.Location.{CutsOut, PointsAt, coord_at, files_heard};
 ghost use Rattle.location_core.specs.Location.{in_heard, in_table, joined_by};
 
-use crate::search::span_in;
+use crate::search::{counted_at, span_in};
 use deny_text::{PathBuf, Span, Text};
 use diag_core::{Coord, FileId, Files};
 use reads_core::{FileHeard, file_record, read_file};
@@ -27,20 +27,23 @@ pub struct Located {
 }
 
 /// The place of a field in a file of the table.
-fn span_of(files: &Files, id: FileId, field: &str) -> Option<Span>
-    ensures value { result ≡ option_and_then (spec.span_in field.now) (source_of files.now id) }
-    ensures points { IfSome result (λ span. PointsAt files.now (coord_at id span) field.now) }
+fn span_of(files: &mut Files, id: FileId, field: &str) -> Option<Span>
+    ensures value { result ≡ option_and_then (spec.span_in field.now) (source_of files.old id) }
+    ensures points { IfSome result (λ span. PointsAt files.new (coord_at id span) field.now) }
+    ensures same { files.new ≡ files.old }
 {
+    let span = files.license_span(id);
     match files.source(id) {
-        Ok(text) => span_in(text, field),
+        Ok(text) => counted_at(text, span, field),
         Err(_) => None,
     }
 }
 
 /// By a file of the table: nothing is read.
-fn locate_in(files: &Files, id: FileId, field: &str) -> Located
-    ensures located { result ≡ in_table field.now files.now id }
-    ensures points { IfSome result.location (λ at. PointsAt files.now at field.now) }
+fn locate_in(files: &mut Files, id: FileId, field: &str) -> Located
+    ensures located { result ≡ in_table field.now files.old id }
+    ensures points { IfSome result.location (λ at. PointsAt files.new at field.now) }
+    ensures same { files.new ≡ files.old }
 {
     match span_of(files, id, field) {
         Some(span) => Located {

@@ -2,6 +2,7 @@
 ghost use Rattle.std.specs.Prelude.{◌≡◌, ◌≤◌, length, IfSome};
 ghost use Rattle.std.specs.Str.{bytes_eq};
 ghost use Rattle.manifest_core.specs.Synthetic.{cut};
+ghost use Rattle.diag_core.specs.Kept.{IsFound};
 ghost use Rattle.location_core.specs.Location as spec;
 ghost use Rattle.location_core.specs.Location.{CutsOut};
 
@@ -18,13 +19,22 @@ fn cuts_out(text: &str, span: Span, field: &str) -> bool
     there == field.as_bytes()
 }
 
+/// The place of a field in the text of a manifest, whose licence field stands at a place, if there is one.
+pub(crate) fn counted_at(text: &str, span: Option<Span>, field: &str) -> Option<Span>
+    requires { IsFound text.now span }
+    ensures value { result ≡ spec.span_in field.now text.now }
+    ensures cuts { IfSome result (λ span. CutsOut text.now span field.now) }
+{
+    match span {
+        Some(span) if cuts_out(text, span, field) => Some(span),
+        _ => None,
+    }
+}
+
 /// The place of a field in the text of a manifest.
 pub(crate) fn span_in(text: &str, field: &str) -> Option<Span>
     ensures value { result ≡ spec.span_in field.now text.now }
     ensures cuts { IfSome result (λ span. CutsOut text.now span field.now) }
 {
-    match license_span(text) {
-        Some(span) if cuts_out(text, span, field) => Some(span),
-        _ => None,
-    }
+    counted_at(text, license_span(text), field)
 }

@@ -62,7 +62,7 @@ fn take_text<C: Catalog>(
     ensures grows { Grows files.old files.new }
 {
     let read = read_exceptions(alloc, text.as_str(), catalog);
-    match files.add(path, text) {
+    match files.add_indexed(path, text) {
         Ok(file) => keep_or_tell(alloc, file, read, &mut cfg.exceptions, diags),
         Err(_) => Err(AllocError),
     }

@@ -8,7 +8,7 @@ ghost use Rattle.print_core.specs.Refusal.{HasReason};
 
 use crate::context::{Format, LogContext};
 use crate::lines::push_printed;
-use diag_core::{Diagnostic, Files, LevelFilter, Pack, Severity, log_level_to_severity};
+use diag_core::{Diagnostic, Files, Label, LevelFilter, Pack, Severity, log_level_to_severity};
 use std::alloc::{AllocError, Global};
 use std::marker::Model;
 use tree_core::sink::write_all;
@@ -53,6 +53,15 @@ impl Model for DiagPrinter {
     ghost invariant = { λ printer. severity_of_filter printer.context.log_level ≡ Some printer.least };
 }
 
+/// Makes the indexes of the files that labels point into.
+fn index_labels(labels: &[Label], files: &mut Files)
+    ensures { files.new ≡ files.old }
+{
+    'labels: for label in labels {
+        files.index(label.file_id);
+    }
+}
+
 /// A printer and the sink that it writes to.
 #[derive(Drop)]
 pub struct OutputLock<'p, S: Sink> {
@@ -89,8 +98,18 @@ impl DiagPrinter {
         severity >= self.least
     }
 
+    /// Makes the indexes of the files that the labels of a finding point into, where it is at or above the
+    /// level: their places are found fast then. The files are seen as they were.
+    pub fn index(&self, diag: &Diagnostic, files: &mut Files)
+        ensures { files.new ≡ files.old }
+    {
+        if self.hears(diag.severity) {
+            index_labels(diag.labels.items(), files);
+        }
+    }
+
     /// Appends the lines of a finding, where it is at or above the level.
-    fn push_text(
+    pub fn push_text(
         &self,
         out: &mut String,
         alloc: Global,
@@ -111,7 +130,7 @@ impl DiagPrinter {
     }
 
     /// Appends the lines of the findings of a pack that are at or above the level, in order.
-    fn push_pack_text(
+    pub fn push_pack_text(
         &self,
         out: &mut String,
         alloc: Global,

@@ -45,7 +45,7 @@ fn members_in<'v>(
     ensures { Tells (λ members. map member_of members.items) result
         (spec.members_in known.now (items_view items.now)) }
 {
-    let mut members = Vec::new(alloc);
+    let mut members = Vec::with_capacity(alloc, items.len())?;
     'members: for (index, item) in items.iter().enumerate() {
         let member = member_row(alloc, known, index, item)?;
         members.push(member)?;
@@ -163,7 +163,7 @@ fn nodes_with<'v>(
     ensures { Tells (λ nodes. map node_of nodes.items) result
         (spec.nodes_with known.now firsts.now (items_view items.now)) }
 {
-    let mut nodes = Vec::new(alloc);
+    let mut nodes = Vec::with_capacity(alloc, items.len())?;
     'nodes: for (index, item) in items.iter().enumerate() {
         let node = node_row(alloc, known, firsts, index, item)?;
         nodes.push(node)?;
@@ -242,7 +242,7 @@ fn deps_in<'v>(
     ensures { Tells deps_of result (spec.deps_in known.now i (node_of node.now)) }
 {
     let items = node.deps;
-    let mut deps = Vec::new(alloc);
+    let mut deps = Vec::with_capacity(alloc, items.len())?;
     'deps: for (j, item) in items.iter().enumerate() {
         let dep = dep_row(alloc, known, i, j, item)?;
         deps.push(dep)?;
@@ -259,7 +259,7 @@ pub(crate) fn all_deps<'v>(
     ensures { Tells (λ lists. map deps_of lists.items) result
         (spec.all_deps known.now (map node_of nodes.now)) }
 {
-    let mut lists = Vec::new(alloc);
+    let mut lists = Vec::with_capacity(alloc, nodes.len())?;
     'lists: for (i, node) in nodes.iter().enumerate() {
         let deps = deps_in(alloc, known, i, node)?;
         lists.push(deps)?;
@@ -336,7 +336,7 @@ fn edge_row(alloc: Global, i: usize, j: usize, dep: &DepRow<'_>) -> Result<Edge,
 fn edges_in(alloc: Global, i: usize, deps: &[DepRow<'_>]) -> Result<Edges, MetaError>
     ensures { Tells (λ edges. edges) result (spec.edges_in i (map dep_of deps.now)) }
 {
-    let mut edges = Edges::new(alloc);
+    let mut edges = Edges::from(Vec::with_capacity(alloc, deps.len())?);
     'edges: for (j, dep) in deps.iter().enumerate() {
         let edge = edge_row(alloc, i, j, dep)?;
         edges.push(edge)?;
@@ -348,7 +348,7 @@ fn edges_in(alloc: Global, i: usize, deps: &[DepRow<'_>]) -> Result<Edges, MetaE
 pub(crate) fn all_edges(alloc: Global, lists: &[Vec<DepRow<'_>>]) -> Result<Vec<Edges>, MetaError>
     ensures { Tells (λ edges. edges.items) result (spec.all_edges (map deps_of lists.now)) }
 {
-    let mut all = Vec::new(alloc);
+    let mut all = Vec::with_capacity(alloc, lists.len())?;
     'lists: for (i, deps) in lists.iter().enumerate() {
         let edges = edges_in(alloc, i, deps)?;
         all.push(edges)?;

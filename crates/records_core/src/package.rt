@@ -343,7 +343,7 @@ pub(crate) fn packages_in(
     ensures { Tells (λ crates. map record_of crates.items) result
         (spec.packages_in sparse_dir.now known.now (items_view packages.now)) }
 {
-    let mut crates = Vec::new(alloc);
+    let mut crates = Vec::with_capacity(alloc, packages.len())?;
     'packages: for (index, value) in packages.iter().enumerate() {
         let krate = package_row(alloc, sparse_dir, known, index, value)?;
         crates.push(krate)?;

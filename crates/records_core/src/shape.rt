@@ -136,7 +136,7 @@ pub(crate) fn texts_in(
 ) -> Result<Texts, MetaError>
     ensures { Tells (λ texts. texts) result (spec.texts_in place key.now (items_view items.now)) }
 {
-    let mut texts = Texts::new(alloc);
+    let mut texts = Texts::from(Vec::with_capacity(alloc, items.len())?);
     'items: for (index, item) in items.iter().enumerate() {
         let text = text_here(alloc, place, key, index, item)?;
         texts.push(Text::copy(alloc, text)?)?;

@@ -14,4 +14,5 @@ mod ChosenLemmas
 mod CountLemmas
 pub mod SelectedLemmas
 mod ReadLemmas
+mod ExcludeLemmas
 mod Examples

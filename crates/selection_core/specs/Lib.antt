@@ -1,4 +1,5 @@
 pub mod Choice
+pub mod ExcludeOrder
 pub mod Roots
 pub mod Walks
 pub mod Listed

@@ -1,18 +1,22 @@
 //! Specs of crates that are left out.
-ghost use Rattle.std.specs.Prelude.{◌≡◌, ◌++◌, map, option_map, IfOk, OnOk};
+ghost use Rattle.std.specs.Prelude.{◌≡◌, ◌++◌, Some, map, option_map, IfOk, OnOk};
 ghost use Rattle.std.specs.List.{filter_map, list_any};
+ghost use Rattle.std.specs.Ordering.{is_eq};
 ghost use Rattle.std.specs.Result.{result_ok};
 ghost use Rattle.semver.specs.Identifiers.{parts_of};
 ghost use Rattle.semver.specs.Parse.{version_parts};
 ghost use Rattle.graph_core.specs.Krate.{record_of};
 ghost use Rattle.selection_core.specs.Choice as spec;
 ghost use Rattle.selection_core.specs.Choice.{spec_of, spec_read};
+ghost use Rattle.selection_core.specs.ExcludeOrder.{AreOrdered, AreSorted, key_behind, key_of, key_order, key_with};
+ghost use Rattle.selection_core.specs.ExcludeOrder.{version_key};
 
 use deny_text::cut::{cut_at_colon, cut_at_sign};
 use deny_text::{ListOf, Text, Texts};
 use graph_core::Krate;
 use semver::Version;
 use std::alloc::{AllocError, Global};
+use std::cmp::Ordering;
 
 /// A spec of crates that are left out: each crate of the name, or those of them that have the version.
 /// Versions are equal with their pre-releases and their build parts.
@@ -138,9 +142,89 @@ pub fn has_uncarried(texts: &Texts) -> bool
     texts.items().iter().any(|text| is_uncarried(text))
 }
 
-/// Whether one of the specs leaves a crate out.
-pub(crate) fn is_excluded(specs: &[ExcludeSpec], krate: &Krate) -> bool
+/// The order of versions: by their numbers, and then by their texts.
+fn compare_versions(version: &Version, other: &Version) -> Ordering
+    ensures { result ≡ key_order (version_key (Some (parts_of version.now)))
+        (version_key (Some (parts_of other.now))) }
+{
+    let small = version
+        .minor
+        .cmp(&other.minor)
+        .then(version.patch.cmp(&other.patch));
+    let numbers = version.major.cmp(&other.major).then(small);
+    let pre = version.pre.as_str().cmp(other.pre.as_str());
+    numbers.then(pre.then(version.build.as_str().cmp(other.build.as_str())))
+}
+
+/// The order of versions, before all of which none stands.
+fn compare_wanted(version: &Option<Version>, other: Option<&Version>) -> Ordering
+    ensures { result ≡ key_order (version_key (option_map parts_of version.now))
+        (version_key (option_map (λ version. parts_of version.now) other.entry)) }
+{
+    match (version, other) {
+        (None, None) => Ordering::Equal,
+        (None, Some(_)) => Ordering::Less,
+        (Some(_), None) => Ordering::Greater,
+        (Some(version), Some(other)) => compare_versions(version, other),
+    }
+}
+
+/// How a spec stands to one of a name and a version.
+fn compare_to(spec: &ExcludeSpec, name: &str, version: Option<&Version>) -> Ordering
+    ensures { result ≡ key_order (key_of (spec_of spec.now))
+        (key_with name.now (option_map (λ version. parts_of version.now) version.entry)) }
+{
+    let wanted = compare_wanted(&spec.version, version);
+    spec.name.as_str().cmp(name).then(wanted)
+}
+
+/// How a spec stands to another.
+fn compare_specs(spec: &ExcludeSpec, other: &ExcludeSpec) -> Ordering
+    ensures { result ≡ key_order (key_of (spec_of spec.now)) (key_of (spec_of other.now)) }
+{
+    compare_to(spec, other.name.as_str(), other.version.as_ref())
+}
+
+/// References to specs.
+pub(crate) type SpecRefs<'s> = Vec<&'s ExcludeSpec>;
+
+fn refs_of(alloc: Global, specs: &[ExcludeSpec]) -> Result<SpecRefs<'_>, AllocError>
+    ensures { IfOk result (λ refs. map (λ spec. spec.now) refs.items ≡ specs.entry.now) }
+{
+    let mut refs = Vec::with_capacity(alloc, specs.len())?;
+    'specs: for spec in specs {
+        refs.push(spec)?;
+    }
+    Ok(refs)
+}
+
+/// References to specs in the order in which they are found.
+pub(crate) fn in_order(alloc: Global, specs: &[ExcludeSpec]) -> Result<SpecRefs<'_>, AllocError>
+    ensures { IfOk result (λ refs. AreOrdered specs.entry.now refs.items) }
+{
+    let mut refs = refs_of(alloc, specs)?;
+    refs.sort_by(|spec, other| compare_specs(*spec, *other))?;
+    Ok(refs)
+}
+
+/// Whether a spec of a name and a version is among specs in order.
+fn finds(refs: &[&ExcludeSpec], name: &str, version: Option<&Version>) -> bool
+    requires { AreSorted refs.now }
+    ensures { let key = key_with name.now (option_map (λ version. parts_of version.now) version.entry) in
+        result ≡ list_any (λ spec. is_eq (key_order (key_behind spec) key)) refs.now }
+{
+    refs.binary_search_by(|spec| compare_to(*spec, name, version))
+        .is_ok()
+}
+
+/// Whether one of the specs, which are handed in once more in order, leaves a crate out.
+pub(crate) fn is_excluded(specs: &[ExcludeSpec], refs: &[&ExcludeSpec], krate: &Krate) -> bool
+    requires { AreOrdered specs.now refs.now }
     ensures { result ≡ spec.is_excluded (map spec_of specs.now) (record_of krate.now) }
 {
-    specs.iter().any(|spec| spec.excludes(krate))
+    let _count = specs.len();
+    let name = krate.name.as_str();
+    let any = finds(refs, name, None);
+    let own = finds(refs, name, Some(&krate.version));
+    any | own
 }

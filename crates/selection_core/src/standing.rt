@@ -4,12 +4,13 @@ ghost use Rattle.std.specs.List.{list_any};
 ghost use Rattle.graph_core.specs.Krate.{record_of};
 ghost use Rattle.graph_core.specs.Metadata.{ArePlaces, AreRising, ids_of};
 ghost use Rattle.selection_core.specs.Choice.{choice_of};
+ghost use Rattle.selection_core.specs.ExcludeOrder.{AreOrdered};
 ghost use Rattle.selection_core.specs.Places as spec;
 ghost use Rattle.selection_core.specs.Places.{standings_in};
 ghost use Rattle.selection_core.specs.Roots as roots;
 ghost use Rattle.selection_core.specs.Roots.{crates_of, is_member, is_base};
 
-use crate::exclude::is_excluded;
+use crate::exclude::{ExcludeSpec, in_order, is_excluded};
 use crate::selection::Selection;
 use deny_text::Texts;
 use graph_core::{Krate, Metadata};
@@ -104,13 +105,20 @@ fn is_published_nowhere(publish: &Option<Texts>) -> bool
     }
 }
 
-fn standing_of(selection: &Selection, krate: &Krate, member: bool, base: bool) -> Standing
+fn standing_of(
+    selection: &Selection,
+    excluded: &[&ExcludeSpec],
+    krate: &Krate,
+    member: bool,
+    base: bool,
+) -> Standing
+    requires { AreOrdered selection.now.exclude excluded.now }
     ensures { result ≡ spec.standing_with (choice_of selection.now) (record_of krate.now) member base }
 {
     Standing {
         member,
         base,
-        excluded: is_excluded(selection.exclude.items(), krate),
+        excluded: is_excluded(selection.exclude.items(), excluded, krate),
         unpublished: selection.exclude_unpublished
             && member
             && is_published_nowhere(&krate.publish),
@@ -130,11 +138,13 @@ pub(crate) fn standings_of(
     let crates = metadata.crates();
     let members = member_marks(alloc, metadata)?;
     let bases = base_marks(alloc, metadata, selection)?;
+    let excluded = in_order(alloc, selection.exclude.items())?;
     let mut standings = Vec::with_capacity(alloc, crates.len())?;
     'crates: for (place, krate) in crates.iter().enumerate() {
         let is_member = is_marked(&members, place);
         let is_base = is_marked(&bases, place);
-        standings.push(standing_of(selection, krate, is_member, is_base))?;
+        let standing = standing_of(selection, &excluded, krate, is_member, is_base);
+        standings.push(standing)?;
     }
     Ok(standings)
 }

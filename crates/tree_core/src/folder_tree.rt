@@ -1,5 +1,5 @@
 //! The real files.
-ghost use Rattle.std.specs.Prelude.{◌≡◌, ◌≢◌, ℕ, ◌↔◌, ◌≤◌, ◌⊎◌, ◌++◌, [], ◌∷◌, Ok, Err, None, Some};
+ghost use Rattle.std.specs.Prelude.{◌≡◌, ◌≢◌, ℕ, ◌↔◌, ◌<◌, ◌≤◌, ◌⊎◌, ◌++◌, [], ◌∷◌, Ok, Err, None, Some};
 ghost use Rattle.std.specs.Prelude.{IfOk, IfErr, OnOk, IsSorted, true, false, vec_len};
 ghost use Rattle.std.specs.Option.{ForSome};
 ghost use Rattle.std.specs.List.{filter};
@@ -30,8 +30,14 @@ use std::rt::Files;
 /// The most bytes that a file may have.
 const LIMIT: usize = 67_108_864;
 
-/// How many bytes one read asks for.
+/// How many bytes one read asks for, once more came than was told.
 const PIECE: usize = 65_536;
+
+/// How many bytes the read asks for that is to meet a file's end.
+const END: usize = 32;
+
+/// How many bytes the first reads of a folder ask for: room for one name at least.
+const NAMES: usize = 2_048;
 
 /// The real files, reached through the runtime that it keeps and seen as the count of faults and the calls.
 /// Links are followed. What is neither a file nor a folder, as a pipe, is read only where its path is among
@@ -275,24 +281,37 @@ fn read_file<R: Files>(
     let found = look(rt, path)?;
     readable(&found, is_named)?;
     let mut file = opened(File::open(rt, path))?;
-    let bytes = read_to_limit(&mut file, alloc, LIMIT)?;
+    let bytes = read_to_limit(&mut file, alloc, LIMIT, length_told(&found), END)?;
     Ok(Bytes::from(bytes))
 }
 
-/// All bytes, where they are not more than the limit.
-fn read_to_limit<F: Read>(file: &mut F, alloc: Global, limit: usize) -> Result<Vec<u8>, TreeError>
+/// The length that the system tells of a file; of what is none it tells nothing.
+fn length_told(found: &Option<Metadata>) -> usize {
+    match found {
+        Some(there) if there.is_file() => there.len() as usize,
+        _ => 0,
+    }
+}
+
+/// All bytes, where they are not more than the limit: as many as were told by one read, and what comes behind
+/// them, if anything does, by reads of which the first asks for `next` bytes.
+fn read_to_limit<F: Read>(
+    file: &mut F,
+    alloc: Global,
+    limit: usize,
+    told: usize,
+    next: usize,
+) -> Result<Vec<u8>, TreeError>
+    requires { 0 < next }
     ensures most { IfOk result (λ bytes. vec_len bytes ≤ limit) }
     ensures bytes { IfOk result
         (λ bytes. Consumes (F.remaining file.old) (F.remaining file.new) bytes.items) }
     ensures end { OnOk result (IsAtEnd (F.remaining file.new)) }
 {
-    let mut bytes = Vec::new(alloc);
-    let mut piece = [0u8; PIECE];
+    let mut bytes = first_bytes(file, alloc, told.min(limit))?;
+    let mut piece = Vec::from_elem(alloc, 0u8, next)?;
     'pieces: for _ in 0..u64::MAX {
-        let count = match read_piece(file, &mut piece) {
-            Ok(count) => count,
-            Err(error) => return Err(failure(&error)),
-        };
+        let count = piece_read(file, piece.as_mut_slice())?;
         if count == 0 {
             return Ok(bytes);
         }
@@ -300,8 +319,46 @@ fn read_to_limit<F: Read>(file: &mut F, alloc: Global, limit: usize) -> Result<V
             return Err(TreeError::Failed);
         }
         bytes.extend_from_slice(&piece[..count])?;
+        piece = whole(alloc, piece)?;
     }
     Err(TreeError::Failed)
+}
+
+/// A piece that is as large as any.
+fn whole(alloc: Global, piece: Vec<u8>) -> Result<Vec<u8>, AllocError>
+    requires { 0 < vec_len piece }
+    ensures { IfOk result (λ piece. 0 < vec_len piece) }
+{
+    if piece.len() < PIECE {
+        Vec::from_elem(alloc, 0u8, PIECE)
+    } else {
+        Ok(piece)
+    }
+}
+
+/// What one read gives that asks for so many bytes.
+fn first_bytes<F: Read>(file: &mut F, alloc: Global, told: usize) -> Result<Vec<u8>, TreeError>
+    ensures most { IfOk result (λ bytes. vec_len bytes ≤ told) }
+    ensures bytes { IfOk result
+        (λ bytes. Consumes (F.remaining file.old) (F.remaining file.new) bytes.items) }
+{
+    let mut bytes = Vec::from_elem(alloc, 0u8, told)?;
+    if told > 0 {
+        let count = piece_read(file, bytes.as_mut_slice())?;
+        bytes.truncate(count);
+    }
+    Ok(bytes)
+}
+
+/// How many bytes one read gave, or why none.
+fn piece_read<F: Read>(file: &mut F, piece: &mut [u8]) -> Result<usize, TreeError>
+    ensures bound { ReadsAtMost result piece.new }
+    ensures bytes { ReadConsumes (F.remaining file.old) (F.remaining file.new) result piece.new }
+{
+    match read_piece(file, piece) {
+        Ok(count) => Ok(count),
+        Err(error) => Err(failure(&error)),
+    }
 }
 
 /// One read, and again where it was interrupted.
@@ -417,7 +474,7 @@ fn names_in<D: Read>(alloc: Global, folder: &mut D) -> Result<Vec<Text>, TreeErr
         (λ names. TellsNames (D.remaining folder.old) (D.remaining folder.new) names.items) }
     ensures ordered { IfOk result (λ names. IsSorted (slice_cmp nat_cmp) names.items) }
 {
-    let bytes = read_to_limit(folder, alloc, usize::MAX)?;
+    let bytes = read_to_limit(folder, alloc, usize::MAX, 0, NAMES)?;
     let mut names = split_names(alloc, &bytes)?;
     names.sort()?;
     Ok(names)

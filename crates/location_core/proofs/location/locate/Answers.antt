@@ -6,7 +6,7 @@ use Rattle.location_core.proofs.location.locate.Goals as goal
 
 pub returns-in-Some-clause-answered : goal.returns-in-Some-clause-answered
 returns-in-Some-clause-answered g c =
-    located_in_table _ _ _ _ _ _ c.in-Some.id _ (sym c.in-Some.is ∙ c.id_for_path.ensures ∙ ap (id_at c.args.files.now) c.as_path.ensures) c.locate_in.ensures.located
+    rw c.locate_in.ensures.same (located_in_table _ _ _ _ _ _ c.in-Some.id _ (sym c.in-Some.is ∙ c.id_for_path.ensures ∙ ap (id_at c.args.files.now) c.as_path.ensures) c.locate_in.ensures.located)
 
 pub returns-in_ok-located-in-None-clause-answered : goal.returns-in_ok-located-in-None-clause-answered
 returns-in_ok-located-in-None-clause-answered g c =

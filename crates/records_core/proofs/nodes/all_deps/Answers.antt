@@ -9,9 +9,9 @@ use Rattle.records_core.proofs.nodes.all_deps.Goals as goal
 
 pub lists-init : goal.lists-init
 lists-init c =
-    starts (λ j value. deps_in c.args.known.now j (node_of value)) c.args.nodes.now 0 (map deps_of c.new-lists.result.items)
+    starts (λ j value. deps_in c.args.known.now j (node_of value)) c.args.nodes.now 0 (map deps_of c.in_ok-lists.lists.items)
     (all_deps c.args.known.now (map node_of c.args.nodes.now))
-    (ap (map deps_of) c.new-lists.ensures.items)
+    (ap (map deps_of) c.in_ok-lists.ensures.items)
     (each-map node_of (λ j value. deps_in c.args.known.now j value) 0 c.args.nodes.now)
 
 pub returns-in_err-deps : goal.returns-in_err-deps

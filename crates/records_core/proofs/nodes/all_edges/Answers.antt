@@ -9,8 +9,8 @@ use Rattle.records_core.proofs.nodes.all_edges.Goals as goal
 
 pub lists-init : goal.lists-init
 lists-init c =
-    starts (λ j value. edges_in j (deps_of value)) c.args.lists.now 0 c.new-all.result.items
-    (all_edges (map deps_of c.args.lists.now)) c.new-all.ensures.items
+    starts (λ j value. edges_in j (deps_of value)) c.args.lists.now 0 c.in_ok-all.all.items
+    (all_edges (map deps_of c.args.lists.now)) c.in_ok-all.ensures.items
     (each-map deps_of edges_in 0 c.args.lists.now)
 
 pub returns-in_err-edges : goal.returns-in_err-edges

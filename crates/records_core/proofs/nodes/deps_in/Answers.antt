@@ -10,9 +10,9 @@ use Rattle.records_core.proofs.nodes.deps_in.Goals as goal
 
 pub deps-init : goal.deps-init
 deps-init c =
-    starts (λ j value. dep_row c.args.known.now c.args.i j (view value)) c.args.node.now.deps.now 0 (map dep_of c.new-deps.result.items)
+    starts (λ j value. dep_row c.args.known.now c.args.i j (view value)) c.args.node.now.deps.now 0 (map dep_of c.in_ok-deps.deps.items)
     (deps_in c.args.known.now c.args.i (node_of c.args.node.now))
-    (ap (map dep_of) c.new-deps.ensures.items)
+    (ap (map dep_of) c.in_ok-deps.ensures.items)
     (each-view (λ j value. dep_row c.args.known.now c.args.i j value) c.args.node.now.deps.now)
 
 pub returns-in_err-dep : goal.returns-in_err-dep

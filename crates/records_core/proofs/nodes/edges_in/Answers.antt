@@ -1,5 +1,5 @@
 -- One edge more, the first fault, and the end.
-use Rattle.std.proofs.Common.{map}
+use Rattle.std.proofs.Common.{map, ◌∙◌}
 use Rattle.std.proofs.lemmas.Result.{err_from_is_err_and}
 use Rattle.records_core.specs.NodeRows.{dep_of}
 use Rattle.records_core.specs.Nodes.{edge_row, edges_in}
@@ -8,8 +8,8 @@ use Rattle.records_core.proofs.nodes.edges_in.Goals as goal
 
 pub edges-init : goal.edges-init
 edges-init c =
-    starts (λ j value. edge_row c.args.i j (dep_of value)) c.args.deps.now 0 c.new-edges.result
-    (edges_in c.args.i (map dep_of c.args.deps.now)) c.new-edges.ensures
+    starts (λ j value. edge_row c.args.i j (dep_of value)) c.args.deps.now 0 c.from-edges.result
+    (edges_in c.args.i (map dep_of c.args.deps.now)) (c.from-edges.ensures ∙ c.in_ok-with_capacity.ensures.items)
     (each-map dep_of (edge_row c.args.i) 0 c.args.deps.now)
 
 pub returns-in_err-edge : goal.returns-in_err-edge

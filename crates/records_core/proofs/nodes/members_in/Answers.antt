@@ -10,9 +10,9 @@ use Rattle.records_core.proofs.nodes.members_in.Goals as goal
 
 pub members-init : goal.members-init
 members-init c =
-    starts (λ j value. member_row c.args.known.now j (view value)) c.args.items.now 0 (map member_of c.new-members.result.items)
+    starts (λ j value. member_row c.args.known.now j (view value)) c.args.items.now 0 (map member_of c.in_ok-members.members.items)
     (members_in c.args.known.now (items_view c.args.items.now))
-    (ap (map member_of) c.new-members.ensures.items)
+    (ap (map member_of) c.in_ok-members.ensures.items)
     (each-view (λ j value. member_row c.args.known.now j value) c.args.items.now)
 
 pub returns-in_err-member : goal.returns-in_err-member

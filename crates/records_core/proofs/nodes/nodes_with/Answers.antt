@@ -10,9 +10,9 @@ use Rattle.records_core.proofs.nodes.nodes_with.Goals as goal
 
 pub nodes-init : goal.nodes-init
 nodes-init c =
-    starts (λ j value. node_row c.args.known.now c.args.firsts.now j (view value)) c.args.items.now 0 (map node_of c.new-nodes.result.items)
+    starts (λ j value. node_row c.args.known.now c.args.firsts.now j (view value)) c.args.items.now 0 (map node_of c.in_ok-nodes.nodes.items)
     (nodes_with c.args.known.now c.args.firsts.now (items_view c.args.items.now))
-    (ap (map node_of) c.new-nodes.ensures.items)
+    (ap (map node_of) c.in_ok-nodes.ensures.items)
     (each-view (λ j value. node_row c.args.known.now c.args.firsts.now j value) c.args.items.now)
 
 pub returns-in_err-node : goal.returns-in_err-node

@@ -10,9 +10,9 @@ use Rattle.records_core.proofs.package.packages_in.Goals as goal
 
 pub packages-init : goal.packages-init
 packages-init c =
-    starts (λ j value. package_row c.args.sparse_dir.now c.args.known.now j (view value)) c.args.packages.now 0 (map record_of c.new-crates.result.items)
+    starts (λ j value. package_row c.args.sparse_dir.now c.args.known.now j (view value)) c.args.packages.now 0 (map record_of c.in_ok-crates.crates.items)
     (packages_in c.args.sparse_dir.now c.args.known.now (items_view c.args.packages.now))
-    (ap (map record_of) c.new-crates.ensures.items)
+    (ap (map record_of) c.in_ok-crates.ensures.items)
     (each-view (λ j value. package_row c.args.sparse_dir.now c.args.known.now j value) c.args.packages.now)
 
 pub returns-in_err-krate : goal.returns-in_err-krate

@@ -9,8 +9,8 @@ use Rattle.records_core.proofs.shape.texts_in.Goals as goal
 
 pub items-init : goal.items-init
 items-init c =
-    starts (λ j value. text_here (item_place c.args.place c.args.key.now j) (view value)) c.args.items.now 0 c.new-texts.result
-    (texts_in c.args.place c.args.key.now (items_view c.args.items.now)) c.new-texts.ensures
+    starts (λ j value. text_here (item_place c.args.place c.args.key.now j) (view value)) c.args.items.now 0 c.from-texts.result
+    (texts_in c.args.place c.args.key.now (items_view c.args.items.now)) (c.from-texts.ensures ∙ c.in_ok-with_capacity.ensures.items)
     (each-view (λ j value. text_here (item_place c.args.place c.args.key.now j) value) c.args.items.now)
 
 pub returns-in_err-text : goal.returns-in_err-text

@@ -18,8 +18,8 @@ crates-preserved c =
     let bases : List _ = c.in_ok-bases.bases.items in
     let done : List Standing = take place (standings_in graph choice) in
     c.in_ok-push.ensures.items
-    ∙ (ap (λ list. list ++ c.standing_of.result ∷ []) c.crates.invariant
-    ∙ (ap (λ s. done ++ s ∷ []) c.standing_of.ensures
+    ∙ (ap (λ list. list ++ c.standing_of-standing.result ∷ []) c.crates.invariant
+    ∙ (ap (λ s. done ++ s ∷ []) c.standing_of-standing.ensures
     ∙ (ap (λ b. done ++ standing_with choice (record_of krate) b c.is_marked-is_base.result ∷ [])
     (c.is_marked-is_member.ensures ∙ ap (λ marks. is_marked marks place) c.deref.ensures.value)
     ∙ (ap (λ b. done ++ standing_with choice (record_of krate) (is_marked members place) b ∷ [])

@@ -1,7 +1,0 @@
-use Rattle.std.proofs.Common.{rules}
-use Rattle.diag_core.specs.Position.{line_starts}
-use Rattle.diag_core.proofs.source_file.line_starts.Goals as goal
-
-pub bytes-init : goal.bytes-init
-unfolding line_starts
-bytes-init c = search rules
