@@ -13,7 +13,7 @@ use workspace_core::KratesError;
 
 /// Why nothing was measured.
 #[derive(Debug, Drop)]
-pub(crate) enum Failed {
+pub(crate) enum BenchFailure {
     Memory,
     /// The clock, a file or the output failed.
     Outside,
@@ -21,74 +21,74 @@ pub(crate) enum Failed {
     Refused,
 }
 
-impl From<AllocError> for Failed {
-    fn from(_: AllocError) -> Failed {
-        Failed::Memory
+impl From<AllocError> for BenchFailure {
+    fn from(_: AllocError) -> BenchFailure {
+        BenchFailure::Memory
     }
 }
 
-impl From<io::Error> for Failed {
-    fn from(_: io::Error) -> Failed {
-        Failed::Outside
+impl From<io::Error> for BenchFailure {
+    fn from(_: io::Error) -> BenchFailure {
+        BenchFailure::Outside
     }
 }
 
-impl From<AddError> for Failed {
-    fn from(_: AddError) -> Failed {
-        Failed::Refused
+impl From<AddError> for BenchFailure {
+    fn from(_: AddError) -> BenchFailure {
+        BenchFailure::Refused
     }
 }
 
-impl From<FilesErr> for Failed {
-    fn from(_: FilesErr) -> Failed {
-        Failed::Refused
+impl From<FilesErr> for BenchFailure {
+    fn from(_: FilesErr) -> BenchFailure {
+        BenchFailure::Refused
     }
 }
 
-impl From<LoadError> for Failed {
-    fn from(_: LoadError) -> Failed {
-        Failed::Refused
+impl From<LoadError> for BenchFailure {
+    fn from(_: LoadError) -> BenchFailure {
+        BenchFailure::Refused
     }
 }
 
-impl From<PrintError> for Failed {
-    fn from(_: PrintError) -> Failed {
-        Failed::Refused
+impl From<PrintError> for BenchFailure {
+    fn from(_: PrintError) -> BenchFailure {
+        BenchFailure::Refused
     }
 }
 
-impl From<MetaError> for Failed {
-    fn from(_: MetaError) -> Failed {
-        Failed::Refused
+impl From<MetaError> for BenchFailure {
+    fn from(_: MetaError) -> BenchFailure {
+        BenchFailure::Refused
     }
 }
 
-impl From<BuildError> for Failed {
-    fn from(_: BuildError) -> Failed {
-        Failed::Refused
+impl From<BuildError> for BenchFailure {
+    fn from(_: BuildError) -> BenchFailure {
+        BenchFailure::Refused
     }
 }
 
-impl From<KratesError> for Failed {
-    fn from(_: KratesError) -> Failed {
-        Failed::Refused
+impl From<KratesError> for BenchFailure {
+    fn from(_: KratesError) -> BenchFailure {
+        BenchFailure::Refused
     }
 }
 
-impl From<ExprError> for Failed {
-    fn from(_: ExprError) -> Failed {
-        Failed::Refused
+impl From<ExprError> for BenchFailure {
+    fn from(_: ExprError) -> BenchFailure {
+        BenchFailure::Refused
     }
 }
 
-impl From<TomlError> for Failed {
-    fn from(_: TomlError) -> Failed {
-        Failed::Refused
+impl From<TomlError> for BenchFailure {
+    fn from(_: TomlError) -> BenchFailure {
+        BenchFailure::Refused
     }
 }
 
-impl From<PutError> for Failed {
-    fn from(_: PutError) -> Failed {
-        Failed::Refused
+impl From<PutError> for BenchFailure {
+    fn from(_: PutError) -> BenchFailure {
+        BenchFailure::Refused
     }
 }

@@ -1,5 +1,5 @@
 //! The table of files: paths that are added and looked up, and places in a text.
-use crate::failed::Failed;
+use crate::failed::BenchFailure;
 use crate::meter::Meter;
 use deny_text::{PathBuf, Text};
 use diag_core::{AddError, Files};
@@ -16,7 +16,7 @@ fn filled(alloc: Global, text: &str) -> Result<Files, AddError> {
 }
 
 /// Adds the paths of a text, and tells the number of the last one.
-pub(crate) fn added(alloc: Global, text: &str) -> Result<usize, Failed> {
+pub(crate) fn added(alloc: Global, text: &str) -> Result<usize, BenchFailure> {
     let files = filled(alloc, text)?;
     let last = text.lines().last().unwrap_or("");
     Ok(files.id_for_path(last).unwrap_or(0))
@@ -35,7 +35,7 @@ fn found(files: &Files, text: &str, end: &str) -> usize {
 }
 
 /// How many paths are found in a table of all of them.
-pub(crate) fn looked_up(meter: &mut Meter<'_>, alloc: Global, text: &str) -> Result<usize, Failed> {
+pub(crate) fn looked_up(meter: &mut Meter<'_>, alloc: Global, text: &str) -> Result<usize, BenchFailure> {
     let files = filled(alloc, text)?;
     meter.start();
     Ok(found(&files, text, ""))
@@ -46,7 +46,7 @@ pub(crate) fn looked_up_absent(
     meter: &mut Meter<'_>,
     alloc: Global,
     text: &str,
-) -> Result<usize, Failed> {
+) -> Result<usize, BenchFailure> {
     let files = filled(alloc, text)?;
     meter.start();
     Ok(found(&files, text, "/Cargo.toml"))
@@ -56,7 +56,7 @@ pub(crate) fn looked_up_absent(
 const ENTRY: usize = 14;
 
 /// The sum of the columns of all entries of a file.
-fn columns(files: &Files, text: &str, file: usize) -> Result<usize, Failed> {
+fn columns(files: &Files, text: &str, file: usize) -> Result<usize, BenchFailure> {
     let mut sum: usize = 0;
     for place in (0..text.len()).step_by(ENTRY) {
         let location = files.location(file, place)?;
@@ -66,7 +66,7 @@ fn columns(files: &Files, text: &str, file: usize) -> Result<usize, Failed> {
 }
 
 /// The same of a text that is one of the table before.
-pub(crate) fn placed(meter: &mut Meter<'_>, alloc: Global, text: &str) -> Result<usize, Failed> {
+pub(crate) fn placed(meter: &mut Meter<'_>, alloc: Global, text: &str) -> Result<usize, BenchFailure> {
     let mut files = Files::new(alloc);
     let name = Text::copy(alloc, "deny.toml")?;
     let source = Text::copy(alloc, text)?;

@@ -14,10 +14,10 @@ mod runs;
 mod stages;
 mod texts;
 
-use crate::failed::Failed;
+use crate::failed::BenchFailure;
 use crate::meter::Meter;
-use crate::parts::{PARTS, Part};
-use crate::runs::{RUNS, Run};
+use crate::parts::{PARTS, BenchPart};
+use crate::runs::{RUNS, BenchRun};
 use crate::texts::made;
 use std::{env, fs};
 
@@ -29,16 +29,16 @@ fn word_at(words: &[String], place: usize) -> &str {
     }
 }
 
-fn part_named(name: &str) -> Option<&'static Part> {
+fn part_named(name: &str) -> Option<&'static BenchPart> {
     PARTS.iter().find(|part| part.name == name)
 }
 
-fn run_named(name: &str) -> Option<&'static Run> {
+fn run_named(name: &str) -> Option<&'static BenchRun> {
     RUNS.iter().find(|run| run.name == name)
 }
 
 /// The text of a part that is so large; the text of a file where the size is its path.
-fn text_for(rt: &HostRuntime, part: &Part, size: &str) -> Result<String, Failed> {
+fn text_for(rt: &HostRuntime, part: &BenchPart, size: &str) -> Result<String, BenchFailure> {
     if size.is_empty() {
         return Ok(made(rt.alloc(), part.recipe, part.small)?);
     }
@@ -51,9 +51,9 @@ fn text_for(rt: &HostRuntime, part: &Part, size: &str) -> Result<String, Failed>
 fn measure_part(
     rt: &HostRuntime,
     meter: &mut Meter<'_>,
-    part: &Part,
+    part: &BenchPart,
     size: &str,
-) -> Result<(), Failed> {
+) -> Result<(), BenchFailure> {
     let text = text_for(rt, part, size)?;
     part.measure(meter, rt.alloc(), text.as_str())
 }
@@ -61,24 +61,24 @@ fn measure_part(
 fn measure_run(
     rt: &HostRuntime,
     meter: &mut Meter<'_>,
-    run: &Run,
+    run: &BenchRun,
     size: &str,
-) -> Result<(), Failed> {
+) -> Result<(), BenchFailure> {
     let size = size.parse::<usize>().unwrap_or(run.small);
     run.measure(meter, rt.alloc(), size)
 }
 
 /// Measures the part or the run of a name.
-fn measure(rt: &HostRuntime, meter: &mut Meter<'_>, name: &str, size: &str) -> Result<(), Failed> {
+fn measure(rt: &HostRuntime, meter: &mut Meter<'_>, name: &str, size: &str) -> Result<(), BenchFailure> {
     match (part_named(name), run_named(name)) {
         (Some(part), _) => measure_part(rt, meter, part, size),
         (None, Some(run)) => measure_run(rt, meter, run, size),
-        (None, None) => Err(Failed::Refused),
+        (None, None) => Err(BenchFailure::Refused),
     }
 }
 
 /// Measures all parts and runs, each of its small size.
-fn measure_all(rt: &HostRuntime, meter: &mut Meter<'_>) -> Result<(), Failed> {
+fn measure_all(rt: &HostRuntime, meter: &mut Meter<'_>) -> Result<(), BenchFailure> {
     for part in &PARTS {
         measure_part(rt, meter, part, "")?;
     }
@@ -89,28 +89,28 @@ fn measure_all(rt: &HostRuntime, meter: &mut Meter<'_>) -> Result<(), Failed> {
 }
 
 /// What is told of one measure.
-fn one(rt: &HostRuntime, words: &[String]) -> Result<String, Failed> {
+fn one(rt: &HostRuntime, words: &[String]) -> Result<String, BenchFailure> {
     let mut meter = Meter::timed(rt, word_at(words, 2));
     measure(rt, &mut meter, word_at(words, 0), word_at(words, 1))?;
     Ok(meter.told()?)
 }
 
 /// What is told of all, without times.
-fn all(rt: &HostRuntime) -> Result<String, Failed> {
+fn all(rt: &HostRuntime) -> Result<String, BenchFailure> {
     let mut meter = Meter::untimed(rt);
     measure_all(rt, &mut meter)?;
     Ok(meter.told()?)
 }
 
 /// The text that a part takes.
-fn text_of(rt: &HostRuntime, words: &[String]) -> Result<String, Failed> {
+fn text_of(rt: &HostRuntime, words: &[String]) -> Result<String, BenchFailure> {
     match part_named(word_at(words, 1)) {
         Some(part) => text_for(rt, part, word_at(words, 2)),
-        None => Err(Failed::Refused),
+        None => Err(BenchFailure::Refused),
     }
 }
 
-fn told(rt: &HostRuntime, words: &[String]) -> Result<String, Failed> {
+fn told(rt: &HostRuntime, words: &[String]) -> Result<String, BenchFailure> {
     match word_at(words, 0) {
         "" => all(rt),
         "text" => text_of(rt, words),
@@ -118,7 +118,7 @@ fn told(rt: &HostRuntime, words: &[String]) -> Result<String, Failed> {
     }
 }
 
-fn main(rt: HostRuntime) -> Result<(), Failed> {
+fn main(rt: HostRuntime) -> Result<(), BenchFailure> {
     let words: Vec<String> = env::args(&rt)?.skip(1).collect(rt.alloc())?;
     let told = told(&rt, words.as_slice())?;
     print!(rt; "{told}")?;

@@ -1,5 +1,5 @@
 //! What measures, and tells what it measured.
-use case_files::Shown;
+use case_files::AnswerText;
 use std::alloc::AllocError;
 use std::time::{Clock, Instant};
 
@@ -12,7 +12,7 @@ pub(crate) struct Meter<'r> {
     last: &'r str,
     /// When what is measured began; none where the clock can't be read.
     begun: Option<Instant>,
-    lines: Shown,
+    lines: AnswerText,
 }
 
 impl<'r> Meter<'r> {
@@ -23,7 +23,7 @@ impl<'r> Meter<'r> {
             is_timed: true,
             last,
             begun: None,
-            lines: Shown::new(rt.alloc()),
+            lines: AnswerText::new(rt.alloc()),
         }
     }
 
@@ -34,7 +34,7 @@ impl<'r> Meter<'r> {
             is_timed: false,
             last: "",
             begun: None,
-            lines: Shown::new(rt.alloc()),
+            lines: AnswerText::new(rt.alloc()),
         }
     }
 

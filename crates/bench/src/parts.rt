@@ -1,5 +1,5 @@
 //! The parts of a run that are measured alone, each over one text.
-use crate::failed::Failed;
+use crate::failed::BenchFailure;
 use crate::meter::Meter;
 use crate::{files, recipes};
 use catalog_core::{Catalog, Identifier, LicenseStore, Table};
@@ -7,7 +7,7 @@ use deny_text::hash::hash;
 use deny_text::normal::normalize;
 use manifest_core::license_span;
 use records_core::{Metadata, records};
-use request_core::read::{Given, read};
+use request_core::read::{CliAnswer, read};
 use request_core::{Request, Subcommand};
 use selection_core::{ExcludeSpecs, Include, Krates, Selection};
 use spdx_core::Expression;
@@ -35,7 +35,7 @@ pub(crate) enum Work {
 }
 
 /// A part: its name, the text that it takes, and how large that is where no size is given.
-pub(crate) struct Part {
+pub(crate) struct BenchPart {
     pub(crate) name: &'static str,
     work: Work,
     pub(crate) recipe: &'static str,
@@ -46,7 +46,7 @@ pub(crate) struct Part {
 macro_rules! parts {
     ($($name:literal: $work:ident of $recipe:ident, $small:literal;)*) => {
         [
-            $(Part {
+            $(BenchPart {
                 name: $name,
                 work: Work::$work,
                 recipe: recipes::$recipe,
@@ -56,7 +56,7 @@ macro_rules! parts {
     };
 }
 
-pub(crate) static PARTS: [Part; 25] = parts! {
+pub(crate) static PARTS: [BenchPart; 25] = parts! {
     "hash": Hash of LICENCE, 16_384;
     "normal": Normal of RETURNS, 10;
     "scan": Scan of LICENCE, 100;
@@ -95,13 +95,13 @@ const FIELD: ParseMode = ParseMode {
 /// The folder of the sparse registry of crates.io.
 const SPARSE_DIR: &str = "index.crates.io-1949cf8c6b5b557f";
 
-fn normal_length(alloc: Global, text: &str) -> Result<usize, Failed> {
+fn normal_length(alloc: Global, text: &str) -> Result<usize, BenchFailure> {
     let normal = normalize(alloc, text)?;
     Ok(normal.as_str().len())
 }
 
 /// The score of a text, with a store of the built-in licences that is there before.
-fn score(meter: &mut Meter<'_>, alloc: Global, text: &str) -> Result<usize, Failed> {
+fn score(meter: &mut Meter<'_>, alloc: Global, text: &str) -> Result<usize, BenchFailure> {
     let store = LicenseStore::from_cache(alloc)?;
     meter.start();
     let found = store.scan(alloc, text)?;
@@ -128,7 +128,7 @@ fn names_known(text: &str) -> usize {
 }
 
 /// How many terms the expressions of all lines have.
-fn terms(alloc: Global, text: &str) -> Result<usize, Failed> {
+fn terms(alloc: Global, text: &str) -> Result<usize, BenchFailure> {
     let mut terms: usize = 0;
     for line in text.lines() {
         let read = Expression::parse_mode(alloc, line, FIELD, &Table)?;
@@ -138,7 +138,7 @@ fn terms(alloc: Global, text: &str) -> Result<usize, Failed> {
 }
 
 /// Where the value of a text ends.
-fn value_end(alloc: Global, text: &str) -> Result<usize, Failed> {
+fn value_end(alloc: Global, text: &str) -> Result<usize, BenchFailure> {
     let value = parse(alloc, text)?;
     Ok(value.span().end)
 }
@@ -152,7 +152,7 @@ fn edges(metadata: &Metadata) -> usize {
 }
 
 /// How many edges are read.
-fn edges_read(alloc: Global, text: &str) -> Result<usize, Failed> {
+fn edges_read(alloc: Global, text: &str) -> Result<usize, BenchFailure> {
     let metadata = records(alloc, text, SPARSE_DIR)?;
     Ok(edges(&metadata))
 }
@@ -168,7 +168,7 @@ pub(crate) fn from_root(alloc: Global) -> Selection {
 }
 
 /// How many crates of metadata are selected, without dev dependencies.
-fn selected(alloc: Global, metadata: Metadata) -> Result<usize, Failed> {
+fn selected(alloc: Global, metadata: Metadata) -> Result<usize, BenchFailure> {
     let krates = Krates::build(alloc, metadata, &from_root(alloc))?;
     let include = Include {
         dev: false,
@@ -179,7 +179,7 @@ fn selected(alloc: Global, metadata: Metadata) -> Result<usize, Failed> {
 }
 
 /// The same of metadata that was read before.
-fn select(meter: &mut Meter<'_>, alloc: Global, text: &str) -> Result<usize, Failed> {
+fn select(meter: &mut Meter<'_>, alloc: Global, text: &str) -> Result<usize, BenchFailure> {
     let metadata = records(alloc, text, SPARSE_DIR)?;
     meter.start();
     selected(alloc, metadata)
@@ -198,7 +198,7 @@ fn values(request: &Request) -> usize {
 /// How many values are read from words: none where they are refused.
 fn values_read(alloc: Global, words: &[String]) -> Result<usize, AllocError> {
     match read(alloc, words, "/w")? {
-        Given::Asked(request) => Ok(values(&request)),
+        CliAnswer::Asked(request) => Ok(values(&request)),
         _ => Ok(0),
     }
 }
@@ -213,15 +213,15 @@ fn words_of(alloc: Global, text: &str) -> Result<Vec<String>, AllocError> {
     Ok(words)
 }
 
-fn read_words(meter: &mut Meter<'_>, alloc: Global, text: &str) -> Result<usize, Failed> {
+fn read_words(meter: &mut Meter<'_>, alloc: Global, text: &str) -> Result<usize, BenchFailure> {
     let words = words_of(alloc, text)?;
     meter.start();
     Ok(values_read(alloc, words.as_slice())?)
 }
 
-impl Part {
+impl BenchPart {
     /// What comes of the part's work.
-    fn done(&self, meter: &mut Meter<'_>, alloc: Global, text: &str) -> Result<usize, Failed> {
+    fn done(&self, meter: &mut Meter<'_>, alloc: Global, text: &str) -> Result<usize, BenchFailure> {
         match self.work {
             Work::Hash => Ok(hash(text.as_bytes()) as usize),
             Work::Normal => normal_length(alloc, text),
@@ -246,7 +246,7 @@ impl Part {
         meter: &mut Meter<'_>,
         alloc: Global,
         text: &str,
-    ) -> Result<(), Failed> {
+    ) -> Result<(), BenchFailure> {
         meter.start();
         let count = self.done(meter, alloc, text)?;
         meter.line(self.name, count);

@@ -1,5 +1,5 @@
 //! Whole runs that are measured, stage by stage: what each is over.
-use crate::failed::Failed;
+use crate::failed::BenchFailure;
 use crate::meter::Meter;
 use crate::texts::made;
 use crate::{recipes, stages};
@@ -7,7 +7,7 @@ use std::alloc::{AllocError, Global};
 use tree_core::{MemTree, PutError};
 
 /// A run: its name, and the recipes of its files, which are as large as the run.
-pub(crate) struct Run {
+pub(crate) struct BenchRun {
     pub(crate) name: &'static str,
     metadata: &'static str,
     /// How large the metadata is, where that is not as large as the run.
@@ -20,8 +20,8 @@ pub(crate) struct Run {
     pub(crate) small: usize,
 }
 
-pub(crate) static RUNS: [Run; 6] = [
-    Run {
+pub(crate) static RUNS: [BenchRun; 6] = [
+    BenchRun {
         name: "crates",
         metadata: recipes::SMALL_METADATA,
         crates: None,
@@ -30,7 +30,7 @@ pub(crate) static RUNS: [Run; 6] = [
         every: 6,
         small: 30,
     },
-    Run {
+    BenchRun {
         name: "files",
         metadata: recipes::SMALL_METADATA,
         crates: Some(1),
@@ -39,7 +39,7 @@ pub(crate) static RUNS: [Run; 6] = [
         every: 1,
         small: 30,
     },
-    Run {
+    BenchRun {
         name: "entries",
         metadata: recipes::WIDE_METADATA,
         crates: Some(50),
@@ -48,7 +48,7 @@ pub(crate) static RUNS: [Run; 6] = [
         every: 1,
         small: 30,
     },
-    Run {
+    BenchRun {
         name: "exceptions",
         metadata: recipes::FULL_METADATA,
         crates: None,
@@ -57,7 +57,7 @@ pub(crate) static RUNS: [Run; 6] = [
         every: 1,
         small: 30,
     },
-    Run {
+    BenchRun {
         name: "wide",
         metadata: recipes::WIDE_METADATA,
         crates: None,
@@ -66,7 +66,7 @@ pub(crate) static RUNS: [Run; 6] = [
         every: 1,
         small: 30,
     },
-    Run {
+    BenchRun {
         name: "deep",
         metadata: recipes::DEEP_METADATA,
         crates: None,
@@ -79,18 +79,18 @@ pub(crate) static RUNS: [Run; 6] = [
 
 /// The texts of licence files, of 6 KiB, and of manifests, of 2 KiB.
 #[derive(Drop)]
-struct Files {
+struct RunTexts {
     hashed: String,
     other: String,
     manifest: String,
 }
 
-impl Files {
-    fn new(alloc: Global) -> Result<Files, AllocError> {
+impl RunTexts {
+    fn new(alloc: Global) -> Result<RunTexts, AllocError> {
         let hashed = made(alloc, recipes::LICENCE, 96)?;
         let other = made(alloc, recipes::RETURNS, 96)?;
         let manifest = made(alloc, recipes::MANIFEST, 31)?;
-        Ok(Files {
+        Ok(RunTexts {
             hashed,
             other,
             manifest,
@@ -110,26 +110,26 @@ impl Files {
 }
 
 /// Puts a file at each path of a text.
-fn put_files(tree: &mut MemTree, files: &Files, paths: &str, every: usize) -> Result<(), PutError> {
+fn put_files(tree: &mut MemTree, files: &RunTexts, paths: &str, every: usize) -> Result<(), PutError> {
     for (place, path) in paths.lines().enumerate() {
         tree.put(path, files.at(path, place, every).as_bytes())?;
     }
     Ok(())
 }
 
-impl Run {
-    fn put_metadata(&self, tree: &mut MemTree, alloc: Global, size: usize) -> Result<(), Failed> {
+impl BenchRun {
+    fn put_metadata(&self, tree: &mut MemTree, alloc: Global, size: usize) -> Result<(), BenchFailure> {
         let text = made(alloc, self.metadata, self.crates.unwrap_or(size))?;
         Ok(tree.put(stages::METADATA, text.as_bytes())?)
     }
 
-    fn put_policy(&self, tree: &mut MemTree, alloc: Global, size: usize) -> Result<(), Failed> {
+    fn put_policy(&self, tree: &mut MemTree, alloc: Global, size: usize) -> Result<(), BenchFailure> {
         let text = made(alloc, self.policy, size)?;
         Ok(tree.put(stages::POLICY, text.as_bytes())?)
     }
 
-    fn put_paths(&self, tree: &mut MemTree, alloc: Global, size: usize) -> Result<(), Failed> {
-        let files = Files::new(alloc)?;
+    fn put_paths(&self, tree: &mut MemTree, alloc: Global, size: usize) -> Result<(), BenchFailure> {
+        let files = RunTexts::new(alloc)?;
         let paths = made(alloc, self.paths, size)?;
         Ok(put_files(tree, &files, paths.as_str(), self.every)?)
     }
@@ -140,7 +140,7 @@ impl Run {
         meter: &mut Meter<'_>,
         alloc: Global,
         size: usize,
-    ) -> Result<(), Failed> {
+    ) -> Result<(), BenchFailure> {
         let mut tree = MemTree::new(alloc);
         self.put_metadata(&mut tree, alloc, size)?;
         self.put_policy(&mut tree, alloc, size)?;

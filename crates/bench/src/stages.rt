@@ -6,7 +6,7 @@ ghost use Rattle.gather_core.specs.Premises.{IsPlacedAt};
 ghost use Rattle.unused_core.specs.Laws.{EntriesLie};
 ghost use Rattle.check_core.specs.Labels.{PackLies};
 
-use crate::failed::Failed;
+use crate::failed::BenchFailure;
 use crate::meter::Meter;
 use crate::parts::from_root;
 use catalog_core::LicenseStore;
@@ -43,7 +43,7 @@ fn context(format: Format) -> LogContext {
 }
 
 /// The policy of a tree. What is wrong with it is printed.
-fn loaded(alloc: Global, files: &mut Files, tree: &mut MemTree) -> Result<ValidConfig, Failed>
+fn loaded(alloc: Global, files: &mut Files, tree: &mut MemTree) -> Result<ValidConfig, BenchFailure>
     requires { files.old ≡ [] }
     ensures { IfOk result (λ policy. PolicyStands files.new policy) }
 {
@@ -57,7 +57,7 @@ fn loaded(alloc: Global, files: &mut Files, tree: &mut MemTree) -> Result<ValidC
     let told = context(Format::Human);
     match load(alloc, paths, files, told, tree, &mut sink, &Table, begun) {
         Ok(policy) => Ok(policy.licenses),
-        Err(error) => Err(Failed::from(error)),
+        Err(error) => Err(BenchFailure::from(error)),
     }
 }
 
@@ -80,7 +80,7 @@ fn gathered<'k>(
 }
 
 /// How many bytes are printed of what was found.
-fn printed(alloc: Global, format: Format, packs: &[Pack], files: &Files) -> Result<usize, Failed>
+fn printed(alloc: Global, format: Format, packs: &[Pack], files: &Files) -> Result<usize, BenchFailure>
     requires { All (PackLies files.now) packs.now }
 {
     let mut sink = MemSink::new(alloc, ROOM, LINE)?;
@@ -118,7 +118,7 @@ fn from_print(
     run: &str,
     packs: &[Pack],
     files: &Files,
-) -> Result<(), Failed>
+) -> Result<(), BenchFailure>
     requires { All (PackLies files.now) packs.now }
 {
     let human = printed(alloc, Format::Human, packs, files)?;
@@ -135,7 +135,7 @@ fn from_check(
     run: &str,
     ctx: &CheckCtx<'_, ValidConfig>,
     summary: &Summary<'_>,
-) -> Result<(), Failed>
+) -> Result<(), BenchFailure>
     requires placed { All (IsPlacedAt ctx.now.files.now) summary.now.nfos }
     requires entries { EntriesLie ctx.now.files.now ctx.now.cfg }
 {
@@ -156,7 +156,7 @@ fn from_gathering(
     krates: &Krates,
     tree: &mut MemTree,
     files: &mut Files,
-) -> Result<(), Failed>
+) -> Result<(), BenchFailure>
     requires { PolicyStands files.old policy }
 {
     let summary = gathered(alloc, krates, files, &policy, tree)?;
@@ -179,7 +179,7 @@ fn from_load(
     run: &str,
     krates: &Krates,
     tree: &mut MemTree,
-) -> Result<(), Failed> {
+) -> Result<(), BenchFailure> {
     let mut files = Files::new(alloc);
     let policy = loaded(alloc, &mut files, tree)?;
     let entries = policy.clarifications.items().len();
@@ -195,7 +195,7 @@ pub(crate) fn go(
     alloc: Global,
     run: &str,
     tree: &mut MemTree,
-) -> Result<(), Failed> {
+) -> Result<(), BenchFailure> {
     let begun = tree.faults();
     let krates = krates_at(alloc, tree, METADATA, &from_root(alloc), begun)?;
     if meter.ends(run, "read", krates.krates().len()) {

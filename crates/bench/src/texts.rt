@@ -1,10 +1,10 @@
 //! Texts that are made in memory, of any size.
-use case_files::Shown;
+use case_files::AnswerText;
 use std::alloc::{AllocError, Global};
 
 /// Puts a piece that stands behind a percent sign. Its first character is a mark: a digit stands for the number that is so much
 /// higher, but for the last one at most, and a comma for itself, except in the last part.
-fn put_marked(out: &mut Shown, piece: &str, number: usize, last: usize) {
+fn put_marked(out: &mut AnswerText, piece: &str, number: usize, last: usize) {
     let mut marked = piece.chars();
     match marked.next() {
         Some(',') if number < last => out.put(","),
@@ -20,7 +20,7 @@ fn put_marked(out: &mut Shown, piece: &str, number: usize, last: usize) {
 }
 
 /// Puts the part of a number.
-fn put_part(out: &mut Shown, part: &str, number: usize, last: usize) {
+fn put_part(out: &mut AnswerText, part: &str, number: usize, last: usize) {
     for (place, piece) in part.split('%').enumerate() {
         if place == 0 {
             out.put(piece);
@@ -31,7 +31,7 @@ fn put_part(out: &mut Shown, part: &str, number: usize, last: usize) {
 }
 
 /// Puts a part so many times, with its marks.
-fn put_parts(out: &mut Shown, part: &str, count: usize) {
+fn put_parts(out: &mut AnswerText, part: &str, count: usize) {
     let last = count.saturating_sub(1);
     for number in 0..count {
         put_part(out, part, number, last);
@@ -40,7 +40,7 @@ fn put_parts(out: &mut Shown, part: &str, count: usize) {
 
 /// The text of a recipe: what stands between `⟦` and `⟧` stands so many times.
 pub(crate) fn made(alloc: Global, recipe: &str, count: usize) -> Result<String, AllocError> {
-    let mut out = Shown::new(alloc);
+    let mut out = AnswerText::new(alloc);
     for piece in recipe.split('⟦') {
         match piece.split_once('⟧') {
             Some((part, rest)) => {

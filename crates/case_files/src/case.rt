@@ -2,12 +2,12 @@
 //! begins with a bar is a line of the entry's text, without the bar. A line that begins with a colon is text without a line
 //! end, one with an equals sign is bytes in hex, and one with a star is a count and a text that is repeated so often.
 //! Other lines are empty or begin with `#`.
-use crate::told::{Told, Unread};
+use crate::told::{Tally, UnreadLine};
 use std::alloc::{AllocError, Global};
 
 /// A key, what stands behind it, and a text.
 #[derive(Drop)]
-pub struct Entry {
+pub struct CaseEntry {
     /// The line that it begins in, counted from 1.
     pub line: u64,
     pub key: String,
@@ -21,7 +21,7 @@ pub struct Block {
     pub line: u64,
     pub is_base: bool,
     pub name: String,
-    pub entries: Vec<Entry>,
+    pub entries: Vec<CaseEntry>,
 }
 
 /// A case with the entries of its base, which stand before its own.
@@ -29,11 +29,11 @@ pub struct Block {
 pub struct Case<'c> {
     pub file: &'c str,
     pub name: &'c str,
-    pub base: &'c [Entry],
-    pub own: &'c [Entry],
+    pub base: &'c [CaseEntry],
+    pub own: &'c [CaseEntry],
 }
 
-fn entry_among<'e>(entries: &'e [Entry], key: &str) -> Option<&'e Entry> {
+fn entry_among<'e>(entries: &'e [CaseEntry], key: &str) -> Option<&'e CaseEntry> {
     for entry in entries {
         if entry.key.as_str() == key {
             return Some(entry);
@@ -52,7 +52,7 @@ pub fn word_of<'b>(block: &'b Block, key: &str) -> &'b str {
 
 impl<'c> Case<'c> {
     /// The first entry of a key: of the case, or else of its base.
-    pub fn entry(&self, key: &str) -> Option<&'c Entry> {
+    pub fn entry(&self, key: &str) -> Option<&'c CaseEntry> {
         match entry_among(self.own, key) {
             Some(entry) => Some(entry),
             None => entry_among(self.base, key),
@@ -73,12 +73,12 @@ impl<'c> Case<'c> {
     }
 }
 
-fn entry_of(alloc: Global, line: u64, text: &str) -> Result<Entry, AllocError> {
+fn entry_of(alloc: Global, line: u64, text: &str) -> Result<CaseEntry, AllocError> {
     let text = text.trim();
     let (key, word) = text.split_once(' ').unwrap_or((text, ""));
     let key = String::from_str(alloc, key)?;
     let word = String::from_str(alloc, word.trim())?;
-    Ok(Entry {
+    Ok(CaseEntry {
         line,
         key,
         word,
@@ -102,11 +102,11 @@ fn put_byte(text: &mut Vec<u8>, byte: u8) -> Result<(), AllocError> {
 }
 
 /// Appends the bytes that are written in hex.
-fn put_hex(text: &mut Vec<u8>, line: &str) -> Result<(), Unread> {
+fn put_hex(text: &mut Vec<u8>, line: &str) -> Result<(), UnreadLine> {
     for word in line.split_whitespace() {
         match u8::from_str_radix(word, 16) {
             Ok(byte) => put_byte(text, byte)?,
-            Err(_) => return Err(Unread::Line("a byte that is no number")),
+            Err(_) => return Err(UnreadLine::Line("a byte that is no number")),
         }
     }
     Ok(())
@@ -120,11 +120,11 @@ fn put_often(text: &mut Vec<u8>, count: u32, piece: &str) -> Result<(), AllocErr
 }
 
 /// Appends a text so often as the number before it says.
-fn put_repeated(text: &mut Vec<u8>, line: &str) -> Result<(), Unread> {
+fn put_repeated(text: &mut Vec<u8>, line: &str) -> Result<(), UnreadLine> {
     let (count, piece) = line.trim().split_once(' ').unwrap_or((line, ""));
     match count.parse::<u32>() {
         Ok(count) => Ok(put_often(text, count, piece)?),
-        Err(_) => Err(Unread::Line("a count that is no number")),
+        Err(_) => Err(UnreadLine::Line("a count that is no number")),
     }
 }
 
@@ -135,7 +135,7 @@ fn put_whole(text: &mut Vec<u8>, line: &str) -> Result<(), AllocError> {
 }
 
 /// Appends a line of an entry's text.
-fn put_line(text: &mut Vec<u8>, line: &str) -> Result<(), Unread> {
+fn put_line(text: &mut Vec<u8>, line: &str) -> Result<(), UnreadLine> {
     if let Some(whole) = line.strip_prefix('|') {
         return Ok(put_whole(text, whole)?);
     }
@@ -147,13 +147,13 @@ fn put_line(text: &mut Vec<u8>, line: &str) -> Result<(), Unread> {
     }
     match line.strip_prefix('*') {
         Some(repeated) => put_repeated(text, repeated),
-        None => Err(Unread::Line("a line of no known kind")),
+        None => Err(UnreadLine::Line("a line of no known kind")),
     }
 }
 
 fn put_entry(
     alloc: Global,
-    entries: &mut Vec<Entry>,
+    entries: &mut Vec<CaseEntry>,
     line: u64,
     text: &str,
 ) -> Result<(), AllocError> {
@@ -162,13 +162,13 @@ fn put_entry(
 }
 
 /// Takes a line that begins no block: an entry, or a line of the last one's text.
-fn put(alloc: Global, entries: &mut Vec<Entry>, line: u64, text: &str) -> Result<(), Unread> {
+fn put(alloc: Global, entries: &mut Vec<CaseEntry>, line: u64, text: &str) -> Result<(), UnreadLine> {
     if text.starts_with(' ') {
         return Ok(put_entry(alloc, entries, line, text)?);
     }
     match entries.last_mut() {
         Some(entry) => put_line(&mut entry.text, text),
-        None => Err(Unread::Line("a line before the first key")),
+        None => Err(UnreadLine::Line("a line before the first key")),
     }
 }
 
@@ -197,20 +197,20 @@ fn put_block(
     Ok(blocks.push(block)?)
 }
 
-fn add_line(alloc: Global, blocks: &mut Vec<Block>, line: u64, text: &str) -> Result<(), Unread> {
+fn add_line(alloc: Global, blocks: &mut Vec<Block>, line: u64, text: &str) -> Result<(), UnreadLine> {
     if let Some((is_base, name)) = beginning(text) {
         return Ok(put_block(alloc, blocks, line, is_base, name)?);
     }
     match blocks.last_mut() {
         Some(block) => put(alloc, &mut block.entries, line, text),
-        None => Err(Unread::Line("a line before the first case")),
+        None => Err(UnreadLine::Line("a line before the first case")),
     }
 }
 
 /// Takes a line, and tells it where it can't be read.
 fn take(
     alloc: Global,
-    told: &mut Told,
+    told: &mut Tally,
     file: &str,
     blocks: &mut Vec<Block>,
     line: u64,
@@ -228,7 +228,7 @@ fn take(
 /// The blocks of a file's text. Lines that can't be read are told and passed over.
 pub fn blocks_of(
     alloc: Global,
-    told: &mut Told,
+    told: &mut Tally,
     file: &str,
     text: &str,
 ) -> Result<Vec<Block>, AllocError> {

@@ -1,13 +1,13 @@
 //! Compares the cases of a file with what they come to.
-use crate::case::{Block, Case, Entry, blocks_of, word_of};
-use crate::shown::Shown;
-use crate::told::{Told, bytes_of, show, text_of};
+use crate::case::{Block, Case, CaseEntry, blocks_of, word_of};
+use crate::shown::AnswerText;
+use crate::told::{Tally, bytes_of, show, text_of};
 use std::alloc::{AllocError, Global};
 use std::io;
 
 /// Whether a case was answered under a key.
 #[derive(Clone, Copy, Debug, PartialEq, Eq)]
-pub enum Answered {
+pub enum KeyAnswer {
     Yes,
     NoSuchKey,
     /// What is put in can't be: a file that can't be put, or a word that is none of the key's.
@@ -20,7 +20,7 @@ pub trait Cases {
     fn is_given(&self, key: &str) -> bool;
 
     /// Puts what a case comes to under a key. A case that can't be tried is told by its line.
-    fn told(&self, alloc: Global, case: &Case<'_>, key: &str, out: &mut Shown) -> Answered;
+    fn told(&self, alloc: Global, case: &Case<'_>, key: &str, out: &mut AnswerText) -> KeyAnswer;
 }
 
 /// Whether a key is one of these.
@@ -39,7 +39,7 @@ pub fn is_shared(key: &str) -> bool {
 }
 
 /// What an entry wants: the word behind its key, or else the text below it.
-pub fn wanted(entry: &Entry) -> &str {
+pub fn wanted(entry: &CaseEntry) -> &str {
     if entry.word.as_str().is_empty() {
         str::from_utf8(&entry.text).unwrap_or("no UTF-8")
     } else {
@@ -57,7 +57,7 @@ fn block_named<'b>(blocks: &'b [Block], is_base: bool, name: &str) -> Option<&'b
 }
 
 /// The entries of a block's base; none where there is no such base.
-fn base_of<'b>(blocks: &'b [Block], block: &Block) -> Option<&'b [Entry]> {
+fn base_of<'b>(blocks: &'b [Block], block: &Block) -> Option<&'b [CaseEntry]> {
     let name = word_of(block, "with");
     if name.is_empty() {
         return Some(&[]);
@@ -103,29 +103,29 @@ pub fn case_of<'c>(
 /// Asks for what an entry wants, and compares it.
 fn try_entry<C: Cases>(
     alloc: Global,
-    told: &mut Told,
+    told: &mut Tally,
     case: &Case<'_>,
-    entry: &Entry,
+    entry: &CaseEntry,
     cases: &C,
 ) -> Result<(), AllocError> {
-    let mut out = Shown::new(alloc);
+    let mut out = AnswerText::new(alloc);
     match cases.told(alloc, case, entry.key.as_str(), &mut out) {
-        Answered::Yes => {
+        KeyAnswer::Yes => {
             let seen = out.into_text()?;
             let wanted = wanted(entry);
             told.compare(case.file, entry.line, case.name, seen.as_str(), wanted)
         }
-        Answered::NoSuchKey => told.tell(case.file, entry.line, "a key that is not known"),
-        Answered::CantBeTried => told.tell(case.file, entry.line, "a case that can't be tried"),
+        KeyAnswer::NoSuchKey => told.tell(case.file, entry.line, "a key that is not known"),
+        KeyAnswer::CantBeTried => told.tell(case.file, entry.line, "a case that can't be tried"),
     }
 }
 
 /// Compares an entry that says what is wanted, and returns whether it is one.
 fn compare_entry<C: Cases>(
     alloc: Global,
-    told: &mut Told,
+    told: &mut Tally,
     case: &Case<'_>,
-    entry: &Entry,
+    entry: &CaseEntry,
     cases: &C,
 ) -> Result<bool, AllocError> {
     let key = entry.key.as_str();
@@ -138,7 +138,7 @@ fn compare_entry<C: Cases>(
 
 fn compare_case<C: Cases>(
     alloc: Global,
-    told: &mut Told,
+    told: &mut Tally,
     case: &Case<'_>,
     line: u64,
     cases: &C,
@@ -157,7 +157,7 @@ fn compare_case<C: Cases>(
 
 fn take<C: Cases>(
     alloc: Global,
-    told: &mut Told,
+    told: &mut Tally,
     file: &str,
     blocks: &[Block],
     block: &Block,
@@ -182,7 +182,7 @@ pub fn number_of(blocks: &[Block]) -> u64 {
 }
 
 /// How many lines an entry wants; one where it wants the empty text.
-fn lines_in(entry: &Entry) -> u64 {
+fn lines_in(entry: &CaseEntry) -> u64 {
     let mut lines: u64 = 0;
     for _ in wanted(entry).lines() {
         lines = lines.saturating_add(1);
@@ -191,7 +191,7 @@ fn lines_in(entry: &Entry) -> u64 {
 }
 
 /// How many lines are wanted by some entries.
-fn lines_wanted<C: Cases>(entries: &[Entry], cases: &C) -> u64 {
+fn lines_wanted<C: Cases>(entries: &[CaseEntry], cases: &C) -> u64 {
     let mut lines: u64 = 0;
     for entry in entries {
         let key = entry.key.as_str();
@@ -208,8 +208,8 @@ pub fn told_cases<C: Cases>(
     file: &str,
     text: &str,
     cases: &C,
-) -> Result<Told, AllocError> {
-    let mut told = Told::new(alloc);
+) -> Result<Tally, AllocError> {
+    let mut told = Tally::new(alloc);
     let blocks = blocks_of(alloc, &mut told, file, text)?;
     let mut lines: u64 = 0;
     for block in blocks.iter() {
@@ -228,15 +228,15 @@ fn told_bytes<C: Cases>(
     file: &str,
     bytes: &[u8],
     cases: &C,
-) -> Result<Told, AllocError> {
-    let mut told = Told::new(alloc);
+) -> Result<Tally, AllocError> {
+    let mut told = Tally::new(alloc);
     match text_of(&mut told, file, bytes)? {
         Some(text) => told_cases(alloc, file, text, cases),
         None => Ok(told),
     }
 }
 
-fn told_file<C: Cases>(rt: &HostRuntime, file: &str, cases: &C) -> io::Result<Told> {
+fn told_file<C: Cases>(rt: &HostRuntime, file: &str, cases: &C) -> io::Result<Tally> {
     let bytes = bytes_of(rt, file)?;
     Ok(told_bytes(rt.alloc(), file, &bytes, cases)?)
 }

@@ -1,5 +1,5 @@
 //! Texts in which a backslash and what stands behind it are one character, or a piece that is repeated.
-use crate::told::Unread;
+use crate::told::UnreadLine;
 use std::alloc::{AllocError, Global};
 
 /// What a character is read as.
@@ -66,7 +66,7 @@ impl Reading {
         self.out.push(letter)
     }
 
-    fn escape(&mut self, letter: char) -> Result<(), Unread> {
+    fn escape(&mut self, letter: char) -> Result<(), UnreadLine> {
         self.held.clear();
         self.state = match letter {
             'u' => State::Open,
@@ -78,31 +78,31 @@ impl Reading {
         }
         match escaped(letter) {
             Some(letter) => Ok(self.out.push(letter)?),
-            None => Err(Unread::Line("an escape that is not known")),
+            None => Err(UnreadLine::Line("an escape that is not known")),
         }
     }
 
     /// Goes on where a brace opens.
-    fn open(&mut self, letter: char, next: State) -> Result<(), Unread> {
+    fn open(&mut self, letter: char, next: State) -> Result<(), UnreadLine> {
         if letter != '{' {
-            return Err(Unread::Line("an escape without its brace"));
+            return Err(UnreadLine::Line("an escape without its brace"));
         }
         self.state = next;
         Ok(())
     }
 
-    fn code(&mut self, letter: char) -> Result<(), Unread> {
+    fn code(&mut self, letter: char) -> Result<(), UnreadLine> {
         if letter != '}' {
             return Ok(self.held.push(letter)?);
         }
         self.state = State::Plain;
         match character(self.held.as_str()) {
             Some(letter) => Ok(self.out.push(letter)?),
-            None => Err(Unread::Line("an escape whose number is none")),
+            None => Err(UnreadLine::Line("an escape whose number is none")),
         }
     }
 
-    fn count(&mut self, letter: char) -> Result<(), Unread> {
+    fn count(&mut self, letter: char) -> Result<(), UnreadLine> {
         if letter != ':' {
             return Ok(self.held.push(letter)?);
         }
@@ -113,7 +113,7 @@ impl Reading {
                 self.state = State::Piece(count);
                 Ok(())
             }
-            None => Err(Unread::Line("a count that is no number")),
+            None => Err(UnreadLine::Line("a count that is no number")),
         }
     }
 
@@ -128,7 +128,7 @@ impl Reading {
         Ok(())
     }
 
-    fn take(&mut self, letter: char) -> Result<(), Unread> {
+    fn take(&mut self, letter: char) -> Result<(), UnreadLine> {
         match self.state {
             State::Plain => Ok(self.plain(letter)?),
             State::Escape => self.escape(letter),
@@ -147,7 +147,7 @@ impl Reading {
 
 /// A text without its escapes: `\t`, `\n`, `\r`, `\v`, `\0`, `\s` for a blank, `\\`, `\[`, `\#`, `\=`, `\u{85}` for the
 /// character of that number in hex, and `\*{3:ab}` for a piece that stands so often. A piece has no escapes.
-pub fn unescaped(alloc: Global, text: &str) -> Result<String, Unread> {
+pub fn unescaped(alloc: Global, text: &str) -> Result<String, UnreadLine> {
     let mut reading = Reading::new(alloc);
     for letter in text.chars() {
         reading.take(letter)?;
@@ -155,6 +155,6 @@ pub fn unescaped(alloc: Global, text: &str) -> Result<String, Unread> {
     if reading.is_plain() {
         Ok(reading.out)
     } else {
-        Err(Unread::Line("an escape that does not end"))
+        Err(UnreadLine::Line("an escape that does not end"))
     }
 }

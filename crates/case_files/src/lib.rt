@@ -10,9 +10,9 @@ pub mod shown;
 pub mod told;
 pub mod tree;
 
-pub use case::{Case, Entry};
-pub use cases::{Answered, Cases, compare_cases};
-pub use names::Named;
+pub use case::{Case, CaseEntry};
+pub use cases::{KeyAnswer, Cases, compare_cases};
+pub use names::NameIdentifier;
 pub use rows::{Rows, compare_rows};
-pub use shown::Shown;
-pub use told::{Told, exit_code};
+pub use shown::AnswerText;
+pub use told::{Tally, exit_code};

@@ -8,7 +8,7 @@ use std::alloc::{AllocError, Global};
 
 /// Says of a text of one line, which is the name of a licence, that it is that one, at 80 or at the score that
 /// stands behind the name; and of two texts that they are the licence of Pixar, at 90.
-pub struct Named;
+pub struct NameIdentifier;
 
 fn name_in(text: &str) -> Option<&'static str>
     ensures { option_copied result ≡ name_in text.now }
@@ -52,7 +52,7 @@ fn score_in(text: &str) -> u8
     }
 }
 
-impl Identifier for Named {
+impl Identifier for NameIdentifier {
     ghost match_of = { λ _ text. match_with text (name_in text) };
 
     ghost within_hundred = { λ _ text. is_within text (name_in text) };

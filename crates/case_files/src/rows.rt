@@ -1,15 +1,15 @@
 //! Files of rows. A line `[NAME]` begins a group, and each line behind it is a row: a text, ` => `, and what it comes to, or
 //! ` =>` at the end of the line where that is nothing. Lines that are empty or begin with `#` are not read.
 use crate::escapes::unescaped;
-use crate::shown::Shown;
-use crate::told::{Told, Unread, bytes_of, show, text_of};
+use crate::shown::AnswerText;
+use crate::told::{Tally, UnreadLine, bytes_of, show, text_of};
 use std::alloc::{AllocError, Global};
 use std::io;
 
 /// What a program makes of rows.
 pub trait Rows {
     /// Puts what a text comes to in a group, and returns whether there is such a group.
-    fn answer(&self, alloc: Global, group: &str, text: &str, out: &mut Shown) -> bool;
+    fn answer(&self, alloc: Global, group: &str, text: &str, out: &mut AnswerText) -> bool;
 }
 
 /// A text, and what is wanted of it.
@@ -38,9 +38,9 @@ fn sides(line: &str) -> Option<(&str, &str)> {
     }
 }
 
-fn row_of(alloc: Global, line: &str) -> Result<Row, Unread> {
+fn row_of(alloc: Global, line: &str) -> Result<Row, UnreadLine> {
     let Some((text, wanted)) = sides(line) else {
-        return Err(Unread::Line("a row without ` => `"));
+        return Err(UnreadLine::Line("a row without ` => `"));
     };
     let text = unescaped(alloc, text)?;
     let wanted = unescaped(alloc, wanted)?;
@@ -55,7 +55,7 @@ struct Group {
 }
 
 /// Tells how many rows a group has, where it has any.
-fn count(told: &mut Told, group: &Group) -> Result<(), AllocError> {
+fn count(told: &mut Tally, group: &Group) -> Result<(), AllocError> {
     if group.rows == 0 {
         return Ok(());
     }
@@ -69,7 +69,7 @@ fn seen<R: Rows>(
     text: &str,
     rows: &R,
 ) -> Result<Option<String>, AllocError> {
-    let mut out = Shown::new(alloc);
+    let mut out = AnswerText::new(alloc);
     if rows.answer(alloc, group, text, &mut out) {
         Ok(Some(out.into_text()?))
     } else {
@@ -80,7 +80,7 @@ fn seen<R: Rows>(
 /// Compares a row with what is answered.
 fn try_row<R: Rows>(
     alloc: Global,
-    told: &mut Told,
+    told: &mut Tally,
     line: Line<'_>,
     group: &str,
     row: &Row,
@@ -98,7 +98,7 @@ fn try_row<R: Rows>(
 
 fn take_row<R: Rows>(
     alloc: Global,
-    told: &mut Told,
+    told: &mut Tally,
     line: Line<'_>,
     group: &str,
     rows: &R,
@@ -110,7 +110,7 @@ fn take_row<R: Rows>(
 }
 
 /// Begins another group.
-fn begin(alloc: Global, told: &mut Told, group: &mut Group, name: &str) -> Result<(), AllocError> {
+fn begin(alloc: Global, told: &mut Tally, group: &mut Group, name: &str) -> Result<(), AllocError> {
     count(told, group)?;
     group.name = String::from_str(alloc, name)?;
     group.rows = 0;
@@ -120,7 +120,7 @@ fn begin(alloc: Global, told: &mut Told, group: &mut Group, name: &str) -> Resul
 /// Takes a line: the name of a group, a row, or neither.
 fn take<R: Rows>(
     alloc: Global,
-    told: &mut Told,
+    told: &mut Tally,
     group: &mut Group,
     line: Line<'_>,
     rows: &R,
@@ -143,8 +143,8 @@ pub fn told_rows<R: Rows>(
     file: &str,
     text: &str,
     rows: &R,
-) -> Result<Told, AllocError> {
-    let mut told = Told::new(alloc);
+) -> Result<Tally, AllocError> {
+    let mut told = Tally::new(alloc);
     let mut group = Group {
         name: String::new(alloc),
         rows: 0,
@@ -164,15 +164,15 @@ fn told_bytes<R: Rows>(
     file: &str,
     bytes: &[u8],
     rows: &R,
-) -> Result<Told, AllocError> {
-    let mut told = Told::new(alloc);
+) -> Result<Tally, AllocError> {
+    let mut told = Tally::new(alloc);
     match text_of(&mut told, file, bytes)? {
         Some(text) => told_rows(alloc, file, text, rows),
         None => Ok(told),
     }
 }
 
-fn told_file<R: Rows>(rt: &HostRuntime, file: &str, rows: &R) -> io::Result<Told> {
+fn told_file<R: Rows>(rt: &HostRuntime, file: &str, rows: &R) -> io::Result<Tally> {
     let bytes = bytes_of(rt, file)?;
     Ok(told_bytes(rt.alloc(), file, &bytes, rows)?)
 }

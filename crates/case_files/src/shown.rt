@@ -4,14 +4,14 @@ use std::fmt::Display;
 
 /// A text, and whether there was memory for all of it.
 #[derive(Drop)]
-pub struct Shown {
+pub struct AnswerText {
     text: String,
     is_whole: bool,
 }
 
-impl Shown {
-    pub fn new(alloc: Global) -> Shown {
-        Shown {
+impl AnswerText {
+    pub fn new(alloc: Global) -> AnswerText {
+        AnswerText {
             text: String::new(alloc),
             is_whole: true,
         }
@@ -32,7 +32,7 @@ impl Shown {
     }
 
     /// Appends another text, of which nothing may be lost.
-    pub fn put_whole(&mut self, other: &Shown) {
+    pub fn put_whole(&mut self, other: &AnswerText) {
         self.put(other.text.as_str());
         if !other.is_whole {
             self.is_whole = false;

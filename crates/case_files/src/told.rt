@@ -10,32 +10,32 @@ use std::{fs, io};
 
 /// Why a line can't be read.
 #[derive(Clone, Copy, Debug, PartialEq, Eq)]
-pub enum Unread {
+pub enum UnreadLine {
     Memory,
     /// What is wrong with it, in words.
     Line(&'static str),
 }
 
-impl From<AllocError> for Unread {
-    fn from(_: AllocError) -> Unread {
-        Unread::Memory
+impl From<AllocError> for UnreadLine {
+    fn from(_: AllocError) -> UnreadLine {
+        UnreadLine::Memory
     }
 }
 
 /// A line for each group or file with the number of its rows or cases, and what is to be told of single lines.
 #[derive(Drop)]
-pub struct Told {
+pub struct Tally {
     pub counts: String,
     pub differences: String,
     /// How often something was told of a line.
     pub times: u64,
 }
 
-impl Told {
-    pub fn new(alloc: Global) -> Told
+impl Tally {
+    pub fn new(alloc: Global) -> Tally
         ensures { result.times ≡ 0 }
     {
-        Told {
+        Tally {
             counts: String::new(alloc),
             differences: String::new(alloc),
             times: 0,
@@ -58,12 +58,12 @@ impl Told {
     }
 
     /// Tells that a line can't be read.
-    pub fn tell_unread(&mut self, file: &str, line: u64, why: Unread) -> Result<(), AllocError>
+    pub fn tell_unread(&mut self, file: &str, line: u64, why: UnreadLine) -> Result<(), AllocError>
         ensures { OnOk result (self.new.times ≡ counted self.old.times) }
     {
         match why {
-            Unread::Memory => Err(AllocError),
-            Unread::Line(what) => self.tell(file, line, what),
+            UnreadLine::Memory => Err(AllocError),
+            UnreadLine::Line(what) => self.tell(file, line, what),
         }
     }
 
@@ -111,7 +111,7 @@ fn line_at(bytes: &[u8], place: usize) -> u64 {
 
 /// The text of a file; none where it is no UTF-8, which is told.
 pub fn text_of<'b>(
-    told: &mut Told,
+    told: &mut Tally,
     file: &str,
     bytes: &'b [u8],
 ) -> Result<Option<&'b str>, AllocError>
@@ -132,13 +132,13 @@ pub fn bytes_of(rt: &HostRuntime, file: &str) -> io::Result<Vec<u8>> {
     fs::read(rt, file)
 }
 
-fn print(rt: &HostRuntime, told: &Told) -> io::Result<()> {
+fn print(rt: &HostRuntime, told: &Tally) -> io::Result<()> {
     print!(rt; "{}", told.counts.as_str())?;
     eprint!(rt; "{}", told.differences.as_str())
 }
 
 /// Whether all of a file is as wanted: it was read, and nothing was told of a line.
-pub fn is_as_wanted(told: &io::Result<Told>) -> bool
+pub fn is_as_wanted(told: &io::Result<Tally>) -> bool
     ensures { IsTrue result ↔ IsOkAnd told.now (λ all. all.times ≡ 0) }
 {
     match told {
@@ -148,7 +148,7 @@ pub fn is_as_wanted(told: &io::Result<Told>) -> bool
 }
 
 /// Prints what is told of a file, and returns whether all of it is as wanted and could be printed.
-pub fn show(rt: &HostRuntime, file: &str, told: &io::Result<Told>) -> bool
+pub fn show(rt: &HostRuntime, file: &str, told: &io::Result<Tally>) -> bool
     ensures { IsTrue result → IsOkAnd told.now (λ all. all.times ≡ 0) }
 {
     let is_printed = match told {

@@ -1,11 +1,11 @@
 //! The tree of a case, and the values, words and numbers of it.
-use crate::case::{Case, Entry};
+use crate::case::{Case, CaseEntry};
 use std::alloc::{AllocError, Global};
 use std::io;
 use tree_core::MemTree;
 
 /// The value of an entry `let NAME = VALUE`, if it is of this name.
-fn value_in<'e>(entry: &'e Entry, name: &str) -> Option<&'e str> {
+fn value_in<'e>(entry: &'e CaseEntry, name: &str) -> Option<&'e str> {
     if entry.key.as_str() != "let" {
         return None;
     }
@@ -17,7 +17,7 @@ fn value_in<'e>(entry: &'e Entry, name: &str) -> Option<&'e str> {
     }
 }
 
-fn value_among<'e>(entries: &'e [Entry], name: &str) -> Option<&'e str> {
+fn value_among<'e>(entries: &'e [CaseEntry], name: &str) -> Option<&'e str> {
     for entry in entries {
         if let Some(value) = value_in(entry, name) {
             return Some(value);
@@ -63,7 +63,7 @@ fn put_filled(out: &mut Vec<u8>, case: &Case<'_>, text: &str) -> Result<(), Allo
 }
 
 /// The text of an entry, in which each value stands whose name is between dollar signs.
-pub fn text_of(alloc: Global, case: &Case<'_>, entry: &Entry) -> Result<Vec<u8>, AllocError> {
+pub fn text_of(alloc: Global, case: &Case<'_>, entry: &CaseEntry) -> Result<Vec<u8>, AllocError> {
     let mut out = Vec::new(alloc);
     match str::from_utf8(&entry.text) {
         Ok(text) => put_filled(&mut out, case, text)?,
@@ -72,7 +72,7 @@ pub fn text_of(alloc: Global, case: &Case<'_>, entry: &Entry) -> Result<Vec<u8>,
     Ok(out)
 }
 
-fn put_file(alloc: Global, tree: &mut MemTree, case: &Case<'_>, entry: &Entry) -> io::Result<()> {
+fn put_file(alloc: Global, tree: &mut MemTree, case: &Case<'_>, entry: &CaseEntry) -> io::Result<()> {
     let bytes = text_of(alloc, case, entry)?;
     match tree.put(entry.word.as_str(), &bytes) {
         Ok(()) => Ok(()),
@@ -85,7 +85,7 @@ fn put_files(
     alloc: Global,
     tree: &mut MemTree,
     case: &Case<'_>,
-    entries: &[Entry],
+    entries: &[CaseEntry],
 ) -> io::Result<()> {
     for entry in entries {
         if entry.key.as_str() == "file" {

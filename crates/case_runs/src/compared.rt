@@ -4,10 +4,10 @@ ghost use Rattle.tree_core.specs.Faults.{counted};
 
 use crate::seen::{is_seen, put_seen};
 use crate::settings::{Ending, Setting, calls_of, ending_of, rooms_of};
-use case_files::Shown;
-use case_files::case::{Block, Case, Entry, blocks_of};
+use case_files::AnswerText;
+use case_files::case::{Block, Case, CaseEntry, blocks_of};
 use case_files::cases::{case_of, is_shared, number_of, wanted};
-use case_files::told::{Told, bytes_of, show, text_of};
+use case_files::told::{Tally, bytes_of, show, text_of};
 use std::alloc::{AllocError, Global};
 use std::io;
 
@@ -16,7 +16,7 @@ use std::io;
 struct Comparison<'f> {
     alloc: Global,
     file: &'f str,
-    told: Shown,
+    told: AnswerText,
     /// How often something was told.
     times: u64,
     runs: u64,
@@ -33,7 +33,7 @@ fn is_given(key: &str) -> bool {
 }
 
 /// Whether an entry is the first of its key, of the case or else of its base.
-fn is_first(case: &Case<'_>, entry: &Entry) -> bool {
+fn is_first(case: &Case<'_>, entry: &CaseEntry) -> bool {
     match case.entry(entry.key.as_str()) {
         Some(first) => first.line == entry.line,
         None => false,
@@ -41,7 +41,7 @@ fn is_first(case: &Case<'_>, entry: &Entry) -> bool {
 }
 
 /// Whether an entry may stand so: only files and values stand several times, and only files have a word and a text.
-fn is_right(case: &Case<'_>, entry: &Entry) -> bool {
+fn is_right(case: &Case<'_>, entry: &CaseEntry) -> bool {
     let is_one = entry.word.as_str().is_empty() || entry.text.is_empty();
     match entry.key.as_str() {
         "file" => true,
@@ -51,7 +51,7 @@ fn is_right(case: &Case<'_>, entry: &Entry) -> bool {
 }
 
 /// What an entry wants of a run: of a text that is cut as much as there is room for.
-fn wanted_of<'e>(setting: &Setting<'_>, entry: &'e Entry) -> &'e str {
+fn wanted_of<'e>(setting: &Setting<'_>, entry: &'e CaseEntry) -> &'e str {
     let whole = wanted(entry);
     let room = match entry.key.as_str() {
         "out" if setting.case.word("room-out") == "below" => setting.out,
@@ -69,7 +69,7 @@ impl Comparison<'_> {
         write!(self.told, "{}:{line}: {what}\n", self.file);
     }
 
-    fn compare(&mut self, setting: &Setting<'_>, entry: &Entry, seen: &str) {
+    fn compare(&mut self, setting: &Setting<'_>, entry: &CaseEntry, seen: &str) {
         self.answers = self.answers.saturating_add(1);
         let wanted = wanted_of(setting, entry);
         if seen == wanted {
@@ -82,11 +82,11 @@ impl Comparison<'_> {
     }
 
     /// Compares what some entries want, but for those of a base whose key the case has itself.
-    fn compare_entries(&mut self, setting: &Setting<'_>, entries: &[Entry], ending: &Ending) {
+    fn compare_entries(&mut self, setting: &Setting<'_>, entries: &[CaseEntry], ending: &Ending) {
         for entry in entries {
             let key = entry.key.as_str();
             if is_seen(key) && is_first(&setting.case, entry) {
-                let mut seen = Shown::new(self.alloc);
+                let mut seen = AnswerText::new(self.alloc);
                 put_seen(self.alloc, &mut seen, ending, key);
                 match seen.into_text() {
                     Ok(seen) => self.compare(setting, entry, seen.as_str()),
@@ -153,7 +153,7 @@ impl Comparison<'_> {
     }
 
     /// Counts the cases and the runs, and tells what is to be told.
-    fn tell_all(self, told: &mut Told, cases: u64) -> Result<(), AllocError> {
+    fn tell_all(self, told: &mut Tally, cases: u64) -> Result<(), AllocError> {
         told.count(self.file, cases, "cases")?;
         told.count(self.file, self.runs, "runs")?;
         let text = self.told.into_text()?;
@@ -161,13 +161,13 @@ impl Comparison<'_> {
     }
 }
 
-fn told_text(alloc: Global, file: &str, text: &str) -> Result<Told, AllocError> {
-    let mut told = Told::new(alloc);
+fn told_text(alloc: Global, file: &str, text: &str) -> Result<Tally, AllocError> {
+    let mut told = Tally::new(alloc);
     let blocks = blocks_of(alloc, &mut told, file, text)?;
     let mut comparison = Comparison {
         alloc,
         file,
-        told: Shown::new(alloc),
+        told: AnswerText::new(alloc),
         times: 0,
         runs: 0,
         answers: 0,
@@ -182,15 +182,15 @@ fn told_text(alloc: Global, file: &str, text: &str) -> Result<Told, AllocError> 
     Ok(told)
 }
 
-fn told_bytes(alloc: Global, file: &str, bytes: &[u8]) -> Result<Told, AllocError> {
-    let mut told = Told::new(alloc);
+fn told_bytes(alloc: Global, file: &str, bytes: &[u8]) -> Result<Tally, AllocError> {
+    let mut told = Tally::new(alloc);
     match text_of(&mut told, file, bytes)? {
         Some(text) => told_text(alloc, file, text),
         None => Ok(told),
     }
 }
 
-fn told_file(rt: &HostRuntime, file: &str) -> io::Result<Told> {
+fn told_file(rt: &HostRuntime, file: &str) -> io::Result<Tally> {
     let bytes = bytes_of(rt, file)?;
     Ok(told_bytes(rt.alloc(), file, &bytes)?)
 }

@@ -2,7 +2,7 @@
 ghost use Rattle.std.specs.Prelude.{◌≡◌, ◌≤◌, Some};
 ghost use Rattle.tree_core.specs.Faults.{count_after};
 
-use case_files::Shown;
+use case_files::AnswerText;
 use deny_text::Bytes;
 use std::alloc::Global;
 use tree_core::{Entries, MemTree, Sink, SinkFailed, Tree, TreeError};
@@ -12,7 +12,7 @@ use tree_core::{Entries, MemTree, Sink, SinkFailed, Tree, TreeError};
 pub struct CountedTree {
     pub tree: MemTree,
     pub calls: u64,
-    pub asked: Shown,
+    pub asked: AnswerText,
     pub failed: u64,
 }
 
@@ -39,7 +39,7 @@ impl CountedTree {
         CountedTree {
             tree,
             calls: 0,
-            asked: Shown::new(alloc),
+            asked: AnswerText::new(alloc),
             failed,
         }
     }

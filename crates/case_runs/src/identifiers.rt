@@ -1,15 +1,15 @@
 //! What tells licences from texts in a case.
 ghost use Rattle.std.specs.Prelude.{◌≡◌, Some, IfOk};
-ghost use Rattle.case_runs.specs.Said.{answer_of, is_within};
+ghost use Rattle.case_runs.specs.Said.{match_of_text, is_within};
 
-use case_files::Named;
-use case_files::told::Unread;
+use case_files::NameIdentifier;
+use case_files::told::UnreadLine;
 use catalog_core::{Identifier, LicenseStore, Match};
 use deny_text::Text;
 use std::alloc::{AllocError, Global};
 
 #[derive(Drop)]
-pub enum Known {
+pub enum CaseIdentifier {
     /// The licence of a stored text with the same words.
     Stored(LicenseStore),
     /// A text of one line that is the name of a licence is that one.
@@ -29,45 +29,45 @@ fn match_of(alloc: Global, name: &str, score: u8) -> Result<Match, AllocError>
     })
 }
 
-impl Identifier for Known {
-    ghost match_of = { answer_of };
+impl Identifier for CaseIdentifier {
+    ghost match_of = { match_of_text };
 
     ghost within_hundred = { is_within };
 
     fn scan(&self, alloc: Global, text: &str) -> Result<Match, AllocError> {
         match self {
-            Known::Stored(store) => store.scan(alloc, text),
-            Known::Named => Named.scan(alloc, text),
-            Known::Mit(score) => match_of(alloc, "MIT", (*score).min(100)),
+            CaseIdentifier::Stored(store) => store.scan(alloc, text),
+            CaseIdentifier::Named => NameIdentifier.scan(alloc, text),
+            CaseIdentifier::Mit(score) => match_of(alloc, "MIT", (*score).min(100)),
         }
     }
 }
 
-fn built_in(alloc: Global) -> Result<Known, AllocError> {
+fn built_in(alloc: Global) -> Result<CaseIdentifier, AllocError> {
     let store = LicenseStore::from_cache(alloc)?;
-    Ok(Known::Stored(store))
+    Ok(CaseIdentifier::Stored(store))
 }
 
-fn mit_at(score: &str) -> Result<Known, Unread> {
+fn mit_at(score: &str) -> Result<CaseIdentifier, UnreadLine> {
     match score.parse::<u8>() {
-        Ok(score) => Ok(Known::Mit(score)),
-        Err(_) => Err(Unread::Line("a score that is no number")),
+        Ok(score) => Ok(CaseIdentifier::Mit(score)),
+        Err(_) => Err(UnreadLine::Line("a score that is no number")),
     }
 }
 
 /// What a word names: `none`, `built-in`, `names`, or `MIT at` and a number.
-pub fn known_as(alloc: Global, word: &str) -> Result<Known, Unread> {
+pub fn known_as(alloc: Global, word: &str) -> Result<CaseIdentifier, UnreadLine> {
     if word == "none" {
-        return Ok(Known::Stored(LicenseStore::default(alloc)));
+        return Ok(CaseIdentifier::Stored(LicenseStore::default(alloc)));
     }
     if word == "built-in" {
         return Ok(built_in(alloc)?);
     }
     if word == "names" {
-        return Ok(Known::Named);
+        return Ok(CaseIdentifier::Named);
     }
     match word.strip_prefix("MIT at ") {
         Some(score) => mit_at(score),
-        None => Err(Unread::Line("an identifier that is not known")),
+        None => Err(UnreadLine::Line("an identifier that is not known")),
     }
 }

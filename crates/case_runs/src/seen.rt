@@ -1,11 +1,11 @@
 //! What is seen of how a run ended, under each key.
 use crate::counted::CountedSink;
 use crate::settings::Ending;
-use case_files::Shown;
+use case_files::AnswerText;
 use case_files::cases::is_among;
 use case_files::tree::number;
-use deny_run::error::{Error, Part};
-use deny_run::report::{CrateReport, Ended, Report, Stats, Verdict};
+use deny_run::error::{Error, InputPart};
+use deny_run::report::{CrateReport, RunEnd, Report, Stats, Verdict};
 use deny_run::{Color, DiagPrinter, Format, LicenseExprSource, LogContext};
 use deny_text::Span;
 use diag_core::LevelFilter;
@@ -30,19 +30,19 @@ pub fn is_seen(key: &str) -> bool {
     is_among(key, &SEEN) || file_in(key).is_some()
 }
 
-fn put_span(out: &mut Shown, span: Span) {
+fn put_span(out: &mut AnswerText, span: Span) {
     write!(out, "{}..{}", span.start, span.end);
 }
 
 /// Puts texts or numbers, each behind a mark.
-fn put_each<D: Display>(out: &mut Shown, mark: &str, items: &[D]) {
+fn put_each<D: Display>(out: &mut AnswerText, mark: &str, items: &[D]) {
     for item in items {
         write!(out, "{mark}{item}");
     }
 }
 
 /// Puts a refusal. Of the faults of a policy it is the places alone.
-fn put_error(out: &mut Shown, error: &Error) {
+fn put_error(out: &mut AnswerText, error: &Error) {
     match error {
         Error::Memory => out.put("memory"),
         Error::NotCarried(what) => write!(out, "not carried: {what:?}"),
@@ -76,12 +76,12 @@ fn put_error(out: &mut Shown, error: &Error) {
             unpublished,
         } => write!(out, "no roots: {base} {excluded} {unpublished}"),
         Error::WriteFault { before, after } => write!(out, "write: {before} {after}"),
-        Error::NotYet(Part::Words) => out.put("words"),
+        Error::NotYet(InputPart::Words) => out.put("words"),
     }
 }
 
 /// Puts an expression, and the verdict in one word.
-fn put_judged(out: &mut Shown, checked: &CrateReport) {
+fn put_judged(out: &mut AnswerText, checked: &CrateReport) {
     match &checked.expression {
         Some(expression) => out.put(expression.as_ref()),
         None => out.put("none"),
@@ -95,7 +95,7 @@ fn put_judged(out: &mut Shown, checked: &CrateReport) {
 }
 
 /// Puts a verdict, and what shows it.
-fn put_verdict(out: &mut Shown, verdict: &Verdict) {
+fn put_verdict(out: &mut AnswerText, verdict: &Verdict) {
     match verdict {
         Verdict::Skipped => out.put("skipped"),
         Verdict::Unlicensed => out.put("unlicensed"),
@@ -115,7 +115,7 @@ fn put_verdict(out: &mut Shown, verdict: &Verdict) {
     }
 }
 
-fn put_source(out: &mut Shown, source: &LicenseExprSource) {
+fn put_source(out: &mut AnswerText, source: &LicenseExprSource) {
     match source {
         LicenseExprSource::Metadata(None) => out.put(" by the field"),
         LicenseExprSource::Metadata(Some((file, span))) => {
@@ -131,7 +131,7 @@ fn put_source(out: &mut Shown, source: &LicenseExprSource) {
 }
 
 /// Puts where an expression comes from, each note behind a `#`, and each read behind a `;`.
-fn put_gathered(out: &mut Shown, checked: &CrateReport) {
+fn put_gathered(out: &mut AnswerText, checked: &CrateReport) {
     if let Some(source) = &checked.source {
         put_source(out, source);
     }
@@ -142,7 +142,7 @@ fn put_gathered(out: &mut Shown, checked: &CrateReport) {
 }
 
 /// Puts what each crate came to: in short with commas between, or a line for each with what shows it.
-fn put_crates(out: &mut Shown, report: &Report, key: &str) {
+fn put_crates(out: &mut AnswerText, report: &Report, key: &str) {
     let mut front = "";
     for checked in report.crates.items() {
         write!(out, "{front}{}: ", checked.id);
@@ -162,7 +162,7 @@ fn put_crates(out: &mut Shown, report: &Report, key: &str) {
 }
 
 /// Puts the policy's file, what it allows, and how many exceptions it has.
-fn put_policy(out: &mut Shown, report: &Report) {
+fn put_policy(out: &mut AnswerText, report: &Report) {
     write!(out, "file {}:", report.policy.file_id);
     for licensee in report.policy.allowed.items() {
         write!(out, " {}", licensee.0.value);
@@ -172,7 +172,7 @@ fn put_policy(out: &mut Shown, report: &Report) {
 }
 
 /// How many findings there are of each severity.
-fn put_stats(out: &mut Shown, stats: &Stats) {
+fn put_stats(out: &mut AnswerText, stats: &Stats) {
     let Stats {
         errors,
         warnings,
@@ -217,7 +217,7 @@ fn found(sink: &CountedSink) -> &str {
     }
 }
 
-fn put_report(alloc: Global, out: &mut Shown, report: &Report, key: &str, err: &str) {
+fn put_report(alloc: Global, out: &mut AnswerText, report: &Report, key: &str, err: &str) {
     match key {
         "ended" | "crates" | "verdicts" => put_crates(out, report, key),
         "policy" => put_policy(out, report),
@@ -244,7 +244,7 @@ fn put_report(alloc: Global, out: &mut Shown, report: &Report, key: &str, err: &
 }
 
 /// Puts what is seen of an ending under a key.
-pub fn put_seen(alloc: Global, out: &mut Shown, ending: &Ending, key: &str) {
+pub fn put_seen(alloc: Global, out: &mut AnswerText, ending: &Ending, key: &str) {
     let err = ending.err.text();
     match key {
         "status" => write!(out, "{}", ending.outcome.status),
@@ -258,9 +258,9 @@ pub fn put_seen(alloc: Global, out: &mut Shown, ending: &Ending, key: &str) {
             write!(out, ", err {}", ending.err.refused);
         }
         _ => match &ending.outcome.ended {
-            Ended::Checked(report) => put_report(alloc, out, report, key, err),
-            Ended::Refused(_) if key == "load" => out.put(err),
-            Ended::Refused(error) => {
+            RunEnd::Checked(report) => put_report(alloc, out, report, key, err),
+            RunEnd::Refused(_) if key == "load" => out.put(err),
+            RunEnd::Refused(error) => {
                 out.put(if key == "ended" { "" } else { "refused: " });
                 put_error(out, error);
             }

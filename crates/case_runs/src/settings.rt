@@ -1,6 +1,6 @@
 //! The runs of a case: which calls of its tree fail, how much its sinks take, and how each run ends.
 use crate::counted::{CountedSink, CountedTree};
-use crate::identifiers::{Known, known_as};
+use crate::identifiers::{CaseIdentifier, known_as};
 use case_files::Case;
 use case_files::cases::wanted;
 use case_files::tree::{number, range_of, tree_of};
@@ -92,7 +92,7 @@ fn outcome_of(
     tree: &mut CountedTree,
     out: &mut CountedSink,
     err: &mut CountedSink,
-    known: &Known,
+    known: &CaseIdentifier,
 ) -> Outcome {
     run(alloc, words, cwd, tree, out, err, &Table, known)
 }
@@ -101,7 +101,7 @@ fn ending_with(
     alloc: Global,
     setting: &Setting<'_>,
     words: &[String],
-    known: &Known,
+    known: &CaseIdentifier,
 ) -> Option<Ending> {
     let case = &setting.case;
     let piece_out = number_or(case, "piece-out", 4)? as usize;

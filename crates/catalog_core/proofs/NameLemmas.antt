@@ -14,7 +14,7 @@ use Rattle.std.proofs.lemmas.Map.Entries.{lookup_head, lookup_tail}
 use Rattle.std.proofs.lemmas.Map.Lookups.{exact_bytes}
 use Rattle.std.proofs.lemmas.Slice.Eq.{bytes_eq-Decides}
 use Rattle.catalog_core.specs.declared.catalog.LicenseEntry.{LicenseEntry}
-use Rattle.catalog_core.specs.declared.table.Listed.{Listed}
+use Rattle.catalog_core.specs.declared.table.TableLicense.{TableLicense}
 use Rattle.catalog_core.specs.Catalog.{entry_of, names_of}
 use Rattle.catalog_core.specs.NameOrder.{name_order, AreInOrder, told}
 
@@ -100,11 +100,11 @@ module _ {X : Type 0} (e : List ℕ × X) (behind : List (List ℕ × X)) where
         let own : name_order x.0 q ≡ Less = name_order_total.trans x.0 e.0 q less (below q e.0 greater) in
         lookup_tail (bytes_eq q) x (front ++ e ∷ behind) (apart q x.0 Greater (above x.0 q own) refl) ∙ found_behind front sorted.1 greater
 
-told_split : (front behind : List Listed) (middle : Listed) → told (front ++ middle ∷ behind) ≡ told front ++ (middle.name.now, middle.entry) ∷ told behind
+told_split : (front behind : List TableLicense) (middle : TableLicense) → told (front ++ middle ∷ behind) ≡ told front ++ (middle.name.now, middle.entry) ∷ told behind
 told_split [] behind middle = refl
 told_split (x ∷ front) behind middle = ap (λ rest. (x.name.now, x.entry) ∷ rest) (told_split front behind middle)
 
-module _ (licences front behind : List Listed) (middle : Listed) (q : List ℕ) (is : licences ≡ front ++ middle ∷ behind) (ordered : AreInOrder (told licences)) where
+module _ (licences front behind : List TableLicense) (middle : TableLicense) (q : List ℕ) (is : licences ≡ front ++ middle ∷ behind) (ordered : AreInOrder (told licences)) where
   cut : told licences ≡ told front ++ (middle.name.now, middle.entry) ∷ told behind
   cut = ap told is ∙ told_split front behind middle
 

@@ -4,7 +4,7 @@ use Rattle.std.specs.Char.{is_ascii_alphanumeric, to_ascii_lowercase}
 use Rattle.std.specs.Str.{bytes_eq}
 use Rattle.std.specs.List.{flat_map, slice_split, onto_first}
 use Rattle.std.specs.Cmp.Lexicographic.{pointwise}
-use Rattle.catalog_core.specs.TextWords.{has_some, is_between, is_copyright, is_line_end, runs_of, lower_of, kept, line_words, words_of, spelled}
+use Rattle.catalog_core.specs.TextWords.{has_some, is_between, is_copyright, is_line_end, runs_of, lower_of, words_kept, line_words, words_of, spelled}
 
 -- no space
 abbrev pub Spaceless : List ℕ → Type 0
@@ -67,7 +67,7 @@ with_some [] clean = tt
 with_some ([] ∷ parts) clean = with_some parts clean.1
 with_some ((b ∷ bs) ∷ parts) clean = (clean.0, with_some parts clean.1)
 
-of_line : (words : List (List ℕ)) → AllSpaceless words → AllSpaceless (kept words)
+of_line : (words : List (List ℕ)) → AllSpaceless words → AllSpaceless (words_kept words)
 of_line words clean =
     elim (is_copyright words) as (λ b. AllSpaceless (cond b [] words)) [ true ↦ tt | false ↦ clean ]
 

@@ -18,21 +18,21 @@ abbrev pub entry_of : List (List ℕ × LicenseEntry) → List ℕ → Option Li
 entry_of licences name = lookup (bytes_eq name) licences
 
 -- an imprecise text begins a text without regard to ASCII case, and its last word ends there
-pub record Begins (imprecise text : List ℕ) : Type 0 where
+pub record BeginsText (imprecise text : List ℕ) : Type 0 where
   pub letters : IsTrue (str_eq_ignore_ascii_case imprecise (take (length imprecise) text))
   pub ends : IsTrue (ends_word (drop (length imprecise) text))
 
 -- no listed text begins a text
 abbrev pub BeginsNone : List (List ℕ × List ℕ) → List ℕ → Type 0
-BeginsNone listed text = (one : List ℕ × List ℕ) → Contains listed one → ¬ Begins one.0 text
+BeginsNone listed text = (one : List ℕ × List ℕ) → Contains listed one → ¬ BeginsText one.0 text
 
 -- the longest listed text that begins a text has this length and means this licence
 pub record IsLongestImprecise (listed : List (List ℕ × List ℕ)) (text : List ℕ) (len : ℕ) (name : List ℕ) : Type 0 where
   pub imprecise : List ℕ
   pub is_listed : Contains listed (imprecise, name)
-  pub begins : Begins imprecise text
+  pub begins : BeginsText imprecise text
   pub is_len : length imprecise ≡ len
-  pub longest : (other : List ℕ × List ℕ) → Contains listed other → Begins other.0 text → length other.0 ≤ len
+  pub longest : (other : List ℕ × List ℕ) → Contains listed other → BeginsText other.0 text → length other.0 ≤ len
 
 -- the first part of each pair: the names of licences, or the imprecise texts
 abbrev pub names_of : {X : Type 0} → List (List ℕ × X) → List (List ℕ)

@@ -5,7 +5,7 @@ use Rattle.std.specs.Ordering.{on, then_cmp, nat_cmp}
 use Rattle.std.specs.Cmp.Lexicographic.{slice_cmp}
 use Rattle.std.specs.declared.cmp.Ordering.{Ordering}
 use Rattle.catalog_core.specs.declared.catalog.LicenseEntry.{LicenseEntry}
-use Rattle.catalog_core.specs.declared.table.Listed.{Listed}
+use Rattle.catalog_core.specs.declared.table.TableLicense.{TableLicense}
 use Rattle.catalog_core.specs.Catalog.{names_of}
 
 -- a shorter name is before a longer one, and those of one length stand in byte order
@@ -17,5 +17,5 @@ abbrev pub AreInOrder : List (List ℕ × LicenseEntry) → Type 0
 AreInOrder licences = IsStrictlySortedBy name_order (names_of licences)
 
 -- licences as a catalogue has them: each name with what is known of it
-abbrev pub told : List Listed → List (List ℕ × LicenseEntry)
+abbrev pub told : List TableLicense → List (List ℕ × LicenseEntry)
 told licences = map (λ listed. (listed.name.now, listed.entry)) licences

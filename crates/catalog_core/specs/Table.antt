@@ -22,9 +22,9 @@ abbrev pub plain_entry : ℕ → ℕ → LicenseEntry
 plain_entry family rank = record { family = family; rank = rank; later = false; deprecated = false; gnu = false }
 
 -- each name with what is known of it: the families are numbered on, and each name has rank 10
-abbrev pub numbered_from : ℕ → List (List ℕ) → List (List ℕ × LicenseEntry)
-numbered_from family [] = []
-numbered_from family (name ∷ names) = (name, plain_entry family 10) ∷ numbered_from (family + 1) names
+abbrev pub families_from : ℕ → List (List ℕ) → List (List ℕ × LicenseEntry)
+families_from family [] = []
+families_from family (name ∷ names) = (name, plain_entry family 10) ∷ families_from (family + 1) names
 
 -- a family's names, each with its rank
 abbrev pub family : ℕ → List (List ℕ × ℕ) → List (List ℕ × LicenseEntry)
@@ -91,7 +91,7 @@ table_imprecise =
     ++ texts_for (codes "Zlib") (codes "zlib license" ∷ [])
 
 abbrev pub table_licences : List (List ℕ × LicenseEntry)
-table_licences = numbered_from 0 single_names ++ families ++ gnu_families
+table_licences = families_from 0 single_names ++ families ++ gnu_families
 
 -- the table as a catalogue
 abbrev pub table_lists : CatalogLists

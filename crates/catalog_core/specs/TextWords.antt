@@ -31,12 +31,12 @@ is_copyright (first ∷ []) = false
 is_copyright (first ∷ second ∷ rest) = bytes_eq first (codes "copyright") && (bytes_eq second (codes "c") || list_all is_ascii_digit second)
 
 -- these words; none where they tell of a copyright
-abbrev pub kept : List (List ℕ) → List (List ℕ)
-kept words = if is_copyright words then [] else words
+abbrev pub words_kept : List (List ℕ) → List (List ℕ)
+words_kept words = if is_copyright words then [] else words
 
 -- the words of a line that count
 abbrev pub line_words : List ℕ → List (List ℕ)
-line_words line = kept (lower_of (runs_of line))
+line_words line = words_kept (lower_of (runs_of line))
 
 -- the words of all lines
 abbrev pub words_of : List ℕ → List (List ℕ)

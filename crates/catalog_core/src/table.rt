@@ -2,7 +2,7 @@
 ghost use Rattle.std.specs.Prelude.{◌≡◌, ◌↔◌, IsTrue, IfSome, IfNone, Contains, map};
 ghost use Rattle.std.specs.List.{list_any};
 ghost use Rattle.std.specs.Str.{bytes_eq};
-ghost use Rattle.catalog_core.specs.Catalog.{entry_of, IsLongestImprecise, BeginsNone, Begins};
+ghost use Rattle.catalog_core.specs.Catalog.{entry_of, IsLongestImprecise, BeginsNone, BeginsText};
 ghost use Rattle.catalog_core.specs.NameOrder.{name_order, AreInOrder, told};
 ghost use Rattle.catalog_core.specs.Words.{ends_word};
 ghost use Rattle.catalog_core.specs.Table.{table_lists, table_is_catalog};
@@ -11,7 +11,7 @@ use crate::catalog::{Catalog, Imprecise, LicenseEntry};
 use std::cmp::Ordering;
 
 /// A licence of the table.
-struct Listed {
+struct TableLicense {
     name: &'static str,
     entry: LicenseEntry,
 }
@@ -62,7 +62,7 @@ const GNU_LATER: LicenseEntry = LicenseEntry {
 macro_rules! licences {
     ($($name:literal: $family:literal, $rank:literal, $marks:ident;)*) => {
         [
-            $(Listed {
+            $(TableLicense {
                 name: $name,
                 entry: LicenseEntry {
                     family: $family,
@@ -75,7 +75,7 @@ macro_rules! licences {
 }
 
 /// In the order in which names are looked up: by length, and those of one length in byte order.
-static LICENCES: [Listed; 84] = licences! {
+static LICENCES: [TableLicense; 84] = licences! {
     "FTL": 14, 10, PLAIN;
     "ICU": 16, 10, PLAIN;
     "IJG": 17, 10, PLAIN;
@@ -214,7 +214,7 @@ fn name_order(name: &[u8], other: &[u8]) -> Ordering
 }
 
 /// What is known of a name among licences, which stand in the order of their names.
-fn entry_among(licences: &[Listed], name: &[u8]) -> Option<LicenseEntry>
+fn entry_among(licences: &[TableLicense], name: &[u8]) -> Option<LicenseEntry>
     requires { AreInOrder (told licences.now) }
     ensures { result ≡ entry_of (told licences.now) name.now }
 {
@@ -248,7 +248,7 @@ fn ends_word(rest: &[u8]) -> bool
 
 /// Whether an imprecise text begins a text.
 fn begins(imprecise: &str, text: &str) -> bool
-    ensures { IsTrue result ↔ Begins imprecise.now text.now }
+    ensures { IsTrue result ↔ BeginsText imprecise.now text.now }
 {
     let imprecise = imprecise.as_bytes();
     let text = text.as_bytes();

@@ -4,7 +4,7 @@ use Rattle.std.specs.Prelude.{All, Any, Contains}
 use Rattle.std.specs.Option.{option_and_then}
 use Rattle.std.proofs.lemmas.Bool.{eqb-true}
 use Rattle.std.proofs.lemmas.List.Elements.{All-nil, All-cons, All-append, All-weaker, All-contains, Contains-append_left, Contains-append_right, Contains-append_cases, Contains-push, Contains-push_cases}
-use Rattle.spdx_core.specs.Grammar.{Tree, leaf, both, either}
+use Rattle.spdx_core.specs.Grammar.{ExpressionTree, leaf, both, either}
 use Rattle.spdx_core.specs.Reading.{numbered_from}
 use Rattle.certificate_core.specs.Choices.{choices_of, is_accepted, blocks_of, EachAlone, HoldsAlone}
 use Rattle.certificate_core.specs.Marks.{taken}
@@ -16,12 +16,12 @@ abbrev Within : ℕ → ℕ → ℕ → Type 0
 Within low high place = (low ≤ place) × (place < high)
 
 -- the sides of a tree whose places are numbered
-record Sides (n m : ℕ) (left right : Tree) : Type 0 where
+record Sides (n m : ℕ) (left right : ExpressionTree) : Type 0 where
   mid : ℕ
   before : numbered_from n left ≡ Some mid
   behind : numbered_from mid right ≡ Some m
 
-sides_at : (n m : ℕ) (left right : Tree) (found : Option ℕ) → numbered_from n left ≡ found → option_and_then (λ k. numbered_from k right) found ≡ Some m → Sides n m left right
+sides_at : (n m : ℕ) (left right : ExpressionTree) (found : Option ℕ) → numbered_from n left ≡ found → option_and_then (λ k. numbered_from k right) found ≡ Some m → Sides n m left right
 sides_at n m left right (Some mid) is h = record { mid = mid; before = is; behind = h }
 sides_at n m left right None is h = absurd (cc h)
 
@@ -30,7 +30,7 @@ numbered_leaf n m place true is h = (eqb-true place n is, cc h)
 numbered_leaf n m place false is h = absurd (cc h)
 
 -- the numbers rise
-rises : (n m : ℕ) (tree : Tree) → numbered_from n tree ≡ Some m → n < m
+rises : (n m : ℕ) (tree : ExpressionTree) → numbered_from n tree ≡ Some m → n < m
 rises n m (leaf place) h = let at = numbered_leaf n m place (eqb place n) refl h in omega (arith, at.1)
 rises n m (both left right) h =
     let s = sides_at n m left right (numbered_from n left) refl h in
@@ -47,7 +47,7 @@ wider : (n m low high : ℕ) → low ≤ n → m ≤ high → (places : List ℕ
 wider n m low high lo hi places = All-weaker (Within n m) (Within low high) (λ x w. (omega (arith, w.0), omega (arith, w.1))) places
 
 -- the places of each choice are those of the tree
-choices_within : (n m : ℕ) (tree : Tree) → numbered_from n tree ≡ Some m → All (All (Within n m)) (choices_of tree)
+choices_within : (n m : ℕ) (tree : ExpressionTree) → numbered_from n tree ≡ Some m → All (All (Within n m)) (choices_of tree)
 choices_within n m (leaf place) h =
     let at = numbered_leaf n m place (eqb place n) refl h in
     All-cons (All (Within n m)) (place ∷ []) []
@@ -68,7 +68,7 @@ choices_within n m (either left right) h =
     (All-weaker (All (Within s.mid m)) (All (Within n m)) (λ b q. wider s.mid m n m (omega (arith, l)) (omega arith) b q) (choices_of right) (choices_within s.mid m right s.behind))
 
 -- and so are its blocks
-blocks_within : (has_hit : ℕ → Bool) (n m : ℕ) (tree : Tree) → numbered_from n tree ≡ Some m → All (Within n m) (blocks_of has_hit tree)
+blocks_within : (has_hit : ℕ → Bool) (n m : ℕ) (tree : ExpressionTree) → numbered_from n tree ≡ Some m → All (Within n m) (blocks_of has_hit tree)
 blocks_within has_hit n m (leaf place) h =
     let at = numbered_leaf n m place (eqb place n) refl h in
     All-cons (Within n m) place [] (omega (arith, at.0), omega (arith, at.0, at.1)) (All-nil (Within n m))
@@ -108,7 +108,7 @@ contains_with_each (y ∷ some) others a b at that =
     (Contains-append_cases (y ∷ []) some a at)
 
 -- a tree has a choice
-some_choice : (tree : Tree) → (choice : List ℕ) × Contains (choices_of tree) choice
+some_choice : (tree : ExpressionTree) → (choice : List ℕ) × Contains (choices_of tree) choice
 some_choice tree =
     let has : ℕ → Bool = λ place. true in
     let least = least_taken has tree in
@@ -117,15 +117,15 @@ some_choice tree =
     (chosen, subst P (sym least.parts) (Contains-append_right least.before (chosen ∷ least.behind) chosen (Contains-append_left (chosen ∷ []) least.behind chosen (Contains-push [] chosen))))
 
 -- a choice of a tree stays within it
-choice_within : (n m : ℕ) (tree : Tree) → numbered_from n tree ≡ Some m → (choice : List ℕ) (place : ℕ) → Contains (choices_of tree) choice → Contains choice place → Within n m place
+choice_within : (n m : ℕ) (tree : ExpressionTree) → numbered_from n tree ≡ Some m → (choice : List ℕ) (place : ℕ) → Contains (choices_of tree) choice → Contains choice place → Within n m place
 choice_within n m tree h choice place at holds =
     All-contains (Within n m) choice place (All-contains (All (Within n m)) (choices_of tree) choice (choices_within n m tree h) at) holds
 
-block_within : (has_hit : ℕ → Bool) (n m : ℕ) (tree : Tree) → numbered_from n tree ≡ Some m → (place : ℕ) → Contains (blocks_of has_hit tree) place → Within n m place
+block_within : (has_hit : ℕ → Bool) (n m : ℕ) (tree : ExpressionTree) → numbered_from n tree ≡ Some m → (place : ℕ) → Contains (blocks_of has_hit tree) place → Within n m place
 block_within has_hit n m tree h place at = All-contains (Within n m) (blocks_of has_hit tree) place (blocks_within has_hit n m tree h) at
 
 -- each block of the left side of an OR
-alone_left : (n mid m : ℕ) (left : Tree) → numbered_from n left ≡ Some mid → (l r : List ℕ) (others : List (List ℕ)) → All (Within mid m) r
+alone_left : (n mid m : ℕ) (left : ExpressionTree) → numbered_from n left ≡ Some mid → (l r : List ℕ) (others : List (List ℕ)) → All (Within mid m) r
     → EachAlone l (choices_of left) → All (λ place. Any (HoldsAlone (l ++ r) place) (choices_of left ++ others)) l
 alone_left n mid m left h l r others high alone =
     All-weaker (λ place. Any (HoldsAlone l place) (choices_of left)) (λ place. Any (HoldsAlone (l ++ r) place) (choices_of left ++ others))
@@ -142,7 +142,7 @@ alone_left n mid m left h l r others high alone =
     l alone
 
 -- each block of the right side of an OR
-alone_right : (n mid m : ℕ) (right : Tree) → numbered_from mid right ≡ Some m → (l r : List ℕ) (others : List (List ℕ)) → All (Within n mid) l
+alone_right : (n mid m : ℕ) (right : ExpressionTree) → numbered_from mid right ≡ Some m → (l r : List ℕ) (others : List (List ℕ)) → All (Within n mid) l
     → EachAlone r (choices_of right) → All (λ place. Any (HoldsAlone (l ++ r) place) (others ++ choices_of right)) r
 alone_right n mid m right h l r others low alone =
     All-weaker (λ place. Any (HoldsAlone r place) (choices_of right)) (λ place. Any (HoldsAlone (l ++ r) place) (others ++ choices_of right))
@@ -159,7 +159,7 @@ alone_right n mid m right h l r others low alone =
     r alone
 
 -- each block of an AND that stands on its left side
-alone_before : (n mid m : ℕ) (left right : Tree) → numbered_from n left ≡ Some mid → numbered_from mid right ≡ Some m → (l : List ℕ) → All (Within n mid) l
+alone_before : (n mid m : ℕ) (left right : ExpressionTree) → numbered_from n left ≡ Some mid → numbered_from mid right ≡ Some m → (l : List ℕ) → All (Within n mid) l
     → EachAlone l (choices_of left) → EachAlone l (choices_of (both left right))
 alone_before n mid m left right h k l low alone =
     let some = some_choice right in
@@ -177,7 +177,7 @@ alone_before n mid m left right h k l low alone =
     l alone
 
 -- and of one that stands on its right side
-alone_behind : (n mid m : ℕ) (left right : Tree) → numbered_from n left ≡ Some mid → numbered_from mid right ≡ Some m → (r : List ℕ) → All (Within mid m) r
+alone_behind : (n mid m : ℕ) (left right : ExpressionTree) → numbered_from n left ≡ Some mid → numbered_from mid right ≡ Some m → (r : List ℕ) → All (Within mid m) r
     → EachAlone r (choices_of right) → EachAlone r (choices_of (both left right))
 alone_behind n mid m left right h k r high alone =
     let some = some_choice left in
@@ -201,7 +201,7 @@ alone_leaf place = record {
   alone = λ other blocks held. ⊎_elim (λ none. absurd (let lt : none.0 < 0 = none.1 in omega arith)) (λ same. sym same) (Contains-push_cases [] place other blocks);
 }
 
-each_alone_from : (has_hit : ℕ → Bool) (n m : ℕ) (tree : Tree) → numbered_from n tree ≡ Some m → EachAlone (blocks_of has_hit tree) (choices_of tree)
+each_alone_from : (has_hit : ℕ → Bool) (n m : ℕ) (tree : ExpressionTree) → numbered_from n tree ≡ Some m → EachAlone (blocks_of has_hit tree) (choices_of tree)
 each_alone_from has_hit n m (leaf place) h =
     let P : ℕ → Type 0 = λ p. Any (HoldsAlone (place ∷ []) p) ((place ∷ []) ∷ []) in
     All-cons P place [] (any_of (HoldsAlone (place ∷ []) place) ((place ∷ []) ∷ []) (place ∷ []) (Contains-push [] (place ∷ [])) (alone_leaf place)) (All-nil P)
@@ -219,5 +219,5 @@ each_alone_from has_hit n m (either left right) h =
     (alone_right n s.mid m right s.behind l r (choices_of left) (blocks_within has_hit n s.mid left s.before) (each_alone_from has_hit s.mid m right s.behind))
 
 -- each block is held by a choice that holds no other one
-pub each_alone : (has_hit : ℕ → Bool) (m : ℕ) (tree : Tree) → numbered_from 0 tree ≡ Some m → EachAlone (blocks_of has_hit tree) (choices_of tree)
+pub each_alone : (has_hit : ℕ → Bool) (m : ℕ) (tree : ExpressionTree) → numbered_from 0 tree ≡ Some m → EachAlone (blocks_of has_hit tree) (choices_of tree)
 each_alone has_hit m tree h = each_alone_from has_hit 0 m tree h

@@ -5,7 +5,7 @@ use Rattle.std.specs.List.{list_all}
 use Rattle.std.proofs.lemmas.Bool.{ne_eqb, eqb-true, eqb-false, or_parts}
 use Rattle.std.proofs.lemmas.List.Elements.{All-nil, All-cons, All-append, All-weaker, Contains-append_left, Contains-append_right, Contains-push}
 use Rattle.std.proofs.lemmas.List.Folds.{list_any-append}
-use Rattle.spdx_core.specs.Grammar.{Tree, leaf, both, either}
+use Rattle.spdx_core.specs.Grammar.{ExpressionTree, leaf, both, either}
 use Rattle.certificate_core.specs.Choices.{choices_of, is_accepted, blocks_of, MeetEach}
 use Rattle.certificate_core.specs.Marks.{fewest, sides, taken}
 use Rattle.certificate_core.proofs.LeastLemmas.{with_each, All-with_each}
@@ -16,7 +16,7 @@ marked_side true left right = refl
 marked_side false left right = refl
 
 -- what blocks a tree is what the walk for it takes
-pub blocks_taken : (has_hit : ℕ → Bool) (tree : Tree) → blocks_of has_hit tree ≡ taken has_hit false true tree
+pub blocks_taken : (has_hit : ℕ → Bool) (tree : ExpressionTree) → blocks_of has_hit tree ≡ taken has_hit false true tree
 blocks_taken has_hit (leaf place) = refl
 blocks_taken has_hit (both left right) =
     ap (λ t. cond t (blocks_of has_hit right) (blocks_of has_hit left)) (accepted has_hit left)
@@ -27,12 +27,12 @@ blocks_taken has_hit (either left right) =
     ap (λ l. l ++ blocks_of has_hit right) (blocks_taken has_hit left) ∙ ap (λ r. taken has_hit false true left ++ r) (blocks_taken has_hit right)
 
 -- neither side of an OR is accepted
-pub neither : (has_hit : ℕ → Bool) (left right : Tree) → is_accepted has_hit (either left right) ≡ false → (is_accepted has_hit left ≡ false) × (is_accepted has_hit right ≡ false)
+pub neither : (has_hit : ℕ → Bool) (left right : ExpressionTree) → is_accepted has_hit (either left right) ≡ false → (is_accepted has_hit left ≡ false) × (is_accepted has_hit right ≡ false)
 neither has_hit left right h =
     or_parts (is_accepted has_hit left) (is_accepted has_hit right) (sym (list_any-append (list_all has_hit) (choices_of left) (choices_of right)) ∙ h)
 
 -- one side of an AND is not accepted
-pub other_side : (has_hit : ℕ → Bool) (left right : Tree) → is_accepted has_hit (both left right) ≡ false → is_accepted has_hit left ≡ true → is_accepted has_hit right ≡ false
+pub other_side : (has_hit : ℕ → Bool) (left right : ExpressionTree) → is_accepted has_hit (both left right) ≡ false → is_accepted has_hit left ≡ true → is_accepted has_hit right ≡ false
 other_side has_hit left right h l =
     let none : fewest has_hit left ≡ 0 = eqb-true (fewest has_hit left) 0 (sym (accepted has_hit left) ∙ l) in
     let some : fewest has_hit left + fewest has_hit right ≡ 0 → ⊥ = eqb-false (fewest has_hit left + fewest has_hit right) 0 (sym (accepted has_hit (both left right)) ∙ h) in
@@ -63,7 +63,7 @@ meet_both l r some others false right left =
     (λ a b m x. any_weaker (Contains a) (Contains (a ++ b)) (λ place at. Contains-append_left a b place at) l m) some others (left refl) (anything others)
 
 -- every choice of a tree that is not accepted holds one of its blocks
-pub meet_each : (has_hit : ℕ → Bool) (tree : Tree) → is_accepted has_hit tree ≡ false → MeetEach (blocks_of has_hit tree) (choices_of tree)
+pub meet_each : (has_hit : ℕ → Bool) (tree : ExpressionTree) → is_accepted has_hit tree ≡ false → MeetEach (blocks_of has_hit tree) (choices_of tree)
 meet_each has_hit (leaf place) h =
     All-cons (λ choice. Any (Contains choice) (place ∷ [])) (place ∷ []) []
     (any_of (Contains (place ∷ [])) (place ∷ []) place (Contains-push [] place) (Contains-push [] place))
@@ -89,7 +89,7 @@ one_side P l r true right left = right refl
 one_side P l r false right left = left refl
 
 -- none of its blocks has a hit
-pub blocks_have_none : (has_hit : ℕ → Bool) (tree : Tree) → is_accepted has_hit tree ≡ false → All (λ place. has_hit place ≡ false) (blocks_of has_hit tree)
+pub blocks_have_none : (has_hit : ℕ → Bool) (tree : ExpressionTree) → is_accepted has_hit tree ≡ false → All (λ place. has_hit place ≡ false) (blocks_of has_hit tree)
 blocks_have_none has_hit (leaf place) h =
     All-cons (λ p. has_hit p ≡ false) place [] (no_hit_at (has_hit place) (sym (accepted has_hit (leaf place)) ∙ h)) (All-nil (λ p. has_hit p ≡ false))
 blocks_have_none has_hit (either left right) h =

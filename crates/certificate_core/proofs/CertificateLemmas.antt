@@ -4,15 +4,15 @@ use Rattle.std.specs.Prelude.{filter_map, All}
 use Rattle.std.specs.List.{list_all, cons_option}
 use Rattle.std.proofs.lemmas.Bool.{ne_eqb, and_parts, false≢true}
 use Rattle.spdx_core.specs.declared.node.ExprNode.{ExprNode}
-use Rattle.spdx_core.specs.Grammar.{Tree}
+use Rattle.spdx_core.specs.Grammar.{ExpressionTree}
 use Rattle.spdx_core.specs.Reading.{postfix, numbered_from}
 use Rattle.certificate_core.specs.declared.verdict.Hit.{Hit}
-use Rattle.certificate_core.specs.declared.mark.Mark.{Mark}
+use Rattle.certificate_core.specs.declared.mark.NodeMark.{NodeMark}
 use Rattle.certificate_core.specs.declared.walk.Walk.{Walk}
 use Rattle.certificate_core.specs.Certificates.{hit_at, has_hit, ShowsAccepted, ShowsRejected}
 use Rattle.certificate_core.specs.Choices.{choices_of, is_accepted, blocks_of, IsFirstLeast, MeetEach, EachAlone}
 use Rattle.certificate_core.specs.Marks.{fewest, taken}
-use Rattle.certificate_core.specs.Machine.{Marked, marks_after, unmarked, marks_of, walked_over, start, of_and, of_or}
+use Rattle.certificate_core.specs.Machine.{MarkingView, marks_after, unmarked, marks_of, walked_over, walk_start, of_and, of_or}
 use Rattle.certificate_core.proofs.LeastLemmas.{first_least, least_taken}
 use Rattle.certificate_core.proofs.ChoiceLemmas.{all_met, accepted, first_taken, least_is_taken}
 use Rattle.certificate_core.proofs.BlockLemmas.{blocks_taken, meet_each, blocks_have_none}
@@ -31,7 +31,7 @@ hits_in_order kept (place ∷ choice) h =
     let parts = and_parts (has_hit kept place) (list_all (has_hit kept) choice) h in
     hit_first (hit_at kept place) (filter_map (hit_at kept) choice) parts.0 ∙ ap (λ hits. hit_at kept place ∷ hits) (hits_in_order kept choice parts.1)
 
-pub shows_accepted : (kept : List (Option Hit)) (tree : Tree) (choice : List ℕ) (hits : List Hit) → fewest (has_hit kept) tree ≡ 0
+pub shows_accepted : (kept : List (Option Hit)) (tree : ExpressionTree) (choice : List ℕ) (hits : List Hit) → fewest (has_hit kept) tree ≡ 0
     → choice ≡ taken (has_hit kept) true false tree → hits ≡ filter_map (hit_at kept) choice → ShowsAccepted kept tree choice hits
 shows_accepted kept tree choice hits none is found =
     let has = has_hit kept in
@@ -43,7 +43,7 @@ shows_accepted kept tree choice hits none is found =
       place_by_place = ap (map Some) found ∙ hits_in_order kept choice met;
     }
 
-pub shows_rejected : (kept : List (Option Hit)) (tree : Tree) (count : ℕ) (least blocks : List ℕ) → numbered_from 0 tree ≡ Some count → (fewest (has_hit kept) tree ≡ 0 → ⊥)
+pub shows_rejected : (kept : List (Option Hit)) (tree : ExpressionTree) (count : ℕ) (least blocks : List ℕ) → numbered_from 0 tree ≡ Some count → (fewest (has_hit kept) tree ≡ 0 → ⊥)
     → least ≡ taken (has_hit kept) true false tree → blocks ≡ taken (has_hit kept) false true tree → ShowsRejected kept tree least blocks
 shows_rejected kept tree count least blocks numbered some is are =
     let has = has_hit kept in
@@ -60,10 +60,10 @@ shows_rejected kept tree count least blocks numbered some is are =
     }
 
 -- what the walk over the nodes leaves
-pub marked_nodes : (kept : List (Option Hit)) (tree : Tree) (nodes : List ExprNode) (marked : Marked) → nodes ≡ postfix tree → marked ≡ marks_after (has_hit kept) unmarked nodes
+pub marked_nodes : (kept : List (Option Hit)) (tree : ExpressionTree) (nodes : List ExprNode) (marked : MarkingView) → nodes ≡ postfix tree → marked ≡ marks_after (has_hit kept) unmarked nodes
     → marked ≡ record { counts = fewest (has_hit kept) tree ∷ []; marks = marks_of (has_hit kept) tree }
 marked_nodes kept tree nodes marked are is = is ∙ ap (marks_after (has_hit kept) unmarked) are ∙ marked_whole (has_hit kept) tree
 
-pub walked_marks : (kept : List (Option Hit)) (walk : Walk) (tree : Tree) (marks : List Mark) (places : List ℕ) → reverse marks ≡ marks_of (has_hit kept) tree → places ≡ (walked_over walk start (reverse marks)).places
+pub walked_marks : (kept : List (Option Hit)) (walk : Walk) (tree : ExpressionTree) (marks : List NodeMark) (places : List ℕ) → reverse marks ≡ marks_of (has_hit kept) tree → places ≡ (walked_over walk walk_start (reverse marks)).places
     → places ≡ taken (has_hit kept) (of_and walk) (of_or walk) tree
-walked_marks kept walk tree marks places are is = is ∙ ap (λ all. (walked_over walk start all).places) are ∙ walked_whole (has_hit kept) walk tree
+walked_marks kept walk tree marks places are is = is ∙ ap (λ all. (walked_over walk walk_start all).places) are ∙ walked_whole (has_hit kept) walk tree

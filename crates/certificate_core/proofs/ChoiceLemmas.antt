@@ -6,7 +6,7 @@ use Rattle.std.proofs.lemmas.Bool.{le-leb, lt-leb, and_right, ne_eqb, eqb-true, 
 use Rattle.std.proofs.lemmas.List.Elements.{All-weaker, All-head, All-tail}
 use Rattle.std.proofs.lemmas.List.Sums.{list_all-from_AllPass}
 use Rattle.std.proofs.lemmas.List.Folds.{sum_by-zero}
-use Rattle.spdx_core.specs.Grammar.{Tree}
+use Rattle.spdx_core.specs.Grammar.{ExpressionTree}
 use Rattle.certificate_core.specs.Choices.{choices_of, misses, is_accepted, first_choice, least_choice, is_least}
 use Rattle.certificate_core.specs.Marks.{fewest, taken}
 use Rattle.certificate_core.proofs.LeastLemmas.{none_below, least_taken}
@@ -49,7 +49,7 @@ list_all_missed p [] x behind h = ap (λ t. t && list_all p behind) h
 list_all_missed p (y ∷ before) x behind h = and_right (p y) (list_all p (before ++ x ∷ behind)) (list_all_missed p before x behind h)
 
 -- an accepted tree has the walk's choice as its first
-pub first_taken : (has_hit : ℕ → Bool) (tree : Tree) → eqb (fewest has_hit tree) 0 ≡ true → first_choice has_hit tree ≡ Some (taken has_hit true false tree)
+pub first_taken : (has_hit : ℕ → Bool) (tree : ExpressionTree) → eqb (fewest has_hit tree) 0 ≡ true → first_choice has_hit tree ≡ Some (taken has_hit true false tree)
 first_taken has_hit tree none =
     let least = least_taken has_hit tree in
     let is : fewest has_hit tree ≡ 0 = eqb-true (fewest has_hit tree) 0 none in
@@ -61,7 +61,7 @@ first_taken has_hit tree none =
     (all_met has_hit (taken has_hit true false tree) ∙ eq-eqb (misses has_hit (taken has_hit true false tree)) 0 (least.has ∙ is))
 
 -- any other tree has none
-pub none_first : (has_hit : ℕ → Bool) (tree : Tree) → eqb (fewest has_hit tree) 0 ≡ false → first_choice has_hit tree ≡ None
+pub none_first : (has_hit : ℕ → Bool) (tree : ExpressionTree) → eqb (fewest has_hit tree) 0 ≡ false → first_choice has_hit tree ≡ None
 none_first has_hit tree some =
     let least = least_taken has_hit tree in
     let isnt : fewest has_hit tree ≡ 0 → ⊥ = eqb-false (fewest has_hit tree) 0 some in
@@ -70,16 +70,16 @@ none_first has_hit tree some =
     (λ other h. all_met has_hit other ∙ ne_eqb (misses has_hit other) 0 (λ e. isnt (omega arith)))
     (choices_of tree) (none_below has_hit (choices_of tree) (fewest has_hit tree) (taken has_hit true false tree) least))
 
-accepted_at : (has_hit : ℕ → Bool) (tree : Tree) (none : Bool) → eqb (fewest has_hit tree) 0 ≡ none → is_accepted has_hit tree ≡ none
+accepted_at : (has_hit : ℕ → Bool) (tree : ExpressionTree) (none : Bool) → eqb (fewest has_hit tree) 0 ≡ none → is_accepted has_hit tree ≡ none
 accepted_at has_hit tree true is = any_found (list_all has_hit) (choices_of tree) ∙ ap is_some (first_taken has_hit tree is)
 accepted_at has_hit tree false is = any_found (list_all has_hit) (choices_of tree) ∙ ap is_some (none_first has_hit tree is)
 
 -- a tree is accepted where the fewest places without a hit are none
-pub accepted : (has_hit : ℕ → Bool) (tree : Tree) → is_accepted has_hit tree ≡ eqb (fewest has_hit tree) 0
+pub accepted : (has_hit : ℕ → Bool) (tree : ExpressionTree) → is_accepted has_hit tree ≡ eqb (fewest has_hit tree) 0
 accepted has_hit tree = accepted_at has_hit tree (eqb (fewest has_hit tree) 0) refl
 
 -- the walk's choice is the least one
-pub least_is_taken : (has_hit : ℕ → Bool) (tree : Tree) → least_choice has_hit tree ≡ Some (taken has_hit true false tree)
+pub least_is_taken : (has_hit : ℕ → Bool) (tree : ExpressionTree) → least_choice has_hit tree ≡ Some (taken has_hit true false tree)
 least_is_taken has_hit tree =
     let least = least_taken has_hit tree in
     let all = choices_of tree in

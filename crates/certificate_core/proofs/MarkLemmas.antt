@@ -2,25 +2,25 @@
 use Rattle.std.proofs.Common.{◌≡◌, ◌∙◌, refl, sym, ap, ℕ, ◌+◌, ◌≤◌, Bool, true, false, cond, List, [], ◌∷◌, ◌++◌, append_assoc, append-nil, arith, ltb, eqb}
 use Rattle.spdx_core.specs.declared.node.ExprNode.{ExprNode}
 use Rattle.spdx_core.specs.declared.node.ExprNode.TheVariants.{Term as term_node, And as and_node, Or as or_node}
-use Rattle.spdx_core.specs.Grammar.{Tree, leaf, both, either}
+use Rattle.spdx_core.specs.Grammar.{ExpressionTree, leaf, both, either}
 use Rattle.spdx_core.specs.Reading.{postfix}
 use Rattle.certificate_core.specs.Marks.{fewest}
-use Rattle.certificate_core.specs.Machine.{Marked, marked_after, marks_after, unmarked, marks_of, total, left_of, right_of}
+use Rattle.certificate_core.specs.Machine.{MarkingView, marked_after, marks_after, unmarked, marks_of, total, left_of, right_of}
 use Rattle.certificate_core.specs.Stack.{behind_first}
-use Rattle.certificate_core.specs.declared.mark.Mark.{Mark}
-use Rattle.certificate_core.specs.declared.mark.Mark.TheVariants.{And, Or}
+use Rattle.certificate_core.specs.declared.mark.NodeMark.{NodeMark}
+use Rattle.certificate_core.specs.declared.mark.NodeMark.TheVariants.{And, Or}
 
 -- the state with a tree's count and marks on it
-with_tree : (ℕ → Bool) → Tree → Marked → Marked
+with_tree : (ℕ → Bool) → ExpressionTree → MarkingView → MarkingView
 with_tree has_hit tree m = record { counts = fewest has_hit tree ∷ m.counts; marks = marks_of has_hit tree ++ m.marks }
 
-postfix_parts : (left right : Tree) (node : ExprNode) (rest : List ExprNode) → ((postfix left ++ postfix right) ++ node ∷ []) ++ rest ≡ postfix left ++ (postfix right ++ node ∷ rest)
+postfix_parts : (left right : ExpressionTree) (node : ExprNode) (rest : List ExprNode) → ((postfix left ++ postfix right) ++ node ∷ []) ++ rest ≡ postfix left ++ (postfix right ++ node ∷ rest)
 postfix_parts left right node rest = append_assoc (postfix left ++ postfix right) (node ∷ []) rest ∙ append_assoc (postfix left) (postfix right) (node ∷ rest)
 
-state : List ℕ → List Mark → Marked
+state : List ℕ → List NodeMark → MarkingView
 state counts marks = record { counts = counts; marks = marks }
 
-marked_tree : (has_hit : ℕ → Bool) (tree : Tree) (m : Marked) (rest : List ExprNode) → marks_after has_hit m (postfix tree ++ rest) ≡ marks_after has_hit (with_tree has_hit tree m) rest
+marked_tree : (has_hit : ℕ → Bool) (tree : ExpressionTree) (m : MarkingView) (rest : List ExprNode) → marks_after has_hit m (postfix tree ++ rest) ≡ marks_after has_hit (with_tree has_hit tree m) rest
 unfolding with_tree state
 marked_tree has_hit (leaf place) m rest = refl
 marked_tree has_hit (both left right) m rest =
@@ -37,7 +37,7 @@ marked_tree has_hit (either left right) m rest =
     (sym (append_assoc (marks_of has_hit right) (marks_of has_hit left) m.marks))
 
 -- a whole tree
-pub marked_whole : (has_hit : ℕ → Bool) (tree : Tree) → marks_after has_hit unmarked (postfix tree) ≡ record { counts = fewest has_hit tree ∷ []; marks = marks_of has_hit tree }
+pub marked_whole : (has_hit : ℕ → Bool) (tree : ExpressionTree) → marks_after has_hit unmarked (postfix tree) ≡ record { counts = fewest has_hit tree ∷ []; marks = marks_of has_hit tree }
 unfolding with_tree state
 marked_whole has_hit tree =
     ap (marks_after has_hit unmarked) (sym (append-nil (postfix tree)))
@@ -64,7 +64,7 @@ hit_count true = omega arith
 hit_count false = omega arith
 
 -- a node adds one at most
-pub total_after : (has_hit : ℕ → Bool) (m : Marked) (node : ExprNode) → total (marked_after has_hit m node).counts ≤ total m.counts + 1
+pub total_after : (has_hit : ℕ → Bool) (m : MarkingView) (node : ExprNode) → total (marked_after has_hit m node).counts ≤ total m.counts + 1
 total_after has_hit m (term_node place) = omega (arith, hit_count (has_hit place))
 total_after has_hit m and_node = omega (arith, joined_total m.counts)
 total_after has_hit m or_node = omega (arith, joined_total m.counts, lesser (ltb (right_of m.counts) (left_of m.counts)) (left_of m.counts) (right_of m.counts))

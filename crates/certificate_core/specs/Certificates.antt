@@ -2,7 +2,7 @@
 use Rattle.std.specs.Prelude.{◌≡◌, ℕ, Bool, false, List, map, Option, Some, is_some, Result, Ok, Err, slice_get, All}
 use Rattle.std.specs.Option.{option_and_then}
 use Rattle.std.specs.declared.alloc.AllocError.{AllocError}
-use Rattle.spdx_core.specs.Grammar.{Tree}
+use Rattle.spdx_core.specs.Grammar.{ExpressionTree}
 use Rattle.certificate_core.specs.declared.verdict.Hit.{Hit}
 use Rattle.certificate_core.specs.declared.verdict.Verdict.{Verdict}
 use Rattle.certificate_core.specs.declared.verdict.Verdict.TheVariants.{Skipped, Unlicensed, Accepted, Rejected}
@@ -16,13 +16,13 @@ abbrev pub has_hit : List (Option Hit) → ℕ → Bool
 has_hit kept place = is_some (hit_at kept place)
 
 -- what shows that a tree is accepted: its first choice with a hit at each place, and these hits in the same order
-pub record ShowsAccepted (kept : List (Option Hit)) (tree : Tree) (choice : List ℕ) (hits : List Hit) : Type 0 where
+pub record ShowsAccepted (kept : List (Option Hit)) (tree : ExpressionTree) (choice : List ℕ) (hits : List Hit) : Type 0 where
   pub first : first_choice (has_hit kept) tree ≡ Some choice
   pub place_by_place : map Some hits ≡ map (hit_at kept) choice
 
 -- What shows that a tree is rejected: places without a hit, of which every choice holds one. Each of them is needed, since
 -- some choice holds no other one. The least choice says how near the tree comes to being accepted.
-pub record ShowsRejected (kept : List (Option Hit)) (tree : Tree) (least blocks : List ℕ) : Type 0 where
+pub record ShowsRejected (kept : List (Option Hit)) (tree : ExpressionTree) (least blocks : List ℕ) : Type 0 where
   pub not_accepted : is_accepted (has_hit kept) tree ≡ false
   pub least_is : least_choice (has_hit kept) tree ≡ Some least
   pub first_least : IsFirstLeast (has_hit kept) (choices_of tree) least
@@ -32,7 +32,7 @@ pub record ShowsRejected (kept : List (Option Hit)) (tree : Tree) (least blocks 
   pub each_alone : EachAlone blocks (choices_of tree)
 
 -- a tree is accepted exactly where some choice has a hit at each of its places; want of memory is free
-abbrev pub CertificateAnswers : List (Option Hit) → Tree → Result Verdict AllocError → Type 0
+abbrev pub CertificateAnswers : List (Option Hit) → ExpressionTree → Result Verdict AllocError → Type 0
 CertificateAnswers kept tree (Ok (Accepted choice hits)) = ShowsAccepted kept tree choice hits
 CertificateAnswers kept tree (Ok (Rejected least blocks)) = ShowsRejected kept tree least blocks
 CertificateAnswers kept tree (Ok Skipped) = ⊥

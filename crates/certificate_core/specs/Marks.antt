@@ -1,9 +1,9 @@
 -- The walks over the nodes of an expression, step by step. Only the contracts of private calls cite it.
 use Rattle.std.specs.Prelude.{ℕ, ◌+◌, nat_lt, nat_eq, Bool, true, false, List, [], ◌∷◌, ◌++◌, if◌then◌else◌}
-use Rattle.spdx_core.specs.Grammar.{Tree, leaf, both, either}
+use Rattle.spdx_core.specs.Grammar.{ExpressionTree, leaf, both, either}
 
 -- the fewest places without a hit that a choice of a tree has
-abbrev pub fewest : (ℕ → Bool) → Tree → ℕ
+abbrev pub fewest : (ℕ → Bool) → ExpressionTree → ℕ
 fewest has_hit (leaf place) = if has_hit place then 0 else 1
 fewest has_hit (both left right) = fewest has_hit left + fewest has_hit right
 fewest has_hit (either left right) = if nat_lt (fewest has_hit right) (fewest has_hit left) then fewest has_hit right else fewest has_hit left
@@ -16,7 +16,7 @@ sides false false left right = left
 
 -- The places that a walk takes: both sides of the operators of one kind, and the marked side of the others. An AND is
 -- marked by its first side that is not accepted, an OR by its first side with the fewest places without a hit.
-abbrev pub taken : (ℕ → Bool) → Bool → Bool → Tree → List ℕ
+abbrev pub taken : (ℕ → Bool) → Bool → Bool → ExpressionTree → List ℕ
 taken has_hit of_and of_or (leaf place) = place ∷ []
 taken has_hit of_and of_or (both left right) =
     sides of_and (nat_eq (fewest has_hit left) 0) (taken has_hit of_and of_or left) (taken has_hit of_and of_or right)

@@ -1,22 +1,22 @@
 -- Rows of expressions, with the places that have a hit.
 use Rattle.std.specs.Prelude.{ℕ, ◌==◌, Bool, List, [], ◌∷◌, Option, Some, None}
 use Rattle.std.specs.List.{list_any}
-use Rattle.spdx_core.specs.Grammar.{Tree, leaf, both, either}
+use Rattle.spdx_core.specs.Grammar.{ExpressionTree, leaf, both, either}
 use Rattle.certificate_core.specs.Choices.{first_choice, least_choice, blocks_of}
 
 -- some places alone have a hit
 abbrev pub among : List ℕ → ℕ → Bool
 among places place = list_any (λ other. other == place) places
 
-pub record Row : Type 0 where
-  pub tree : Tree
+pub record CertificateRow : Type 0 where
+  pub tree : ExpressionTree
   pub hits : List ℕ
   pub first : Option (List ℕ)
   pub least : Option (List ℕ)
   pub blocks : List ℕ
 
 -- what the definitions make of a row's expression and hits
-abbrev pub computed : Row → Row
+abbrev pub computed : CertificateRow → CertificateRow
 computed row = record {
   tree = row.tree;
   hits = row.hits;
@@ -25,14 +25,14 @@ computed row = record {
   blocks = blocks_of (among row.hits) row.tree;
 }
 
-abbrev accepted : Tree → List ℕ → List ℕ → List ℕ → Row
+abbrev accepted : ExpressionTree → List ℕ → List ℕ → List ℕ → CertificateRow
 accepted tree hits choice blocks = record { tree = tree; hits = hits; first = Some choice; least = Some choice; blocks = blocks }
 
-abbrev rejected : Tree → List ℕ → List ℕ → List ℕ → Row
+abbrev rejected : ExpressionTree → List ℕ → List ℕ → List ℕ → CertificateRow
 rejected tree hits least blocks = record { tree = tree; hits = hits; first = None; least = Some least; blocks = blocks }
 
 -- (MIT OR X11) AND (X11 OR Zlib), and the like, where MIT and Zlib have hits; the blocks of an accepted tree mean nothing
-abbrev pub rows : List Row
+abbrev pub rows : List CertificateRow
 rows =
     accepted (leaf 0) (0 ∷ []) (0 ∷ []) (0 ∷ [])
     ∷ accepted (either (leaf 0) (leaf 1)) (1 ∷ []) (1 ∷ []) (0 ∷ 1 ∷ [])

@@ -10,4 +10,4 @@ pub mod verdict;
 mod walk;
 
 pub use certificates::certificate;
-pub use verdict::{Hit, Hits, Places, Verdict};
+pub use verdict::{Hit, Hits, TermPlaces, Verdict};

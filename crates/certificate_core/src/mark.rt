@@ -10,7 +10,7 @@ use std::alloc::{AllocError, Global};
 
 /// A node with what a walk from the last node to the first has to know of it.
 #[derive(Clone, Copy)]
-pub enum Mark {
+pub enum NodeMark {
     Term(usize),
     /// The right side is marked where the left one is accepted, and else the left one.
     And { right: bool },
@@ -23,7 +23,7 @@ pub enum Mark {
 #[derive(Drop)]
 pub struct Marking {
     pub counts: Vec<usize>,
-    pub marks: Vec<Mark>,
+    pub marks: Vec<NodeMark>,
 }
 
 /// The hit of a place; a list that is too short has none for it.
@@ -43,7 +43,7 @@ impl Marking {
     {
         let count = if hit_at(kept, place).is_some() { 0 } else { 1 };
         put(&mut self.counts, count)?;
-        put(&mut self.marks, Mark::Term(place))
+        put(&mut self.marks, NodeMark::Term(place))
     }
 
     fn mark_and(&mut self) -> Result<(), AllocError>
@@ -54,7 +54,7 @@ impl Marking {
         let right = take_off(&mut self.counts, 0);
         let left = take_off(&mut self.counts, 0);
         put(&mut self.counts, left + right)?;
-        put(&mut self.marks, Mark::And { right: left == 0 })
+        put(&mut self.marks, NodeMark::And { right: left == 0 })
     }
 
     fn mark_or(&mut self) -> Result<(), AllocError>
@@ -65,7 +65,7 @@ impl Marking {
         let left = take_off(&mut self.counts, 0);
         let is_less = right < left;
         put(&mut self.counts, if is_less { right } else { left })?;
-        put(&mut self.marks, Mark::Or { right: is_less })
+        put(&mut self.marks, NodeMark::Or { right: is_less })
     }
 
     fn mark(&mut self, node: ExprNode, kept: &[Option<Hit>]) -> Result<(), AllocError>

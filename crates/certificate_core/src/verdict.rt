@@ -3,7 +3,7 @@
 use deny_text::ListOf;
 
 /// Places of terms in an expression, each counted from 0 in text order.
-pub type Places = ListOf<usize>;
+pub type TermPlaces = ListOf<usize>;
 
 /// What allows the terms at some places, place by place.
 pub type Hits = ListOf<Hit>;
@@ -26,14 +26,14 @@ pub enum Verdict {
     Unlicensed,
     /// The first choice of terms that are all allowed, and what allows each of them.
     Accepted {
-        choice: Places,
+        choice: TermPlaces,
         hits: Hits,
     },
     /// No choice of terms is allowed.
     Rejected {
         /// The first choice with the fewest terms that are not allowed.
-        least: Places,
+        least: TermPlaces,
         /// Terms that are not allowed, of which every choice holds one.
-        blocks: Places,
+        blocks: TermPlaces,
     },
 }

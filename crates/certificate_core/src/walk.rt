@@ -1,11 +1,11 @@
 //! Walks over the marks of an expression, from its last node to its first, which gather places of terms.
 ghost use Rattle.std.specs.Prelude.{◌≡◌, ◌∷◌, reverse, if◌then◌else◌, OnOk, IfOk};
 ghost use Rattle.certificate_core.specs.Machine.{of_and, of_or, sides_flags};
-ghost use Rattle.certificate_core.specs.Machine.{way_of, way_after, walked_over, start};
+ghost use Rattle.certificate_core.specs.Machine.{way_of, way_after, walked_over, walk_start};
 
-use crate::mark::Mark;
+use crate::mark::NodeMark;
 use crate::stack::{put, take_off};
-use crate::verdict::Places;
+use crate::verdict::TermPlaces;
 use std::alloc::{AllocError, Global};
 
 /// What a walk gathers, and so to which sides of an operator it goes on.
@@ -19,7 +19,7 @@ pub enum Walk {
 
 /// How far a walk has come.
 #[derive(Drop)]
-pub struct Walked {
+pub struct WalkState {
     /// For each tree that is still to come whether its places are gathered, the next one last.
     pub flags: Vec<bool>,
     /// The places so far, the last one first.
@@ -63,29 +63,29 @@ fn gather(places: &mut Vec<usize>, is_taken: bool, place: usize) -> Result<(), A
     if is_taken { put(places, place) } else { Ok(()) }
 }
 
-impl Walked {
-    fn step(&mut self, walk: Walk, mark: Mark) -> Result<(), AllocError>
+impl WalkState {
+    fn step(&mut self, walk: Walk, mark: NodeMark) -> Result<(), AllocError>
         ensures { OnOk result (way_of self.new ≡ way_after walk (way_of self.old) mark) }
     {
         let is_taken = take_off(&mut self.flags, false);
         match mark {
-            Mark::Term(place) => gather(&mut self.places, is_taken, place),
-            Mark::And { right } => go_on(
+            NodeMark::Term(place) => gather(&mut self.places, is_taken, place),
+            NodeMark::And { right } => go_on(
                 &mut self.flags,
                 is_taken,
                 walk.takes_both_of_and(),
                 right,
             ),
-            Mark::Or { right } => go_on(&mut self.flags, is_taken, walk.takes_both_of_or(), right),
+            NodeMark::Or { right } => go_on(&mut self.flags, is_taken, walk.takes_both_of_or(), right),
         }
     }
 }
 
 /// The places that a walk gathers, in text order.
-pub fn gathered(alloc: Global, walk: Walk, marks: &[Mark]) -> Result<Places, AllocError>
-    ensures { IfOk result (λ places. places ≡ (walked_over walk start (reverse marks.now)).places) }
+pub fn gathered(alloc: Global, walk: Walk, marks: &[NodeMark]) -> Result<TermPlaces, AllocError>
+    ensures { IfOk result (λ places. places ≡ (walked_over walk walk_start (reverse marks.now)).places) }
 {
-    let mut walked = Walked {
+    let mut walked = WalkState {
         flags: Vec::new(alloc),
         places: Vec::new(alloc),
     };
@@ -97,5 +97,5 @@ pub fn gathered(alloc: Global, walk: Walk, marks: &[Mark]) -> Result<Places, All
     }
     let mut places = walked.places;
     places.reverse();
-    Ok(Places::from(places))
+    Ok(TermPlaces::from(places))
 }

@@ -14,8 +14,8 @@ use Rattle.valid_policy.specs.Policy.{Policy}
 use Rattle.valid_policy.specs.View.{policy_of}
 use Rattle.unused_core.specs.Flags.{Flags, flags_by}
 use Rattle.check_core.specs.Check.{AreVerdicts, HasFront, all_hits, gained, packs_of}
-use Rattle.check_core.specs.Summary.{all_asked}
-use Rattle.check_core.specs.Turns.{Asked, expression_of, hits_by, pack_by}
+use Rattle.check_core.specs.Summary.{gathered_of_licenses}
+use Rattle.check_core.specs.Turns.{GatheredCrate, expression_of, hits_by, pack_by}
 use Rattle.check_core.specs.Verdicts.{IsVerdict, is_skipped}
 
 -- a number that is no less than the size of each, and of one more
@@ -26,14 +26,14 @@ most_more {X} size xs x before after grows here each =
 
 -- ---- verdicts, packs and hits
 
-verdicts_push : (policy : Policy) (asked : List Asked) (verdicts : List Verdict) (one : Asked) (verdict : Verdict) → AreVerdicts policy asked verdicts
+verdicts_push : (policy : Policy) (asked : List GatheredCrate) (verdicts : List Verdict) (one : GatheredCrate) (verdict : Verdict) → AreVerdicts policy asked verdicts
     → IsVerdict policy one.krate (expression_of one.info) verdict → AreVerdicts policy (asked ++ one ∷ []) (verdicts ++ verdict ∷ [])
 verdicts_push policy [] [] one verdict are is = (is, tt)
 verdicts_push policy [] (first ∷ verdicts) one verdict are is = absurd are
 verdicts_push policy (here ∷ asked) [] one verdict are is = absurd are
 verdicts_push policy (here ∷ asked) (first ∷ verdicts) one verdict are is = (are.0, verdicts_push policy asked verdicts one verdict are.1 is)
 
-packs_push : (policy : Policy) (asked : List Asked) (verdicts : List Verdict) (one : Asked) (verdict : Verdict) → AreVerdicts policy asked verdicts
+packs_push : (policy : Policy) (asked : List GatheredCrate) (verdicts : List Verdict) (one : GatheredCrate) (verdict : Verdict) → AreVerdicts policy asked verdicts
     → packs_of policy (asked ++ one ∷ []) (verdicts ++ verdict ∷ []) ≡ packs_of policy asked verdicts ++ pack_by (is_skipped verdict) policy one ∷ []
 packs_push policy [] [] one verdict are = refl
 packs_push policy [] (first ∷ verdicts) one verdict are = absurd are
@@ -41,7 +41,7 @@ packs_push policy (here ∷ asked) [] one verdict are = absurd are
 packs_push policy (here ∷ asked) (first ∷ verdicts) one verdict are =
     ap (λ (packs : List PackOf). pack_by (is_skipped first) policy here ∷ packs) (packs_push policy asked verdicts one verdict are.1)
 
-hits_push : (policy : Policy) (asked : List Asked) (verdicts : List Verdict) (one : Asked) (verdict : Verdict) → AreVerdicts policy asked verdicts
+hits_push : (policy : Policy) (asked : List GatheredCrate) (verdicts : List Verdict) (one : GatheredCrate) (verdict : Verdict) → AreVerdicts policy asked verdicts
     → all_hits policy (asked ++ one ∷ []) (verdicts ++ verdict ∷ []) ≡ all_hits policy asked verdicts ++ hits_by (is_skipped verdict) policy one
 hits_push policy [] [] one verdict are = append-nil (hits_by (is_skipped verdict) policy one)
 hits_push policy [] (first ∷ verdicts) one verdict are = absurd are
@@ -73,12 +73,12 @@ nothing_gained sink = ap (λ (all : List PackOf). record sink { packs = all }) (
 -- ---- so far
 
 -- what was checked so far: the verdicts, which entries were hits, and what the sink has gained
-pub record SoFar (policy : ValidConfig) (asked : List Asked) (verdicts : List Verdict) (flags : Flags) (old new : ErrorSink) : Type 0 where
+pub record SoFar (policy : ValidConfig) (asked : List GatheredCrate) (verdicts : List Verdict) (flags : Flags) (old new : ErrorSink) : Type 0 where
   pub are : AreVerdicts (policy_of policy) asked verdicts
   pub hit : flags ≡ flags_by policy (all_hits (policy_of policy) asked verdicts)
   pub told : new ≡ gained old (packs_of (policy_of policy) asked verdicts)
 
-pub one_more : (policy : ValidConfig) (asked : List Asked) (verdicts : List Verdict) (flags : Flags) (old new : ErrorSink) (one : Asked) (verdict : Verdict) (pack : PackOf)
+pub one_more : (policy : ValidConfig) (asked : List GatheredCrate) (verdicts : List Verdict) (flags : Flags) (old new : ErrorSink) (one : GatheredCrate) (verdict : Verdict) (pack : PackOf)
     (later : Flags) (last : ErrorSink) → SoFar policy asked verdicts flags old new → IsVerdict (policy_of policy) one.krate (expression_of one.info) verdict
     → pack ≡ pack_by (is_skipped verdict) (policy_of policy) one
     → ((before : List Hit) → flags ≡ flags_by policy before → later ≡ flags_by policy (before ++ hits_by (is_skipped verdict) (policy_of policy) one))
@@ -97,8 +97,8 @@ one_more policy asked verdicts flags old new one verdict pack later last so_far 
     }
 
 -- the crates so far are some first ones
-pub has_front : (policy : Policy) (licenses : List KrateLicense) (count : ℕ) (verdicts : List Verdict) (old new : ErrorSink) → AreVerdicts policy (all_asked (take count licenses)) verdicts
-    → new ≡ gained old (packs_of policy (all_asked (take count licenses)) verdicts) → HasFront policy licenses old new
+pub has_front : (policy : Policy) (licenses : List KrateLicense) (count : ℕ) (verdicts : List Verdict) (old new : ErrorSink) → AreVerdicts policy (gathered_of_licenses (take count licenses)) verdicts
+    → new ≡ gained old (packs_of policy (gathered_of_licenses (take count licenses)) verdicts) → HasFront policy licenses old new
 has_front policy licenses count verdicts old new are front = record { count = count; verdicts = verdicts; are = are; front = front }
 
 -- of no crate
@@ -106,12 +106,12 @@ pub no_front : (policy : Policy) (licenses : List KrateLicense) (sink : ErrorSin
 no_front policy licenses sink = record { count = 0; verdicts = []; are = tt; front = nothing_gained sink }
 
 -- of all crates
-pub whole_front : (policy : Policy) (licenses : List KrateLicense) (verdicts : List Verdict) (old new : ErrorSink) → AreVerdicts policy (all_asked licenses) verdicts
-    → new ≡ gained old (packs_of policy (all_asked licenses) verdicts) → HasFront policy licenses old new
+pub whole_front : (policy : Policy) (licenses : List KrateLicense) (verdicts : List Verdict) (old new : ErrorSink) → AreVerdicts policy (gathered_of_licenses licenses) verdicts
+    → new ≡ gained old (packs_of policy (gathered_of_licenses licenses) verdicts) → HasFront policy licenses old new
 whole_front policy licenses verdicts old new are front =
     let all : take (length licenses) licenses ≡ licenses = take_all (length licenses) licenses (omega arith) in
-    has_front policy licenses (length licenses) verdicts old new (subst (λ (some : List KrateLicense). AreVerdicts policy (all_asked some) verdicts) (sym all) are)
-    (subst (λ (some : List KrateLicense). new ≡ gained old (packs_of policy (all_asked some) verdicts)) (sym all) front)
+    has_front policy licenses (length licenses) verdicts old new (subst (λ (some : List KrateLicense). AreVerdicts policy (gathered_of_licenses some) verdicts) (sym all) are)
+    (subst (λ (some : List KrateLicense). new ≡ gained old (packs_of policy (gathered_of_licenses some) verdicts)) (sym all) front)
 
 -- some packs, and then others
 pub gained_then : (old new last : ErrorSink) (packs more : List PackOf) → new ≡ gained old packs → last ≡ gained new more → last ≡ gained old (packs ++ more)

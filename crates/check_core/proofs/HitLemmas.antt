@@ -11,12 +11,12 @@ use Rattle.finding_core.specs.declared.license.LicenseInfo.{LicenseInfo}
 use Rattle.finding_core.specs.declared.license.LicenseInfo.TheVariants.{SpdxExpression, Unlicensed}
 use Rattle.valid_policy.specs.Policy.{Policy, hit_of}
 use Rattle.valid_policy.specs.View.{policy_of}
-use Rattle.evaluate_core.specs.Evaluation.{kept_of}
+use Rattle.evaluate_core.specs.Evaluation.{term_hits}
 use Rattle.unused_core.specs.Unused.{hits_in}
 use Rattle.unused_core.proofs.LawLemmas.{tells_the_unused}
 use Rattle.check_core.specs.Check.{all_hits}
 use Rattle.check_core.specs.Hits.{HasTerm, IsNeeded, Needs, TellsTheUnneeded, TermsAreTold}
-use Rattle.check_core.specs.Turns.{Asked, hits_by, hits_of}
+use Rattle.check_core.specs.Turns.{GatheredCrate, hits_by, hits_of}
 use Rattle.check_core.specs.Verdicts.{is_skipped}
 
 pub terms_are_told : TermsAreTold
@@ -85,21 +85,21 @@ module _ (policy : Policy) (hit : Hit) where
   one_of (Some one) (inl same) = ap Some same
   one_of (Some one) (inr none) = absurd none
 
-  term_of : (krate : Record) (terms : List ExpressionReq) → IsHit (hits_in (kept_of policy krate terms)) → Among (λ (term : ExpressionReq). hit_of policy krate term.req ≡ Some hit) terms
+  term_of : (krate : Record) (terms : List ExpressionReq) → IsHit (hits_in (term_hits policy krate terms)) → Among (λ (term : ExpressionReq). hit_of policy krate term.req ≡ Some hit) terms
   term_of krate [] is = absurd is
   term_of krate (term ∷ terms) is =
-      elim (among_both (λ one. one ≡ hit) (option_to_list (hit_of policy krate term.req)) (hits_in (kept_of policy krate terms)) is) [
+      elim (among_both (λ one. one ≡ hit) (option_to_list (hit_of policy krate term.req)) (hits_in (term_hits policy krate terms)) is) [
         | inl first ↦ inl (one_of (hit_of policy krate term.req) first)
         | inr second ↦ inr (term_of krate terms second)
       ]
 
-  hit_in : (krate : Record) (terms : List ExpressionReq) → Among (λ (term : ExpressionReq). hit_of policy krate term.req ≡ Some hit) terms → IsHit (hits_in (kept_of policy krate terms))
+  hit_in : (krate : Record) (terms : List ExpressionReq) → Among (λ (term : ExpressionReq). hit_of policy krate term.req ≡ Some hit) terms → IsHit (hits_in (term_hits policy krate terms))
   hit_in krate [] found = absurd found
   hit_in krate (term ∷ terms) (inl is) =
-      among_first (λ one. one ≡ hit) (option_to_list (hit_of policy krate term.req)) (hits_in (kept_of policy krate terms))
+      among_first (λ one. one ≡ hit) (option_to_list (hit_of policy krate term.req)) (hits_in (term_hits policy krate terms))
       (subst (λ (found : Option Hit). IsHit (option_to_list found)) (sym is) (inl refl))
   hit_in krate (term ∷ terms) (inr found) =
-      among_second (λ one. one ≡ hit) (option_to_list (hit_of policy krate term.req)) (hits_in (kept_of policy krate terms)) (hit_in krate terms found)
+      among_second (λ one. one ≡ hit) (option_to_list (hit_of policy krate term.req)) (hits_in (term_hits policy krate terms)) (hit_in krate terms found)
 
   -- ---- of crates
 
@@ -113,14 +113,14 @@ module _ (policy : Policy) (hit : Hit) where
   has_info krate (SpdxExpression expression nfo) has =
       hit_in krate expression.terms (among (λ (term : ExpressionReq). hit_of policy krate term.req ≡ Some hit) expression.terms has)
 
-  needs_by : (asked : Asked) (verdict : Verdict) (b : Bool) → is_skipped verdict ≡ b → IsHit (hits_by b policy asked) → Needs policy hit asked verdict
+  needs_by : (asked : GatheredCrate) (verdict : Verdict) (b : Bool) → is_skipped verdict ≡ b → IsHit (hits_by b policy asked) → Needs policy hit asked verdict
   needs_by asked verdict true skips is = absurd is
   needs_by asked verdict false skips is = record { asks = skips; term = info_has asked.krate asked.info is }
 
-  hit_by_crate : (asked : Asked) (verdict : Verdict) → Needs policy hit asked verdict → IsHit (hits_by (is_skipped verdict) policy asked)
+  hit_by_crate : (asked : GatheredCrate) (verdict : Verdict) → Needs policy hit asked verdict → IsHit (hits_by (is_skipped verdict) policy asked)
   hit_by_crate asked verdict needs = subst (λ (b : Bool). IsHit (hits_by b policy asked)) (sym needs.asks) (has_info asked.krate asked.info needs.term)
 
-  needed : (asked : List Asked) (verdicts : List Verdict) → IsHit (all_hits policy asked verdicts) → IsNeeded policy asked verdicts hit
+  needed : (asked : List GatheredCrate) (verdicts : List Verdict) → IsHit (all_hits policy asked verdicts) → IsNeeded policy asked verdicts hit
   needed [] verdicts is = absurd is
   needed (one ∷ more) [] is = absurd is
   needed (one ∷ more) (verdict ∷ verdicts) is =
@@ -129,7 +129,7 @@ module _ (policy : Policy) (hit : Hit) where
         | inr second ↦ inr (needed more verdicts second)
       ]
 
-  hit_by_need : (asked : List Asked) (verdicts : List Verdict) → IsNeeded policy asked verdicts hit → IsHit (all_hits policy asked verdicts)
+  hit_by_need : (asked : List GatheredCrate) (verdicts : List Verdict) → IsNeeded policy asked verdicts hit → IsHit (all_hits policy asked verdicts)
   hit_by_need [] verdicts need = absurd need
   hit_by_need (one ∷ more) [] need = absurd need
   hit_by_need (one ∷ more) (verdict ∷ verdicts) (inl needs) =
@@ -142,7 +142,7 @@ module _ (policy : Policy) (hit : Hit) where
 abbrev IsEntryOf : ℕ → Hit → Type 0
 IsEntryOf place one = (entry : ℕ) × (one ≡ Exception place entry)
 
-exception_needed : (policy : Policy) (asked : List Asked) (verdicts : List Verdict) (place : ℕ) → Any (IsEntryOf place) (all_hits policy asked verdicts)
+exception_needed : (policy : Policy) (asked : List GatheredCrate) (verdicts : List Verdict) (place : ℕ) → Any (IsEntryOf place) (all_hits policy asked verdicts)
     → (entry : ℕ) × IsNeeded policy asked verdicts (Exception place entry)
 exception_needed policy asked verdicts place is =
     let one = which (IsEntryOf place) (all_hits policy asked verdicts) (among (IsEntryOf place) (all_hits policy asked verdicts) is) in (
@@ -151,7 +151,7 @@ exception_needed policy asked verdicts place is =
           (subst (λ (hit : Hit). Among (λ one. one ≡ hit) (all_hits policy asked verdicts)) one.1.1 one.2),
     )
 
-exception_hit : (policy : Policy) (asked : List Asked) (verdicts : List Verdict) (place : ℕ) → (entry : ℕ) × IsNeeded policy asked verdicts (Exception place entry)
+exception_hit : (policy : Policy) (asked : List GatheredCrate) (verdicts : List Verdict) (place : ℕ) → (entry : ℕ) × IsNeeded policy asked verdicts (Exception place entry)
     → Any (IsEntryOf place) (all_hits policy asked verdicts)
 exception_hit policy asked verdicts place need =
     somewhere (IsEntryOf place) (all_hits policy asked verdicts)

@@ -13,7 +13,7 @@ use Rattle.diag_core.specs.declared.label.Label.{Label}
 use Rattle.diag_core.specs.declared.overrides.DiagnosticOverrides.{DiagnosticOverrides}
 use Rattle.diag_core.specs.declared.overrides.ErrorSink.{ErrorSink}
 use Rattle.diag_core.specs.declared.pack.Diag.{Diag}
-use Rattle.diag_core.specs.File.{File, source_of}
+use Rattle.diag_core.specs.File.{File, source_of_file}
 use Rattle.diag_core.specs.Overrides.{overridden, pack_overridden}
 use Rattle.diag_core.specs.Pack.{PackOf, with_crate}
 use Rattle.finding_core.specs.Cuts.{LabelLies, labels_of}
@@ -26,23 +26,23 @@ use Rattle.gather_core.specs.Premises.{IsPlacedAt}
 use Rattle.valid_policy.specs.declared.policy.ValidConfig.{ValidConfig}
 use Rattle.valid_policy.specs.Policy.{Policy}
 use Rattle.valid_policy.specs.View.{policy_of}
-use Rattle.evaluate_core.specs.Evaluation.{is_allowed, kept_of}
-use Rattle.unused_core.specs.Laws.{EntriesLie, LabelsLie}
+use Rattle.evaluate_core.specs.Evaluation.{is_allowed, term_hits}
+use Rattle.unused_core.specs.Laws.{EntriesLie, EntryLabelsLie}
 use Rattle.unused_core.specs.Unused.{last_pack, unused_findings}
 use Rattle.unused_core.proofs.LawLemmas.{labels_lie}
 use Rattle.verdict_findings.specs.Findings as findings
-use Rattle.verdict_findings.specs.Laws.{words_of}
+use Rattle.verdict_findings.specs.Laws.{term_text}
 use Rattle.verdict_findings.specs.Places.{LabelPoints, PointsBy}
 use Rattle.verdict_findings.proofs.PointLemmas.{labels_point}
 use Rattle.check_core.specs.Check.{HasFront, all_hits, findings_of, gained, packs_of}
 use Rattle.check_core.specs.Labels.{FindingLies, GainLies, InfoPoints, PackLies, VerdictPoints}
-use Rattle.check_core.specs.Summary.{IsExpressionIn, all_asked, asked_in}
-use Rattle.check_core.specs.Turns.{Asked, findings_by, pack_by, verdict_finding}
+use Rattle.check_core.specs.Summary.{IsExpressionIn, gathered_of_licenses, gathered_of_license}
+use Rattle.check_core.specs.Turns.{GatheredCrate, findings_by, pack_by, verdict_finding}
 use Rattle.check_core.specs.Verdicts.{is_skipped}
 
 -- ---- a label
 
-is_live : (files : List File) (id : ℕ) (source : List ℕ) → source_of files id ≡ Some source → id < length files
+is_live : (files : List File) (id : ℕ) (source : List ℕ) → source_of_file files id ≡ Some source → id < length files
 is_live [] zero source is = absurd (cc is)
 is_live [] (suc id) source is = absurd (cc is)
 is_live (file ∷ files) zero source is = omega arith
@@ -50,8 +50,8 @@ is_live (file ∷ files) (suc id) source is = let below : id < length files = is
 
 lies_in : (files : List File) (file : ℕ) (label : Label) → label.file_id ≡ file → PlaceLies files file label.range → LabelLies files label
 lies_in files file label of_file lies =
-    let is : source_of files label.file_id ≡ Some lies.source = ap (source_of files) of_file ∙ lies.is_source in
-    let text : unwrap_or (source_of files label.file_id) [] ≡ lies.source = ap (λ (source : Option (List ℕ)). unwrap_or source []) is in
+    let is : source_of_file files label.file_id ≡ Some lies.source = ap (source_of_file files) of_file ∙ lies.is_source in
+    let text : unwrap_or (source_of_file files label.file_id) [] ≡ lies.source = ap (λ (source : Option (List ℕ)). unwrap_or source []) is in
     record {
       live = is_live files label.file_id lies.source is;
       ordered = lies.ordered;
@@ -70,12 +70,12 @@ pointing_lies files nfo part label points = lies_in files nfo.file_id label poin
 -- ---- the labels of an expression
 
 terms_lie : (files : List File) (nfo : LicenseExprInfo) (text : List ℕ) (terms : List ExpressionReq) (labels : List Label)
-    → AllZip (λ (term : ExpressionReq) (label : Label). LabelPoints files nfo (words_of text term) label) terms labels → AllByRecursion (LabelLies files) labels
+    → AllZip (λ (term : ExpressionReq) (label : Label). LabelPoints files nfo (term_text text term) label) terms labels → AllByRecursion (LabelLies files) labels
 terms_lie files nfo text [] [] points = tt
 terms_lie files nfo text [] (label ∷ labels) points = absurd points
 terms_lie files nfo text (term ∷ terms) [] points = absurd points
 terms_lie files nfo text (term ∷ terms) (label ∷ labels) points =
-    (pointing_lies files nfo (words_of text term) label points.0, terms_lie files nfo text terms labels points.1)
+    (pointing_lies files nfo (term_text text term) label points.0, terms_lie files nfo text terms labels points.1)
 
 judged_lies : (files : List File) (accepted : Bool) (labels : List Label) (notes : List (List ℕ)) → All (LabelLies files) labels → FindingLies files (findings.judged accepted labels notes)
 judged_lies files true labels notes lie = lie
@@ -85,9 +85,9 @@ verdict_lies : (files : List File) (policy : Policy) (krate : Record) (info : Li
     → FindingLies files (verdict_finding policy krate info notes)
 verdict_lies files policy krate Unlicensed notes points = All-nil (LabelLies files)
 verdict_lies files policy krate (SpdxExpression expression nfo) notes points =
-    let kept = kept_of policy krate expression.terms in
-    judged_lies files (is_allowed policy krate expression.terms expression.tree) (findings.labels_of expression nfo kept) notes
-    (All-from_recursion (LabelLies files) (findings.labels_of expression nfo kept) (
+    let kept = term_hits policy krate expression.terms in
+    judged_lies files (is_allowed policy krate expression.terms expression.tree) (findings.verdict_labels expression nfo kept) notes
+    (All-from_recursion (LabelLies files) (findings.verdict_labels expression nfo kept) (
       pointing_lies files nfo expression.text (findings.whole_label nfo expression.text) points.whole,
       terms_lie files nfo expression.text expression.terms (findings.term_labels nfo expression.terms kept) points.terms,
     ))
@@ -115,7 +115,7 @@ gathered_lies files gathered all =
 
 -- ---- packs
 
-findings_lie : (files : List File) (policy : Policy) (asked : Asked) (private : Bool) → All (LabelLies files) (labels_of asked.gathered) → VerdictPoints files policy asked
+findings_lie : (files : List File) (policy : Policy) (asked : GatheredCrate) (private : Bool) → All (LabelLies files) (labels_of asked.gathered) → VerdictPoints files policy asked
     → All (FindingLies files) (findings_by private policy asked)
 findings_lie files policy asked true lie points =
     All-from_recursion (FindingLies files) (findings.skipped asked.krate ∷ []) (All-nil (LabelLies files), tt)
@@ -123,17 +123,17 @@ findings_lie files policy asked false lie points =
     All-push (FindingLies files) asked.gathered (verdict_finding policy asked.krate asked.info asked.notes) (gathered_lies files asked.gathered lie)
     (verdict_lies files policy asked.krate asked.info asked.notes points)
 
-pack_lies : (files : List File) (policy : Policy) (asked : Asked) (private : Bool) → All (LabelLies files) (labels_of asked.gathered) → VerdictPoints files policy asked
+pack_lies : (files : List File) (policy : Policy) (asked : GatheredCrate) (private : Bool) → All (LabelLies files) (labels_of asked.gathered) → VerdictPoints files policy asked
     → PackLies files (pack_by private policy asked)
 pack_lies files policy asked private lie points =
     All-map (FindingLies files) (with_crate (Some asked.krate.id)) (findings_by private policy asked) (findings_lie files policy asked private lie points)
 
 packs_lie : (files : List File) (policy : Policy) (licenses : List KrateLicense) (verdicts : List Verdict) → AllByRecursion (IsPlacedAt files) licenses
-    → AllByRecursion (VerdictPoints files policy) (all_asked licenses) → AllByRecursion (PackLies files) (packs_of policy (all_asked licenses) verdicts)
+    → AllByRecursion (VerdictPoints files policy) (gathered_of_licenses licenses) → AllByRecursion (PackLies files) (packs_of policy (gathered_of_licenses licenses) verdicts)
 packs_lie files policy [] verdicts placed points = tt
 packs_lie files policy (license ∷ licenses) [] placed points = tt
 packs_lie files policy (license ∷ licenses) (verdict ∷ verdicts) placed points =
-    (pack_lies files policy (asked_in license) (is_skipped verdict) placed.0.labels points.0, packs_lie files policy licenses verdicts placed.1 points.1)
+    (pack_lies files policy (gathered_of_license license) (is_skipped verdict) placed.0.labels points.0, packs_lie files policy licenses verdicts placed.1 points.1)
 
 -- ---- the last pack
 
@@ -141,15 +141,15 @@ labels_each : (files : List File) (labels : List Label) → AllByRecursion (λ (
 labels_each files [] all = tt
 labels_each files (label ∷ labels) all = (lies_in files label.file_id label refl all.0, labels_each files labels all.1)
 
-unused_each : (files : List File) (told : List Diag) → AllByRecursion (LabelsLie files) told → AllByRecursion (FindingLies files) told
+unused_each : (files : List File) (told : List Diag) → AllByRecursion (EntryLabelsLie files) told → AllByRecursion (FindingLies files) told
 unused_each files [] all = tt
 unused_each files (finding ∷ told) all =
     (All-from_recursion (LabelLies files) finding.diag.labels (labels_each files finding.diag.labels all.0), unused_each files told all.1)
 
 last_lies : (files : List File) (policy : ValidConfig) (licenses : List KrateLicense) (verdicts : List Verdict) → EntriesLie files policy
-    → PackLies files (last_pack policy (all_hits (policy_of policy) (all_asked licenses) verdicts))
+    → PackLies files (last_pack policy (all_hits (policy_of policy) (gathered_of_licenses licenses) verdicts))
 last_lies files policy licenses verdicts lie =
-    let hits = all_hits (policy_of policy) (all_asked licenses) verdicts in
+    let hits = all_hits (policy_of policy) (gathered_of_licenses licenses) verdicts in
     All-from_recursion (FindingLies files) (unused_findings policy hits) (unused_each files (unused_findings policy hits) (labels_lie files policy hits lie))
 
 -- ---- what a sink gains
@@ -167,35 +167,35 @@ gain files old new packs is lie =
     )
 
 module _ (files : List File) (policy : ValidConfig) (licenses : List KrateLicense) (placed : All (IsPlacedAt files) licenses)
-    (points : All (VerdictPoints files (policy_of policy)) (all_asked licenses)) where
-  all_lie : (verdicts : List Verdict) → All (PackLies files) (packs_of (policy_of policy) (all_asked licenses) verdicts)
+    (points : All (VerdictPoints files (policy_of policy)) (gathered_of_licenses licenses)) where
+  all_lie : (verdicts : List Verdict) → All (PackLies files) (packs_of (policy_of policy) (gathered_of_licenses licenses) verdicts)
   all_lie verdicts =
-      All-from_recursion (PackLies files) (packs_of (policy_of policy) (all_asked licenses) verdicts)
+      All-from_recursion (PackLies files) (packs_of (policy_of policy) (gathered_of_licenses licenses) verdicts)
       (packs_lie files (policy_of policy) licenses verdicts (recursion_from_All (IsPlacedAt files) licenses placed)
-      (recursion_from_All (VerdictPoints files (policy_of policy)) (all_asked licenses) points))
+      (recursion_from_All (VerdictPoints files (policy_of policy)) (gathered_of_licenses licenses) points))
 
   -- of all packs
-  pub whole_gain : (old new : ErrorSink) (verdicts : List Verdict) → new ≡ gained old (findings_of policy (all_asked licenses) verdicts) → EntriesLie files policy → GainLies files old new
+  pub whole_gain : (old new : ErrorSink) (verdicts : List Verdict) → new ≡ gained old (findings_of policy (gathered_of_licenses licenses) verdicts) → EntriesLie files policy → GainLies files old new
   whole_gain old new verdicts is lie =
-      let packs = packs_of (policy_of policy) (all_asked licenses) verdicts in
-      let last = last_pack policy (all_hits (policy_of policy) (all_asked licenses) verdicts) in
+      let packs = packs_of (policy_of policy) (gathered_of_licenses licenses) verdicts in
+      let last = last_pack policy (all_hits (policy_of policy) (gathered_of_licenses licenses) verdicts) in
       gain files old new (packs ++ last ∷ []) is (All-push (PackLies files) packs last (all_lie verdicts) (last_lies files policy licenses verdicts lie))
 
   -- of those of some crates alone
-  pub part_gain : (old new : ErrorSink) (verdicts : List Verdict) → new ≡ gained old (packs_of (policy_of policy) (all_asked licenses) verdicts) → GainLies files old new
-  part_gain old new verdicts is = gain files old new (packs_of (policy_of policy) (all_asked licenses) verdicts) is (all_lie verdicts)
+  pub part_gain : (old new : ErrorSink) (verdicts : List Verdict) → new ≡ gained old (packs_of (policy_of policy) (gathered_of_licenses licenses) verdicts) → GainLies files old new
+  part_gain old new verdicts is = gain files old new (packs_of (policy_of policy) (gathered_of_licenses licenses) verdicts) is (all_lie verdicts)
 
 -- of those of some first crates
 pub front_gain : (files : List File) (policy : ValidConfig) (licenses : List KrateLicense) (old new : ErrorSink) → All (IsPlacedAt files) licenses
-    → All (VerdictPoints files (policy_of policy)) (all_asked licenses) → HasFront (policy_of policy) licenses old new → GainLies files old new
+    → All (VerdictPoints files (policy_of policy)) (gathered_of_licenses licenses) → HasFront (policy_of policy) licenses old new → GainLies files old new
 front_gain files policy licenses old new placed points front =
     part_gain files policy (take front.count licenses) (All-take (IsPlacedAt files) front.count licenses placed)
-    (subst (λ (asked : List Asked). All (VerdictPoints files (policy_of policy)) asked) (take-map asked_in front.count licenses)
-    (All-take (VerdictPoints files (policy_of policy)) front.count (all_asked licenses) points)) old new front.verdicts front.front
+    (subst (λ (asked : List GatheredCrate). All (VerdictPoints files (policy_of policy)) asked) (take-map gathered_of_license front.count licenses)
+    (All-take (VerdictPoints files (policy_of policy)) front.count (gathered_of_licenses licenses) points)) old new front.verdicts front.front
 
 -- after any answer
 pub any_gain : {E : Type 0} (files : List File) (policy : ValidConfig) (licenses : List KrateLicense) (old new : ErrorSink) (result : Result (List Verdict) E) → All (IsPlacedAt files) licenses
-    → All (VerdictPoints files (policy_of policy)) (all_asked licenses) → IfOk result (λ verdicts. new ≡ gained old (findings_of policy (all_asked licenses) verdicts))
+    → All (VerdictPoints files (policy_of policy)) (gathered_of_licenses licenses) → IfOk result (λ verdicts. new ≡ gained old (findings_of policy (gathered_of_licenses licenses) verdicts))
     → OnErr result (HasFront (policy_of policy) licenses old new) → EntriesLie files policy → GainLies files old new
 any_gain files policy licenses old new (Ok verdicts) placed points packs front lie = whole_gain files policy licenses placed points old new verdicts packs lie
 any_gain files policy licenses old new (Err error) placed points packs front lie = front_gain files policy licenses old new placed points front
@@ -204,17 +204,17 @@ any_gain files policy licenses old new (Err error) placed points packs front lie
 
 info_points : (files : List File) (policy : Policy) (krate : Record) (info : LicenseInfo) → IsExpressionIn info → InfoStands files info → InfoPoints files policy krate info
 info_points files policy krate Unlicensed facts stands = tt
-info_points files policy krate (SpdxExpression expression nfo) facts stands = labels_point files expression nfo (kept_of policy krate expression.terms) facts stands
+info_points files policy krate (SpdxExpression expression nfo) facts stands = labels_point files expression nfo (term_hits policy krate expression.terms) facts stands
 
 each_points : (files : List File) (policy : Policy) (licenses : List KrateLicense) → AllByRecursion (λ (license : KrateLicense). IsExpressionIn license.lic_info) licenses
-    → AllByRecursion (IsPlacedAt files) licenses → AllByRecursion (VerdictPoints files policy) (all_asked licenses)
+    → AllByRecursion (IsPlacedAt files) licenses → AllByRecursion (VerdictPoints files policy) (gathered_of_licenses licenses)
 each_points files policy [] facts placed = tt
 each_points files policy (license ∷ licenses) facts placed =
-    (info_points files policy (asked_in license).krate license.lic_info facts.0 placed.0.expression, each_points files policy licenses facts.1 placed.1)
+    (info_points files policy (gathered_of_license license).krate license.lic_info facts.0 placed.0.expression, each_points files policy licenses facts.1 placed.1)
 
 -- the labels of each verdict point at its expression
 pub all_point : (files : List File) (policy : Policy) (licenses : List KrateLicense) → All (λ (license : KrateLicense). IsExpressionIn license.lic_info) licenses
-    → All (IsPlacedAt files) licenses → All (VerdictPoints files policy) (all_asked licenses)
+    → All (IsPlacedAt files) licenses → All (VerdictPoints files policy) (gathered_of_licenses licenses)
 all_point files policy licenses facts placed =
-    All-from_recursion (VerdictPoints files policy) (all_asked licenses)
+    All-from_recursion (VerdictPoints files policy) (gathered_of_licenses licenses)
     (each_points files policy licenses (recursion_from_All (λ (license : KrateLicense). IsExpressionIn license.lic_info) licenses facts) (recursion_from_All (IsPlacedAt files) licenses placed))

@@ -4,7 +4,7 @@ use Rattle.std.specs.Prelude.{◌↔◌}
 use Rattle.std.proofs.lemmas.Bool.{both_ways}
 use Rattle.term_core.specs.declared.term.ExpressionReq.{ExpressionReq}
 use Rattle.term_core.specs.declared.term.LicenseReq.{LicenseReq}
-use Rattle.spdx_core.specs.Grammar.{Tree}
+use Rattle.spdx_core.specs.Grammar.{ExpressionTree}
 use Rattle.spdx_core.specs.Reading.{ExpressionView}
 use Rattle.graph_core.specs.Krate.{Record}
 use Rattle.valid_policy.specs.Policy.{Grant, IsPrivate, Policy}
@@ -29,7 +29,7 @@ as_good_if false false more = inl refl
 
 -- a policy that allows no less, and passes over the same crates
 module _ (policy other : Policy) (krate : Record) (to : IsPrivate policy krate → IsPrivate other krate) (from : IsPrivate other krate → IsPrivate policy krate)
-    (more : (terms : List ExpressionReq) (tree : Tree) → IsTrue (is_allowed policy krate terms tree) → IsTrue (is_allowed other krate terms tree)) where
+    (more : (terms : List ExpressionReq) (tree : ExpressionTree) → IsTrue (is_allowed policy krate terms tree) → IsTrue (is_allowed other krate terms tree)) where
   judged_as_good : (expression : Option ExpressionView) → IsAsGood (judgement_of policy krate expression) (judgement_of other krate expression)
   judged_as_good None = refl
   judged_as_good (Some expression) =

@@ -11,21 +11,21 @@ use Rattle.certificate_core.specs.declared.verdict.Hit.{Hit}
 use Rattle.certificate_core.specs.declared.verdict.Verdict.{Verdict}
 use Rattle.certificate_core.specs.declared.verdict.Verdict.TheVariants.{Skipped, Unlicensed, Accepted, Rejected}
 use Rattle.certificate_core.specs.Certificates.{hit_at}
-use Rattle.reads_core.specs.Heard.{Heard}
-use Rattle.pack_core.specs.Ears.{Ears, has_hash, holds, looked_of, matches, tried_of}
-use Rattle.pack_core.specs.NamedFile.{Named}
-use Rattle.pack_core.specs.Pack.{first_spellings, found_of, in_path_order, pack_of, placed, same_path, wanted_of}
+use Rattle.reads_core.specs.Heard.{ReadResult}
+use Rattle.pack_core.specs.Ears.{FolderReads, has_hash, holds, looked_of, matches, tried_of}
+use Rattle.pack_core.specs.NamedFile.{NamedFileView}
+use Rattle.pack_core.specs.Pack.{first_spellings, license_files_in, in_path_order, pack_paths, placed, same_path, wanted_of}
 use Rattle.pack_core.specs.View.{normal_heard}
 use Rattle.expression_core.specs.Scanned.{Scanner, file_scanned}
-use Rattle.priority_core.specs.Clarification.{Clarification, files_of, held_in, named_in}
-use Rattle.priority_core.specs.Priority.{Answer, answer_in, by_seen, field_of, files_scanned, holding, priority_of, seen_by, settling_by}
+use Rattle.priority_core.specs.Clarification.{ClarificationView, named_files, held_in, named_in}
+use Rattle.priority_core.specs.Priority.{LicenseAnswer, answer_in, by_seen, field_of, files_scanned, holding, priority_of, seen_by, settling_by}
 use Rattle.gather_core.specs.Entries.{clarifications_of, entries_of}
 use Rattle.valid_policy.specs.Policy.{Policy}
 use Rattle.valid_policy.specs.View.{policy_of}
-use Rattle.evaluate_core.specs.Evaluation.{kept_of}
+use Rattle.evaluate_core.specs.Evaluation.{term_hits}
 use Rattle.check_core.proofs.LawLemmas.{same_test}
-use Rattle.check_core.specs.Own.{HearTheSame, VerdictIsByEars, VerdictIsOwn, ears_there, expression_by, paths_around, paths_named}
-use Rattle.check_core.specs.Verdicts.{skipped, unlicensed, accepted, rejected, IsAnswered, IsShown, IsVerdict, is_skipped, judgement_in, verdict_of}
+use Rattle.check_core.specs.Own.{HearTheSame, VerdictIsByEars, VerdictIsOwn, ears_there, expression_by, paths_around, clarified_paths}
+use Rattle.check_core.specs.Verdicts.{skipped, unlicensed, accepted, rejected, IsCertifiedOrUnlicensed, IsVerdictShown, IsVerdict, is_skipped, judgement_in, verdict_of}
 
 -- ---- lists
 
@@ -79,50 +79,50 @@ module _ (P : List ℕ → Type 0) where
   place_each sorted (path ∷ paths) first all = place_each (placed path sorted) paths (place_one path sorted all.0 first) all.1
 
 -- what is heard of a file, as it is kept
-abbrev heard_by : Ears → List ℕ → List ℕ × Heard
+abbrev heard_by : FolderReads → List ℕ → List ℕ × ReadResult
 heard_by ears path = (path, normal_heard (ears.file (components_of path)))
 
 -- ---- what is read by two ears
 
-module _ (one other : Ears) where
+module _ (one other : FolderReads) where
   abbrev SameAt : List ℕ → Type 0
   SameAt path = one.file (components_of path) ≡ other.file (components_of path)
 
-  abbrev SameFor : List Named → Type 0
+  abbrev SameFor : List NamedFileView → Type 0
   SameFor files = AllByRecursion (λ named. SameAt named.path) files
 
-  same_match : (named : Named) → SameAt named.path → matches one named ≡ matches other named
+  same_match : (named : NamedFileView) → SameAt named.path → matches one named ≡ matches other named
   same_match named same = ap (has_hash named.hash) same
 
-  same_holds : (files : List Named) → SameFor files → holds one files ≡ holds other files
+  same_holds : (files : List NamedFileView) → SameFor files → holds one files ≡ holds other files
   same_holds [] same = refl
   same_holds (named ∷ files) same = ap₂ (λ first rest. first && rest) (same_match named same.0) (same_holds files same.1)
 
-  same_looked : (files : List Named) → SameFor files → looked_of one files ≡ looked_of other files
+  same_looked : (files : List NamedFileView) → SameFor files → looked_of one files ≡ looked_of other files
   same_looked [] same = refl
   same_looked (named ∷ files) same = ap₂ (λ b rest. named.path ∷ cond b rest []) (same_match named same.0) (same_looked files same.1)
 
-  looked_same : (files : List Named) → SameFor files → AllByRecursion SameAt (looked_of one files)
+  looked_same : (files : List NamedFileView) → SameFor files → AllByRecursion SameAt (looked_of one files)
   looked_same [] same = tt
   looked_same (named ∷ files) same = (same.0, all_where SameAt (matches one named) (looked_of one files) (looked_same files same.1))
 
-  same_behind : (b : Bool) (xs ys : List (List Named)) → flat_map (looked_of one) xs ≡ flat_map (looked_of other) ys
+  same_behind : (b : Bool) (xs ys : List (List NamedFileView)) → flat_map (looked_of one) xs ≡ flat_map (looked_of other) ys
       → flat_map (looked_of one) (cond b [] xs) ≡ flat_map (looked_of other) (cond b [] ys)
   same_behind true xs ys same = refl
   same_behind false xs ys same = same
 
-  same_tried : (all : List (List Named)) → AllByRecursion SameFor all → flat_map (looked_of one) (tried_of one all) ≡ flat_map (looked_of other) (tried_of other all)
+  same_tried : (all : List (List NamedFileView)) → AllByRecursion SameFor all → flat_map (looked_of one) (tried_of one all) ≡ flat_map (looked_of other) (tried_of other all)
   same_tried [] same = refl
   same_tried (files ∷ more) same =
       ap₂ (λ first rest. first ++ rest) (same_looked files same.0)
       (same_behind (holds one files) (tried_of one more) (tried_of other more) (same_tried more same.1)
       ∙ ap (λ b. flat_map (looked_of other) (cond b [] (tried_of other more))) (same_holds files same.0))
 
-  tried_behind : (b : Bool) (xs : List (List Named)) → AllByRecursion SameAt (flat_map (looked_of one) xs) → AllByRecursion SameAt (flat_map (looked_of one) (cond b [] xs))
+  tried_behind : (b : Bool) (xs : List (List NamedFileView)) → AllByRecursion SameAt (flat_map (looked_of one) xs) → AllByRecursion SameAt (flat_map (looked_of one) (cond b [] xs))
   tried_behind true xs all = tt
   tried_behind false xs all = all
 
-  tried_same : (all : List (List Named)) → AllByRecursion SameFor all → AllByRecursion SameAt (flat_map (looked_of one) (tried_of one all))
+  tried_same : (all : List (List NamedFileView)) → AllByRecursion SameFor all → AllByRecursion SameAt (flat_map (looked_of one) (tried_of one all))
   tried_same [] same = tt
   tried_same (files ∷ more) same =
       all_both SameAt (looked_of one files) (flat_map (looked_of one) (cond (holds one files) [] (tried_of one more))) (looked_same files same.0)
@@ -131,41 +131,41 @@ module _ (one other : Ears) where
   same_heard : (paths : List (List ℕ)) → AllByRecursion SameAt paths → map (heard_by one) paths ≡ map (heard_by other) paths
   same_heard [] same = refl
   same_heard (path ∷ paths) same =
-      ap₂ (λ (heard : Heard) (rest : List (List ℕ × Heard)). let it : List ℕ × Heard = (path, normal_heard heard) in it ∷ rest) same.0 (same_heard paths same.1)
+      ap₂ (λ (heard : ReadResult) (rest : List (List ℕ × ReadResult)). let it : List ℕ × ReadResult = (path, normal_heard heard) in it ∷ rest) same.0 (same_heard paths same.1)
 
-  same_holding : (clarifications : List Clarification) → AllByRecursion SameFor (files_of clarifications) → holding one clarifications ≡ holding other clarifications
+  same_holding : (clarifications : List ClarificationView) → AllByRecursion SameFor (named_files clarifications) → holding one clarifications ≡ holding other clarifications
   same_holding [] same = refl
   same_holding (first ∷ more) same = ap₂ (λ b rest. cond b (Some first) rest) (same_holds (named_in first) same.0) (same_holding more same.1)
 
   -- ---- by the paths that are named
 
-  same_named : (files : List Named) → AllByRecursion SameAt (map (λ named. named.path) files) → SameFor files
+  same_named : (files : List NamedFileView) → AllByRecursion SameAt (map (λ named. named.path) files) → SameFor files
   same_named [] same = tt
   same_named (named ∷ files) same = (same.0, same_named files same.1)
 
-  same_each : (clarifications : List Clarification) → AllByRecursion SameAt (flat_map paths_named clarifications) → AllByRecursion SameFor (files_of clarifications)
+  same_each : (clarifications : List ClarificationView) → AllByRecursion SameAt (flat_map clarified_paths clarifications) → AllByRecursion SameFor (named_files clarifications)
   same_each [] same = tt
   same_each (first ∷ more) same = (
-    same_named (named_in first) (all_front SameAt (paths_named first) (flat_map paths_named more) same),
-    same_each more (all_behind SameAt (paths_named first) (flat_map paths_named more) same),
+    same_named (named_in first) (all_front SameAt (clarified_paths first) (flat_map clarified_paths more) same),
+    same_each more (all_behind SameAt (clarified_paths first) (flat_map clarified_paths more) same),
   )
 
-  same_priority : (scanner : Scanner) (clarifications : List Clarification) (krate : Record) → HearTheSame clarifications krate one other
+  same_priority : (scanner : Scanner) (clarifications : List ClarificationView) (krate : Record) → HearTheSame clarifications krate one other
       → priority_of scanner clarifications krate one ≡ priority_of scanner clarifications krate other
   same_priority scanner clarifications krate hear =
-      let found = found_of one.listing krate.license_file in
-      let files = files_of clarifications in
+      let found = license_files_in one.listing krate.license_file in
+      let files = named_files clarifications in
       let all : AllByRecursion SameAt (paths_around one.listing clarifications krate) = recursion_from_All SameAt (paths_around one.listing clarifications krate) hear.files in
-      let each : AllByRecursion SameFor files = same_each clarifications (all_behind SameAt found (flat_map paths_named clarifications) all) in
+      let each : AllByRecursion SameFor files = same_each clarifications (all_behind SameAt found (flat_map clarified_paths clarifications) all) in
       let wanted_same : wanted_of one krate.license_file files ≡ wanted_of other krate.license_file files =
-      ap₂ (λ listing rest. found_of listing krate.license_file ++ rest) hear.listing (same_tried files each) in
+      ap₂ (λ listing rest. license_files_in listing krate.license_file ++ rest) hear.listing (same_tried files each) in
       let wanted_all : AllByRecursion SameAt (wanted_of one krate.license_file files) =
-      all_both SameAt found (flat_map (looked_of one) (tried_of one files)) (all_front SameAt found (flat_map paths_named clarifications) all) (tried_same files each) in
-      let pack = pack_of one krate.license_file files in
+      all_both SameAt found (flat_map (looked_of one) (tried_of one files)) (all_front SameAt found (flat_map clarified_paths clarifications) all) (tried_same files each) in
+      let pack = pack_paths one krate.license_file files in
       let pack_all : AllByRecursion SameAt pack =
       place_each SameAt [] (first_spellings (wanted_of one krate.license_file files)) tt (spelled SameAt (wanted_of one krate.license_file files) wanted_all) in
-      let pack_same : pack ≡ pack_of other krate.license_file files = ap (λ paths. in_path_order (first_spellings paths)) wanted_same in
-      let heard_same : map (heard_by one) pack ≡ map (heard_by other) (pack_of other krate.license_file files) =
+      let pack_same : pack ≡ pack_paths other krate.license_file files = ap (λ paths. in_path_order (first_spellings paths)) wanted_same in
+      let heard_same : map (heard_by one) pack ≡ map (heard_by other) (pack_paths other krate.license_file files) =
       same_heard pack pack_all ∙ ap (map (heard_by other)) pack_same in
       let scanned_same : files_scanned scanner clarifications krate one ≡ files_scanned scanner clarifications krate other =
       ap (map (file_scanned scanner)) heard_same in
@@ -192,21 +192,21 @@ same_items (x ∷ xs) [] same = let bad : Some x ∷ map Some xs ≡ [] = same i
 same_items (x ∷ xs) (y ∷ ys) same = ap₂ (λ first rest. first ∷ rest) (ap (first_of x) same) (same_items xs ys (ap rest_of same))
 
 same_accepted : (policy : Policy) (krate : Record) (expression : Option ExpressionView) (choice places : List ℕ) (hits others : List Hit)
-    → IsAnswered policy krate expression (Accepted choice hits) → IsAnswered policy krate expression (Accepted places others) → Accepted choice hits ≡ Accepted places others
+    → IsCertifiedOrUnlicensed policy krate expression (Accepted choice hits) → IsCertifiedOrUnlicensed policy krate expression (Accepted places others) → Accepted choice hits ≡ Accepted places others
 same_accepted policy krate None choice places hits others first second = let bad : Accepted choice hits ≡ Unlicensed = first in cc
 same_accepted policy krate (Some expression) choice places hits others first second =
     let choices : choice ≡ places = ap (λ o. unwrap_or o choice) (sym first.first ∙ second.first) in
     ap₂ Accepted choices
-    (same_items hits others (first.place_by_place ∙ ap (map (hit_at (kept_of policy krate expression.terms))) choices ∙ sym second.place_by_place))
+    (same_items hits others (first.place_by_place ∙ ap (map (hit_at (term_hits policy krate expression.terms))) choices ∙ sym second.place_by_place))
 
 same_rejected : (policy : Policy) (krate : Record) (expression : Option ExpressionView) (least fewest blocks others : List ℕ)
-    → IsAnswered policy krate expression (Rejected least blocks) → IsAnswered policy krate expression (Rejected fewest others) → Rejected least blocks ≡ Rejected fewest others
+    → IsCertifiedOrUnlicensed policy krate expression (Rejected least blocks) → IsCertifiedOrUnlicensed policy krate expression (Rejected fewest others) → Rejected least blocks ≡ Rejected fewest others
 same_rejected policy krate None least fewest blocks others first second = let bad : Rejected least blocks ≡ Unlicensed = first in cc
 same_rejected policy krate (Some expression) least fewest blocks others first second =
     ap₂ Rejected (ap (λ o. unwrap_or o least) (sym first.least_is ∙ second.least_is)) (first.blocks_are ∙ sym second.blocks_are)
 
 same_shown : (policy : Policy) (krate : Record) (expression : Option ExpressionView) (first second : Verdict) → judgement_in first ≡ judgement_in second
-    → IsShown (is_skipped first) policy krate expression first → IsShown (is_skipped second) policy krate expression second → first ≡ second
+    → IsVerdictShown (is_skipped first) policy krate expression first → IsVerdictShown (is_skipped second) policy krate expression second → first ≡ second
 same_shown policy krate expression Skipped Skipped same shown also = refl
 same_shown policy krate expression Skipped Unlicensed same shown also = let bad : skipped ≡ unlicensed = same in cc
 same_shown policy krate expression Skipped (Accepted choice hits) same shown also = let bad : skipped ≡ accepted = same in cc
@@ -236,7 +236,7 @@ same_verdict policy krate expression first second is also =
 pub by_ears : VerdictIsByEars
 by_ears scanner policy krate one other first second hear is also =
     let same : expression_by scanner policy krate one ≡ expression_by scanner policy krate other =
-    ap (λ answer. option_map (λ (one : Answer). one.expression) answer) (same_priority one other scanner (clarifications_of krate (entries_of policy)) krate hear) in
+    ap (λ answer. option_map (λ (one : LicenseAnswer). one.expression) answer) (same_priority one other scanner (clarifications_of krate (entries_of policy)) krate hear) in
     same_verdict (policy_of policy) krate (expression_by scanner policy krate one) first second is
     (subst (λ (e : Option ExpressionView). IsVerdict (policy_of policy) krate e second) (sym same) also)
 

@@ -3,7 +3,7 @@ use Rattle.std.proofs.Common.{◌≡◌, ◌∙◌, refl, sym, ap, subst, ℕ, B
 use Rattle.std.specs.Prelude.{◌↔◌}
 use Rattle.std.proofs.lemmas.Bool.{cond-true, cond-false}
 use Rattle.std.specs.declared.alloc.AllocError.{AllocError}
-use Rattle.spdx_core.specs.Grammar.{Tree}
+use Rattle.spdx_core.specs.Grammar.{ExpressionTree}
 use Rattle.spdx_core.specs.Reading.{ExpressionView}
 use Rattle.graph_core.specs.Krate.{Record}
 use Rattle.certificate_core.specs.declared.verdict.Hit.{Hit}
@@ -13,12 +13,12 @@ use Rattle.certificate_core.specs.Certificates.{CertificateAnswers, has_hit}
 use Rattle.certificate_core.specs.Choices.{first_choice, is_accepted}
 use Rattle.certificate_core.proofs.LawLemmas.{no_choice}
 use Rattle.valid_policy.specs.Policy.{IsPrivate, Policy}
-use Rattle.evaluate_core.specs.Evaluation.{is_allowed, kept_of}
+use Rattle.evaluate_core.specs.Evaluation.{is_allowed, term_hits}
 use Rattle.check_core.specs.declared.crate_check.CrateCheck.{CrateCheck}
-use Rattle.check_core.specs.Verdicts.{accepted, rejected, IsAnswered, IsCertified, IsShown, IsVerdict, is_skipped, judgement_in, judgement_of, verdict_of}
+use Rattle.check_core.specs.Verdicts.{accepted, rejected, IsCertifiedOrUnlicensed, IsCertified, IsVerdictShown, IsVerdict, is_skipped, judgement_in, judgement_of, verdict_of}
 
 -- what was kept is what the policy says of each term
-pub certified : (policy : Policy) (krate : Record) (expression : ExpressionView) (kept : List (Option Hit)) (verdict : Verdict) → kept ≡ kept_of policy krate expression.terms
+pub certified : (policy : Policy) (krate : Record) (expression : ExpressionView) (kept : List (Option Hit)) (verdict : Verdict) → kept ≡ term_hits policy krate expression.terms
     → CertificateAnswers kept expression.tree (Ok verdict) → IsCertified policy krate expression verdict
 certified policy krate expression kept Skipped is shows = absurd shows
 certified policy krate expression kept Unlicensed is shows = absurd shows
@@ -29,17 +29,17 @@ certified policy krate expression kept (Rejected least blocks) is shows =
 
 -- ---- the judgement in a certificate
 
-accepted_by : (has_hit : ℕ → Bool) (tree : Tree) (choice : List ℕ) (b : Bool) → is_accepted has_hit tree ≡ b → first_choice has_hit tree ≡ Some choice → is_accepted has_hit tree ≡ true
+accepted_by : (has_hit : ℕ → Bool) (tree : ExpressionTree) (choice : List ℕ) (b : Bool) → is_accepted has_hit tree ≡ b → first_choice has_hit tree ≡ Some choice → is_accepted has_hit tree ≡ true
 accepted_by has_hit tree choice true is first = is
 accepted_by has_hit tree choice false is first = let none : None ≡ Some choice = sym (no_choice has_hit tree is) ∙ first in cc
 
-answered_is : (policy : Policy) (krate : Record) (expression : Option ExpressionView) (verdict : Verdict) → IsAnswered policy krate expression verdict
+answered_is : (policy : Policy) (krate : Record) (expression : Option ExpressionView) (verdict : Verdict) → IsCertifiedOrUnlicensed policy krate expression verdict
     → (judgement_in verdict ≡ judgement_of policy krate expression) × (is_skipped verdict ≡ false)
 answered_is policy krate None verdict is = (ap judgement_in is, ap is_skipped is)
 answered_is policy krate (Some expression) Skipped shows = absurd shows
 answered_is policy krate (Some expression) Unlicensed shows = absurd shows
 answered_is policy krate (Some expression) (Accepted choice hits) shows =
-    let hit = has_hit (kept_of policy krate expression.terms) in
+    let hit = has_hit (term_hits policy krate expression.terms) in
     let is : is_allowed policy krate expression.terms expression.tree ≡ true = accepted_by hit expression.tree choice (is_accepted hit expression.tree) refl shows.first in
     (sym (cond-true (is_allowed policy krate expression.terms expression.tree) accepted rejected is), refl)
 answered_is policy krate (Some expression) (Rejected least blocks) shows =
@@ -55,11 +55,11 @@ skipped_verdict policy krate expression private verdict tells passed is = record
     tells = tells;
     is = ap judgement_in is ∙ sym (ap (λ (b : Bool). verdict_of b policy krate expression) passed);
   };
-  shown = subst (λ (v : Verdict). IsShown (is_skipped v) policy krate expression v) (sym is) refl;
+  shown = subst (λ (v : Verdict). IsVerdictShown (is_skipped v) policy krate expression v) (sym is) refl;
 }
 
 pub answered_verdict : (policy : Policy) (krate : Record) (expression : Option ExpressionView) (private : Bool) (verdict : Verdict) → IsTrue private ↔ IsPrivate policy krate → private ≡ false
-    → IsAnswered policy krate expression verdict → IsVerdict policy krate expression verdict
+    → IsCertifiedOrUnlicensed policy krate expression verdict → IsVerdict policy krate expression verdict
 answered_verdict policy krate expression private verdict tells asked answered =
     let told = answered_is policy krate expression verdict answered in
     record {
@@ -68,14 +68,14 @@ answered_verdict policy krate expression private verdict tells asked answered =
         tells = tells;
         is = told.0 ∙ sym (ap (λ (b : Bool). verdict_of b policy krate expression) asked);
       };
-      shown = subst (λ (s : Bool). IsShown s policy krate expression verdict) (sym told.1) answered;
+      shown = subst (λ (s : Bool). IsVerdictShown s policy krate expression verdict) (sym told.1) answered;
     }
 
-pub answered_not_skipped : (policy : Policy) (krate : Record) (expression : Option ExpressionView) (verdict : Verdict) → IsAnswered policy krate expression verdict → is_skipped verdict ≡ false
+pub answered_not_skipped : (policy : Policy) (krate : Record) (expression : Option ExpressionView) (verdict : Verdict) → IsCertifiedOrUnlicensed policy krate expression verdict → is_skipped verdict ≡ false
 answered_not_skipped policy krate expression verdict answered = (answered_is policy krate expression verdict answered).1
 
 -- of a crate that was asked, unless memory was short
 pub answered_check : (policy : Policy) (krate : Record) (expression : Option ExpressionView) (private : Bool) → IsTrue private ↔ IsPrivate policy krate → private ≡ false
-    → (result : Result CrateCheck AllocError) → IfOk result (λ checked. IsAnswered policy krate expression checked.verdict) → IfOk result (λ checked. IsVerdict policy krate expression checked.verdict)
+    → (result : Result CrateCheck AllocError) → IfOk result (λ checked. IsCertifiedOrUnlicensed policy krate expression checked.verdict) → IfOk result (λ checked. IsVerdict policy krate expression checked.verdict)
 answered_check policy krate expression private tells asked (Ok checked) answered = answered_verdict policy krate expression private checked.verdict tells asked answered
 answered_check policy krate expression private tells asked (Err error) none = tt

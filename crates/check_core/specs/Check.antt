@@ -11,28 +11,28 @@ use Rattle.unused_core.specs.Unused.{last_pack}
 use Rattle.valid_policy.specs.declared.policy.ValidConfig.{ValidConfig}
 use Rattle.valid_policy.specs.Policy.{Policy}
 use Rattle.valid_policy.specs.View.{policy_of}
-use Rattle.check_core.specs.Summary.{all_asked}
-use Rattle.check_core.specs.Turns.{Asked, expression_of, hits_by, pack_by}
+use Rattle.check_core.specs.Summary.{gathered_of_licenses}
+use Rattle.check_core.specs.Turns.{GatheredCrate, expression_of, hits_by, pack_by}
 use Rattle.check_core.specs.Verdicts.{IsVerdict, is_skipped}
 
 -- each crate has its verdict, in order
-abbrev pub AreVerdicts : Policy → List Asked → List Verdict → Type 0
-AreVerdicts policy asked verdicts = AllZip (λ (one : Asked) verdict. IsVerdict policy one.krate (expression_of one.info) verdict) asked verdicts
+abbrev pub AreVerdicts : Policy → List GatheredCrate → List Verdict → Type 0
+AreVerdicts policy asked verdicts = AllZip (λ (one : GatheredCrate) verdict. IsVerdict policy one.krate (expression_of one.info) verdict) asked verdicts
 
 -- the packs of the crates, in order
-abbrev pub packs_of : Policy → List Asked → List Verdict → List PackOf
+abbrev pub packs_of : Policy → List GatheredCrate → List Verdict → List PackOf
 packs_of policy [] verdicts = []
 packs_of policy (asked ∷ more) [] = []
 packs_of policy (asked ∷ more) (verdict ∷ verdicts) = pack_by (is_skipped verdict) policy asked ∷ packs_of policy more verdicts
 
 -- the hits of all terms of the crates that are not skipped
-abbrev pub all_hits : Policy → List Asked → List Verdict → List Hit
+abbrev pub all_hits : Policy → List GatheredCrate → List Verdict → List Hit
 all_hits policy [] verdicts = []
 all_hits policy (asked ∷ more) [] = []
 all_hits policy (asked ∷ more) (verdict ∷ verdicts) = hits_by (is_skipped verdict) policy asked ++ all_hits policy more verdicts
 
 -- All packs of the check: one a crate, and then always one about the policy, which may be empty.
-abbrev pub findings_of : ValidConfig → List Asked → List Verdict → List PackOf
+abbrev pub findings_of : ValidConfig → List GatheredCrate → List Verdict → List PackOf
 findings_of policy asked verdicts = packs_of (policy_of policy) asked verdicts ++ last_pack policy (all_hits (policy_of policy) asked verdicts) ∷ []
 
 -- ---- what a sink has gained
@@ -45,5 +45,5 @@ gained sink packs = record sink { packs = sink.packs ++ map (pack_overridden sin
 pub record HasFront (policy : Policy) (licenses : List KrateLicense) (old new : ErrorSink) : Type 0 where
   pub count : ℕ
   pub verdicts : List Verdict
-  pub are : AreVerdicts policy (all_asked (take count licenses)) verdicts
-  pub front : new ≡ gained old (packs_of policy (all_asked (take count licenses)) verdicts)
+  pub are : AreVerdicts policy (gathered_of_licenses (take count licenses)) verdicts
+  pub front : new ≡ gained old (packs_of policy (gathered_of_licenses (take count licenses)) verdicts)

@@ -12,18 +12,18 @@ use Rattle.finding_core.specs.declared.license.LicenseInfo.TheVariants.{SpdxExpr
 use Rattle.valid_policy.specs.declared.policy.ValidConfig.{ValidConfig}
 use Rattle.valid_policy.specs.Policy.{Policy, hit_of}
 use Rattle.valid_policy.specs.View.{policy_of}
-use Rattle.evaluate_core.specs.Evaluation.{kept_of}
+use Rattle.evaluate_core.specs.Evaluation.{term_hits}
 use Rattle.verdict_findings.specs.Findings.{term_label, term_labels}
 use Rattle.unused_core.specs.Laws.{ExceptionIsHit, LicenseIsHit, TellUnused}
 use Rattle.unused_core.specs.Unused.{unused_findings}
 use Rattle.check_core.specs.Check.{all_hits}
-use Rattle.check_core.specs.Turns.{Asked}
+use Rattle.check_core.specs.Turns.{GatheredCrate}
 use Rattle.check_core.specs.Verdicts.{is_skipped}
 
 -- each term of a crate's expression is told at its own place by what allows it
 abbrev pub TermsAreTold : Type 0
 TermsAreTold = (policy : Policy) (krate : Record) (nfo : LicenseExprInfo) (terms : List ExpressionReq)
-    → AllZip (λ term label. label ≡ term_label nfo term.span (hit_of policy krate term.req)) terms (term_labels nfo terms (kept_of policy krate terms))
+    → AllZip (λ term label. label ≡ term_label nfo term.span (hit_of policy krate term.req)) terms (term_labels nfo terms (term_hits policy krate terms))
 
 -- ---- hits of crates
 
@@ -33,12 +33,12 @@ HasTerm policy krate hit Unlicensed = ⊥
 HasTerm policy krate hit (SpdxExpression expression nfo) = Any (λ (term : ExpressionReq). hit_of policy krate term.req ≡ Some hit) expression.terms
 
 -- so has a crate that is not skipped
-pub record Needs (policy : Policy) (hit : Hit) (asked : Asked) (verdict : Verdict) : Type 0 where
+pub record Needs (policy : Policy) (hit : Hit) (asked : GatheredCrate) (verdict : Verdict) : Type 0 where
   pub asks : is_skipped verdict ≡ false
   pub term : HasTerm policy asked.krate hit asked.info
 
 -- some crate does
-abbrev pub IsNeeded : Policy → List Asked → List Verdict → Hit → Type 0
+abbrev pub IsNeeded : Policy → List GatheredCrate → List Verdict → Hit → Type 0
 IsNeeded policy [] verdicts hit = ⊥
 IsNeeded policy (asked ∷ more) [] hit = ⊥
 IsNeeded policy (asked ∷ more) (verdict ∷ verdicts) hit = Needs policy hit asked verdict ⊎ IsNeeded policy more verdicts hit
@@ -46,11 +46,11 @@ IsNeeded policy (asked ∷ more) (verdict ∷ verdicts) hit = Needs policy hit a
 -- After these crates the entries are told that no crate needs: an allowed licensee is a hit just where some crate that is not
 -- skipped has a term that it allows, whether or not the crate is accepted and a choice takes the term; an exception, where one
 -- of its entries is.
-pub record TellUnneeded (policy : ValidConfig) (asked : List Asked) (verdicts : List Verdict) : Type 0 where
+pub record TellUnneeded (policy : ValidConfig) (asked : List GatheredCrate) (verdicts : List Verdict) : Type 0 where
   pub told : TellUnused policy (all_hits (policy_of policy) asked verdicts) (unused_findings policy (all_hits (policy_of policy) asked verdicts))
   pub licenses : (place : ℕ) → LicenseIsHit (all_hits (policy_of policy) asked verdicts) place ↔ IsNeeded (policy_of policy) asked verdicts (Allowed place)
   pub exceptions : (place : ℕ)
       → ExceptionIsHit (all_hits (policy_of policy) asked verdicts) place ↔ ((entry : ℕ) × IsNeeded (policy_of policy) asked verdicts (Exception place entry))
 
 abbrev pub TellsTheUnneeded : Type 0
-TellsTheUnneeded = (policy : ValidConfig) (asked : List Asked) (verdicts : List Verdict) → TellUnneeded policy asked verdicts
+TellsTheUnneeded = (policy : ValidConfig) (asked : List GatheredCrate) (verdicts : List Verdict) → TellUnneeded policy asked verdicts

@@ -9,9 +9,9 @@ use Rattle.finding_core.specs.Cuts.{LabelLies}
 use Rattle.finding_core.specs.declared.license.LicenseInfo.{LicenseInfo}
 use Rattle.finding_core.specs.declared.license.LicenseInfo.TheVariants.{SpdxExpression, Unlicensed}
 use Rattle.valid_policy.specs.Policy.{Policy}
-use Rattle.evaluate_core.specs.Evaluation.{kept_of}
+use Rattle.evaluate_core.specs.Evaluation.{term_hits}
 use Rattle.verdict_findings.specs.Laws.{LabelsPoint}
-use Rattle.check_core.specs.Turns.{Asked}
+use Rattle.check_core.specs.Turns.{GatheredCrate}
 
 -- each label of each finding lies in its file, between characters
 abbrev pub FindingLies : List File → Diag → Type 0
@@ -28,7 +28,7 @@ GainLies files old new = (packs : List PackOf) × (new.packs ≡ old.packs ++ pa
 -- written with escapes each is the whole string
 abbrev pub InfoPoints : List File → Policy → Record → LicenseInfo → Type 0
 InfoPoints files policy krate Unlicensed = ⊤
-InfoPoints files policy krate (SpdxExpression expression nfo) = LabelsPoint files expression nfo (kept_of policy krate expression.terms)
+InfoPoints files policy krate (SpdxExpression expression nfo) = LabelsPoint files expression nfo (term_hits policy krate expression.terms)
 
-abbrev pub VerdictPoints : List File → Policy → Asked → Type 0
+abbrev pub VerdictPoints : List File → Policy → GatheredCrate → Type 0
 VerdictPoints files policy asked = InfoPoints files policy asked.krate asked.info

@@ -7,11 +7,11 @@ use Rattle.tree_core.specs.declared.reads.ReadKind.TheVariants.{LicenseFile}
 use Rattle.spdx_core.specs.Reading.{ExpressionView}
 use Rattle.graph_core.specs.Krate.{Record}
 use Rattle.certificate_core.specs.declared.verdict.Verdict.{Verdict}
-use Rattle.reads_core.specs.Heard.{Heard, listing_heard, place_of, there_heard}
-use Rattle.pack_core.specs.Ears.{Ears}
-use Rattle.pack_core.specs.Pack.{found_of}
+use Rattle.reads_core.specs.Heard.{ReadResult, listing_heard, read_place, there_heard}
+use Rattle.pack_core.specs.Ears.{FolderReads}
+use Rattle.pack_core.specs.Pack.{license_files_in}
 use Rattle.expression_core.specs.Scanned.{Scanner}
-use Rattle.priority_core.specs.Clarification.{Clarification, named_in}
+use Rattle.priority_core.specs.Clarification.{ClarificationView, named_in}
 use Rattle.priority_core.specs.Priority.{folder_of, priority_of}
 use Rattle.gather_core.specs.Entries.{clarifications_of, entries_of}
 use Rattle.valid_policy.specs.declared.policy.ValidConfig.{ValidConfig}
@@ -19,37 +19,37 @@ use Rattle.valid_policy.specs.View.{policy_of}
 use Rattle.check_core.specs.Verdicts.{IsVerdict}
 
 -- the expression of a crate, by what is heard
-abbrev pub expression_by : Scanner → ValidConfig → Record → Ears → Option ExpressionView
+abbrev pub expression_by : Scanner → ValidConfig → Record → FolderReads → Option ExpressionView
 expression_by scanner policy krate ears =
     option_map (λ answer. answer.expression) (priority_of scanner (clarifications_of krate (entries_of policy)) krate ears)
 
 -- ---- the files of a crate
 
-abbrev pub paths_named : Clarification → List (List ℕ)
-paths_named one = map (λ named. named.path) (named_in one)
+abbrev pub clarified_paths : ClarificationView → List (List ℕ)
+clarified_paths one = map (λ named. named.path) (named_in one)
 
 -- at most these are read: the licence files of its folder and the file that its record names, by the listing, and the files
 -- that clarifications name
-abbrev pub paths_around : Heard → List Clarification → Record → List (List ℕ)
-paths_around listing clarifications krate = found_of listing krate.license_file ++ flat_map paths_named clarifications
+abbrev pub paths_around : ReadResult → List ClarificationView → Record → List (List ℕ)
+paths_around listing clarifications krate = license_files_in listing krate.license_file ++ flat_map clarified_paths clarifications
 
 -- the same is heard of its folder and of its files
-pub record HearTheSame (clarifications : List Clarification) (krate : Record) (one other : Ears) : Type 0 where
+pub record HearTheSame (clarifications : List ClarificationView) (krate : Record) (one other : FolderReads) : Type 0 where
   pub listing : one.listing ≡ other.listing
   pub files : All (λ path. one.file (components_of path) ≡ other.file (components_of path)) (paths_around one.listing clarifications krate)
 
 -- what a content has of a crate's folder and of its files, so what reads of them let hear that do not fail
-abbrev pub ears_there : Record → Content → Ears
+abbrev pub ears_there : Record → Content → FolderReads
 ears_there krate content = record {
   listing = listing_heard content (resolve (folder_of krate));
-  file = λ parts. there_heard LicenseFile content (place_of LicenseFile (resolve (folder_of krate)) parts);
+  file = λ parts. there_heard LicenseFile content (read_place LicenseFile (resolve (folder_of krate)) parts);
 }
 
 -- ---- laws
 
 -- equal ears, equal verdicts with equal certificates
 abbrev pub VerdictIsByEars : Type 0
-VerdictIsByEars = (scanner : Scanner) (policy : ValidConfig) (krate : Record) (one other : Ears) (first second : Verdict)
+VerdictIsByEars = (scanner : Scanner) (policy : ValidConfig) (krate : Record) (one other : FolderReads) (first second : Verdict)
     → HearTheSame (clarifications_of krate (entries_of policy)) krate one other
     → IsVerdict (policy_of policy) krate (expression_by scanner policy krate one) first
     → IsVerdict (policy_of policy) krate (expression_by scanner policy krate other) second → first ≡ second

@@ -15,7 +15,7 @@ use Rattle.finding_core.specs.declared.license.LicenseInfo.TheVariants.{SpdxExpr
 use Rattle.valid_policy.specs.Policy.{Grant, Policy}
 use Rattle.valid_policy.specs.Rows.{crate_a, grant, isc, mit, policy, zlib}
 use Rattle.verdict_findings.specs.Findings.{finding}
-use Rattle.check_core.specs.Turns.{Asked, expression_of, findings_by, hits_by}
+use Rattle.check_core.specs.Turns.{GatheredCrate, expression_of, findings_by, hits_by}
 use Rattle.check_core.specs.Verdicts.{Judgement, skipped, unlicensed, accepted, rejected, verdict_of}
 
 -- ---- terms
@@ -38,31 +38,31 @@ all = clarified (record { text = codes "MIT AND ISC"; terms = term mit 0 3 ∷ t
 -- ---- the crate `a`
 
 -- a finding by its code and its notes
-pub record Seen : Type 0 where
+pub record CodeAndNotes : Type 0 where
   pub code : Option (List ℕ)
   pub notes : List (List ℕ)
 
-abbrev seen_of : Diag → Seen
+abbrev seen_of : Diag → CodeAndNotes
 seen_of finding = record { code = finding.diag.code; notes = finding.diag.notes }
 
-abbrev seen : List ℕ → List (List ℕ) → Seen
+abbrev seen : List ℕ → List (List ℕ) → CodeAndNotes
 seen code notes = record { code = Some code; notes = notes }
 
-pub record Row : Type 0 where
+pub record CheckRow : Type 0 where
   pub skips : Bool
   pub policy : Policy
   pub info : LicenseInfo
   pub judgement : Judgement
   pub hits : List Hit
-  pub findings : List Seen
+  pub findings : List CodeAndNotes
 
 -- with a finding and a note that were gathered
-abbrev asked : LicenseInfo → Asked
+abbrev asked : LicenseInfo → GatheredCrate
 asked info = record { krate = crate_a; info = info; gathered = finding Warning GatherFailure [] [] [] ∷ []; notes = codes "a note" ∷ [] }
 
 -- what the definitions make of a row
-abbrev pub judged : Row → Row
-judged row = record {
+abbrev pub judged_row : CheckRow → CheckRow
+judged_row row = record {
   skips = row.skips;
   policy = row.policy;
   info = row.info;
@@ -72,7 +72,7 @@ judged row = record {
 }
 
 -- of a crate that is not passed over
-abbrev row : List LicenseReq → List Grant → LicenseInfo → Judgement → List ℕ → List Hit → Row
+abbrev row : List LicenseReq → List Grant → LicenseInfo → Judgement → List ℕ → List Hit → CheckRow
 row licensees grants info judgement code hits = record {
   skips = false;
   policy = policy licensees grants;
@@ -83,7 +83,7 @@ row licensees grants info judgement code hits = record {
 }
 
 -- of one that is
-abbrev passed : LicenseInfo → Row
+abbrev passed : LicenseInfo → CheckRow
 passed info = record {
   skips = true;
   policy = policy (mit ∷ []) [];
@@ -93,7 +93,7 @@ passed info = record {
   findings = seen (codes "skipped-private-workspace-crate") [] ∷ [];
 }
 
-abbrev pub rows : List Row
+abbrev pub rows : List CheckRow
 rows =
     row (mit ∷ []) [] one accepted (codes "accepted") (Allowed 0 ∷ [])
     -- a term that the choice passes by counts as a hit

@@ -6,19 +6,19 @@ use Rattle.finding_core.specs.declared.license.LicenseInfo.{LicenseInfo}
 use Rattle.finding_core.specs.declared.license.LicenseInfo.TheVariants.{SpdxExpression, Unlicensed}
 use Rattle.gather_core.specs.Gathered.{krate_of}
 use Rattle.gather_core.specs.declared.summary.KrateLicense.{KrateLicense}
-use Rattle.verdict_findings.specs.Places.{Fits}
-use Rattle.check_core.specs.Turns.{Asked}
+use Rattle.verdict_findings.specs.Places.{PlaceFits}
+use Rattle.check_core.specs.Turns.{GatheredCrate}
 
-abbrev pub asked_in : KrateLicense → Asked
-asked_in license = record {
+abbrev pub gathered_of_license : KrateLicense → GatheredCrate
+gathered_of_license license = record {
   krate = krate_of license;
   info = license.lic_info;
   gathered = license.diags;
   notes = license.notes;
 }
 
-abbrev pub all_asked : List KrateLicense → List Asked
-all_asked licenses = map asked_in licenses
+abbrev pub gathered_of_licenses : List KrateLicense → List GatheredCrate
+gathered_of_licenses licenses = map gathered_of_license licenses
 
 -- the nodes of the expression; none where there is no expression
 abbrev pub nodes_in : LicenseInfo → ℕ
@@ -33,4 +33,4 @@ IsExpressionIn (SpdxExpression expression nfo) = IsExpression expression.text ex
 -- each place of its text is one of 64 bits in its file
 abbrev pub InfoFits : LicenseInfo → Type 0
 InfoFits Unlicensed = ⊤
-InfoFits (SpdxExpression expression nfo) = Fits nfo (length expression.text)
+InfoFits (SpdxExpression expression nfo) = PlaceFits nfo (length expression.text)

@@ -8,14 +8,14 @@ pub use Rattle.finding_core.specs.License.{expression_of}
 use Rattle.finding_core.specs.declared.license.LicenseInfo.{LicenseInfo}
 use Rattle.finding_core.specs.declared.license.LicenseInfo.TheVariants.{SpdxExpression, Unlicensed}
 use Rattle.valid_policy.specs.Policy.{Policy}
-use Rattle.evaluate_core.specs.Evaluation.{is_allowed, kept_of}
+use Rattle.evaluate_core.specs.Evaluation.{is_allowed, term_hits}
 use Rattle.unused_core.specs.Flags.{Flags}
 use Rattle.unused_core.specs.Unused.{hits_in}
 use Rattle.verdict_findings.specs.Findings as findings
-use Rattle.verdict_findings.specs.Findings.{labels_of, judged, pack_of}
+use Rattle.verdict_findings.specs.Findings.{verdict_labels, judged, pack_of}
 
 -- a crate, its licence, what was found on the way to that, and what is noted
-pub record Asked : Type 0 where
+pub record GatheredCrate : Type 0 where
   pub krate : Record
   pub info : LicenseInfo
   pub gathered : List Diag
@@ -27,29 +27,29 @@ pub record Asked : Type 0 where
 abbrev pub verdict_finding : Policy → Record → LicenseInfo → List (List ℕ) → Diag
 verdict_finding policy krate Unlicensed notes = findings.unlicensed krate notes
 verdict_finding policy krate (SpdxExpression expression nfo) notes =
-    judged (is_allowed policy krate expression.terms expression.tree) (labels_of expression nfo (kept_of policy krate expression.terms)) notes
+    judged (is_allowed policy krate expression.terms expression.tree) (verdict_labels expression nfo (term_hits policy krate expression.terms)) notes
 
 -- That it is skipped, alone; or else what was gathered, in its order, and then the verdict with the gathered notes.
-abbrev pub findings_by : Bool → Policy → Asked → List Diag
+abbrev pub findings_by : Bool → Policy → GatheredCrate → List Diag
 findings_by true policy asked = findings.skipped asked.krate ∷ []
 findings_by false policy asked = asked.gathered ++ verdict_finding policy asked.krate asked.info asked.notes ∷ []
 
-abbrev pub pack_by : Bool → Policy → Asked → PackOf
+abbrev pub pack_by : Bool → Policy → GatheredCrate → PackOf
 pack_by private policy asked = pack_of asked.krate (findings_by private policy asked)
 
 -- the hits of all terms of its expression, also of those that no choice takes; a crate that is passed over has none
 abbrev pub hits_of : Policy → Record → LicenseInfo → List Hit
 hits_of policy krate Unlicensed = []
-hits_of policy krate (SpdxExpression expression nfo) = hits_in (kept_of policy krate expression.terms)
+hits_of policy krate (SpdxExpression expression nfo) = hits_in (term_hits policy krate expression.terms)
 
-abbrev pub hits_by : Bool → Policy → Asked → List Hit
+abbrev pub hits_by : Bool → Policy → GatheredCrate → List Hit
 hits_by true policy asked = []
 hits_by false policy asked = hits_of policy asked.krate asked.info
 
 -- ---- what is kept from crate to crate
 
 -- for how many nodes of an expression there is room, the names of the policy's exceptions, and which entries were hits
-pub record Checking : Type 0 where
+pub record CheckerState : Type 0 where
   pub nodes : ℕ
   pub names : List (List ℕ)
   pub flags : Flags

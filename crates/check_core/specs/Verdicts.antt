@@ -6,7 +6,7 @@ use Rattle.certificate_core.specs.declared.verdict.Verdict.{Verdict}
 use Rattle.certificate_core.specs.declared.verdict.Verdict.TheVariants.{Skipped, Unlicensed, Accepted, Rejected}
 use Rattle.certificate_core.specs.Certificates.{ShowsAccepted, ShowsRejected}
 use Rattle.valid_policy.specs.Policy.{IsPrivate, Policy}
-use Rattle.evaluate_core.specs.Evaluation.{is_allowed, kept_of}
+use Rattle.evaluate_core.specs.Evaluation.{is_allowed, term_hits}
 
 -- a verdict without what shows it
 pub data Judgement : Type 0 where
@@ -49,20 +49,20 @@ is_skipped (Rejected least blocks) = false
 abbrev pub IsCertified : Policy → Record → ExpressionView → Verdict → Type 0
 IsCertified policy krate expression Skipped = ⊥
 IsCertified policy krate expression Unlicensed = ⊥
-IsCertified policy krate expression (Accepted choice hits) = ShowsAccepted (kept_of policy krate expression.terms) expression.tree choice hits
-IsCertified policy krate expression (Rejected least blocks) = ShowsRejected (kept_of policy krate expression.terms) expression.tree least blocks
+IsCertified policy krate expression (Accepted choice hits) = ShowsAccepted (term_hits policy krate expression.terms) expression.tree choice hits
+IsCertified policy krate expression (Rejected least blocks) = ShowsRejected (term_hits policy krate expression.terms) expression.tree least blocks
 
 -- of a crate that is not passed over
-abbrev pub IsAnswered : Policy → Record → Option ExpressionView → Verdict → Type 0
-IsAnswered policy krate None verdict = verdict ≡ Unlicensed
-IsAnswered policy krate (Some expression) verdict = IsCertified policy krate expression verdict
+abbrev pub IsCertifiedOrUnlicensed : Policy → Record → Option ExpressionView → Verdict → Type 0
+IsCertifiedOrUnlicensed policy krate None verdict = verdict ≡ Unlicensed
+IsCertifiedOrUnlicensed policy krate (Some expression) verdict = IsCertified policy krate expression verdict
 
 -- a skipped crate has nothing that would show it
-abbrev pub IsShown : Bool → Policy → Record → Option ExpressionView → Verdict → Type 0
-IsShown true policy krate expression verdict = verdict ≡ Skipped
-IsShown false policy krate expression verdict = IsAnswered policy krate expression verdict
+abbrev pub IsVerdictShown : Bool → Policy → Record → Option ExpressionView → Verdict → Type 0
+IsVerdictShown true policy krate expression verdict = verdict ≡ Skipped
+IsVerdictShown false policy krate expression verdict = IsCertifiedOrUnlicensed policy krate expression verdict
 
 -- a verdict is that on a crate, and has what shows it
 pub record IsVerdict (policy : Policy) (krate : Record) (expression : Option ExpressionView) (verdict : Verdict) : Type 0 where
   pub judged : IsJudged policy krate expression (judgement_in verdict)
-  pub shown : IsShown (is_skipped verdict) policy krate expression verdict
+  pub shown : IsVerdictShown (is_skipped verdict) policy krate expression verdict

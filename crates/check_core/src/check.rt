@@ -2,19 +2,19 @@
 ghost use Rattle.std.specs.Prelude.{◌≡◌, ◌<◌, ◌≤◌, [], ◌∷◌, All, IfOk, None, OnOk, OnErr, List, length};
 ghost use Rattle.std.specs.Option.{option_map_or};
 ghost use Rattle.certificate_core.specs.declared.verdict.Hit.{Hit};
-ghost use Rattle.diag_core.specs.File.{source_of};
+ghost use Rattle.diag_core.specs.File.{source_of_file};
 ghost use Rattle.valid_policy.specs.View.{policy_of};
 ghost use Rattle.evaluate_core.specs.Evaluation.{exception_names};
 ghost use Rattle.unused_core.specs.Flags.{flags_by};
 ghost use Rattle.unused_core.specs.Laws.{EntriesLie};
 ghost use Rattle.unused_core.specs.Unused as unused;
-ghost use Rattle.verdict_findings.specs.Places.{Fits};
+ghost use Rattle.verdict_findings.specs.Places.{PlaceFits};
 ghost use Rattle.finding_core.specs.License.{InfoStands, Stands};
 ghost use Rattle.gather_core.specs.Premises.{IsPlacedAt};
 ghost use Rattle.check_core.specs.Check.{AreVerdicts, HasFront, all_hits, findings_of, gained, packs_of};
 ghost use Rattle.check_core.specs.Labels.{GainLies, PackLies, VerdictPoints};
 ghost use Rattle.check_core.specs.Summary as spec;
-ghost use Rattle.check_core.specs.Summary.{InfoFits, IsExpressionIn, all_asked};
+ghost use Rattle.check_core.specs.Summary.{InfoFits, IsExpressionIn, gathered_of_licenses};
 
 use crate::crate_check::Checker;
 use deny_text::{ListOf, Steps};
@@ -76,7 +76,7 @@ fn most_nodes(licenses: &[KrateLicense<'_>]) -> usize
 
 /// The length of a file's text, which is a number of 64 bits; 0 where there is no such file.
 fn length_in(files: &Files, id: FileId) -> usize
-    ensures { result ≡ option_map_or length (source_of files.now id) 0 }
+    ensures { result ≡ option_map_or length (source_of_file files.now id) 0 }
 {
     match files.source(id) {
         Ok(text) => text.len(),
@@ -87,7 +87,7 @@ fn length_in(files: &Files, id: FileId) -> usize
 /// The text of an expression that stands in its file fits there, since the file's text is at least as long.
 fn text_fits(files: &Files, expr: &Expression, nfo: &LicenseExprInfo)
     requires { Stands files.now nfo.now expr.now.text }
-    ensures { Fits nfo.now (length expr.now.text) }
+    ensures { PlaceFits nfo.now (length expr.now.text) }
 {
     let _length = length_in(files, nfo.file_id);
 }
@@ -119,11 +119,11 @@ fn judge_in_order<L: Ledger>(
     requires flags { checker.old.flags ≡ flags_by policy.now [] }
     requires placed { All (IsPlacedAt files.now) licenses.now }
     ensures verdicts { IfOk result (λ verdicts.
-        AreVerdicts (policy_of policy.now) (all_asked licenses.now) verdicts) }
+        AreVerdicts (policy_of policy.now) (gathered_of_licenses licenses.now) verdicts) }
     ensures packs { IfOk result (λ verdicts.
-        sink.new ≡ gained sink.old (packs_of (policy_of policy.now) (all_asked licenses.now) verdicts)) }
+        sink.new ≡ gained sink.old (packs_of (policy_of policy.now) (gathered_of_licenses licenses.now) verdicts)) }
     ensures flags { IfOk result (λ verdicts. checker.new.flags
-        ≡ flags_by policy.now (all_hits (policy_of policy.now) (all_asked licenses.now) verdicts)) }
+        ≡ flags_by policy.now (all_hits (policy_of policy.now) (gathered_of_licenses licenses.now) verdicts)) }
     ensures front { OnErr result (HasFront (policy_of policy.now) licenses.now sink.old sink.new) }
     ensures steps { steps.old ≤ steps.new }
 {
@@ -166,9 +166,9 @@ fn judge_with_room<L: Ledger>(
     requires room { All (λ license. spec.nodes_in license.lic_info ≤ nodes) licenses.now }
     requires placed { All (IsPlacedAt files.now) licenses.now }
     ensures verdicts { IfOk result (λ verdicts.
-        AreVerdicts (policy_of policy.now) (all_asked licenses.now) verdicts) }
+        AreVerdicts (policy_of policy.now) (gathered_of_licenses licenses.now) verdicts) }
     ensures packs { IfOk result (λ verdicts.
-        sink.new ≡ gained sink.old (findings_of policy.now (all_asked licenses.now) verdicts)) }
+        sink.new ≡ gained sink.old (findings_of policy.now (gathered_of_licenses licenses.now) verdicts)) }
     ensures front { OnErr result (HasFront (policy_of policy.now) licenses.now sink.old sink.new) }
     ensures steps { steps.old ≤ steps.new }
 {
@@ -190,13 +190,13 @@ pub fn check<L: Ledger>(
 ) -> Result<Verdicts, AllocError>
     requires placed { All (IsPlacedAt ctx.now.files.now) summary.now.nfos }
     ensures verdicts { IfOk result (λ verdicts.
-        AreVerdicts (policy_of ctx.now.cfg) (all_asked summary.now.nfos) verdicts) }
+        AreVerdicts (policy_of ctx.now.cfg) (gathered_of_licenses summary.now.nfos) verdicts) }
     ensures packs { IfOk result (λ verdicts.
-        sink.new ≡ gained sink.old (findings_of ctx.now.cfg (all_asked summary.now.nfos) verdicts)) }
+        sink.new ≡ gained sink.old (findings_of ctx.now.cfg (gathered_of_licenses summary.now.nfos) verdicts)) }
     ensures front { OnErr result (HasFront (policy_of ctx.now.cfg) summary.now.nfos sink.old sink.new) }
     // where the policy's entries have places of their files, each label does
     ensures labels { EntriesLie ctx.now.files.now ctx.now.cfg → GainLies ctx.now.files.now sink.old sink.new }
-    ensures terms { All (VerdictPoints ctx.now.files.now (policy_of ctx.now.cfg)) (all_asked summary.now.nfos) }
+    ensures terms { All (VerdictPoints ctx.now.files.now (policy_of ctx.now.cfg)) (gathered_of_licenses summary.now.nfos) }
     ensures steps { steps.old ≤ steps.new }
 {
     let licenses = summary.nfos.items();
@@ -219,10 +219,10 @@ fn judge_by_ledger<L: Ledger>(
     requires entries { EntriesLie ctx.now.files.now ctx.now.cfg }
     requires empty { sink.old ≡ record { overrides = None; packs = [] } }
     ensures verdicts { IfOk result (λ verdicts.
-        AreVerdicts (policy_of ctx.now.cfg) (all_asked summary.now.nfos) verdicts) }
+        AreVerdicts (policy_of ctx.now.cfg) (gathered_of_licenses summary.now.nfos) verdicts) }
     ensures packs { IfOk result (λ verdicts.
-        sink.new.packs ≡ findings_of ctx.now.cfg (all_asked summary.now.nfos) verdicts) }
-    ensures terms { All (VerdictPoints ctx.now.files.now (policy_of ctx.now.cfg)) (all_asked summary.now.nfos) }
+        sink.new.packs ≡ findings_of ctx.now.cfg (gathered_of_licenses summary.now.nfos) verdicts) }
+    ensures terms { All (VerdictPoints ctx.now.files.now (policy_of ctx.now.cfg)) (gathered_of_licenses summary.now.nfos) }
     ensures labels { OnOk result (All (PackLies ctx.now.files.now) sink.new.packs) }
 {
     let mut steps = Steps::<L>::new(ledger);
@@ -241,10 +241,10 @@ pub fn judge_all(
     requires entries { EntriesLie ctx.now.files.now ctx.now.cfg }
     requires empty { sink.old ≡ record { overrides = None; packs = [] } }
     ensures verdicts { IfOk result (λ verdicts.
-        AreVerdicts (policy_of ctx.now.cfg) (all_asked summary.now.nfos) verdicts) }
+        AreVerdicts (policy_of ctx.now.cfg) (gathered_of_licenses summary.now.nfos) verdicts) }
     ensures packs { IfOk result (λ verdicts.
-        sink.new.packs ≡ findings_of ctx.now.cfg (all_asked summary.now.nfos) verdicts) }
-    ensures terms { All (VerdictPoints ctx.now.files.now (policy_of ctx.now.cfg)) (all_asked summary.now.nfos) }
+        sink.new.packs ≡ findings_of ctx.now.cfg (gathered_of_licenses summary.now.nfos) verdicts) }
+    ensures terms { All (VerdictPoints ctx.now.files.now (policy_of ctx.now.cfg)) (gathered_of_licenses summary.now.nfos) }
     ensures labels { OnOk result (All (PackLies ctx.now.files.now) sink.new.packs) }
 {
     judge_by_ledger::<Brand>(Blank::new(1), alloc, ctx, summary, sink)

@@ -8,10 +8,10 @@ ghost use Rattle.evaluate_core.specs.Evaluation.{exception_names};
 ghost use Rattle.unused_core.specs.Flags.{flags_by};
 ghost use Rattle.unused_core.specs.Unused as unused;
 ghost use Rattle.verdict_findings.specs.Findings as findings;
-ghost use Rattle.verdict_findings.specs.Places.{Fits};
-ghost use Rattle.check_core.specs.Summary.{InfoFits, asked_in, nodes_in};
+ghost use Rattle.verdict_findings.specs.Places.{PlaceFits};
+ghost use Rattle.check_core.specs.Summary.{InfoFits, gathered_of_license, nodes_in};
 ghost use Rattle.check_core.specs.Turns.{expression_of, hits_by, hits_of, pack_by, verdict_finding};
-ghost use Rattle.check_core.specs.Verdicts.{IsAnswered, IsCertified, IsVerdict, is_skipped};
+ghost use Rattle.check_core.specs.Verdicts.{IsCertifiedOrUnlicensed, IsCertified, IsVerdict, is_skipped};
 
 use deny_text::Steps;
 use diag_core::Pack;
@@ -22,7 +22,7 @@ use spdx_core::Expression;
 use std::alloc::{AllocError, Global};
 use std::marker::Model;
 use std::sync::ledger::Ledger;
-use unused_core::{Encountered, last_pack};
+use unused_core::{EntryHits, last_pack};
 use valid_policy::ValidConfig;
 use verdict_findings::{judged, pack_of, skipped, unlicensed};
 
@@ -38,13 +38,13 @@ pub struct CrateCheck {
 #[derive(Drop)]
 pub struct Checker {
     evaluator: Evaluator,
-    encountered: Encountered,
+    encountered: EntryHits,
 }
 
 impl Model for Checker {
-    ghost use Rattle.check_core.specs.Turns.{Checking};
+    ghost use Rattle.check_core.specs.Turns.{CheckerState};
 
-    ghost Value = { Checking };
+    ghost Value = { CheckerState };
 
     ghost view = { λ c. record {
       nodes = c.evaluator.nodes;
@@ -96,7 +96,7 @@ impl Checker {
         }) }
     {
         let evaluator = Evaluator::with_room(alloc, nodes, policy)?;
-        let encountered = Encountered::of(alloc, policy)?;
+        let encountered = EntryHits::of(alloc, policy)?;
         Ok(Checker {
             evaluator,
             encountered,
@@ -115,7 +115,7 @@ impl Checker {
     ) -> Result<CrateCheck, AllocError>
         requires room { length (postfix expr.now.tree) ≤ self.old.nodes }
         requires exceptions { exception_names (policy_of policy.now) ≡ self.old.names }
-        requires fits { Fits nfo.now (length expr.now.text) }
+        requires fits { PlaceFits nfo.now (length expr.now.text) }
         ensures nodes { self.new.nodes ≡ self.old.nodes }
         ensures names { self.new.names ≡ self.old.names }
         ensures verdict { let krate = record_of license.now.krate.now in
@@ -152,13 +152,13 @@ impl Checker {
         requires fits { InfoFits license.now.lic_info }
         ensures nodes { self.new.nodes ≡ self.old.nodes }
         ensures names { self.new.names ≡ self.old.names }
-        ensures verdict { let asked = asked_in license.now in IfOk result (λ checked.
-            IsAnswered (policy_of policy.now) asked.krate (expression_of asked.info) checked.verdict) }
+        ensures verdict { let asked = gathered_of_license license.now in IfOk result (λ checked.
+            IsCertifiedOrUnlicensed (policy_of policy.now) asked.krate (expression_of asked.info) checked.verdict) }
         ensures pack { IfOk result (λ checked.
-            checked.pack ≡ pack_by false (policy_of policy.now) (asked_in license.now)) }
+            checked.pack ≡ pack_by false (policy_of policy.now) (gathered_of_license license.now)) }
         ensures hits { (before : List Hit) → self.old.flags ≡ flags_by policy.now before
             → self.new.flags ≡ flags_by policy.now
-            (before ++ hits_by false (policy_of policy.now) (asked_in license.now)) }
+            (before ++ hits_by false (policy_of policy.now) (gathered_of_license license.now)) }
         ensures steps { steps.old ≤ steps.new }
     {
         match &license.lic_info {
@@ -183,13 +183,13 @@ impl Checker {
         requires fits { InfoFits license.now.lic_info }
         ensures nodes { self.new.nodes ≡ self.old.nodes }
         ensures names { self.new.names ≡ self.old.names }
-        ensures verdict { let asked = asked_in license.now in IfOk result (λ checked.
+        ensures verdict { let asked = gathered_of_license license.now in IfOk result (λ checked.
             IsVerdict (policy_of policy.now) asked.krate (expression_of asked.info) checked.verdict) }
         ensures pack { IfOk result (λ checked.
-            checked.pack ≡ pack_by (is_skipped checked.verdict) (policy_of policy.now) (asked_in license.now)) }
+            checked.pack ≡ pack_by (is_skipped checked.verdict) (policy_of policy.now) (gathered_of_license license.now)) }
         ensures hits { (before : List Hit) → self.old.flags ≡ flags_by policy.now before
             → IfOk result (λ checked. self.new.flags ≡ flags_by policy.now
-            (before ++ hits_by (is_skipped checked.verdict) (policy_of policy.now) (asked_in license.now))) }
+            (before ++ hits_by (is_skipped checked.verdict) (policy_of policy.now) (gathered_of_license license.now))) }
         ensures steps { steps.old ≤ steps.new }
     {
         if policy.is_private(license.krate) {

@@ -3,7 +3,7 @@ use case_files::cases::told_cases;
 use case_files::rows::told_rows;
 use case_files::told::{show, text_of};
 use case_files::{
-    Answered, Case, Cases, Rows, Shown, Told, compare_cases, compare_rows, exit_code,
+    KeyAnswer, Case, Cases, Rows, AnswerText, Tally, compare_cases, compare_rows, exit_code,
 };
 use std::alloc::{AllocError, Global};
 use std::rt::Runtime;
@@ -13,7 +13,7 @@ use std::test::Fail;
 struct Same;
 
 impl Rows for Same {
-    fn answer(&self, _: Global, group: &str, text: &str, out: &mut Shown) -> bool {
+    fn answer(&self, _: Global, group: &str, text: &str, out: &mut AnswerText) -> bool {
         out.put(text);
         group == "same"
     }
@@ -24,12 +24,12 @@ impl Cases for Same {
         key == "say"
     }
 
-    fn told(&self, _: Global, case: &Case<'_>, key: &str, out: &mut Shown) -> Answered {
+    fn told(&self, _: Global, case: &Case<'_>, key: &str, out: &mut AnswerText) -> KeyAnswer {
         if key != "said" {
-            return Answered::NoSuchKey;
+            return KeyAnswer::NoSuchKey;
         }
         out.put(case.word("say"));
-        Answered::Yes
+        KeyAnswer::Yes
     }
 }
 
@@ -151,7 +151,7 @@ const CASES: [(&str, &str, &str); 12] = [
 /// Whether counts and differences are told, and whether a program ends with 1 exactly where something differs.
 fn is_told(
     rt: &HostRuntime,
-    told: Told,
+    told: Tally,
     counts: &str,
     differences: &str,
 ) -> Result<bool, AllocError> {
@@ -188,7 +188,7 @@ fn cases_are_told(rt: HostRuntime) -> Result<(), Fail> {
 
 #[test]
 fn a_file_that_is_no_text_is_told(rt: HostRuntime) -> Result<(), Fail> {
-    let mut told = Told::new(rt.alloc());
+    let mut told = Tally::new(rt.alloc());
     assert!(rt; text_of(&mut told, "f", b"[same]\na\xff")?.is_none());
     assert!(rt; is_told(&rt, told, "", "f:2: the file is no UTF-8\n")?);
     Ok(())

@@ -5,7 +5,7 @@ ghost use Rattle.catalog_core.specs.Words.{is_name, is_imprecise, ends_word};
 ghost use Rattle.term_core.specs.ItemRows.{odd, mode_with, RowsHold, plain_rows, imprecise_rows, slash_rows};
 ghost use Rattle.term_core.specs.ItemRows.{lax_rows};
 ghost use Rattle.term_core.specs.Faults.{first_fault};
-ghost use Rattle.spdx_core.specs.Reading.{expression_of};
+ghost use Rattle.spdx_core.specs.Reading.{expression_of_text};
 ghost use Rattle.spdx_core.specs.ExpressionRows.{two_terms, operator_is_used_up};
 ghost use Rattle.certificate_core.specs.Rows.{rows, computed};
 
@@ -40,7 +40,7 @@ fn items_by_hand()
 
 /// Does nothing: its clauses are rows over a catalogue in which an imprecise text holds an operator.
 fn an_odd_catalogue()
-    ensures two { expression_of two_terms.0 odd (codes "MIT or MIT") ≡ two_terms.1 }
+    ensures two { expression_of_text two_terms.0 odd (codes "MIT or MIT") ≡ two_terms.1 }
     ensures used { first_fault operator_is_used_up.0 odd (codes "MIT or MIT") ≡ operator_is_used_up.1 }
 {}
 

@@ -1,8 +1,8 @@
 //! How a process ends, and what it writes.
 use crate::made_up::Process;
 use deny_gate::{StartError, exit_code, gate_over, named_paths};
-use deny_run::error::{Error, Part};
-use deny_run::report::{CrateReport, Ended, Outcome, Verdict};
+use deny_run::error::{Error, InputPart};
+use deny_run::report::{CrateReport, RunEnd, Outcome, Verdict};
 use std::alloc::{AllocError, Global};
 use std::io::ErrorKind;
 use std::process::ExitCode;
@@ -65,9 +65,9 @@ fn put_crates(told: &mut String, crates: &[CrateReport]) -> Result<(), AllocErro
 fn put_ended(told: &mut String, ended_at: &Result<Outcome, StartError>) -> Result<(), AllocError> {
     match ended_at {
         Ok(outcome) => match &outcome.ended {
-            Ended::Checked(report) => put_crates(told, report.crates.items()),
-            Ended::Refused(Error::NotYet(Part::Words)) => told.push_str("words"),
-            Ended::Refused(_) => told.push_str("another refusal"),
+            RunEnd::Checked(report) => put_crates(told, report.crates.items()),
+            RunEnd::Refused(Error::NotYet(InputPart::Words)) => told.push_str("words"),
+            RunEnd::Refused(_) => told.push_str("another refusal"),
         },
         Err(error) => write!(told, "{error:?}"),
     }

@@ -11,7 +11,7 @@ use tree_core::{Entries, FolderTree, Tree, TreeError};
 
 /// What the system says of a path.
 #[derive(Clone, Copy)]
-enum Said {
+enum PathState {
     /// A file of this length.
     File(u64),
     Folder,
@@ -19,13 +19,13 @@ enum Said {
     Fails(ErrorKind),
 }
 
-impl Said {
+impl PathState {
     fn answer(self) -> io::Result<Metadata> {
         match self {
-            Said::File(length) => Ok(Metadata::of_file(length)),
-            Said::Folder => Ok(Metadata::of_dir()),
-            Said::Link => Ok(Metadata::of_symlink(1)),
-            Said::Fails(kind) => Err(io::Error::from(kind)),
+            PathState::File(length) => Ok(Metadata::of_file(length)),
+            PathState::Folder => Ok(Metadata::of_dir()),
+            PathState::Link => Ok(Metadata::of_symlink(1)),
+            PathState::Fails(kind) => Err(io::Error::from(kind)),
         }
     }
 }
@@ -34,22 +34,22 @@ impl Said {
 #[derive(Clone, Copy)]
 struct System {
     /// What stands at the path, once links are followed.
-    there: Said,
+    there: PathState,
     /// What stands at the entry, once links are followed, and what stands there itself.
-    entry: Said,
-    link: Said,
+    entry: PathState,
+    link: PathState,
     opening: Option<ErrorKind>,
     reading: Option<ErrorKind>,
 }
 
 /// What is read: bytes that are still to come. A read that fails does so once.
 #[derive(Drop)]
-struct Opened {
+struct OpenedBytes {
     bytes: &'static [u8],
     fails: Option<ErrorKind>,
 }
 
-impl Read for Opened {
+impl Read for OpenedBytes {
     fn read(&mut self, buf: &mut [u8]) -> io::Result<usize> {
         if let Some(kind) = self.fails {
             self.fails = None;
@@ -66,7 +66,7 @@ fn unsupported<T>() -> io::Result<T> {
     Err(io::Error::from(ErrorKind::Unsupported))
 }
 
-impl Write for Opened {
+impl Write for OpenedBytes {
     fn write(&mut self, _buf: &[u8]) -> io::Result<usize> {
         Ok(0)
     }
@@ -76,13 +76,13 @@ impl Write for Opened {
     }
 }
 
-impl Seek for Opened {
+impl Seek for OpenedBytes {
     fn seek(&mut self, _to: SeekFrom) -> io::Result<u64> {
         unsupported()
     }
 }
 
-impl OpenFile for Opened {
+impl OpenFile for OpenedBytes {
     fn metadata(&self) -> io::Result<Metadata> {
         unsupported()
     }
@@ -102,10 +102,10 @@ impl OpenFile for Opened {
 
 impl System {
     /// What is opened at the path.
-    fn opened(&self, bytes: &'static [u8]) -> io::Result<Opened> {
+    fn opened(&self, bytes: &'static [u8]) -> io::Result<OpenedBytes> {
         match self.opening {
             Some(kind) => Err(io::Error::from(kind)),
-            None => Ok(Opened {
+            None => Ok(OpenedBytes {
                 bytes,
                 fails: self.reading,
             }),
@@ -114,15 +114,15 @@ impl System {
 }
 
 impl Files for System {
-    type File = Opened;
+    type File = OpenedBytes;
 
-    type Dir = Opened;
+    type Dir = OpenedBytes;
 
-    fn open_file(&self, _how: &OpenOptions, _path: &str) -> io::Result<Opened> {
+    fn open_file(&self, _how: &OpenOptions, _path: &str) -> io::Result<OpenedBytes> {
         self.opened(b"hello")
     }
 
-    fn open_dir(&self, _path: &str) -> io::Result<Opened> {
+    fn open_dir(&self, _path: &str) -> io::Result<OpenedBytes> {
         self.opened(b"a\0")
     }
 
@@ -230,28 +230,28 @@ enum At {
 }
 
 /// A system that has this at the path, and one call of which fails.
-fn failing(there: Said, at: At, kind: ErrorKind) -> System {
+fn failing(there: PathState, at: At, kind: ErrorKind) -> System {
     let mut system = System {
         there,
-        entry: Said::File(1),
-        link: Said::File(1),
+        entry: PathState::File(1),
+        link: PathState::File(1),
         opening: None,
         reading: None,
     };
     match at {
-        At::Look => system.there = Said::Fails(kind),
+        At::Look => system.there = PathState::Fails(kind),
         At::Opening => system.opening = Some(kind),
         At::Reading => system.reading = Some(kind),
     }
     system
 }
 
-const FILE: Said = Said::File(5);
+const FILE: PathState = PathState::File(5);
 
-const FOLDER: Said = Said::Folder;
+const FOLDER: PathState = PathState::Folder;
 
 /// What stands at the path, the call that fails, its error, and what is told.
-const FAILING: [(Said, At, ErrorKind, &str); 25] = [
+const FAILING: [(PathState, At, ErrorKind, &str); 25] = [
     (
         FILE,
         At::Look,
@@ -415,40 +415,40 @@ fn each_error_of_the_system_has_its_answer(rt: HostRuntime) -> Result<(), Fail> 
 }
 
 /// What stands at the entry, once links are followed and itself, and what a listing says of it.
-const ENTRIES: [(Said, Said, &str); 11] = [
-    (Said::File(1), Said::File(1), "a file 0"),
-    (Said::File(1), Said::Link, "a file 0"),
-    (Said::Folder, Said::Link, "no file 0"),
+const ENTRIES: [(PathState, PathState, &str); 11] = [
+    (PathState::File(1), PathState::File(1), "a file 0"),
+    (PathState::File(1), PathState::Link, "a file 0"),
+    (PathState::Folder, PathState::Link, "no file 0"),
     (
-        Said::Fails(ErrorKind::PermissionDenied),
-        Said::Link,
+        PathState::Fails(ErrorKind::PermissionDenied),
+        PathState::Link,
         "Failed 1",
     ),
-    (Said::Fails(ErrorKind::NotFound), Said::Link, "no file 0"),
-    (Said::Fails(ErrorKind::NotFound), Said::File(1), "Failed 1"),
+    (PathState::Fails(ErrorKind::NotFound), PathState::Link, "no file 0"),
+    (PathState::Fails(ErrorKind::NotFound), PathState::File(1), "Failed 1"),
     (
-        Said::Fails(ErrorKind::NotFound),
-        Said::Fails(ErrorKind::NotFound),
-        "Failed 1",
-    ),
-    (
-        Said::Fails(ErrorKind::NotFound),
-        Said::Fails(ErrorKind::PermissionDenied),
+        PathState::Fails(ErrorKind::NotFound),
+        PathState::Fails(ErrorKind::NotFound),
         "Failed 1",
     ),
     (
-        Said::Fails(ErrorKind::NotFound),
-        Said::Fails(ErrorKind::OutOfMemory),
+        PathState::Fails(ErrorKind::NotFound),
+        PathState::Fails(ErrorKind::PermissionDenied),
+        "Failed 1",
+    ),
+    (
+        PathState::Fails(ErrorKind::NotFound),
+        PathState::Fails(ErrorKind::OutOfMemory),
         "Memory 0",
     ),
     (
-        Said::Fails(ErrorKind::NotFound),
-        Said::Fails(ErrorKind::Interrupted),
+        PathState::Fails(ErrorKind::NotFound),
+        PathState::Fails(ErrorKind::Interrupted),
         "Failed 1",
     ),
     (
-        Said::Fails(ErrorKind::NotFound),
-        Said::Fails(ErrorKind::TimedOut),
+        PathState::Fails(ErrorKind::NotFound),
+        PathState::Fails(ErrorKind::TimedOut),
         "Failed 1",
     ),
 ];
@@ -458,7 +458,7 @@ fn each_entry_is_looked_at(rt: HostRuntime) -> Result<(), Fail> {
     let alloc = rt.alloc();
     for (entry, link, wanted) in ENTRIES {
         let system = System {
-            there: Said::Folder,
+            there: PathState::Folder,
             entry,
             link,
             opening: None,
@@ -473,22 +473,22 @@ fn each_entry_is_looked_at(rt: HostRuntime) -> Result<(), Fail> {
 }
 
 /// What stands at the path, whether the path is named, and what is told.
-const KINDS: [(Said, bool, &str); 5] = [
+const KINDS: [(PathState, bool, &str); 5] = [
     // A told length of 0 says nothing: the system has files that are made as they are read.
-    (Said::File(0), false, "hello 0; WrongKind 0; yes 0; yes 0; "),
+    (PathState::File(0), false, "hello 0; WrongKind 0; yes 0; yes 0; "),
     (
-        Said::File(67_108_864),
+        PathState::File(67_108_864),
         false,
         "hello 0; WrongKind 0; yes 0; yes 0; ",
     ),
     (
-        Said::File(67_108_865),
+        PathState::File(67_108_865),
         true,
         "Failed 1; WrongKind 0; yes 0; yes 0; ",
     ),
     // What is neither a file nor a folder, as a pipe.
-    (Said::Link, false, "Failed 1; WrongKind 0; no 0; yes 0; "),
-    (Said::Link, true, "hello 0; WrongKind 0; no 0; yes 0; "),
+    (PathState::Link, false, "Failed 1; WrongKind 0; no 0; yes 0; "),
+    (PathState::Link, true, "hello 0; WrongKind 0; no 0; yes 0; "),
 ];
 
 #[test]
@@ -497,8 +497,8 @@ fn pipes_are_read_where_they_are_named(rt: HostRuntime) -> Result<(), Fail> {
     for (there, is_named, wanted) in KINDS {
         let system = System {
             there,
-            entry: Said::File(1),
-            link: Said::File(1),
+            entry: PathState::File(1),
+            link: PathState::File(1),
             opening: None,
             reading: None,
         };

@@ -1,7 +1,7 @@
 //! What the definitions make of verdicts and of what is told of them.
 ghost use Rattle.std.specs.Prelude.{◌≡◌, map, take};
-ghost use Rattle.check_core.specs.Rows.{judged, rows};
-ghost use Rattle.unused_core.specs.Rows.{reported, unused_rows};
+ghost use Rattle.check_core.specs.Rows.{judged_row, rows};
+ghost use Rattle.unused_core.specs.Rows.{reported_row, unused_rows};
 ghost use Rattle.valid_policy.specs.Rows as hits;
 ghost use Rattle.verdict_findings.specs.Rows.{findings_meant, findings_said, label_rows, labelled};
 ghost use Rattle.verdict_findings.specs.Rows.{source_rows, worded};
@@ -11,9 +11,9 @@ ghost use Rattle.verdict_findings.specs.Rows.{source_rows, worded};
 fn rows_by_hand()
     ensures labels { map labelled label_rows ≡ label_rows }
     ensures findings { take 2 findings_said ≡ take 2 findings_meant }
-    ensures unused { map reported unused_rows ≡ unused_rows }
+    ensures unused { map reported_row unused_rows ≡ unused_rows }
     ensures sources { map worded source_rows ≡ source_rows }
-    ensures judged { map judged rows ≡ rows }
+    ensures judged { map judged_row rows ≡ rows }
     ensures hits { map hits.computed hits.rows ≡ hits.rows }
 {}
 

@@ -1,7 +1,7 @@
 //! Prints the completion of the command line for bash, which zsh reads through `bashcompinit`.
 #![tactic(auto)]
 
-use request_core::options::{Kind, OptionRow, Values, check_rows, main_rows};
+use request_core::options::{OptionUse, OptionRow, OptionValues, check_rows, main_rows};
 use std::alloc::{AllocError, Global};
 use std::io;
 
@@ -35,7 +35,7 @@ complete -F _cargo_deny cargo-deny
 ";
 
 fn has_value(row: &OptionRow) -> bool {
-    matches!(row.kind, Kind::One | Kind::Many)
+    matches!(row.kind, OptionUse::One | OptionUse::Many)
 }
 
 /// The patterns of an option of a subcommand: its long name, and its letter if it has one.
@@ -61,12 +61,12 @@ fn push_valued(text: &mut String) -> Result<(), AllocError> {
 }
 
 /// The words that a value may be.
-fn push_values(text: &mut String, values: Values) -> Result<(), AllocError> {
+fn push_values(text: &mut String, values: OptionValues) -> Result<(), AllocError> {
     match values {
-        Values::Any => text.push_str("COMPREPLY=()"),
-        Values::File => text.push_str("COMPREPLY=($(compgen -f -- \"$current\"))"),
-        Values::Folder => text.push_str("COMPREPLY=($(compgen -d -- \"$current\"))"),
-        Values::Names(names) => {
+        OptionValues::Any => text.push_str("COMPREPLY=()"),
+        OptionValues::File => text.push_str("COMPREPLY=($(compgen -f -- \"$current\"))"),
+        OptionValues::Folder => text.push_str("COMPREPLY=($(compgen -d -- \"$current\"))"),
+        OptionValues::Names(names) => {
             text.push_str("COMPREPLY=($(compgen -W '")?;
             push_names(text, names)?;
             text.push_str("' -- \"$current\"))")
@@ -111,7 +111,7 @@ fn push_words(
     write!(text, "        {subcommand},*) COMPREPLY=($(compgen -W '")?;
     for row in rows {
         match (row.kind, row.values) {
-            (Kind::Words, Values::Names(names)) => {
+            (OptionUse::Words, OptionValues::Names(names)) => {
                 push_names(text, names)?;
                 text.push_str(" ")?;
             }

@@ -3,16 +3,16 @@ use Rattle.std.specs.Prelude.{◌≡◌, ℕ, List, Option, Some, None}
 use Rattle.deny_text.specs.Path.{join_of}
 use Rattle.tree_core.specs.Call.{Call}
 use Rattle.request_core.specs.declared.context.KrateContext.{KrateContext}
-use Rattle.search_core.specs.Looked.{Looked, LookedUntil}
+use Rattle.search_core.specs.Looked.{FindsByLooks, LookedUntil}
 use Rattle.search_core.specs.declared.search.SearchError.{SearchError}
 use Rattle.search_core.specs.declared.search.SearchError.TheVariants.{Memory}
-use Rattle.search_core.specs.declared.search.Sought.TheVariants.{Policy, Exceptions}
+use Rattle.search_core.specs.declared.search.SoughtFile.TheVariants.{Policy, Exceptions}
 use Rattle.search_core.specs.Search.{candidates}
 
 -- at a path that is given nothing is looked at; else the looks of the search were made, up to the first at which something stands
 abbrev pub LooksForPath : KrateContext → List Call → List Call → Option (List ℕ) → Option (List ℕ) → Type 0
 LooksForPath context old new (Some path) found = (found ≡ Some (join_of context.cwd path)) × (new ≡ old)
-LooksForPath context old new None found = Looked (candidates Policy context.manifest_path) old new found
+LooksForPath context old new None found = FindsByLooks (candidates Policy context.manifest_path) old new found
 
 -- the policy's path
 abbrev pub IsConfigPath : KrateContext → List Call → List Call → Option (List ℕ) → Type 0
@@ -20,7 +20,7 @@ IsConfigPath context old new found = LooksForPath context old new context.config
 
 -- the exceptions file's path
 abbrev pub IsExceptionsPath : KrateContext → List Call → List Call → Option (List ℕ) → Type 0
-IsExceptionsPath context old new found = Looked (candidates Exceptions context.manifest_path) old new found
+IsExceptionsPath context old new found = FindsByLooks (candidates Exceptions context.manifest_path) old new found
 
 -- why there is none, and the looks that were made before
 abbrev pub PathUntil : KrateContext → List Call → List Call → Option (List ℕ) → SearchError → Type 0

@@ -9,7 +9,7 @@ ghost use Rattle.context_core.specs.Paths.{ConfigPathUntil, ExceptionsPathUntil}
 use deny_text::PathBuf;
 use deny_text::path::join;
 use request_core::KrateContext;
-use search_core::{SearchError, Sought, find_upwards};
+use search_core::{SearchError, SoughtFile, find_upwards};
 use std::alloc::Global;
 use tree_core::Tree;
 
@@ -35,7 +35,7 @@ pub fn config_path_since<T: Tree>(
             alloc,
             tree,
             context.manifest_path.as_path(),
-            Sought::Policy,
+            SoughtFile::Policy,
             begun,
         ),
     }
@@ -76,7 +76,7 @@ pub fn get_local_exceptions_path<T: Tree>(
         alloc,
         tree,
         context.manifest_path.as_path(),
-        Sought::Exceptions,
+        SoughtFile::Exceptions,
         begun,
     )
 }

@@ -1,12 +1,12 @@
 -- How a gate begins and ends.
 use Rattle.std.specs.Prelude.{◌≡◌, ℕ, List, Result, Ok, Err, codes}
 use Rattle.std.specs.Option.{ForSome}
-use Rattle.tree_core.specs.Script.{FaultCounts, Written}
+use Rattle.tree_core.specs.Script.{FaultCounts, SinkTexts}
 use Rattle.catalog_core.specs.BuiltIn.{built_in}
 use Rattle.catalog_core.specs.Store.{match_of}
 use Rattle.catalog_core.specs.Table.{table_lists}
 use Rattle.deny_run.specs.declared.report.Outcome.{Outcome}
-use Rattle.deny_run.specs.Given.{Given}
+use Rattle.deny_run.specs.Given.{RunArguments}
 use Rattle.deny_run.specs.Headline.{Headline, HeadlineRead}
 use Rattle.deny_run.specs.Hearing.{TreeSeen}
 use Rattle.deny_run.specs.Report.{IsAnswer}
@@ -22,8 +22,8 @@ start_line Words = codes "error: the words could not be read\n"
 start_line Folder = codes "error: the working folder could not be read\n"
 
 -- the outcome is that of a run over these words and this folder, with the catalogue and the licence texts that are built in
-pub record IsRun (words : List (List ℕ)) (folder : List ℕ) (tree : TreeSeen) (counts : FaultCounts) (old new : Written) (outcome : Outcome) : Type 0 where
-  pub given : Given
+pub record IsRun (words : List (List ℕ)) (folder : List ℕ) (tree : TreeSeen) (counts : FaultCounts) (old new : SinkTexts) (outcome : Outcome) : Type 0 where
+  pub given : RunArguments
   pub lists : given.lists ≡ table_lists
   pub match_of : given.match_of ≡ match_of built_in
   pub words_given : given.words ≡ words
@@ -35,7 +35,7 @@ pub record IsRun (words : List (List ℕ)) (folder : List ℕ) (tree : TreeSeen)
   pub status : outcome.status ≡ exit_status (answer_of outcome.ended)
 
 -- the outcome is that of a run over some words and some folder
-pub record RunsOverSome (tree : TreeSeen) (counts : FaultCounts) (old new : Written) (outcome : Outcome) : Type 0 where
+pub record RunsOverSome (tree : TreeSeen) (counts : FaultCounts) (old new : SinkTexts) (outcome : Outcome) : Type 0 where
   pub words : List (List ℕ)
   pub folder : List ℕ
   pub ran : IsRun words folder tree counts old new outcome

@@ -23,16 +23,16 @@ use Rattle.deny_run.specs.declared.check.CheckedCrates.{CheckedCrates}
 use Rattle.deny_run.specs.declared.report.Report.{Report}
 use Rattle.check_core.specs.Check.{AreVerdicts, findings_of}
 use Rattle.check_core.specs.Labels.{VerdictPoints}
-use Rattle.check_core.specs.Summary.{all_asked}
-use Rattle.deny_run.specs.declared.words.Request.{Request}
+use Rattle.check_core.specs.Summary.{gathered_of_licenses}
+use Rattle.deny_run.specs.declared.words.CheckRequest.{CheckRequest}
 use Rattle.deny_run.specs.Error.{cause_of}
-use Rattle.deny_run.specs.Given.{Given}
-use Rattle.deny_run.specs.Heard.{HearsAllDue, IsRunHearing, all_looked_at, calls_of, count_metadata, exceptions_in, files_loaded, found_of, graph_heard, load_at, load_heard, metadata_heard, scanner_in, turns_in}
+use Rattle.deny_run.specs.Given.{RunArguments}
+use Rattle.deny_run.specs.Heard.{HearsAllDue, IsRunHearing, all_gathered, calls_of, count_metadata, exceptions_path, files_loaded, run_input_of, graph_heard, load_at, load_heard, metadata_heard, scanner_of_given, turns_in}
 use Rattle.deny_run.specs.Hearing.{MadeOn, RunHearing, TreeSeen}
-use Rattle.deny_run.specs.Report.{IsAnsweredBy, IsGivenUp, IsRefusal, IsRefusedBy, IsReport, StopsAt, TellsFindings, paths_at, verdicts_told}
+use Rattle.deny_run.specs.Report.{IsAnsweredBy, IsGivenUp, IsRefusal, IsRefusedRun, IsReport, StopsAt, TellsFindings, paths_at, verdicts_in}
 use Rattle.deny_run.specs.Selection.{choice_in, included_in, Refuses}
 use Rattle.deny_run.specs.Steps.{IsChecked, checked_by, report_with}
-use Rattle.deny_run.specs.Words.{request_of}
+use Rattle.deny_run.specs.Words.{check_request_of}
 use Rattle.deny_run.proofs.FoundLemmas.{graph_heard-Ok, table-is}
 use Rattle.deny_run.proofs.GatheredLemmas.{all_looked, labels_cut, own_files, reported_by, sources_told, verdicts_reported}
 use Rattle.deny_run.proofs.PolicyLemmas.{policy_is}
@@ -45,8 +45,8 @@ IsFree no_memory = Unit {0}
 IsFree (refused_write before after) = Unit {0}
 IsFree _ = ⊥
 
-module _ (given : Given) (tree : TreeSeen) (hearing : RunHearing) (error : Error) where
-  refused_as : (cause : Cause) → IsGivenUp given tree hearing → IsFree cause → IsRefusedBy given tree hearing error cause
+module _ (given : RunArguments) (tree : TreeSeen) (hearing : RunHearing) (error : Error) where
+  refused_as : (cause : Cause) → IsGivenUp given tree hearing → IsFree cause → IsRefusedRun given tree hearing error cause
   refused_as no_memory up free = up
   refused_as told up free = absurd free
   refused_as (failed_read before after) up free = absurd free
@@ -57,7 +57,7 @@ module _ (given : Given) (tree : TreeSeen) (hearing : RunHearing) (error : Error
   given_up up free = refused_as (cause_of error) up free
 
   -- it is no refused write, and not for want of memory
-  told_as : (cause : Cause) → IsRunHearing given tree hearing → IsRefusal given hearing error → (IsFree cause → ⊥) → IsRefusedBy given tree hearing error cause
+  told_as : (cause : Cause) → IsRunHearing given tree hearing → IsRefusal given hearing error → (IsFree cause → ⊥) → IsRefusedRun given tree hearing error cause
   told_as no_memory heard refusal bound = absurd (bound tt)
   told_as told heard refusal bound = (heard, refusal)
   told_as (failed_read before after) heard refusal bound = (heard, refusal)
@@ -67,19 +67,19 @@ module _ (given : Given) (tree : TreeSeen) (hearing : RunHearing) (error : Error
   refused_first heard refusal bound = told_as (cause_of error) heard refusal bound
 
 -- calls were made, however a run answers
-pub some_made_by : (given : Given) (tree : TreeSeen) (hearing : RunHearing) (answer : Result Report Error) → IsAnsweredBy given tree hearing answer
+pub some_made_by : (given : RunArguments) (tree : TreeSeen) (hearing : RunHearing) (answer : Result Report Error) → IsAnsweredBy given tree hearing answer
     → MadeSome tree.told tree.tells tree.count_before tree.count_after tree.calls_before tree.calls_after
 some_made_by given tree hearing (Ok report) answers = some_made answers.0.made
 some_made_by given tree hearing (Err error) answers = some_by (cause_of error) answers
   where
-    some_by : (cause : Cause) → IsRefusedBy given tree hearing error cause → MadeSome tree.told tree.tells tree.count_before tree.count_after tree.calls_before tree.calls_after
+    some_by : (cause : Cause) → IsRefusedRun given tree hearing error cause → MadeSome tree.told tree.tells tree.count_before tree.count_after tree.calls_before tree.calls_after
     some_by no_memory up = some_made up.made
     some_by told refused = some_made refused.0.made
     some_by (failed_read before after) refused = some_made refused.0.made
     some_by (refused_write before after) up = some_made up.made
 
 -- the calls of what was heard up to some place were made, and no other
-pub up_without : (given : Given) (tree : TreeSeen) (hearing : RunHearing) → hearing.begun ≡ tree.count_before → MadeOn tree (calls_of given hearing) → StopsAt given hearing [] → IsGivenUp given tree hearing
+pub up_without : (given : RunArguments) (tree : TreeSeen) (hearing : RunHearing) → hearing.begun ≡ tree.count_before → MadeOn tree (calls_of given hearing) → StopsAt given hearing [] → IsGivenUp given tree hearing
 up_without given tree hearing begun made stops = record {
   begun = begun;
   lost = [];
@@ -88,13 +88,13 @@ up_without given tree hearing begun made stops = record {
 }
 
 -- the first refusal
-pub first_of : (given : Given) (hearing : RunHearing) (error : Error) → HearsAllDue given hearing → hearing.crates ≡ [] → found_of given hearing ≡ Err error → IsRefusal given hearing error
+pub first_of : (given : RunArguments) (hearing : RunHearing) (error : Error) → HearsAllDue given hearing → hearing.crates ≡ [] → run_input_of given hearing ≡ Err error → IsRefusal given hearing error
 first_of given hearing error due none is = record { due = due; crates = none; refused = subst (λ found. Refuses found error) (sym is) refl }
 
 -- ---- the report
 
-module _ (given : Given) (request : Request) (asked : request_of given.words given.cwd ≡ Some request) (hearing : RunHearing)
-    (exceptions : Option (List ℕ)) (sought : exceptions_in given hearing ≡ Ok exceptions) (policy : PolicyFound)
+module _ (given : RunArguments) (request : CheckRequest) (asked : check_request_of given.words given.cwd ≡ Some request) (hearing : RunHearing)
+    (exceptions : Option (List ℕ)) (sought : exceptions_path given hearing ≡ Ok exceptions) (policy : PolicyFound)
     (loads : (load_at given hearing (paths_at request.config_path exceptions)).answer ≡ Ok policy)
     (graph : Graph) (drawn : graph_heard (metadata_heard given hearing) ≡ Ok graph) (root : HasRoot graph (choice_in policy))
     (valid : ValidConfig) (order : PutsPolicyInOrder policy.licenses valid) (flags : include_of valid ≡ included_in policy)
@@ -103,7 +103,7 @@ module _ (given : Given) (request : Request) (asked : request_of given.words giv
   table_loaded = table-is given request asked hearing exceptions sought ∙ sym table_of
 
   module _ (last : List File) (checked : CheckedCrates) (records : AreReads (count_metadata given hearing) (reads_of_all hearing.crates))
-      (done : IsChecked (scanner_in given valid) valid table last graph (choice_in policy) hearing.crates checked) where
+      (done : IsChecked (scanner_of_given given valid) valid table last graph (choice_in policy) hearing.crates checked) where
     -- the report as it is made of the verdicts
     abbrev made : Report
     made = report_with (checked_by valid done.licenses done.check.verdicts) last
@@ -113,20 +113,20 @@ module _ (given : Given) (request : Request) (asked : request_of given.words giv
 
     turned : AreTurnsBy (files_loaded given hearing) turns done.licenses last
     turned =
-        subst (λ files. AreTurnsBy files (turns_of (scanner_in given valid) valid.file_id (entries_of valid) files hearing.crates) done.licenses last) (sym table_loaded) done.turns
+        subst (λ files. AreTurnsBy files (turns_of (scanner_of_given given valid) valid.file_id (entries_of valid) files hearing.crates) done.licenses last) (sym table_loaded) done.turns
 
-    verdicts_are : AreVerdicts (policy_of valid) (all_asked done.licenses) (verdicts_told made)
-    verdicts_are = subst (AreVerdicts (policy_of valid) (all_asked done.licenses)) (sym (verdicts_reported (policy_of valid) done.licenses done.check.verdicts done.check.are)) done.check.are
+    verdicts_are : AreVerdicts (policy_of valid) (gathered_of_licenses done.licenses) (verdicts_in made)
+    verdicts_are = subst (AreVerdicts (policy_of valid) (gathered_of_licenses done.licenses)) (sym (verdicts_reported (policy_of valid) done.licenses done.check.verdicts done.check.are)) done.check.are
 
-    looked_are : all_looked_at turns ≡ all_asked done.licenses
+    looked_are : all_gathered turns ≡ gathered_of_licenses done.licenses
     looked_are = all_looked turns done.licenses last turned.each
 
     findings_are : TellsFindings (files_loaded given hearing) turns made
     findings_are = record {
-      are = subst (λ looked. AreVerdicts (policy_of valid) looked (verdicts_told made)) (sym looked_are) verdicts_are;
+      are = subst (λ looked. AreVerdicts (policy_of valid) looked (verdicts_in made)) (sym looked_are) verdicts_are;
       findings =
-          sym (ap (λ looked. findings_of valid looked (verdicts_told made)) looked_are
-          ∙ ap (findings_of valid (all_asked done.licenses)) (verdicts_reported (policy_of valid) done.licenses done.check.verdicts done.check.are));
+          sym (ap (λ looked. findings_of valid looked (verdicts_in made)) looked_are
+          ∙ ap (findings_of valid (gathered_of_licenses done.licenses)) (verdicts_reported (policy_of valid) done.licenses done.check.verdicts done.check.are));
       files = turned.left;
       cuts = labels_cut turns done.licenses last turned.each;
       terms = subst (All (VerdictPoints last (policy_of valid))) (sym looked_are) done.points;
@@ -153,7 +153,7 @@ module _ (given : Given) (request : Request) (asked : request_of given.words giv
             gives = record {
               policy = order;
               file = ap (λ (one : ValidConfig). one.file_id) order.rest ∙ ap (λ (one : PolicyFound). one.licenses.file_id) own.is;
-              crates = krates_told (scanner_in given valid) valid.file_id (entries_of valid) (files_loaded given hearing) hearing.crates done.licenses last turned;
+              crates = krates_told (scanner_of_given given valid) valid.file_id (entries_of valid) (files_loaded given hearing) hearing.crates done.licenses last turned;
               verdicts = reported_by given valid (files_loaded given hearing) hearing.crates done.licenses last done.check.verdicts turned.each done.check.are;
               stats = refl;
             };

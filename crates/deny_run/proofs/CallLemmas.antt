@@ -2,18 +2,18 @@
 use Rattle.std.proofs.Common.{◌≡◌, ◌∙◌, inl, inr, refl, sym, ap, ℕ, true, false, List, [], ◌∷◌, ◌++◌, append-nil, append_assoc, Option, Some, None, Result, Err}
 use Rattle.std.specs.Prelude.{unwrap_or}
 use Rattle.tree_core.specs.Call as call
-use Rattle.tree_core.specs.Call.{Answered, Call}
+use Rattle.tree_core.specs.Call.{CallAnswer, Call}
 use Rattle.heard_core.specs.Heard.{text_answered}
 use Rattle.heard_core.specs.declared.fault.ReadFault.{ReadFault}
 use Rattle.heard_core.specs.declared.fault.ReadFault.TheVariants.{Absent}
-use Rattle.search_core.specs.Looked.{Looked, LookedUntil, look_of, misses}
+use Rattle.search_core.specs.Looked.{FindsByLooks, LookedUntil, look_of, absent_looks}
 use Rattle.search_core.specs.declared.search.SearchError.TheVariants as search
-use Rattle.deny_run.specs.Hearing.{Looks, look_failed, nowhere, at, is_heard, look_calls, looks_by, read_calls, text_by}
+use Rattle.deny_run.specs.Hearing.{LooksResult, look_failed, nowhere, at, is_heard, look_calls, looks_by, read_calls, text_by}
 
 -- ---- looks
 
 -- what looks were told at which nothing stands
-missed : List (List ℕ) → List Answered
+missed : List (List ℕ) → List CallAnswer
 missed [] = []
 missed (path ∷ paths) = call.told false ∷ missed paths
 
@@ -22,18 +22,18 @@ unfolding missed
 all_missed [] = refl
 all_missed (path ∷ paths) = all_missed paths
 
-all_calls : (paths : List (List ℕ)) → look_calls paths (missed paths) ≡ misses paths
+all_calls : (paths : List (List ℕ)) → look_calls paths (missed paths) ≡ absent_looks paths
 unfolding missed
 all_calls [] = refl
 all_calls (path ∷ paths) = ap (λ more. look_of path (call.told false) ∷ more) (all_calls paths)
 
 -- behind those at which nothing stands, the next looks
-front_missed : (before rest : List (List ℕ)) (more : List Answered) → looks_by (before ++ rest) (missed before ++ more) ≡ looks_by rest more
+front_missed : (before rest : List (List ℕ)) (more : List CallAnswer) → looks_by (before ++ rest) (missed before ++ more) ≡ looks_by rest more
 unfolding missed
 front_missed [] rest more = refl
 front_missed (path ∷ before) rest more = front_missed before rest more
 
-front_calls : (before rest : List (List ℕ)) (more : List Answered) → look_calls (before ++ rest) (missed before ++ more) ≡ misses before ++ look_calls rest more
+front_calls : (before rest : List (List ℕ)) (more : List CallAnswer) → look_calls (before ++ rest) (missed before ++ more) ≡ absent_looks before ++ look_calls rest more
 unfolding missed
 front_calls [] rest more = refl
 front_calls (path ∷ before) rest more = ap (λ own. look_of path (call.told false) ∷ own) (front_calls before rest more)
@@ -44,33 +44,33 @@ no_looks (path ∷ paths) = refl
 
 -- looks were made, and their calls are these
 pub record LooksMade (paths : List (List ℕ)) (old new : List Call) : Type 0 where
-  pub looks : List Answered
+  pub looks : List CallAnswer
   pub made : new ≡ old ++ look_calls paths looks
 
 -- looks were made, and they came to this
-pub record LooksAre (paths : List (List ℕ)) (came : Looks) (old new : List Call) : Type 0 where
-  pub looks : List Answered
+pub record LooksAre (paths : List (List ℕ)) (came : LooksResult) (old new : List Call) : Type 0 where
+  pub looks : List CallAnswer
   pub made : new ≡ old ++ look_calls paths looks
   pub by : looks_by paths looks ≡ came
 
-abbrev pub looks_found : Option (List ℕ) → Looks
+abbrev pub looks_found : Option (List ℕ) → LooksResult
 looks_found None = nowhere
 looks_found (Some path) = at path
 
 -- the calls up to a look that was told otherwise than that nothing stands there
-last_calls : (before : List (List ℕ)) (path : List ℕ) (rest paths : List (List ℕ)) (answer : Answered) (old new : List Call) → paths ≡ before ++ path ∷ rest
-    → look_calls (path ∷ rest) (answer ∷ []) ≡ look_of path answer ∷ [] → new ≡ old ++ misses before ++ look_of path answer ∷ []
+last_calls : (before : List (List ℕ)) (path : List ℕ) (rest paths : List (List ℕ)) (answer : CallAnswer) (old new : List Call) → paths ≡ before ++ path ∷ rest
+    → look_calls (path ∷ rest) (answer ∷ []) ≡ look_of path answer ∷ [] → new ≡ old ++ absent_looks before ++ look_of path answer ∷ []
     → new ≡ old ++ look_calls paths (missed before ++ answer ∷ [])
 last_calls before path rest paths answer old new parts one made =
-    made ∙ append_assoc old (misses before) (look_of path answer ∷ [])
-    ∙ ap (λ calls. old ++ calls) (ap (λ own. misses before ++ own) (sym one) ∙ sym (front_calls before (path ∷ rest) (answer ∷ [])) ∙ ap (λ own. look_calls own (missed before ++ answer ∷ [])) (sym parts))
+    made ∙ append_assoc old (absent_looks before) (look_of path answer ∷ [])
+    ∙ ap (λ calls. old ++ calls) (ap (λ own. absent_looks before ++ own) (sym one) ∙ sym (front_calls before (path ∷ rest) (answer ∷ [])) ∙ ap (λ own. look_calls own (missed before ++ answer ∷ [])) (sym parts))
 
-last_by : (before : List (List ℕ)) (path : List ℕ) (rest paths : List (List ℕ)) (answer : Answered) (came : Looks) → paths ≡ before ++ path ∷ rest
+last_by : (before : List (List ℕ)) (path : List ℕ) (rest paths : List (List ℕ)) (answer : CallAnswer) (came : LooksResult) → paths ≡ before ++ path ∷ rest
     → looks_by (path ∷ rest) (answer ∷ []) ≡ came → looks_by paths (missed before ++ answer ∷ []) ≡ came
 last_by before path rest paths answer came parts one =
     ap (λ own. looks_by own (missed before ++ answer ∷ [])) parts ∙ front_missed before (path ∷ rest) (answer ∷ []) ∙ one
 
-pub looked_are : (paths : List (List ℕ)) (old new : List Call) (found : Option (List ℕ)) → Looked paths old new found → LooksAre paths (looks_found found) old new
+pub looked_are : (paths : List (List ℕ)) (old new : List Call) (found : Option (List ℕ)) → FindsByLooks paths old new found → LooksAre paths (looks_found found) old new
 looked_are paths old new None looked =
     record { looks = missed paths; made = looked ∙ ap (λ calls. old ++ calls) (sym (all_calls paths)); by = all_missed paths }
 looked_are paths old new (Some found) hit = record {
@@ -91,7 +91,7 @@ lost_made paths old new (inl front) = record {
   looks = missed front.before ++ [];
   made =
       front.made ∙ ap (λ calls. old ++ calls)
-      (sym (append-nil (misses front.before)) ∙ ap (λ own. misses front.before ++ own) (sym (no_looks front.rest)) ∙ sym (front_calls front.before front.rest [])
+      (sym (append-nil (absent_looks front.before)) ∙ ap (λ own. absent_looks front.before ++ own) (sym (no_looks front.rest)) ∙ sym (front_calls front.before front.rest [])
       ∙ ap (λ own. look_calls own (missed front.before ++ [])) (sym front.parts));
 }
 lost_made paths old new (inr until) = record {
@@ -106,7 +106,7 @@ no_read None = refl
 no_read (Some path) = refl
 
 -- what an answer lets hear, whatever the counts are, if it is heard between some
-pub heard_where : (answer : Answered) (begun after : ℕ) (heard : Result (List ℕ) ReadFault) → text_answered begun after answer ≡ Some heard → is_heard (Some answer) ≡ true
+pub heard_where : (answer : CallAnswer) (begun after : ℕ) (heard : Result (List ℕ) ReadFault) → text_answered begun after answer ≡ Some heard → is_heard (Some answer) ≡ true
 heard_where (call.bytes items) begun after heard is = refl
 heard_where (call.entries items) begun after heard is = absurd (cc)
 heard_where (call.told answer) begun after heard is = absurd (cc)
@@ -115,5 +115,5 @@ heard_where call.wrong_kind begun after heard is = refl
 heard_where call.failed begun after heard is = refl
 heard_where call.no_memory begun after heard is = absurd (cc)
 
-pub text_heard_by : (answer : Answered) (begun after : ℕ) (heard : Result (List ℕ) ReadFault) → text_answered begun after answer ≡ Some heard → text_by begun after (Some answer) ≡ heard
+pub text_heard_by : (answer : CallAnswer) (begun after : ℕ) (heard : Result (List ℕ) ReadFault) → text_answered begun after answer ≡ Some heard → text_by begun after (Some answer) ≡ heard
 text_heard_by answer begun after heard is = ap (λ own. unwrap_or own (Err Absent)) is

@@ -18,7 +18,7 @@ use Rattle.graph_core.specs.Krate.{Record}
 use Rattle.valid_policy.specs.Policy.{Policy}
 use Rattle.verdict_findings.specs.Findings.{judged}
 use Rattle.check_core.specs.Check.{AreVerdicts, packs_of}
-use Rattle.check_core.specs.Turns.{Asked as LookedAt, expression_of, pack_by, verdict_finding}
+use Rattle.check_core.specs.Turns.{GatheredCrate, expression_of, pack_by, verdict_finding}
 use Rattle.check_core.specs.Verdicts.{IsVerdict, accepted, is_skipped, rejected, unlicensed, verdict_of}
 use Rattle.deny_run.specs.declared.report.CrateReport.{CrateReport}
 use Rattle.deny_run.specs.Counts.{count_in, is_against}
@@ -67,7 +67,7 @@ true_false true one other = absurd (cc)
 true_false false one other = absurd (cc)
 
 -- of a crate none of whose findings is an error
-clear_one : (policy : Policy) (looked : LookedAt) (verdict : Verdict) → IsVerdict policy looked.krate (expression_of looked.info) verdict
+clear_one : (policy : Policy) (looked : GatheredCrate) (verdict : Verdict) → IsVerdict policy looked.krate (expression_of looked.info) verdict
     → count_in severity.Error (pack_by (is_skipped verdict) policy looked) ≡ 0 → is_against verdict ≡ false
 clear_one policy looked Skipped is none = refl
 clear_one policy looked (Accepted choice hits) is none = refl
@@ -80,7 +80,7 @@ clear_one policy looked (Rejected least blocks) is none =
     absurd (true_false (is_error finding) (rejected_told is.judged.private policy looked.krate looked.info looked.notes is.judged.is)
     (last_counts (Some looked.krate.id) looked.gathered finding none))
 
-clear_all : (policy : Policy) (looked : List LookedAt) (verdicts : List Verdict) (more : List PackOf) → AreVerdicts policy looked verdicts
+clear_all : (policy : Policy) (looked : List GatheredCrate) (verdicts : List Verdict) (more : List PackOf) → AreVerdicts policy looked verdicts
     → sum_by (count_in severity.Error) (packs_of policy looked verdicts ++ more) ≡ 0 → ByRecursion (λ verdict. is_against verdict ≡ false) verdicts
 clear_all policy [] [] more are none = tt
 clear_all policy [] (verdict ∷ verdicts) more are none = absurd are
@@ -97,7 +97,7 @@ of_crates [] clear = tt
 of_crates (crate ∷ crates) clear = (clear.0, of_crates crates clear.1)
 
 -- no verdict is against a crate where no finding is an error
-pub none_against : (policy : Policy) (looked : List LookedAt) (crates : List CrateReport) (more : List PackOf)
+pub none_against : (policy : Policy) (looked : List GatheredCrate) (crates : List CrateReport) (more : List PackOf)
     → AreVerdicts policy looked (map (λ (crate : CrateReport). crate.verdict) crates)
     → sum_by (count_in severity.Error) (packs_of policy looked (map (λ (crate : CrateReport). crate.verdict) crates) ++ more) ≡ 0
     → ByRecursion (λ (crate : CrateReport). is_against crate.verdict ≡ false) crates

@@ -11,7 +11,7 @@ use Rattle.heard_core.specs.Cause.{Cause, no_memory, ReadCounts}
 use Rattle.heard_core.specs.Heard.{read_of}
 use Rattle.print_core.specs.declared.context.LogContext.{LogContext}
 use Rattle.search_core.specs.Search.{candidates}
-use Rattle.search_core.specs.declared.search.Sought.TheVariants.{Exceptions}
+use Rattle.search_core.specs.declared.search.SoughtFile.TheVariants.{Exceptions}
 use Rattle.policy_core.specs.declared.load.LoadedPolicy.{LoadedPolicy}
 use Rattle.load_core.specs.Answer.{IsCutLoad, LoadsBy, MayReadBoth, WriteCounts, load_cause}
 use Rattle.load_core.specs.Heard.{MayReadPolicy}
@@ -21,15 +21,15 @@ use Rattle.load_core.specs.declared.loading.PolicyPaths.{PolicyPaths}
 use Rattle.deny_run.specs.declared.error.Error.TheVariants.{Memory}
 use Rattle.deny_run.specs.declared.error.Refusal.{Refusal}
 use Rattle.deny_run.specs.declared.check.CheckedCrates.{CheckedCrates}
-use Rattle.deny_run.specs.declared.words.Request.{Request}
+use Rattle.deny_run.specs.declared.words.CheckRequest.{CheckRequest}
 use Rattle.deny_run.specs.Error.{error_of, error_of_load}
-use Rattle.deny_run.specs.Given.{Given}
-use Rattle.deny_run.specs.Heard.{manifest_in, scanner_in}
+use Rattle.deny_run.specs.Given.{RunArguments}
+use Rattle.deny_run.specs.Heard.{manifest_in, scanner_of_given}
 use Rattle.deny_run.specs.Hearing.{RunHearing, TreeSeen, look_calls, seen}
 use Rattle.deny_run.specs.Report.{paths_at}
-use Rattle.deny_run.specs.Script.{TextWritten, WritesLoad, plain_log, told_before}
+use Rattle.deny_run.specs.Script.{TextWritten, WritesLoad, plain_log, load_text_heard}
 use Rattle.deny_run.specs.Steps.{ArePathsAt, ChecksAt, IsAfterLoad, IsCheckedAt, report_with}
-use Rattle.deny_run.specs.Words.{request_of}
+use Rattle.deny_run.specs.Words.{check_request_of}
 use Rattle.deny_run.proofs.AnswerLemmas.{given_up, up_without}
 use Rattle.deny_run.proofs.CallLemmas.{LooksAre, looked_are, looks_found}
 use Rattle.deny_run.proofs.LoadedLemmas.{LoadEnded, LoadsInPart, both_part, load_calls, load_ended, load_made, policy_part}
@@ -64,7 +64,7 @@ memory_of error e = cc
 
 -- ---- behind the looks
 
-module _ (given : Given) (request : Request) (asked : request_of given.words given.cwd ≡ Some request) (begun first mid : ℕ) (told middle tells : Option Content) (old between more : List Call)
+module _ (given : RunArguments) (request : CheckRequest) (asked : check_request_of given.words given.cwd ≡ Some request) (begun first mid : ℕ) (told middle tells : Option Content) (old between more : List Call)
     (paths : PolicyPaths) (at : ArePathsAt given.cwd request.config_path old between paths) (looked : MadeSome told middle begun first old between) (loaded : MadeSome middle tells first mid between more)
     (new : List File) (err_old err_new : Option (List ℕ)) (err_before err_after : ℕ) where
   abbrev sought : List (List ℕ)
@@ -89,10 +89,10 @@ module _ (given : Given) (request : Request) (asked : request_of given.words giv
       let tree = seen told tells begun mid old more in
       let all = made_as (sym part.calls_are) (made_joined made_first (made_these loaded made)) in
       record {
-        text = told_before given hearing;
+        text = load_text_heard given hearing;
         tells = record { hearing = hearing; answers = given_up given tree hearing Memory (up_without given tree hearing refl all part.stops) tt; is = refl };
-        written = subst (λ held. TextWritten (told_before given hearing) err_old held err_before err_after no_memory) (sym same)
-            (silent err_old err_before err_after (told_before given hearing) no_memory (inl refl));
+        written = subst (λ held. TextWritten (load_text_heard given hearing) err_old held err_before err_after no_memory) (sym same)
+            (silent err_old err_before err_after (load_text_heard given hearing) no_memory (inl refl));
       }
 
   cut_policy : MayReadPolicy between more (Some request.config_path) → err_new ≡ err_old → WritesLoad given (seen told tells begun mid old more) err_old err_new err_before err_after (Err Memory)
@@ -147,7 +147,7 @@ module _ (given : Given) (request : Request) (asked : request_of given.words giv
     came (inr loads) = loads
 
     pub crates_end : (last : List File) (refused : Refusal) → IsAfterLoad refused
-        → ChecksAt (scanner_in given policy.licenses) policy (seen tells further mid after more newest) new last begun request.metadata_path (Err refused)
+        → ChecksAt (scanner_of_given given policy.licenses) policy (seen tells further mid after more newest) new last begun request.metadata_path (Err refused)
         → WritesLoad given (seen told further begun after old newest) err_old err_new err_before err_after (Err (error_of refused))
     crates_end last refused behind checks =
         let loads = came ends in
@@ -155,10 +155,10 @@ module _ (given : Given) (request : Request) (asked : request_of given.words giv
         let found = one.comes.answers in
         checks_write given request asked paths.exceptions begun mid told tells old more (calls (Ok policy) loads) one.heard (ended (Ok policy) loads) (made_both (Ok policy) loads)
         err_old err_new err_before err_after found.found found.is policy found.valid_of further after newest last refused behind one.comes.prints
-        (subst (λ files. ChecksAt (scanner_in given policy.licenses) policy (seen tells further mid after more newest) files last begun request.metadata_path (Err refused)) one.comes.files checks)
+        (subst (λ files. ChecksAt (scanner_of_given given policy.licenses) policy (seen tells further mid after more newest) files last begun request.metadata_path (Err refused)) one.comes.files checks)
 
     pub report_ends : (last : List File) (checked : CheckedCrates)
-        → IsCheckedAt (scanner_in given policy.licenses) policy (seen tells further mid after more newest) new last begun request.metadata_path checked
+        → IsCheckedAt (scanner_of_given given policy.licenses) policy (seen tells further mid after more newest) new last begun request.metadata_path checked
         → WritesLoad given (seen told further begun after old newest) err_old err_new err_before err_after (Ok (report_with checked last))
     report_ends last checked checks =
         let loads = came ends in
@@ -166,4 +166,4 @@ module _ (given : Given) (request : Request) (asked : request_of given.words giv
         let found = one.comes.answers in
         report_writes given request asked paths.exceptions begun mid told tells old more (calls (Ok policy) loads) one.heard (ended (Ok policy) loads) (made_both (Ok policy) loads)
         err_old err_new err_before err_after found.found found.is policy found.valid_of further after newest last checked one.comes.prints
-        (subst (λ files. IsCheckedAt (scanner_in given policy.licenses) policy (seen tells further mid after more newest) files last begun request.metadata_path checked) one.comes.files checks)
+        (subst (λ files. IsCheckedAt (scanner_of_given given policy.licenses) policy (seen tells further mid after more newest) files last begun request.metadata_path checked) one.comes.files checks)

@@ -4,10 +4,10 @@ use Rattle.std.specs.List.{AllByRecursion, sum_by}
 use Rattle.std.proofs.lemmas.List.{append_cancel_left}
 use Rattle.std.proofs.lemmas.List.Elements.{All-from_recursion, recursion_from_All}
 use Rattle.tree_core.specs.Call as call
-use Rattle.tree_core.specs.Call.{Asked as AskedOf, Answered, Call}
+use Rattle.tree_core.specs.Call.{CallKind, CallAnswer, Call}
 use Rattle.tree_core.specs.Content.{Content}
 use Rattle.tree_core.specs.Faults.{Rose}
-use Rattle.tree_core.specs.Script.{to_out, to_err, Target, Script, FaultCounts, IsWithoutFault, RefusedBy, Written}
+use Rattle.tree_core.specs.Script.{to_out, to_err, OutputSink, Script, FaultCounts, IsWithoutFault, RefusedBy, SinkTexts}
 use Rattle.tree_core.specs.Trace.{Says, fault_behind, faults_after}
 use Rattle.tree_core.proofs.MadeLemmas.{faults_after-later}
 use Rattle.diag_core.specs.declared.severity.Severity.TheVariants as severity
@@ -17,22 +17,22 @@ use Rattle.check_core.specs.Check.{all_hits}
 use Rattle.heard_core.specs.Cause.{Cause, no_memory, failed_read, refused_write}
 use Rattle.heard_core.specs.Cause as causes
 use Rattle.reads_core.proofs.ReadLemmas.{rose_counted}
-use Rattle.deny_run.specs.declared.error.Part.TheVariants.{Words}
+use Rattle.deny_run.specs.declared.error.InputPart.TheVariants.{Words}
 use Rattle.deny_run.specs.declared.error.Error.{Error}
 use Rattle.deny_run.specs.declared.error.Error.TheVariants.{Memory, NotCarried, ConfigRead, ConfigSyntax, ConfigShape, ConfigInvalid, MetadataRead, MetadataSyntax, MetadataShape, NoRoots, WriteFault, NotYet}
 use Rattle.deny_run.specs.declared.report.Report.{Report}
-use Rattle.deny_run.specs.declared.report.Ended.{Ended}
-use Rattle.deny_run.specs.declared.report.Ended.TheVariants.{Checked, Refused}
+use Rattle.deny_run.specs.declared.report.RunEnd.{RunEnd}
+use Rattle.deny_run.specs.declared.report.RunEnd.TheVariants.{Checked, Refused}
 use Rattle.deny_run.specs.declared.report.Outcome.{Outcome}
 use Rattle.deny_run.specs.Counts.{count_in, is_against, status_of}
 use Rattle.deny_run.specs.Error.{cause_of, MayEndLawful}
-use Rattle.deny_run.specs.Given.{Given}
-use Rattle.deny_run.specs.Headline.{EndsInReport, Headline, HeadlineRead, IsHeardOf, Tells}
-use Rattle.deny_run.specs.Heard.{HearsAllDue, IsRunHearing, all_looked_at, calls_of, found_of, turns_in}
+use Rattle.deny_run.specs.Given.{RunArguments}
+use Rattle.deny_run.specs.Headline.{EndsInReport, Headline, HeadlineRead, IsHeardOf, TellsContent}
+use Rattle.deny_run.specs.Heard.{HearsAllDue, IsRunHearing, all_gathered, calls_of, run_input_of, turns_in}
 use Rattle.deny_run.specs.Hearing.{RunHearing, TreeSeen}
-use Rattle.deny_run.specs.Report.{Asked, Asks, IsAnsweredBy, IsRefusal, IsRefusedBy, IsReport, verdicts_told}
+use Rattle.deny_run.specs.Report.{CheckInput, Asks, IsAnsweredBy, IsRefusal, IsRefusedRun, IsReport, verdicts_in}
 use Rattle.deny_run.specs.Run.{answer_of, exit_status}
-use Rattle.deny_run.specs.Script.{Begins, HasBegun, Writes}
+use Rattle.deny_run.specs.Script.{BeginsRefusal, HasBegun, Writes}
 use Rattle.deny_run.specs.Selection.{Refuses, RefusesSelection}
 use Rattle.deny_run.proofs.CountLemmas.{none_against, none_counted}
 use Rattle.deny_run.proofs.FoundLemmas.{found_of-from_Asks}
@@ -40,7 +40,7 @@ use Rattle.deny_run.proofs.HeardAlike.{found_alike}
 
 -- ---- lawful input is not refused
 
-module _ (given : Given) (hearing : RunHearing) (asked : Asked) (asks : Asks given hearing asked) where
+module _ (given : RunArguments) (hearing : RunHearing) (asked : CheckInput) (asks : Asks given hearing asked) where
   -- it has a selection
   selection_apart : (error : Error) → RefusesSelection (record { request = asked.request; policy = asked.policy; graph = asked.graph }) error → ⊥
   selection_apart Memory refuses = refuses
@@ -57,7 +57,7 @@ module _ (given : Given) (hearing : RunHearing) (asked : Asked) (asks : Asks giv
   selection_apart (NotYet Words) refuses = refuses
 
   -- a refusal of what is found alike
-  pub refuses_apart : (error : Error) (found : _) → found ≡ found_of given hearing → Refuses found error → ⊥
+  pub refuses_apart : (error : Error) (found : _) → found ≡ run_input_of given hearing → Refuses found error → ⊥
   refuses_apart error found same refuses =
       selection_apart error (subst (λ own. Refuses own error) (same ∙ found_of-from_Asks given hearing asked asks) refuses)
 
@@ -68,32 +68,32 @@ abbrev IsSame : List Call → List Call → Type 0
 IsSame X Y = X ≡ Y
 
 -- the answer of the first one
-first_answer : List Call → Answered
+first_answer : List Call → CallAnswer
 first_answer [] = call.no_memory
 first_answer (one ∷ calls) = one.answer
 
-same_step : (asked : AskedOf) (path : List ℕ) (one other : Answered) (X Y : List Call)
+same_step : (asked : CallKind) (path : List ℕ) (one other : CallAnswer) (X Y : List Call)
     → IsSame (record { asked = asked; path = path; answer = one } ∷ X) (record { asked = asked; path = path; answer = other } ∷ Y)
     → ((one ≡ other) ⊎ (other ≡ call.no_memory)) × IsSame X Y
 unfolding first_answer
 same_step asked path one other X Y e = (inl (ap first_answer e), cc)
 
 -- by what was read, lawful input is not refused
-not_refused_read : (given : Given) (tree : TreeSeen) (hearing own : RunHearing) (asked : Asked) (error : Error) → IsRunHearing given tree hearing → HearsAllDue given hearing → Asks given hearing asked
+not_refused_read : (given : RunArguments) (tree : TreeSeen) (hearing own : RunHearing) (asked : CheckInput) (error : Error) → IsRunHearing given tree hearing → HearsAllDue given hearing → Asks given hearing asked
     → IsRunHearing given tree own → IsRefusal given own error → ⊥
 not_refused_read given tree hearing own asked error heard due asks ran refusal =
     let same = append_cancel_left tree.calls_before (calls_of given own) (calls_of given hearing) (sym ran.made.traced ∙ heard.made.traced) in
-    refuses_apart given hearing asked asks error (found_of given own)
+    refuses_apart given hearing asked asks error (run_input_of given own)
     (found_alike IsSame same_step given own hearing (ran.begun ∙ sym heard.begun) refusal.due due same) refusal.refused
 
 -- ---- the same content
 
 -- the answer of a call is what the content has, or memory was wanting
 abbrev Fair : Content → Call → Type 0
-Fair content one = (one.answer ≡ call.no_memory) ⊎ Tells content one
+Fair content one = (one.answer ≡ call.no_memory) ⊎ TellsContent content one
 
 -- where no count rose
-fair_one : (content : Content) (asked : AskedOf) (path : List ℕ) (answer : Answered) (count after : ℕ) → Says content (record { asked = asked; path = path; answer = answer })
+fair_one : (content : Content) (asked : CallKind) (path : List ℕ) (answer : CallAnswer) (count after : ℕ) → Says content (record { asked = asked; path = path; answer = answer })
     → fault_behind count answer ≤ after → ¬ (Rose count after) → Fair content (record { asked = asked; path = path; answer = answer })
 fair_one content asked path (call.bytes items) count after says later quiet = inr says
 fair_one content asked path (call.entries items) count after says later quiet = inr says
@@ -104,7 +104,7 @@ fair_one content asked path call.failed count after says later quiet = absurd (q
 fair_one content asked path call.no_memory count after says later quiet = inl refl
 
 -- the count is the same behind an answer where it did not rise
-quiet_behind : (answer : Answered) (count after : ℕ) → fault_behind count answer ≤ after → ¬ (Rose count after) → fault_behind count answer ≡ count
+quiet_behind : (answer : CallAnswer) (count after : ℕ) → fault_behind count answer ≤ after → ¬ (Rose count after) → fault_behind count answer ≡ count
 quiet_behind (call.bytes items) count after later quiet = refl
 quiet_behind (call.entries items) count after later quiet = refl
 quiet_behind (call.told answer) count after later quiet = refl
@@ -124,29 +124,29 @@ all_fair content (one ∷ calls) count says quiet =
 
 -- what the first calls are answered is what the content has, and the second ones too where memory was not wanting
 abbrev IsToldBy : Content → List Call → List Call → Type 0
-IsToldBy content X Y = AllByRecursion (Tells content) X × AllByRecursion (Fair content) Y
+IsToldBy content X Y = AllByRecursion (TellsContent content) X × AllByRecursion (Fair content) Y
 
-told_step : (content : Content) (asked : AskedOf) (path : List ℕ) (one other : Answered) (X Y : List Call)
+told_step : (content : Content) (asked : CallKind) (path : List ℕ) (one other : CallAnswer) (X Y : List Call)
     → IsToldBy content (record { asked = asked; path = path; answer = one } ∷ X) (record { asked = asked; path = path; answer = other } ∷ Y)
     → ((one ≡ other) ⊎ (other ≡ call.no_memory)) × IsToldBy content X Y
 told_step content asked path one other X Y both = (answered both.0.0 both.1.0, (both.0.1, both.1.1))
   where
-    answered : Tells content (record { asked = asked; path = path; answer = one }) → Fair content (record { asked = asked; path = path; answer = other }) → (one ≡ other) ⊎ (other ≡ call.no_memory)
+    answered : TellsContent content (record { asked = asked; path = path; answer = one }) → Fair content (record { asked = asked; path = path; answer = other }) → (one ≡ other) ⊎ (other ≡ call.no_memory)
     answered tells (inl lost) = inr lost
     answered tells (inr own) = inl (tells ∙ sym own)
 
 -- over a content, lawful input is not refused without a fault
-not_refused_told : (given : Given) (content : Content) (tree : TreeSeen) (hearing own : RunHearing) (asked : Asked) (error : Error) → tree.told ≡ Some content
+not_refused_told : (given : RunArguments) (content : Content) (tree : TreeSeen) (hearing own : RunHearing) (asked : CheckInput) (error : Error) → tree.told ≡ Some content
     → IsHeardOf given content tree.count_before hearing → Asks given hearing asked → ¬ (Rose tree.count_before tree.count_after) → IsRunHearing given tree own → IsRefusal given own error → ⊥
 not_refused_told given content tree hearing own asked error told heard asks quiet ran refusal =
     let says = recursion_from_All (Says content) (calls_of given own) (ran.made.says content told) in
     let fair = all_fair content (calls_of given own) tree.count_before says (subst (λ n. ¬ (Rose tree.count_before n)) ran.made.counts quiet) in
-    let tells = recursion_from_All (Tells content) (calls_of given hearing) heard.tells in
-    refuses_apart given hearing asked asks error (found_of given own)
+    let tells = recursion_from_All (TellsContent content) (calls_of given hearing) heard.tells in
+    refuses_apart given hearing asked asks error (run_input_of given own)
     (sym (found_alike (IsToldBy content) (told_step content) given hearing own (heard.begun ∙ sym ran.begun) heard.due refusal.due (tells, fair))) refusal.refused
 
 -- a write that was refused raised a count
-rose_by : (counts : FaultCounts) → (target : Target) (before after : ℕ) → RefusedBy counts target before after → IsWithoutFault counts → ⊥
+rose_by : (counts : FaultCounts) → (target : OutputSink) (before after : ℕ) → RefusedBy counts target before after → IsWithoutFault counts → ⊥
 rose_by counts to_out before after refused quiet = quiet.out refused.2
 rose_by counts to_err before after refused quiet = quiet.err (wider refused.2)
   where
@@ -154,21 +154,21 @@ rose_by counts to_err before after refused quiet = quiet.err (wider refused.2)
     wider (inl less) = inl (omega (arith, refused.0, refused.1))
     wider (inr last) = inr (omega (arith, refused.1))
 
-rose_begun : (given : Given) (tree : TreeSeen) (counts : FaultCounts) (text : List ℕ) (begun : Script) (before after : ℕ)
-    → Begins given tree counts text begun (refused_write before after) → IsWithoutFault counts → ⊥
+rose_begun : (given : RunArguments) (tree : TreeSeen) (counts : FaultCounts) (text : List ℕ) (begun : Script) (before after : ℕ)
+    → BeginsRefusal given tree counts text begun (refused_write before after) → IsWithoutFault counts → ⊥
 rose_begun given tree counts text begun before after (inl cut) quiet = rose_by counts cut.target before after cut.refused quiet
 rose_begun given tree counts text begun before after (inr cut) quiet = rose_by counts cut.cut.target before after cut.cut.refused quiet
 
 -- a cause that may end a lawful run, since no other one is there
-lawful_cause : (given : Given) (tree : TreeSeen) (counts : FaultCounts) (text : List ℕ) (begun : Script) (hearing : RunHearing) (error : Error) (cause : Cause)
-    → IsRefusedBy given tree hearing error cause → (IsRunHearing given tree hearing → IsRefusal given hearing error → ⊥) → Begins given tree counts text begun cause → IsWithoutFault counts → MayEndLawful cause
+lawful_cause : (given : RunArguments) (tree : TreeSeen) (counts : FaultCounts) (text : List ℕ) (begun : Script) (hearing : RunHearing) (error : Error) (cause : Cause)
+    → IsRefusedRun given tree hearing error cause → (IsRunHearing given tree hearing → IsRefusal given hearing error → ⊥) → BeginsRefusal given tree counts text begun cause → IsWithoutFault counts → MayEndLawful cause
 lawful_cause given tree counts text begun hearing error no_memory refused fails begins quiet = tt
 lawful_cause given tree counts text begun hearing error causes.told refused fails begins quiet = absurd (fails refused.0 refused.1)
 lawful_cause given tree counts text begun hearing error (failed_read before after) refused fails begins quiet = absurd (fails refused.0 refused.1)
 lawful_cause given tree counts text begun hearing error (refused_write before after) refused fails begins quiet = absurd (rose_begun given tree counts text begun before after begins quiet)
 
 -- lawful input without a fault ends in a report or in want of memory
-ends_lawful : (given : Given) (tree : TreeSeen) (counts : FaultCounts) (text : List ℕ) (begun : Script) (hearing : RunHearing) (ended : Ended)
+ends_lawful : (given : RunArguments) (tree : TreeSeen) (counts : FaultCounts) (text : List ℕ) (begun : Script) (hearing : RunHearing) (ended : RunEnd)
     → IsAnsweredBy given tree hearing (answer_of ended) → ((error : Error) → IsRunHearing given tree hearing → IsRefusal given hearing error → ⊥)
     → HasBegun given tree counts text begun (answer_of ended) → IsWithoutFault counts → EndsInReport ended
 ends_lawful given tree counts text begun hearing (Checked report) answers fails begins quiet = tt
@@ -176,11 +176,11 @@ ends_lawful given tree counts text begun hearing (Refused error) answers fails b
     lawful_cause given tree counts text begun hearing error (cause_of error) answers (fails error) begins quiet
 
 -- no verdict is against a crate where the status is 0
-clear_status : (given : Given) (hearing : RunHearing) (report : Report) (status : ℕ) → IsReport given hearing report
+clear_status : (given : RunArguments) (hearing : RunHearing) (report : Report) (status : ℕ) → IsReport given hearing report
     → status ≡ status_of report.stats → status ≡ 0 → All (λ crate. is_against crate.verdict ≡ false) report.crates
 clear_status given hearing report status asked is clear =
-    let looked = all_looked_at (turns_in given hearing report.policy) in
-    let last = last_pack report.policy (all_hits (policy_of report.policy) looked (verdicts_told report)) ∷ [] in
+    let looked = all_gathered (turns_in given hearing report.policy) in
+    let last = last_pack report.policy (all_hits (policy_of report.policy) looked (verdicts_in report)) ∷ [] in
     All-from_recursion (λ crate. is_against crate.verdict ≡ false) report.crates
     (none_against (policy_of report.policy) looked report.crates last asked.tells.are
     (sym (ap (sum_by (count_in severity.Error)) asked.tells.findings)
@@ -188,7 +188,7 @@ clear_status given hearing report status asked is clear =
 
 -- ---- the headline
 
-module _ (given : Given) (tree : TreeSeen) (counts : FaultCounts) (old new : Written) (outcome : Outcome) (writes : Writes given tree counts old new (answer_of outcome.ended))
+module _ (given : RunArguments) (tree : TreeSeen) (counts : FaultCounts) (old new : SinkTexts) (outcome : Outcome) (writes : Writes given tree counts old new (answer_of outcome.ended))
     (status : outcome.status ≡ exit_status (answer_of outcome.ended)) where
   -- what was heard
   abbrev own : RunHearing

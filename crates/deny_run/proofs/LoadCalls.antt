@@ -1,17 +1,17 @@
 -- The reads of a load, as what they were answered.
 use Rattle.std.proofs.Common.{◌≡◌, ◌∙◌, inl, inr, refl, sym, ap, subst, ℕ, List, [], ◌∷◌, ◌++◌, append-nil, Option, Some, None, Result, Ok, Err}
 use Rattle.catalog_core.specs.Catalog.{CatalogLists}
-use Rattle.diag_core.specs.File.{File, id_at}
+use Rattle.diag_core.specs.File.{File, file_id_at}
 use Rattle.tree_core.specs.Call as call
-use Rattle.tree_core.specs.Call.{Answered, Call}
+use Rattle.tree_core.specs.Call.{CallAnswer, Call}
 use Rattle.tree_core.specs.Trace.{fault_behind}
 use Rattle.heard_core.specs.Heard.{read_of, text_answered}
 use Rattle.heard_core.specs.declared.fault.ReadFault.{ReadFault}
 use Rattle.heard_core.specs.declared.fault.ReadFault.TheVariants.{Absent, Failed}
 use Rattle.policy_config.specs.declared.root.RootConfig.{RootConfig}
 use Rattle.policy_core.specs.Heard.{IsReadAt, IsReadOf, MayReadAt, MayReadOf, heard}
-use Rattle.policy_text.specs.Config.{config_told}
-use Rattle.policy_text.specs.Text.{text_told}
+use Rattle.policy_text.specs.Config.{config_of_text}
+use Rattle.policy_text.specs.Text.{config_text_of}
 use Rattle.policy_text.specs.declared.error.ConfigError.{ConfigError}
 use Rattle.policy_text.specs.declared.text.ConfigText.{ConfigText}
 use Rattle.load_core.specs.Answer.{MayReadFurther, ReadsBehind, ReadsFurther}
@@ -24,14 +24,14 @@ use Rattle.deny_run.proofs.CallLemmas.{heard_where, text_heard_by}
 
 -- a read that is due at a path, where this was heard: what it was answered
 pub record ReadsDue (due : Option (List ℕ)) (mid : ℕ) (between more : List Call) (Same : Result (List ℕ) ReadFault → Type 0) : Type 0 where
-  pub answer : Option Answered
+  pub answer : Option CallAnswer
   pub due_read : IsReadWhereDue due answer
   pub made : more ≡ between ++ read_calls due answer
   pub same : Same (text_by mid (count_behind mid answer) answer)
 
 -- the count behind the one further read that there may be
 abbrev pub CountsFurther : ℕ → ℕ → List Call → List Call → Type 0
-CountsFurther mid after between more = (path : List ℕ) (answer : Answered) → more ≡ between ++ read_of path answer ∷ [] → after ≡ fault_behind mid answer
+CountsFurther mid after between more = (path : List ℕ) (answer : CallAnswer) → more ≡ between ++ read_of path answer ∷ [] → after ≡ fault_behind mid answer
 
 heard-inj : (path : List ℕ) (one other : Result (List ℕ) ReadFault) → heard path one ≡ heard path other → one ≡ other
 heard-inj path one other e = cc
@@ -62,7 +62,7 @@ module _ (mid after : ℕ) (between more : List Call) (counts : CountsFurther mi
 
   read_of_path : (path : Option (List ℕ)) → IsReadOf mid after between more files path (exceptions_heard files path text) → ReadsDue (due_at files path) mid between more (Alike path)
   read_of_path None is = none_due mid between more (Alike None) is.1 refl
-  read_of_path (Some path) is = read_at path (id_at files path) is
+  read_of_path (Some path) is = read_at path (file_id_at files path) is
 
 -- a load comes to the same as with this text of the exceptions file
 abbrev pub LoadsAlike : CatalogLists → PolicyPaths → Result (List ℕ) ReadFault → Result ConfigText ConfigError → Result (List ℕ) ReadFault → Type 0
@@ -88,13 +88,13 @@ module _ (lists : CatalogLists) (paths : PolicyPaths) (mid after : ℕ) (between
   pub reads_behind : (told : Result ConfigText ConfigError) → ReadsBehind lists [] paths mid after between more exceptions told
       → ReadsDue (due_by_text lists paths told) mid between more (LoadsAlike lists paths exceptions told)
   reads_behind (Err refused) is = none_due mid between more (LoadsAlike lists paths exceptions (Err refused)) is refl
-  reads_behind (Ok text) is = further text (config_told lists text.text) is
+  reads_behind (Ok text) is = further text (config_of_text lists text.text) is
 
 -- ---- where memory was wanting
 
 -- a read that is due may have been made
 pub record MayReadDue (due : Option (List ℕ)) (between more : List Call) : Type 0 where
-  pub answer : Option Answered
+  pub answer : Option CallAnswer
   pub made : more ≡ between ++ read_calls due answer
 
 may_none : (due : Option (List ℕ)) (between more : List Call) → more ≡ between → MayReadDue due between more
@@ -108,7 +108,7 @@ may_at path None between more (inr is) = record { answer = Some is.0; made = is.
 
 may_of : (files : List File) (path : Option (List ℕ)) (between more : List Call) → MayReadOf between more files path → MayReadDue (due_at files path) between more
 may_of files None between more is = may_none None between more is
-may_of files (Some path) between more is = may_at path (id_at files path) between more is
+may_of files (Some path) between more is = may_at path (file_id_at files path) between more is
 
 pub may_further : (files : List File) (path : Option (List ℕ)) (config : Result RootConfig ConfigError) (between more : List Call) → MayReadFurther between more files path config
     → MayReadDue (due_behind files path config) between more
@@ -116,7 +116,7 @@ may_further files path (Ok root) between more is = may_of files path between mor
 may_further files path (Err refused) between more is = may_none None between more is
 
 -- a policy's text is told whatever the counts are
-pub text_anyhow : (answer : Answered) (begun after other : ℕ) (told : Result (List ℕ) ReadFault) (text : ConfigText) → text_answered begun after answer ≡ Some told → text_told told ≡ Ok text
+pub text_anyhow : (answer : CallAnswer) (begun after other : ℕ) (told : Result (List ℕ) ReadFault) (text : ConfigText) → text_answered begun after answer ≡ Some told → config_text_of told ≡ Ok text
     → text_by begun other (Some answer) ≡ told
 text_anyhow (call.bytes items) begun after other told text is by = cc
 text_anyhow (call.entries items) begun after other told text is by = absurd (cc)
@@ -125,8 +125,8 @@ text_anyhow call.absent begun after other told text is by = cc
 text_anyhow call.wrong_kind begun after other told text is by = cc
 text_anyhow call.failed begun after other told text is by =
     let failed : told ≡ Err (Failed begun after) = cc in
-    absurd (failed_told begun after text (sym (ap text_told failed) ∙ by))
+    absurd (failed_told begun after text (sym (ap config_text_of failed) ∙ by))
   where
-    failed_told : (begun after : ℕ) (text : ConfigText) → text_told (Err (Failed begun after)) ≡ Ok text → ⊥
+    failed_told : (begun after : ℕ) (text : ConfigText) → config_text_of (Err (Failed begun after)) ≡ Ok text → ⊥
     failed_told begun after text e = absurd (cc)
 text_anyhow call.no_memory begun after other told text is by = absurd (cc)

@@ -3,7 +3,7 @@ use Rattle.std.proofs.Common.{◌≡◌, ◌∙◌, refl, sym, ap, subst, ℕ, B
 use Rattle.std.specs.List.{list_any}
 use Rattle.catalog_core.specs.Catalog.{CatalogLists}
 use Rattle.selection_core.specs.Choice.{is_uncarried}
-use Rattle.diag_core.specs.File.{File, id_at}
+use Rattle.diag_core.specs.File.{File, file_id_at}
 use Rattle.diag_core.specs.declared.diagnostic.Diagnostic.{Diagnostic}
 use Rattle.heard_core.specs.declared.fault.ReadFault.{ReadFault}
 use Rattle.load_core.specs.Heard.{LoadHeard, exceptions_at, exceptions_heard}
@@ -13,20 +13,20 @@ use Rattle.load_core.specs.declared.error.LoadError.TheVariants.{ConfigInvalid}
 use Rattle.load_core.specs.declared.loading.PolicyPaths.{PolicyPaths}
 use Rattle.policy_config.specs.Root.{root_of}
 use Rattle.policy_config.specs.declared.root.RootConfig.{RootConfig}
-use Rattle.policy_core.specs.Exceptions.{ExceptionsRead, exceptions_told, shape_told}
-use Rattle.policy_core.specs.Heard.{heard, read_of, value_or_fault}
-use Rattle.policy_core.specs.Policy.{PolicyFound, absence_told, policy_found, load_findings, licences_in}
-use Rattle.policy_core.specs.Findings.{targets_told, graph_keys_told, output_key_told}
+use Rattle.policy_core.specs.Exceptions.{ExceptionsRead, exceptions_findings, shape_diagnostic}
+use Rattle.policy_core.specs.Heard.{heard, exceptions_read_of, value_or_fault}
+use Rattle.policy_core.specs.Policy.{PolicyFound, absence_findings, policy_found, load_findings, licences_in}
+use Rattle.policy_core.specs.Findings.{target_findings, graph_key_findings, output_key_findings}
 use Rattle.validate_core.specs.Valid.{address_findings, clarification_findings, removed_findings}
 use Rattle.policy_entries.specs.Exceptions.{exceptions_file_of}
-use Rattle.policy_text.specs.Config.{config_told, if_carried, or_shape, or_syntax, shape_told as shape_read, then_told}
-use Rattle.policy_text.specs.Text.{text_told}
+use Rattle.policy_text.specs.Config.{config_of_text, if_carried, or_shape, or_syntax, config_of_value, then_config}
+use Rattle.policy_text.specs.Text.{config_text_of}
 use Rattle.policy_text.specs.declared.error.ConfigError.{ConfigError}
 use Rattle.policy_text.specs.declared.error.ConfigError.TheVariants.{NotCarried}
 use Rattle.policy_text.specs.declared.text.ConfigText.{ConfigText}
-use Rattle.toml_shapes.specs.Shaped.{Shaped, faults_in}
+use Rattle.toml_shapes.specs.Shaped.{ShapeReading, faults_in}
 use Rattle.toml_shapes.specs.Shapes.{Fault}
-use Rattle.toml_subset.specs.Answer.{Read}
+use Rattle.toml_subset.specs.Answer.{TomlReading}
 use Rattle.toml_subset.specs.Data.{Toml}
 use Rattle.toml_subset.specs.Reading.{read_text}
 use Rattle.deny_run.specs.Policy.{ExceptionsAt, ExceptionsFileAt, IsPolicyAt}
@@ -48,16 +48,16 @@ any_behind (finding ∷ one) other any =
 
 -- what is wrong with the exceptions file is among the findings
 pub told_among : (lists : CatalogLists) (policy exceptions : ℕ) (absence : List Diagnostic) (root : RootConfig) (read : ExceptionsRead)
-    → list_any is_error (exceptions_told lists exceptions read) ≡ true
+    → list_any is_error (exceptions_findings lists exceptions read) ≡ true
     → list_any is_error (load_findings lists (record { policy = policy; exceptions = exceptions }) absence root read) ≡ true
 told_among lists policy exceptions absence root read any =
     let config = licences_in root in
     let front = absence ++ address_findings policy config ++ clarification_findings lists policy config ++ removed_findings policy config in
-    let file = front ++ exceptions_told lists exceptions read in
-    let targets = file ++ targets_told policy root in
-    let keys = targets ++ graph_keys_told policy root in
-    any_front keys (output_key_told policy root) (any_front targets (graph_keys_told policy root) (any_front file (targets_told policy root)
-    (any_behind front (exceptions_told lists exceptions read) any)))
+    let file = front ++ exceptions_findings lists exceptions read in
+    let targets = file ++ target_findings policy root in
+    let keys = targets ++ graph_key_findings policy root in
+    any_front keys (output_key_findings policy root) (any_front targets (graph_key_findings policy root) (any_front file (target_findings policy root)
+    (any_behind front (exceptions_findings lists exceptions read) any)))
 
 -- a policy that is answered has no error among its findings
 pub unless_Ok : (it found : PolicyFound) → unless_error it ≡ Ok found → (it ≡ found) × (list_any is_error it.findings ≡ false)
@@ -85,67 +85,67 @@ carried_of own root e =
       | false ↦ λ is. (let same : own ≡ root = cc in (same, refl))
     ] e
 
-shaped_of : (shaped : Shaped RootConfig) (root : RootConfig) → then_told if_carried (or_shape shaped) ≡ Ok root → (shaped ≡ Ok root) × (list_any is_uncarried root.graph.exclude ≡ false)
+shaped_of : (shaped : ShapeReading RootConfig) (root : RootConfig) → then_config if_carried (or_shape shaped) ≡ Ok root → (shaped ≡ Ok root) × (list_any is_uncarried root.graph.exclude ≡ false)
 shaped_of (Ok own) root e =
     let (same, carried) = carried_of own root e in
     (ap Ok same, subst (λ one. list_any is_uncarried one.graph.exclude ≡ false) same carried)
 shaped_of (Err faults) root e = absurd (cc)
 
-written_by : (lists : CatalogLists) (text : List ℕ) (read : Read Toml) (root : RootConfig) → read_text text ≡ read
-    → then_told (λ value. then_told if_carried (shape_read lists value)) (or_syntax read) ≡ Ok root → Written lists text root
+written_by : (lists : CatalogLists) (text : List ℕ) (read : TomlReading Toml) (root : RootConfig) → read_text text ≡ read
+    → then_config (λ value. then_config if_carried (config_of_value lists value)) (or_syntax read) ≡ Ok root → Written lists text root
 written_by lists text (Ok toml) root is e =
     let (shape, carried) = shaped_of (root_of lists toml) root e in
     record { toml = toml; reads = is; shape = shape; carried = carried }
 written_by lists text (Err fault) root is e = absurd (cc)
 
-pub written_of : (lists : CatalogLists) (text : List ℕ) (root : RootConfig) → config_told lists text ≡ Ok root → Written lists text root
+pub written_of : (lists : CatalogLists) (text : List ℕ) (root : RootConfig) → config_of_text lists text ≡ Ok root → Written lists text root
 written_of lists text root e = written_by lists text (read_text text) root refl e
 
 pub config_of : (lists : CatalogLists) (text : List ℕ) (toml : Toml) (root : RootConfig) → read_text text ≡ Ok toml → root_of lists toml ≡ Ok root
-    → list_any is_uncarried root.graph.exclude ≡ false → config_told lists text ≡ Ok root
+    → list_any is_uncarried root.graph.exclude ≡ false → config_of_text lists text ≡ Ok root
 config_of lists text toml root reads shape carried =
-    ap (λ read. then_told (λ value. then_told if_carried (shape_read lists value)) (or_syntax read)) reads
-    ∙ ap (λ shaped. then_told if_carried (or_shape shaped)) shape
+    ap (λ read. then_config (λ value. then_config if_carried (config_of_value lists value)) (or_syntax read)) reads
+    ∙ ap (λ shaped. then_config if_carried (or_shape shaped)) shape
     ∙ ap (λ b. cond b (Err NotCarried) (Ok root)) carried
 
 -- ---- the exceptions file
 
 -- a fault of the shape is an error
-no_faults : (file : ℕ) (faults : List Fault) → list_any is_error (map (shape_told file) faults) ≡ false → faults ≡ []
+no_faults : (file : ℕ) (faults : List Fault) → list_any is_error (map (shape_diagnostic file) faults) ≡ false → faults ≡ []
 no_faults file [] none = refl
 no_faults file (fault ∷ faults) none = absurd (cc)
 
 abbrev IsQuiet : CatalogLists → ExceptionsRead → Type 0
-IsQuiet lists read = list_any is_error (exceptions_told lists 1 read) ≡ false
+IsQuiet lists read = list_any is_error (exceptions_findings lists 1 read) ≡ false
 
 module _ (lists : CatalogLists) (files : List File) where
-  text_file : (path text : List ℕ) (read : Read Toml) → id_at files path ≡ None → read_text text ≡ read → IsQuiet lists (value_or_fault read)
+  text_file : (path text : List ℕ) (read : TomlReading Toml) → file_id_at files path ≡ None → read_text text ≡ read → IsQuiet lists (value_or_fault read)
       → ExceptionsFileAt lists files path (Ok text) (value_or_fault read)
   text_file path text (Ok toml) apart is quiet =
       record { apart = apart; text = text; text_heard = refl; toml = toml; reads = is; shape = no_faults 1 (faults_in (exceptions_file_of lists toml)) quiet; is = refl }
   text_file path text (Err fault) apart is quiet = absurd (cc)
 
-  heard_file : (path : List ℕ) (text : Result (List ℕ) ReadFault) → id_at files path ≡ None → IsQuiet lists (read_of (heard path text))
-      → ExceptionsFileAt lists files path text (read_of (heard path text))
+  heard_file : (path : List ℕ) (text : Result (List ℕ) ReadFault) → file_id_at files path ≡ None → IsQuiet lists (exceptions_read_of (heard path text))
+      → ExceptionsFileAt lists files path text (exceptions_read_of (heard path text))
   heard_file path (Ok text) apart quiet = text_file path text (read_text text) apart refl quiet
   heard_file path (Err fault) apart quiet = absurd (cc)
 
-  found_file : (path : List ℕ) (text : Result (List ℕ) ReadFault) (id : Option ℕ) → id_at files path ≡ id → IsQuiet lists (read_of (exceptions_at id path text))
-      → ExceptionsFileAt lists files path text (read_of (exceptions_at id path text))
+  found_file : (path : List ℕ) (text : Result (List ℕ) ReadFault) (id : Option ℕ) → file_id_at files path ≡ id → IsQuiet lists (exceptions_read_of (exceptions_at id path text))
+      → ExceptionsFileAt lists files path text (exceptions_read_of (exceptions_at id path text))
   found_file path text None is quiet = heard_file path text is quiet
   found_file path text (Some id) is quiet = absurd (cc)
 
-  pub exceptions_of : (path : Option (List ℕ)) (text : Result (List ℕ) ReadFault) → IsQuiet lists (read_of (exceptions_heard files path text))
-      → ExceptionsAt lists files path text (read_of (exceptions_heard files path text))
+  pub exceptions_of : (path : Option (List ℕ)) (text : Result (List ℕ) ReadFault) → IsQuiet lists (exceptions_read_of (exceptions_heard files path text))
+      → ExceptionsAt lists files path text (exceptions_read_of (exceptions_heard files path text))
   exceptions_of None text quiet = refl
-  exceptions_of (Some path) text quiet = found_file path text (id_at files path) refl quiet
+  exceptions_of (Some path) text quiet = found_file path text (file_id_at files path) refl quiet
 
   pub read_at : (path : Option (List ℕ)) (text : Result (List ℕ) ReadFault) (read : ExceptionsRead) → ExceptionsAt lists files path text read
-      → read_of (exceptions_heard files path text) ≡ read
+      → exceptions_read_of (exceptions_heard files path text) ≡ read
   read_at None text read at = sym at
   read_at (Some path) text read at =
-      ap (λ id. read_of (exceptions_at id path text)) at.apart
-      ∙ ap (λ own. read_of (heard path own)) at.text_heard
+      ap (λ id. exceptions_read_of (exceptions_at id path text)) at.apart
+      ∙ ap (λ own. exceptions_read_of (heard path own)) at.text_heard
       ∙ ap value_or_fault at.reads
       ∙ sym at.is
 
@@ -159,7 +159,7 @@ module _ (lists : CatalogLists) (paths : PolicyPaths) (heard : LoadHeard) (found
   abbrev files : ConfigText → List File
   files text = policy_file paths.policy text.text ∷ []
 
-  root_is : (text : ConfigText) (root : RootConfig) → text_told heard.policy ≡ Ok text → config_told lists text.text ≡ Ok root
+  root_is : (text : ConfigText) (root : RootConfig) → config_text_of heard.policy ≡ Ok text → config_of_text lists text.text ≡ Ok root
       → unless_error (found_by lists (files text) 0 paths text.is_there (exceptions_heard (files text) paths.exceptions heard.exceptions) root) ≡ Ok found
       → IsPolicyAt lists paths heard found
   root_is text root text_of written e =
@@ -167,9 +167,9 @@ module _ (lists : CatalogLists) (paths : PolicyPaths) (heard : LoadHeard) (found
       let it = found_by lists (files text) 0 paths text.is_there exceptions root in
       let (same, valid) = unless_Ok it found e in
       let own = written_of lists text.text root written in
-      let quiet : IsQuiet lists (read_of exceptions) =
-      quiet_told (list_any is_error (exceptions_told lists 1 (read_of exceptions)))
-      (λ any. let both : ◌≡◌ {A = Bool} true false = sym (told_among lists 0 1 (absence_told text.is_there paths.policy) root (read_of exceptions) any) ∙ valid in absurd (cc)) in
+      let quiet : IsQuiet lists (exceptions_read_of exceptions) =
+      quiet_told (list_any is_error (exceptions_findings lists 1 (exceptions_read_of exceptions)))
+      (λ any. let both : ◌≡◌ {A = Bool} true false = sym (told_among lists 0 1 (absence_findings text.is_there paths.policy) root (exceptions_read_of exceptions) any) ∙ valid in absurd (cc)) in
       record {
         text = text;
         text_of = text_of;
@@ -178,33 +178,33 @@ module _ (lists : CatalogLists) (paths : PolicyPaths) (heard : LoadHeard) (found
         root = root;
         shape = own.shape;
         carried = own.carried;
-        read = read_of exceptions;
+        read = exceptions_read_of exceptions;
         exceptions = exceptions_of lists (files text) paths.exceptions heard.exceptions quiet;
         is = sym same;
         valid = subst (λ one. list_any is_error one.findings ≡ false) same valid;
       }
 
-  config_is : (text : ConfigText) (config : Result RootConfig ConfigError) → text_told heard.policy ≡ Ok text → config_told lists text.text ≡ config
+  config_is : (text : ConfigText) (config : Result RootConfig ConfigError) → config_text_of heard.policy ≡ Ok text → config_of_text lists text.text ≡ config
       → (load_by_config lists [] paths (exceptions_heard (files text) paths.exceptions heard.exceptions) text config).answer ≡ Ok found
       → IsPolicyAt lists paths heard found
   config_is text (Ok root) text_of written e = root_is text root text_of written e
   config_is text (Err refused) text_of written e = absurd (cc)
 
-  text_is : (text : Result ConfigText ConfigError) → text_told heard.policy ≡ text
+  text_is : (text : Result ConfigText ConfigError) → config_text_of heard.policy ≡ text
       → (load_by_text lists [] paths heard.exceptions text).answer ≡ Ok found → IsPolicyAt lists paths heard found
-  text_is (Ok text) is e = config_is text (config_told lists text.text) is refl e
+  text_is (Ok text) is e = config_is text (config_of_text lists text.text) is refl e
   text_is (Err refused) is e = absurd (cc)
 
   -- a policy that a load answers is that of the bytes
   pub policy_is : (load_of lists [] paths heard).answer ≡ Ok found → IsPolicyAt lists paths heard found
-  policy_is e = text_is (text_told heard.policy) refl e
+  policy_is e = text_is (config_text_of heard.policy) refl e
 
   -- the policy of the bytes is what a load answers
   pub load_is : IsPolicyAt lists paths heard found → (load_of lists [] paths heard).answer ≡ Ok found
   load_is at =
       let told = config_of lists at.text.text at.toml at.root at.reads at.shape at.carried in
       let made : ExceptionsRead → PolicyFound =
-      λ read. policy_found lists (record { policy = 0; exceptions = 1 }) (absence_told at.text.is_there paths.policy) read at.root in
+      λ read. policy_found lists (record { policy = 0; exceptions = 1 }) (absence_findings at.text.is_there paths.policy) read at.root in
       ap (λ text. (load_by_text lists [] paths heard.exceptions text).answer) at.text_of
       ∙ ap (λ config. (load_by_config lists [] paths (exceptions_heard (files at.text) paths.exceptions heard.exceptions) at.text config).answer) told
       ∙ ap (λ read. unless_error (made read)) (read_at lists (files at.text) paths.exceptions heard.exceptions at.read at.exceptions)

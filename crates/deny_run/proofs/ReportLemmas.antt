@@ -1,6 +1,6 @@
 -- The answer of `report` and what it writes, at each of its ends.
 use Rattle.std.proofs.Common.{◌≡◌, ◌∙◌, inl, inr, refl, sym, ap, ap₂, subst, ℕ, true, List, [], ◌∷◌, ◌++◌, append-nil, append_assoc, Option, Some, None, Result, Ok, Err}
-use Rattle.tree_core.specs.Call.{Answered, Call}
+use Rattle.tree_core.specs.Call.{CallAnswer, Call}
 use Rattle.tree_core.specs.Content.{Content}
 use Rattle.tree_core.specs.Faults.{Gained}
 use Rattle.tree_core.specs.Hearing.{Made, MadeSome}
@@ -14,7 +14,7 @@ use Rattle.heard_core.specs.declared.fault.ReadFault.{ReadFault}
 use Rattle.heard_core.specs.declared.fault.ReadFault.TheVariants.{Failed, Absent, Folder, NotUtf8}
 use Rattle.search_core.specs.Looked.{LookedUntil}
 use Rattle.search_core.specs.Search.{candidates, search_cause}
-use Rattle.search_core.specs.declared.search.Sought.TheVariants.{Exceptions}
+use Rattle.search_core.specs.declared.search.SoughtFile.TheVariants.{Exceptions}
 use Rattle.search_core.specs.declared.search.SearchError.{SearchError}
 use Rattle.search_core.specs.declared.search.SearchError.TheVariants as search
 use Rattle.selection_core.specs.Listed.{IsListOf}
@@ -30,29 +30,29 @@ use Rattle.gather_core.specs.Calls.{CrateReads, calls_of_all, reads_of_all}
 use Rattle.gather_core.specs.Gathered.{include_of}
 use Rattle.policy_core.specs.Policy.{PolicyFound}
 use Rattle.policy_core.specs.declared.load.LoadedPolicy.{LoadedPolicy}
-use Rattle.load_core.specs.Answer.{Answers, Comes, IsPolicyOf, WriteCounts, load_cause}
+use Rattle.load_core.specs.Answer.{AnswersLoad, Comes, IsPolicyOf, WriteCounts, load_cause}
 use Rattle.load_core.specs.Heard.{LoadHeard}
-use Rattle.load_core.specs.Load.{Loaded, load_of}
+use Rattle.load_core.specs.Load.{LoadResult, load_of}
 use Rattle.load_core.specs.declared.error.LoadError.{LoadError}
 use Rattle.load_core.specs.declared.error.LoadError.TheVariants as load
 use Rattle.load_core.specs.declared.loading.PolicyPaths.{PolicyPaths}
-use Rattle.deny_run.specs.declared.error.Part.TheVariants.{Words}
+use Rattle.deny_run.specs.declared.error.InputPart.TheVariants.{Words}
 use Rattle.deny_run.specs.declared.error.Error.{Error}
 use Rattle.deny_run.specs.declared.error.Error.TheVariants.{ConfigRead, Memory, NotYet}
 use Rattle.deny_run.specs.declared.error.Refusal.{Refusal}
 use Rattle.deny_run.specs.declared.error.Refusal.TheVariants as refusal
 use Rattle.deny_run.specs.declared.check.CheckedCrates.{CheckedCrates}
-use Rattle.deny_run.specs.declared.words.Request.{Request}
+use Rattle.deny_run.specs.declared.words.CheckRequest.{CheckRequest}
 use Rattle.deny_run.specs.Error.{cause_of, error_of, error_of_krates, error_of_load}
-use Rattle.deny_run.specs.Given.{Given}
-use Rattle.deny_run.specs.Heard.{HearsAllDue, calls_of, count_looked, exceptions_due, exceptions_in, files_loaded, graph_heard, load_at, manifest_in, metadata_due, metadata_heard, or_error, paths_looked, policy_due, scanner_in}
-use Rattle.deny_run.specs.Hearing.{Looks, look_failed, nowhere, at, unended, IsReadWhereDue, MadeOn, RunHearing, TreeSeen, is_heard, look_calls, looks_by, read_calls, seen}
+use Rattle.deny_run.specs.Given.{RunArguments}
+use Rattle.deny_run.specs.Heard.{HearsAllDue, calls_of, count_looked, exceptions_due, exceptions_path, files_loaded, graph_heard, load_at, manifest_in, metadata_due, metadata_heard, or_error, paths_looked, policy_due, scanner_of_given}
+use Rattle.deny_run.specs.Hearing.{LooksResult, look_failed, nowhere, at, unended, IsReadWhereDue, MadeOn, RunHearing, TreeSeen, is_heard, look_calls, looks_by, read_calls, seen}
 use Rattle.deny_run.specs.Report.{HaveTurns, IsAnsweredBy, IsGivenUp, IsRefusal, paths_at}
 use Rattle.deny_run.specs.Report.{at_crates, at_looks}
-use Rattle.deny_run.specs.Script.{WritesLoad, plain_log, told_before, told_of}
+use Rattle.deny_run.specs.Script.{WritesLoad, plain_log, load_text_heard, load_text}
 use Rattle.deny_run.specs.Selection.{choice_by, choice_in, included_in, Refuses}
 use Rattle.deny_run.specs.Steps.{AreCheckedInPart, ChecksAt, HasNoCrates, IsAfterLoad, IsCheckGivenUp, IsChecked, IsCheckedAt, report_with}
-use Rattle.deny_run.specs.Words.{request_of}
+use Rattle.deny_run.specs.Words.{check_request_of}
 use Rattle.deny_run.proofs.AnswerLemmas.{IsFree, first_of, given_up, is_reported, refused_first, up_without}
 use Rattle.deny_run.proofs.CallLemmas.{LooksAre, LooksMade, failed_are, heard_where, looks_found, lost_made, no_looks, no_read}
 use Rattle.deny_run.proofs.FoundLemmas.{exceptions-are, exceptions-looks, exceptions-words, found-graph, found-load, found-looks, found-words, loaded-is, loaded-looks, loaded-words, looked-at, looked-words, metadata-is, metadata-load, metadata-looks, metadata-words, policy-looks, policy-words, table-is}
@@ -62,13 +62,13 @@ use Rattle.deny_run.proofs.ScriptLemmas.{after_written, load_written, silent}
 -- ---- looks alone
 
 -- where only looks were made
-abbrev pub looked_alone : ℕ → List Answered → RunHearing
+abbrev pub looked_alone : ℕ → List CallAnswer → RunHearing
 looked_alone begun looks = record { begun = begun; looks = looks; policy = None; exceptions = None; metadata = None; crates = [] }
 
 four_nil : (calls : List Call) → calls ++ [] ++ [] ++ [] ++ [] ≡ calls
 four_nil calls = append-nil (calls ++ [] ++ [] ++ []) ∙ append-nil (calls ++ [] ++ []) ∙ append-nil (calls ++ []) ∙ append-nil calls
 
-pub calls-looked : (given : Given) (begun : ℕ) (looks : List Answered) → calls_of given (looked_alone begun looks) ≡ look_calls (paths_looked given) looks
+pub calls-looked : (given : RunArguments) (begun : ℕ) (looks : List CallAnswer) → calls_of given (looked_alone begun looks) ≡ look_calls (paths_looked given) looks
 calls-looked given begun looks =
     let hearing = looked_alone begun looks in
     let own = look_calls (paths_looked given) looks in
@@ -84,22 +84,22 @@ told_apart first last e = absurd (cc)
 read_apart : (begun after first last : ℕ) → ◌≡◌ {A = Cause} (failed_read begun after) (refused_write first last) → ⊥
 read_apart begun after first last e = absurd (cc)
 
-nowhere-apart : ◌≡◌ {A = Looks} nowhere unended → ⊥
+nowhere-apart : ◌≡◌ {A = LooksResult} nowhere unended → ⊥
 nowhere-apart e = absurd (cc)
 
-failed-apart : ◌≡◌ {A = Looks} look_failed unended → ⊥
+failed-apart : ◌≡◌ {A = LooksResult} look_failed unended → ⊥
 failed-apart e = absurd (cc)
 
-at-apart : (path : List ℕ) → ◌≡◌ {A = Looks} (at path) unended → ⊥
+at-apart : (path : List ℕ) → ◌≡◌ {A = LooksResult} (at path) unended → ⊥
 at-apart path e = absurd (cc)
 
-found-apart : (found : Option (List ℕ)) → ◌≡◌ {A = Looks} (looks_found found) unended → ⊥
+found-apart : (found : Option (List ℕ)) → ◌≡◌ {A = LooksResult} (looks_found found) unended → ⊥
 found-apart None e = nowhere-apart e
 found-apart (Some path) e = at-apart path e
 
 -- ---- before the load
 
-module _ (given : Given) (told : Option Content) (count : ℕ) (calls : List Call) (held : Option (List ℕ)) (err_before err_after : ℕ) where
+module _ (given : RunArguments) (told : Option Content) (count : ℕ) (calls : List Call) (held : Option (List ℕ)) (err_before err_after : ℕ) where
   -- memory was wanting before any call
   pub memory_before : WritesLoad given (seen told told count count calls calls) held held err_before err_after (Err Memory)
   memory_before =
@@ -107,13 +107,13 @@ module _ (given : Given) (told : Option Content) (count : ℕ) (calls : List Cal
       let tree = seen told told count count calls calls in
       let made = made_as (sym (calls-looked given count [] ∙ no_looks (paths_looked given))) (made_none told count calls) in
       record {
-        text = told_before given hearing;
+        text = load_text_heard given hearing;
         tells = record { hearing = hearing; answers = given_up given tree hearing Memory (up_without given tree hearing refl made (at_looks refl refl refl refl refl)) tt; is = refl };
-        written = silent held err_before err_after (told_before given hearing) no_memory (inl refl);
+        written = silent held err_before err_after (load_text_heard given hearing) no_memory (inl refl);
       }
 
   -- words of another form
-  pub words_before : request_of given.words given.cwd ≡ None → WritesLoad given (seen told told count count calls calls) held held err_before err_after (Err (error_of refusal.Words))
+  pub words_before : check_request_of given.words given.cwd ≡ None → WritesLoad given (seen told told count count calls calls) held held err_before err_after (Err (error_of refusal.Words))
   words_before none =
       let hearing = looked_alone count [] in
       let tree = seen told told count count calls calls in
@@ -125,16 +125,16 @@ module _ (given : Given) (told : Option Content) (count : ℕ) (calls : List Cal
         metadata = subst (λ own. IsReadWhereDue own None) (sym (metadata-words given hearing none)) refl;
       } in
       record {
-        text = told_before given hearing;
+        text = load_text_heard given hearing;
         tells = record {
           hearing = hearing;
           answers = refused_first given tree hearing (NotYet Words) (record { begun = refl; made = made }) (first_of given hearing (NotYet Words) due refl (found-words given hearing none)) (λ free. free);
           is = refl;
         };
-        written = silent held err_before err_after (told_before given hearing) causes.told (inr (ap told_of (loaded-words given hearing none), told_apart));
+        written = silent held err_before err_after (load_text_heard given hearing) causes.told (inr (ap load_text (loaded-words given hearing none), told_apart));
       }
 
-module _ (given : Given) (request : Request) (asked : request_of given.words given.cwd ≡ Some request) (told tells : Option Content) (count after : ℕ) (calls more : List Call)
+module _ (given : RunArguments) (request : CheckRequest) (asked : check_request_of given.words given.cwd ≡ Some request) (told tells : Option Content) (count after : ℕ) (calls more : List Call)
     (made : MadeSome told tells count after calls more) (held : Option (List ℕ)) (err_before err_after : ℕ) where
   abbrev sought : List (List ℕ)
   sought = candidates Exceptions (manifest_in given.cwd)
@@ -143,7 +143,7 @@ module _ (given : Given) (request : Request) (asked : request_of given.words giv
   tree = seen told tells count after calls more
 
   -- looks whose calls these are
-  made_looks : (looks : List Answered) → more ≡ calls ++ look_calls sought looks → MadeOn tree (calls_of given (looked_alone count looks))
+  made_looks : (looks : List CallAnswer) → more ≡ calls ++ look_calls sought looks → MadeOn tree (calls_of given (looked_alone count looks))
   made_looks looks is =
       made_as (sym (calls-looked given count looks ∙ ap (λ paths. look_calls paths looks) (looked-at given request asked))) (made_these made is)
 
@@ -151,9 +151,9 @@ module _ (given : Given) (request : Request) (asked : request_of given.words giv
   look_lost looks =
       let hearing = looked_alone count looks.looks in
       record {
-        text = told_before given hearing;
+        text = load_text_heard given hearing;
         tells = record { hearing = hearing; answers = given_up given tree hearing Memory (up_without given tree hearing refl (made_looks looks.looks looks.made) (at_looks refl refl refl refl refl)) tt; is = refl };
-        written = silent held err_before err_after (told_before given hearing) no_memory (inl refl);
+        written = silent held err_before err_after (load_text_heard given hearing) no_memory (inl refl);
       }
 
   look_refused : (first last : ℕ) → LooksAre sought look_failed calls more → ReadCounts count count after (failed_read first last)
@@ -165,7 +165,7 @@ module _ (given : Given) (request : Request) (asked : request_of given.words giv
       let by : looks_by (paths_looked given) looks.looks ≡ look_failed = ap (λ paths. looks_by paths looks.looks) same ∙ looks.by in
       let own = made_these made looks.made in
       let behind : after ≡ count_looked given hearing = own.counts ∙ ap (λ paths. faults_after count (look_calls paths looks.looks)) (sym same) in
-      let refused : exceptions_in given hearing ≡ Err error =
+      let refused : exceptions_path given hearing ≡ Err error =
       exceptions-are given request asked hearing look_failed by
       ∙ ap₂ (λ one other. let it : Result (Option (List ℕ)) Error = Err (ConfigRead (Failed one other)) in it) (sym counts.0) (sym (counts.1 ∙ behind)) in
       let due : HearsAllDue given hearing = record {
@@ -175,15 +175,15 @@ module _ (given : Given) (request : Request) (asked : request_of given.words giv
         metadata = subst (λ own. IsReadWhereDue own None) (sym (metadata-looks given request asked hearing error refused)) refl;
       } in
       record {
-        text = told_before given hearing;
+        text = load_text_heard given hearing;
         tells = record {
           hearing = hearing;
           answers = refused_first given tree hearing error (record { begun = refl; made = made_looks looks.looks looks.made })
               (first_of given hearing error due refl (found-looks given request asked hearing error refused)) (λ free. free);
           is = refl;
         };
-        written = silent held err_before err_after (told_before given hearing) (failed_read first last)
-            (inr (ap told_of (loaded-looks given request asked hearing error refused), read_apart first last));
+        written = silent held err_before err_after (load_text_heard given hearing) (failed_read first last)
+            (inr (ap load_text (loaded-looks given request asked hearing error refused), read_apart first last));
       }
 
   -- a search that was refused
@@ -205,16 +205,16 @@ same_choice found loaded is = ap (λ graph. choice_by graph.exclude) is.graph
 same_flags : (found : PolicyFound) (loaded : LoadedPolicy) → IsPolicyOf found loaded → include_of loaded.licenses ≡ included_in found
 same_flags found loaded is = ap (λ (one : ValidConfig). include_of one) is.licenses.rest
 
-module _ (given : Given) (request : Request) (asked : request_of given.words given.cwd ≡ Some request) (exceptions : Option (List ℕ)) (begun mid : ℕ) (told middle : Option Content)
+module _ (given : RunArguments) (request : CheckRequest) (asked : check_request_of given.words given.cwd ≡ Some request) (exceptions : Option (List ℕ)) (begun mid : ℕ) (told middle : Option Content)
     (old between calls : List Call) (heard : LoadHeard) (ended : LoadEnded given request exceptions begun mid heard calls) (made : Made told middle begun mid old between calls)
     (err_old err_new : Option (List ℕ)) (err_before err_after : ℕ) where
-  abbrev loaded : Loaded
+  abbrev loaded : LoadResult
   loaded = load_of given.lists [] (paths_at request.config_path exceptions) heard
 
   -- what is told of the load, whatever is heard behind it
-  told_same : (metadata : Option Answered) (crates : List CrateReads) → told_of (Ok loaded) ≡ told_before given (ended.hears metadata crates)
+  told_same : (metadata : Option CallAnswer) (crates : List CrateReads) → load_text (Ok loaded) ≡ load_text_heard given (ended.hears metadata crates)
   told_same metadata crates =
-      sym (ap told_of (loaded-is given request asked (ended.hears metadata crates) exceptions (ended.sought metadata crates)) ∙ ap (λ own. told_of (Ok own)) (ended.loads metadata crates))
+      sym (ap load_text (loaded-is given request asked (ended.hears metadata crates) exceptions (ended.sought metadata crates)) ∙ ap (λ own. load_text (Ok own)) (ended.loads metadata crates))
 
   -- ---- the load was refused
 
@@ -230,7 +230,7 @@ module _ (given : Given) (request : Request) (asked : request_of given.words giv
   load_first : (error : LoadError) → loaded.answer ≡ Err error → (IsFree (cause_of (error_of_load error)) → ⊥) → IsAnsweredBy given (seen told middle begun mid old between) (ended.hears None []) (Err (error_of_load error))
   load_first error is bound =
       let hearing = ended.hears None [] in
-      let refused = ap (λ (own : Loaded). own.answer) (ended.loads None []) ∙ is in
+      let refused = ap (λ (own : LoadResult). own.answer) (ended.loads None []) ∙ is in
       refused_first given (seen told middle begun mid old between) hearing (error_of_load error) (record { begun = ended.begun_is None []; made = unread_made })
       (first_of given hearing (error_of_load error)
       (ended.due None [] (subst (λ due. IsReadWhereDue due None) (sym (metadata-load given request asked hearing exceptions (ended.sought None []) error refused)) refl))
@@ -241,7 +241,7 @@ module _ (given : Given) (request : Request) (asked : request_of given.words giv
       given_up given (seen told middle begun mid old between) (ended.hears None []) error
       (up_without given (seen told middle begun mid old between) (ended.hears None []) (ended.begun_is None []) unread_made (ended.stops None)) free
 
-  load_answered : (error : LoadError) → Answers loaded.answer (Err error) → IsAnsweredBy given (seen told middle begun mid old between) (ended.hears None []) (Err (error_of_load error))
+  load_answered : (error : LoadError) → AnswersLoad loaded.answer (Err error) → IsAnsweredBy given (seen told middle begun mid old between) (ended.hears None []) (Err (error_of_load error))
   load_answered load.Memory answers = load_given_up Memory tt
   load_answered (load.ConfigRead (Failed first last)) answers = load_first (load.ConfigRead (Failed first last)) answers (λ free. free)
   load_answered (load.ConfigRead Absent) answers = load_first (load.ConfigRead Absent) answers (λ free. free)
@@ -256,9 +256,9 @@ module _ (given : Given) (request : Request) (asked : request_of given.words giv
   pub load_writes : (error : LoadError) (new : List File) → Comes loaded plain_log [] new err_old err_new (Err error) → WriteCounts err_before err_after (load_cause error)
       → WritesLoad given (seen told middle begun mid old between) err_old err_new err_before err_after (Err (error_of_load error))
   load_writes error new comes counts = record {
-    text = told_of (Ok loaded);
+    text = load_text (Ok loaded);
     tells = record { hearing = ended.hears None []; answers = load_answered error comes.answers; is = told_same None [] };
-    written = load_written err_old err_new err_before err_after (told_of (Ok loaded)) error counts comes.prints;
+    written = load_written err_old err_new err_before err_after (load_text (Ok loaded)) error counts comes.prints;
   }
 
   -- ---- behind the load
@@ -267,14 +267,14 @@ module _ (given : Given) (request : Request) (asked : request_of given.words giv
     abbrev whole : TreeSeen
     whole = seen told tells begun after old more
 
-    loads_found : (metadata : Option Answered) (crates : List CrateReads) → (load_at given (ended.hears metadata crates) (paths_at request.config_path exceptions)).answer ≡ Ok found
-    loads_found metadata crates = ap (λ (own : Loaded). own.answer) (ended.loads metadata crates) ∙ is
+    loads_found : (metadata : Option CallAnswer) (crates : List CrateReads) → (load_at given (ended.hears metadata crates) (paths_at request.config_path exceptions)).answer ≡ Ok found
+    loads_found metadata crates = ap (λ (own : LoadResult). own.answer) (ended.loads metadata crates) ∙ is
 
-    metadata_at : (metadata : Option Answered) (crates : List CrateReads) → metadata_due given (ended.hears metadata crates) ≡ Some request.metadata_path
+    metadata_at : (metadata : Option CallAnswer) (crates : List CrateReads) → metadata_due given (ended.hears metadata crates) ≡ Some request.metadata_path
     metadata_at metadata crates = metadata-is given request asked (ended.hears metadata crates) exceptions (ended.sought metadata crates) found (loads_found metadata crates)
 
     -- the calls of the crates behind that of the metadata
-    made_behind : (metadata : Option Answered) (crates : List CrateReads) (lost : List Call)
+    made_behind : (metadata : Option CallAnswer) (crates : List CrateReads) (lost : List Call)
         → Made middle tells mid after between more (read_calls (Some request.metadata_path) metadata ++ calls_of_all crates ++ lost)
         → MadeOn whole (calls_of given (ended.hears metadata crates) ++ lost)
     made_behind metadata crates lost then =
@@ -282,30 +282,30 @@ module _ (given : Given) (request : Request) (asked : request_of given.words giv
         made_as (sym (append_assoc calls (reads ++ calls_of_all crates) lost) ∙ ap (λ own. own ++ lost) (sym (append_assoc calls reads (calls_of_all crates)) ∙ sym (ended.calls_are metadata crates (Some request.metadata_path) (metadata_at metadata crates))))
         (made_joined made then)
 
-    made_all : (metadata : Option Answered) (crates : List CrateReads) → Made middle tells mid after between more (read_calls (Some request.metadata_path) metadata ++ calls_of_all crates)
+    made_all : (metadata : Option CallAnswer) (crates : List CrateReads) → Made middle tells mid after between more (read_calls (Some request.metadata_path) metadata ++ calls_of_all crates)
         → MadeOn whole (calls_of given (ended.hears metadata crates))
     made_all metadata crates then =
         let reads = read_calls (Some request.metadata_path) metadata in
         made_as (sym (append_assoc calls reads (calls_of_all crates)) ∙ sym (ended.calls_are metadata crates (Some request.metadata_path) (metadata_at metadata crates))) (made_joined made then)
 
-    due_at : (answer : Answered) (crates : List CrateReads) → is_heard (Some answer) ≡ true → HearsAllDue given (ended.hears (Some answer) crates)
+    due_at : (answer : CallAnswer) (crates : List CrateReads) → is_heard (Some answer) ≡ true → HearsAllDue given (ended.hears (Some answer) crates)
     due_at answer crates heard_by = ended.due (Some answer) crates (subst (λ due. IsReadWhereDue due (Some answer)) (sym (metadata_at (Some answer) crates)) heard_by)
 
-    drawn_at : (answer : Answered) (crates : List CrateReads) (text : Result (List ℕ) ReadFault) (graph : Graph) → text_answered begun (fault_behind mid answer) answer ≡ Some text → graph_in text ≡ Ok graph
+    drawn_at : (answer : CallAnswer) (crates : List CrateReads) (text : Result (List ℕ) ReadFault) (graph : Graph) → text_answered begun (fault_behind mid answer) answer ≡ Some text → graph_in text ≡ Ok graph
         → graph_heard (metadata_heard given (ended.hears (Some answer) crates)) ≡ Ok graph
     drawn_at answer crates text graph hears tells_graph = ap graph_heard (ended.metadata_text answer crates text hears) ∙ ap or_error tells_graph
 
-    table_at : (metadata : Option Answered) (crates : List CrateReads) → files_loaded given (ended.hears metadata crates) ≡ loaded.files
-    table_at metadata crates = table-is given request asked (ended.hears metadata crates) exceptions (ended.sought metadata crates) ∙ ap (λ (own : Loaded). own.files) (ended.loads metadata crates)
+    table_at : (metadata : Option CallAnswer) (crates : List CrateReads) → files_loaded given (ended.hears metadata crates) ≡ loaded.files
+    table_at metadata crates = table-is given request asked (ended.hears metadata crates) exceptions (ended.sought metadata crates) ∙ ap (λ (own : LoadResult). own.files) (ended.loads metadata crates)
 
     -- ---- memory was wanting
 
-    unread_up : (metadata : Option Answered) → Made middle tells mid after between more (read_calls (Some request.metadata_path) metadata) → IsGivenUp given whole (ended.hears metadata [])
+    unread_up : (metadata : Option CallAnswer) → Made middle tells mid after between more (read_calls (Some request.metadata_path) metadata) → IsGivenUp given whole (ended.hears metadata [])
     unread_up metadata then =
         up_without given whole (ended.hears metadata []) (ended.begun_is metadata [])
         (made_all metadata [] (made_as (sym (append-nil (read_calls (Some request.metadata_path) metadata))) then)) (ended.stops metadata)
 
-    in_part_up : (part : AreCheckedInPart (scanner_in given policy.licenses) policy (seen middle tells mid after between more) loaded.files begun request.metadata_path)
+    in_part_up : (part : AreCheckedInPart (scanner_of_given given policy.licenses) policy (seen middle tells mid after between more) loaded.files begun request.metadata_path)
         → IsGivenUp given whole (ended.hears (Some part.answer) part.crates)
     in_part_up part =
         let hearing = ended.hears (Some part.answer) part.crates in
@@ -322,42 +322,42 @@ module _ (given : Given) (request : Request) (asked : request_of given.words giv
             checked = part.checked;
             selected = subst (λ include. IsListOf part.graph (Selected part.graph (choice_in found) include) part.checked) (same_flags found policy valid)
                 (subst (λ choice. IsListOf part.graph (Selected part.graph choice (include_of policy.licenses)) part.checked) (same_choice found policy valid) part.selected);
-            turns = subst (λ files. HaveTurns (scanner_in given policy.licenses) policy.licenses files part.checked hearing.crates part.lost) (sym (table_at (Some part.answer) part.crates))
-                (subst (λ crates. HaveTurns (scanner_in given policy.licenses) policy.licenses loaded.files part.checked crates part.lost) (sym (ended.crates_are (Some part.answer) part.crates)) part.turns);
+            turns = subst (λ files. HaveTurns (scanner_of_given given policy.licenses) policy.licenses files part.checked hearing.crates part.lost) (sym (table_at (Some part.answer) part.crates))
+                (subst (λ crates. HaveTurns (scanner_of_given given policy.licenses) policy.licenses loaded.files part.checked crates part.lost) (sym (ended.crates_are (Some part.answer) part.crates)) part.turns);
           });
         }
 
     -- something was heard up to there
     pub record GivenUpBehind (error : Error) : Type 0 where
-      pub metadata : Option Answered
+      pub metadata : Option CallAnswer
       pub crates : List CrateReads
       pub up : IsGivenUp given whole (ended.hears metadata crates)
 
-    memory_behind : (error : Error) → IsCheckGivenUp (scanner_in given policy.licenses) policy (seen middle tells mid after between more) loaded.files begun request.metadata_path → GivenUpBehind error
+    memory_behind : (error : Error) → IsCheckGivenUp (scanner_of_given given policy.licenses) policy (seen middle tells mid after between more) loaded.files begun request.metadata_path → GivenUpBehind error
     memory_behind error (inl read) = record { metadata = read.0; crates = []; up = unread_up read.0 read.1 }
     memory_behind error (inr part) = record { metadata = Some part.answer; crates = part.crates; up = in_part_up part }
 
-    memory_writes : (refused : Refusal) → IsFree (cause_of (error_of refused)) → IsAfterLoad refused → Gained err_old err_new (told_of (Ok loaded))
-        → IsCheckGivenUp (scanner_in given policy.licenses) policy (seen middle tells mid after between more) loaded.files begun request.metadata_path
+    memory_writes : (refused : Refusal) → IsFree (cause_of (error_of refused)) → IsAfterLoad refused → Gained err_old err_new (load_text (Ok loaded))
+        → IsCheckGivenUp (scanner_of_given given policy.licenses) policy (seen middle tells mid after between more) loaded.files begun request.metadata_path
         → WritesLoad given whole err_old err_new err_before err_after (Err (error_of refused))
     memory_writes refused free behind gained part =
         let up = memory_behind (error_of refused) part in
         record {
-          text = told_of (Ok loaded);
+          text = load_text (Ok loaded);
           tells = record { hearing = ended.hears up.metadata up.crates; answers = given_up given whole (ended.hears up.metadata up.crates) (error_of refused) up.up free; is = told_same up.metadata up.crates };
-          written = after_written err_old err_new err_before err_after (told_of (Ok loaded)) refused behind gained;
+          written = after_written err_old err_new err_before err_after (load_text (Ok loaded)) refused behind gained;
         }
 
     -- ---- no crates
 
     no_crates : (error : KratesError) (none : HasNoCrates policy (seen middle tells mid after between more) begun request.metadata_path error) → IsAfterLoad (refusal.Krates error)
-        → (IsFree (cause_of (error_of_krates error)) → ⊥) → Gained err_old err_new (told_of (Ok loaded))
+        → (IsFree (cause_of (error_of_krates error)) → ⊥) → Gained err_old err_new (load_text (Ok loaded))
         → ((due : HearsAllDue given (ended.hears (Some none.answer) [])) → IsRefusal given (ended.hears (Some none.answer) []) (error_of_krates error))
         → WritesLoad given whole err_old err_new err_before err_after (Err (error_of_krates error))
     no_crates error none behind bound gained refusal_by =
         let hearing = ended.hears (Some none.answer) [] in
         record {
-          text = told_of (Ok loaded);
+          text = load_text (Ok loaded);
           tells = record {
             hearing = hearing;
             answers = refused_first given whole hearing (error_of_krates error)
@@ -365,7 +365,7 @@ module _ (given : Given) (request : Request) (asked : request_of given.words giv
                 (refusal_by (due_at none.answer [] (heard_where none.answer begun (fault_behind mid none.answer) none.heard none.hears))) bound;
             is = told_same (Some none.answer) [];
           };
-          written = after_written err_old err_new err_before err_after (told_of (Ok loaded)) (refusal.Krates error) behind gained;
+          written = after_written err_old err_new err_before err_after (load_text (Ok loaded)) (refusal.Krates error) behind gained;
         }
 
     -- the metadata tells of no graph
@@ -392,8 +392,8 @@ module _ (given : Given) (request : Request) (asked : request_of given.words giv
               (subst (λ choice. LacksRoots rootless.graph choice base excluded unpublished) (same_choice found policy valid) rootless.lacks);
         }
 
-    krates_writes : (error : KratesError) → IsAfterLoad (refusal.Krates error) → Gained err_old err_new (told_of (Ok loaded))
-        → ChecksAt (scanner_in given policy.licenses) policy (seen middle tells mid after between more) loaded.files loaded.files begun request.metadata_path (Err (refusal.Krates error))
+    krates_writes : (error : KratesError) → IsAfterLoad (refusal.Krates error) → Gained err_old err_new (load_text (Ok loaded))
+        → ChecksAt (scanner_of_given given policy.licenses) policy (seen middle tells mid after between more) loaded.files loaded.files begun request.metadata_path (Err (refusal.Krates error))
         → WritesLoad given whole err_old err_new err_before err_after (Err (error_of_krates error))
     krates_writes krates.Memory behind gained checks = memory_writes (refusal.Krates krates.Memory) tt behind gained checks
     krates_writes (krates.NotCarried what) behind gained checks = absurd behind
@@ -407,8 +407,8 @@ module _ (given : Given) (request : Request) (asked : request_of given.words giv
     krates_writes (krates.NoRoots base excluded unpublished) behind gained checks =
         no_crates (krates.NoRoots base excluded unpublished) checks behind (λ free. free) gained (no_roots base excluded unpublished checks)
 
-    pub checks_write : (last : List File) (refused : Refusal) → IsAfterLoad refused → Gained err_old err_new (told_of (Ok loaded))
-        → ChecksAt (scanner_in given policy.licenses) policy (seen middle tells mid after between more) loaded.files last begun request.metadata_path (Err refused)
+    pub checks_write : (last : List File) (refused : Refusal) → IsAfterLoad refused → Gained err_old err_new (load_text (Ok loaded))
+        → ChecksAt (scanner_of_given given policy.licenses) policy (seen middle tells mid after between more) loaded.files last begun request.metadata_path (Err refused)
         → WritesLoad given whole err_old err_new err_before err_after (Err (error_of refused))
     checks_write last refusal.Memory behind gained checks = memory_writes refusal.Memory tt behind gained checks
     checks_write last refusal.Words behind gained checks = absurd behind
@@ -416,33 +416,33 @@ module _ (given : Given) (request : Request) (asked : request_of given.words giv
     checks_write last (refusal.Load error) behind gained checks = absurd behind
     checks_write last (refusal.Krates error) behind gained checks = krates_writes error behind gained (any_last error checks)
       where
-        any_last : (error : KratesError) → ChecksAt (scanner_in given policy.licenses) policy (seen middle tells mid after between more) loaded.files last begun request.metadata_path (Err (refusal.Krates error))
-            → ChecksAt (scanner_in given policy.licenses) policy (seen middle tells mid after between more) loaded.files loaded.files begun request.metadata_path (Err (refusal.Krates error))
+        any_last : (error : KratesError) → ChecksAt (scanner_of_given given policy.licenses) policy (seen middle tells mid after between more) loaded.files last begun request.metadata_path (Err (refusal.Krates error))
+            → ChecksAt (scanner_of_given given policy.licenses) policy (seen middle tells mid after between more) loaded.files loaded.files begun request.metadata_path (Err (refusal.Krates error))
         any_last error is = is
 
     -- ---- the report
 
-    pub report_writes : (last : List File) (checked : CheckedCrates) → Gained err_old err_new (told_of (Ok loaded))
-        → IsCheckedAt (scanner_in given policy.licenses) policy (seen middle tells mid after between more) loaded.files last begun request.metadata_path checked
+    pub report_writes : (last : List File) (checked : CheckedCrates) → Gained err_old err_new (load_text (Ok loaded))
+        → IsCheckedAt (scanner_of_given given policy.licenses) policy (seen middle tells mid after between more) loaded.files last begun request.metadata_path checked
         → WritesLoad given whole err_old err_new err_before err_after (Ok (report_with checked last))
     report_writes last checked gained done =
         let hearing = ended.hears (Some done.answer) done.crates in
         let crates_same = sym (ended.crates_are (Some done.answer) done.crates) in
         let choice_same = same_choice found policy valid in
         record {
-          text = told_of (Ok loaded);
+          text = load_text (Ok loaded);
           tells = record {
             hearing = hearing;
             answers = (
               record { begun = ended.begun_is (Some done.answer) done.crates; made = made_all (Some done.answer) done.crates done.made },
               is_reported given request asked hearing exceptions (ended.sought (Some done.answer) done.crates) found (loads_found (Some done.answer) done.crates) done.graph
                   (drawn_at done.answer done.crates done.tells.heard done.graph done.tells.hears done.tells.tells) (subst (HasRoot done.graph) choice_same done.tells.rooted)
-                  policy.licenses valid.licenses (same_flags found policy valid) loaded.files (sym (ap (λ (own : Loaded). own.files) (ended.loads (Some done.answer) done.crates)))
+                  policy.licenses valid.licenses (same_flags found policy valid) loaded.files (sym (ap (λ (own : LoadResult). own.files) (ended.loads (Some done.answer) done.crates)))
                   (due_at done.answer done.crates (heard_where done.answer begun (fault_behind mid done.answer) done.tells.heard done.tells.hears)) last checked
                   (subst (λ n. AreReads n (reads_of_all hearing.crates)) (sym (ended.metadata_count done.answer done.crates))
                   (subst (λ crates. AreReads (fault_behind mid done.answer) (reads_of_all crates)) crates_same done.records))
-                  (subst (λ choice. IsChecked (scanner_in given policy.licenses) policy.licenses loaded.files last done.graph choice hearing.crates checked) choice_same
-                  (subst (λ crates. IsChecked (scanner_in given policy.licenses) policy.licenses loaded.files last done.graph (choice_by policy.graph.exclude) crates checked) crates_same done.is)),
+                  (subst (λ choice. IsChecked (scanner_of_given given policy.licenses) policy.licenses loaded.files last done.graph choice hearing.crates checked) choice_same
+                  (subst (λ crates. IsChecked (scanner_of_given given policy.licenses) policy.licenses loaded.files last done.graph (choice_by policy.graph.exclude) crates checked) crates_same done.is)),
             );
             is = told_same (Some done.answer) done.crates;
           };

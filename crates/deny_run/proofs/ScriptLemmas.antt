@@ -3,7 +3,7 @@ use Rattle.std.proofs.Common.{◌≡◌, ◌∙◌, ◌⊎◌, inl, inr, refl, s
 use Rattle.std.proofs.lemmas.Grind.{flat_map-append}
 use Rattle.tree_core.proofs.GainedLemmas.{Gained-then}
 use Rattle.tree_core.specs.Faults.{Rose, Gained, GainedPrefix}
-use Rattle.tree_core.specs.Script.{to_out, to_err, Script, FaultCounts, Written, Gains, IsCut, LineWritten, RefusedBy, is_target, text_for}
+use Rattle.tree_core.specs.Script.{to_out, to_err, Script, FaultCounts, SinkTexts, Gains, IsCut, LineWritten, RefusedBy, is_target, text_for}
 use Rattle.tree_core.specs.Script as script
 use Rattle.heard_core.specs.Cause.{Cause, no_memory, failed_read, refused_write}
 use Rattle.heard_core.specs.Cause as causes
@@ -23,12 +23,12 @@ use Rattle.print_core.specs.declared.printer.PrintError.{PrintError}
 use Rattle.print_core.specs.declared.printer.PrintError.TheVariants as print
 use Rattle.load_core.specs.Print.{HasReasonSince}
 use Rattle.deny_run.specs.Error.{cause_of, error_of, error_of_load, error_of_print, fault_line}
-use Rattle.deny_run.specs.Given.{Given}
+use Rattle.deny_run.specs.Given.{RunArguments}
 use Rattle.deny_run.specs.Heard.{IsRunHearing, calls_of}
 use Rattle.deny_run.specs.Hearing.{MadeOn, RunHearing, TreeSeen, crates_heard}
 use Rattle.deny_run.specs.Report.{AreChecking, IsGivenUp, IsReport, at_crates}
 use Rattle.deny_run.proofs.FoundLemmas.{found_of-from_Asks}
-use Rattle.deny_run.specs.Script.{Begins, TellsLoad, TextWritten, Writes, WritesFirst, WritesLoad, findings_text, load_script, script_of}
+use Rattle.deny_run.specs.Script.{BeginsRefusal, TellsLoad, TextWritten, Writes, WritesFirst, WritesLoad, findings_text, load_script, script_of}
 use Rattle.deny_run.specs.Steps.{IsAfterLoad}
 use Rattle.deny_run.proofs.AnswerLemmas.{IsFree, given_up}
 
@@ -101,7 +101,7 @@ err_alone out err_old err_new text gained = record { out = gained-nil out; err =
 
 -- ---- before the summary
 
-module _ (given : Given) (tree : TreeSeen) (counts : FaultCounts) (out err_old err_new : Option (List ℕ)) where
+module _ (given : RunArguments) (tree : TreeSeen) (counts : FaultCounts) (out err_old err_new : Option (List ℕ)) where
   first_by : (error : Error) (text : List ℕ) → TellsLoad given tree (Err error) text
       → (cause : Cause) → cause_of error ≡ cause → TextWritten text err_old err_new counts.err_before counts.err_after cause
       → WritesFirst given tree counts (record { out = out; err = err_old }) (record { out = out; err = err_new }) (Err error)
@@ -109,21 +109,21 @@ module _ (given : Given) (tree : TreeSeen) (counts : FaultCounts) (out err_old e
     text = text;
     tells = tells;
     begun = load_script written.front;
-    begins = subst (Begins given tree counts text (load_script written.front)) (sym is) (inl (record { front = written.front; rest = written.rest; parts = written.parts; is = refl }));
+    begins = subst (BeginsRefusal given tree counts text (load_script written.front)) (sym is) (inl (record { front = written.front; rest = written.rest; parts = written.parts; is = refl }));
     gains = err_alone out err_old err_new written.front written.gained;
   }
   first_by error text tells causes.told is written = record {
     text = text;
     tells = tells;
     begun = load_script text;
-    begins = subst (Begins given tree counts text (load_script text)) (sym is) refl;
+    begins = subst (BeginsRefusal given tree counts text (load_script text)) (sym is) refl;
     gains = err_alone out err_old err_new text written;
   }
   first_by error text tells (failed_read first last) is written = record {
     text = text;
     tells = tells;
     begun = load_script text;
-    begins = subst (Begins given tree counts text (load_script text)) (sym is) refl;
+    begins = subst (BeginsRefusal given tree counts text (load_script text)) (sym is) refl;
     gains = err_alone out err_old err_new text written;
   }
   first_by error text tells (refused_write first last) is written =
@@ -132,7 +132,7 @@ module _ (given : Given) (tree : TreeSeen) (counts : FaultCounts) (out err_old e
         text = text;
         tells = tells;
         begun = load_script front.front;
-        begins = subst (Begins given tree counts text (load_script front.front)) (sym is) (inl (record {
+        begins = subst (BeginsRefusal given tree counts text (load_script front.front)) (sym is) (inl (record {
           earlier = [];
           target = to_err;
           front = front.front;
@@ -152,7 +152,7 @@ module _ (given : Given) (tree : TreeSeen) (counts : FaultCounts) (out err_old e
 
 -- ---- with what was found, and the summary
 
-module _ (given : Given) (tree : TreeSeen) (counts : FaultCounts) (old : Written) (middle : Option (List ℕ)) (first last : ℕ) (report : Report)
+module _ (given : RunArguments) (tree : TreeSeen) (counts : FaultCounts) (old : SinkTexts) (middle : Option (List ℕ)) (first last : ℕ) (report : Report)
     (writes : WritesLoad given tree old.err middle first last (Ok report)) where
   -- what was told of the load, and then a text
   err_both : (new : Option (List ℕ)) (text : List ℕ) → Gained middle new text → Gained old.err new (writes.text ++ (text ++ []))
@@ -184,7 +184,7 @@ module _ (given : Given) (tree : TreeSeen) (counts : FaultCounts) (old : Written
       let own = writes.tells in
       record { hearing = own.hearing; answers = given_up given tree own.hearing error (report_up own.hearing own.answers.0 own.answers.1) free; is = own.is }
 
-  pub first_reported : (new : Written) → Gained middle new.err (findings_text report) → Gained old.out new.out (summary_of report.stats) → WritesFirst given tree counts old new (Ok report)
+  pub first_reported : (new : SinkTexts) → Gained middle new.err (findings_text report) → Gained old.out new.out (summary_of report.stats) → WritesFirst given tree counts old new (Ok report)
   first_reported new found gained = record {
     text = writes.text;
     tells = writes.tells;
@@ -194,7 +194,7 @@ module _ (given : Given) (tree : TreeSeen) (counts : FaultCounts) (old : Written
   }
 
   -- a summary that was cut
-  pub first_cut : (new : Written) (before after : ℕ) → Gained middle new.err (findings_text report)
+  pub first_cut : (new : SinkTexts) (before after : ℕ) → Gained middle new.err (findings_text report)
       → GainedPrefix old.out new.out (summary_of report.stats) → before ≡ counts.out_before → after ≡ counts.out_after → Rose counts.out_before counts.out_after
       → WritesFirst given tree counts old new (Err (WriteFault before after))
   first_cut new before after found front one other rose = record {
@@ -263,13 +263,13 @@ module _ (given : Given) (tree : TreeSeen) (counts : FaultCounts) (old : Written
 -- ---- with the line of a refusal
 
 text_out : (begun : Script) (line : List ℕ) → text_for to_out (begun ++ (to_err, line) ∷ []) ≡ text_for to_out begun
-text_out begun line = flat_map-append (λ (piece : script.Target × List ℕ). cond (is_target to_out piece.0) piece.1 []) begun ((to_err, line) ∷ []) ∙ append-nil (text_for to_out begun)
+text_out begun line = flat_map-append (λ (piece : script.OutputSink × List ℕ). cond (is_target to_out piece.0) piece.1 []) begun ((to_err, line) ∷ []) ∙ append-nil (text_for to_out begun)
 
 text_err : (begun : Script) (line : List ℕ) → text_for to_err (begun ++ (to_err, line) ∷ []) ≡ text_for to_err begun ++ line
 text_err begun line =
-    flat_map-append (λ (piece : script.Target × List ℕ). cond (is_target to_err piece.0) piece.1 []) begun ((to_err, line) ∷ []) ∙ ap (λ own. text_for to_err begun ++ own) (append-nil line)
+    flat_map-append (λ (piece : script.OutputSink × List ℕ). cond (is_target to_err piece.0) piece.1 []) begun ((to_err, line) ∷ []) ∙ ap (λ own. text_for to_err begun ++ own) (append-nil line)
 
-with_line : (old mid new : Written) (begun : Script) (line : List ℕ) → Gains old mid begun → new.out ≡ mid.out → Gained mid.err new.err line
+with_line : (old mid new : SinkTexts) (begun : Script) (line : List ℕ) → Gains old mid begun → new.out ≡ mid.out → Gained mid.err new.err line
     → Gains old new (begun ++ (to_err, line) ∷ [])
 with_line old mid new begun line gains out err = record {
   out =
@@ -281,7 +281,7 @@ with_line old mid new begun line gains out err = record {
 
 -- the counts of `err` may rise further in the line
 further : (counts later : FaultCounts) → later.out_before ≡ counts.out_before → later.out_after ≡ counts.out_after → later.err_before ≡ counts.err_before
-    → counts.err_after ≤ later.err_after → (target : script.Target) (before after : ℕ) → RefusedBy counts target before after → RefusedBy later target before after
+    → counts.err_after ≤ later.err_after → (target : script.OutputSink) (before after : ℕ) → RefusedBy counts target before after → RefusedBy later target before after
 further counts later one two three four to_out before after refused =
     (refused.0 ∙ sym one, refused.1 ∙ sym two, subst (λ n. Rose n later.out_after) (sym one) (subst (Rose counts.out_before) (sym two) refused.2))
 further counts later one two three four to_err before after refused = (refused.0 ∙ sym three, (let e : after ≤ later.err_after = omega (arith, refused.1) in e), refused.2)
@@ -297,7 +297,7 @@ with_err counts err_after = record {
   err_after = err_after;
 }
 
-module _ (given : Given) (tree : TreeSeen) (counts : FaultCounts) (err_after : ℕ) (first_later : counts.err_before ≤ counts.err_after) (later : counts.err_after ≤ err_after) where
+module _ (given : RunArguments) (tree : TreeSeen) (counts : FaultCounts) (err_after : ℕ) (first_later : counts.err_before ≤ counts.err_after) (later : counts.err_after ≤ err_after) where
   wider : Rose counts.err_after err_after → Rose counts.err_before err_after
   wider (inl less) = inl (omega arith)
   wider (inr last) = inr last
@@ -314,7 +314,7 @@ module _ (given : Given) (tree : TreeSeen) (counts : FaultCounts) (err_after : �
     refused = further counts (with_err counts err_after) refl refl refl later cut.target before after cut.refused;
   }
 
-  begins_further : (text : List ℕ) (begun : Script) (cause : Cause) → Begins given tree counts text begun cause → Begins given tree (with_err counts err_after) text begun cause
+  begins_further : (text : List ℕ) (begun : Script) (cause : Cause) → BeginsRefusal given tree counts text begun cause → BeginsRefusal given tree (with_err counts err_after) text begun cause
   begins_further text begun no_memory (inl front) = inl front
   begins_further text begun no_memory (inr own) =
       inr (record { report = own.report; is = own.is; front = own.front; rest = own.rest; parts = own.parts; begun_is = own.begun_is })
@@ -325,7 +325,7 @@ module _ (given : Given) (tree : TreeSeen) (counts : FaultCounts) (err_after : �
       inr (record { report = cut.report; is = cut.is; cut = cut_further before after (script_of text cut.report) begun cut.cut })
 
   -- after a refusal stand what was begun and the line of the refusal, or a front of it
-  pub Writes-from_line : (old mid new : Written) (error : Error) → WritesFirst given tree counts old mid (Err error) → new.out ≡ mid.out
+  pub Writes-from_line : (old mid new : SinkTexts) (error : Error) → WritesFirst given tree counts old mid (Err error) → new.out ≡ mid.out
       → LineWritten mid.err new.err counts.err_after err_after (fault_line error)
       → Writes given tree (with_err counts err_after) old new (Err error)
   Writes-from_line old mid new error first out (inl gained) = record {
@@ -348,7 +348,7 @@ module _ (given : Given) (tree : TreeSeen) (counts : FaultCounts) (err_after : �
   }
 
 -- after a report nothing comes behind
-pub Writes-from_report : (given : Given) (tree : TreeSeen) (counts : FaultCounts) (old new : Written) (report : Report)
+pub Writes-from_report : (given : RunArguments) (tree : TreeSeen) (counts : FaultCounts) (old new : SinkTexts) (report : Report)
     → WritesFirst given tree counts old new (Ok report) → Writes given tree counts old new (Ok report)
 Writes-from_report given tree counts old new report first =
     record { text = first.text; tells = first.tells; begun = first.begun; begins = first.begins; script = first.begun; ends = refl; gains = first.gains }

@@ -4,7 +4,7 @@ use Rattle.std.proofs.lemmas.Grind.{flat_map-append}
 use Rattle.std.proofs.lemmas.List.{map-append}
 use Rattle.std.proofs.lemmas.List.Elements.{All-nil}
 use Rattle.std.specs.Prelude.{All}
-use Rattle.tree_core.specs.Call.{Answered, Call}
+use Rattle.tree_core.specs.Call.{CallAnswer, Call}
 use Rattle.tree_core.specs.Content.{Content}
 use Rattle.tree_core.specs.Hearing.{MadeSome}
 use Rattle.tree_core.specs.Trace.{fault_behind}
@@ -25,7 +25,7 @@ use Rattle.selection_core.proofs.SelectedLemmas.{selected-lists}
 use Rattle.valid_policy.specs.View.{policy_of}
 use Rattle.valid_policy.specs.declared.policy.ValidConfig.{ValidConfig}
 use Rattle.check_core.specs.Labels.{VerdictPoints}
-use Rattle.check_core.specs.Summary.{all_asked}
+use Rattle.check_core.specs.Summary.{gathered_of_licenses}
 use Rattle.gather_core.specs.Calls.{AreTurnsByReads, CrateReads, HasOwnReads, StarvesGathering, calls_of_all, reads_of_all, turns_of}
 use Rattle.gather_core.specs.Entries.{entries_of}
 use Rattle.gather_core.specs.Gathered.{include_of, krate_of}
@@ -47,7 +47,7 @@ module _ (scanner : Scanner) (policy : ValidConfig) where
       (selected : IsListOf graph (Selected graph choice (include_of policy)) (map krate_of licenses))
       (reads : AreTurnsByReads tree.told tree.tells tree.count_before tree.count_after tree.calls_before tree.calls_after scanner policy.file_id (entries_of policy) files licenses last) where
     -- they were checked
-    pub checked_on : (checked : CheckedCrates) → IsCheckOf policy licenses checked → All (VerdictPoints last (policy_of policy)) (all_asked licenses)
+    pub checked_on : (checked : CheckedCrates) → IsCheckOf policy licenses checked → All (VerdictPoints last (policy_of policy)) (gathered_of_licenses licenses)
         → IsCheckedOn scanner policy tree files last graph choice checked
     checked_on checked check points = record {
       crates = reads.crates;
@@ -168,7 +168,7 @@ module _ (scanner : Scanner) (policy : LoadedPolicy) (told middle tells : Option
 -- the metadata's read alone
 module _ (scanner : Scanner) (policy : LoadedPolicy) (told tells : Option Content) (before after : ℕ) (old new : List Call) (files : List File) (begun : ℕ) (path : List ℕ)
     (made : MadeSome told tells before after old new) (choice : Choice) (same : choice ≡ choice_by policy.graph.exclude) where
-  refused_by : (error : KratesError) (heard : Result (List ℕ) ReadFault) (answer : Answered) → new ≡ old ++ read_of path answer ∷ [] → text_answered begun after answer ≡ Some heard
+  refused_by : (error : KratesError) (heard : Result (List ℕ) ReadFault) (answer : CallAnswer) → new ≡ old ++ read_of path answer ∷ [] → text_answered begun after answer ≡ Some heard
       → AreFrom choice heard (Err error) → HasNoCrates policy (seen told tells before after old new) begun path error
   refused_by error heard answer traced hears from =
       let own = made_these made traced in

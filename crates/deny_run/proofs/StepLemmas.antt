@@ -8,7 +8,7 @@ use Rattle.tree_core.proofs.MadeLemmas.{made-later}
 use Rattle.diag_core.specs.File.{File}
 use Rattle.graph_core.specs.Krate.{Record}
 use Rattle.gather_core.specs.Calls.{StarvesGathering}
-use Rattle.gather_core.specs.Entries.{Entry}
+use Rattle.gather_core.specs.Entries.{ClarificationEntry}
 use Rattle.expression_core.specs.Scanned.{Scanner}
 use Rattle.heard_core.specs.Cause.{Cause, no_memory, told, failed_read, refused_write, ReadCounts}
 use Rattle.print_core.specs.declared.printer.PrintError.{PrintError}
@@ -18,7 +18,7 @@ use Rattle.deny_run.specs.Error.{cause_of, error_of_print}
 -- ---- counts
 
 -- calls never lower the count, also where memory was wanting for gathering
-pub gathering_later : {held tells : Option Content} {before after : ℕ} {old new : List Call} {scanner : Scanner} {policy : ℕ} {all : List Entry} {files : List File} {krates : List Record}
+pub gathering_later : {held tells : Option Content} {before after : ℕ} {old new : List Call} {scanner : Scanner} {policy : ℕ} {all : List ClarificationEntry} {files : List File} {krates : List Record}
     → Made held tells before after old new [] ⊎ StarvesGathering held tells before after old new scanner policy all files krates → before ≤ after
 gathering_later (inl made) = made-later made
 gathering_later (inr starves) = made-later starves.made

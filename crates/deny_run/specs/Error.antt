@@ -11,29 +11,29 @@ use Rattle.print_core.specs.declared.printer.PrintError.TheVariants as print
 use Rattle.search_core.specs.declared.search.SearchError.{SearchError}
 use Rattle.search_core.specs.declared.search.SearchError.TheVariants as search
 use Rattle.workspace_core.specs.declared.error.What.TheVariants.{ExcludeSpec}
-use Rattle.deny_run.specs.declared.error.Part.TheVariants.{Words}
+use Rattle.deny_run.specs.declared.error.InputPart.TheVariants.{Words}
 use Rattle.deny_run.specs.declared.error.Error.{Error}
 use Rattle.deny_run.specs.declared.error.Error.TheVariants.{Memory, NotCarried, ConfigRead, ConfigSyntax, ConfigShape, ConfigInvalid, MetadataRead, MetadataSyntax, MetadataShape, NoRoots, WriteFault, NotYet}
 use Rattle.deny_run.specs.declared.error.Refusal.{Refusal}
 use Rattle.deny_run.specs.declared.error.Refusal.TheVariants as refusal
 
-abbrev pub words_of : Error → List ℕ
-words_of Memory = codes "out of memory"
-words_of (NotCarried what) = codes "the request is not carried"
-words_of (ConfigRead fault) = codes "the policy could not be read"
-words_of (ConfigSyntax fault) = codes "the policy could not be parsed"
-words_of (ConfigShape faults) = codes "the policy could not be deserialized"
-words_of (ConfigInvalid found) = codes "the policy is not valid"
-words_of (MetadataRead fault) = codes "the metadata could not be read"
-words_of MetadataSyntax = codes "the metadata could not be parsed"
-words_of (MetadataShape fault) = codes "the metadata has not the stated shape"
-words_of (NoRoots base excluded unpublished) = codes "no root crate is left"
-words_of (WriteFault before after) = codes "writing failed"
-words_of (NotYet part) = codes "the input is of a form that is not built yet"
+abbrev pub error_text : Error → List ℕ
+error_text Memory = codes "out of memory"
+error_text (NotCarried what) = codes "the request is not carried"
+error_text (ConfigRead fault) = codes "the policy could not be read"
+error_text (ConfigSyntax fault) = codes "the policy could not be parsed"
+error_text (ConfigShape faults) = codes "the policy could not be deserialized"
+error_text (ConfigInvalid found) = codes "the policy is not valid"
+error_text (MetadataRead fault) = codes "the metadata could not be read"
+error_text MetadataSyntax = codes "the metadata could not be parsed"
+error_text (MetadataShape fault) = codes "the metadata has not the stated shape"
+error_text (NoRoots base excluded unpublished) = codes "no root crate is left"
+error_text (WriteFault before after) = codes "writing failed"
+error_text (NotYet part) = codes "the input is of a form that is not built yet"
 
 -- what is written after a refusal
 abbrev pub fault_line : Error → List ℕ
-fault_line error = codes "error: " ++ words_of error ++ codes "\n"
+fault_line error = codes "error: " ++ error_text error ++ codes "\n"
 
 abbrev pub cause_of : Error → Cause
 cause_of Memory = no_memory

@@ -1,7 +1,7 @@
 -- What is heard in a run, by what each of its calls was answered.
 use Rattle.std.specs.Prelude.{◌≡◌, ℕ, Bool, true, false, List, [], ◌∷◌, map, is_some, Option, Some, None, unwrap_or, Result, Err}
 use Rattle.tree_core.specs.Call as call
-use Rattle.tree_core.specs.Call.{Answered, Call}
+use Rattle.tree_core.specs.Call.{CallAnswer, Call}
 use Rattle.tree_core.specs.Content.{Content}
 use Rattle.tree_core.specs.Hearing.{Made}
 use Rattle.tree_core.specs.Trace.{fault_behind}
@@ -17,10 +17,10 @@ use Rattle.gather_core.specs.Calls.{CrateReads}
 -- order, the reads of its files.
 pub record RunHearing : Type 0 where
   pub begun : ℕ
-  pub looks : List Answered
-  pub policy : Option Answered
-  pub exceptions : Option Answered
-  pub metadata : Option Answered
+  pub looks : List CallAnswer
+  pub policy : Option CallAnswer
+  pub exceptions : Option CallAnswer
+  pub metadata : Option CallAnswer
   pub crates : List CrateReads
 
 -- what a tree told before a run and behind it: its content, its count of faults, and its calls
@@ -46,18 +46,18 @@ crates_heard hearing = map (λ (one : CrateReads). one.krate) hearing.crates
 -- ---- the looks
 
 -- what looks come to
-pub data Looks : Type 0 where
+pub data LooksResult : Type 0 where
   -- one of them failed
-  look_failed : Looks
+  look_failed : LooksResult
   -- at no path stands anything
-  nowhere : Looks
+  nowhere : LooksResult
   -- something stands at this one
-  at : List ℕ → Looks
+  at : List ℕ → LooksResult
   -- memory was wanting, or not all were made that were due
-  unended : Looks
+  unended : LooksResult
 
 -- by what the look at a path was answered, and what those at the paths behind it come to
-abbrev pub look_by : Answered → List ℕ → Looks → Looks
+abbrev pub look_by : CallAnswer → List ℕ → LooksResult → LooksResult
 look_by (call.bytes items) path rest = unended
 look_by (call.entries items) path rest = unended
 look_by (call.told true) path rest = at path
@@ -68,13 +68,13 @@ look_by call.failed path rest = look_failed
 look_by call.no_memory path rest = unended
 
 -- looks at these paths in order, up to the first that is not told that nothing stands there
-abbrev pub looks_by : List (List ℕ) → List Answered → Looks
+abbrev pub looks_by : List (List ℕ) → List CallAnswer → LooksResult
 looks_by [] answers = nowhere
 looks_by (path ∷ paths) [] = unended
 looks_by (path ∷ paths) (answer ∷ answers) = look_by answer path (looks_by paths answers)
 
 -- the calls behind a look
-abbrev pub looks_behind : Answered → List Call → List Call
+abbrev pub looks_behind : CallAnswer → List Call → List Call
 looks_behind (call.bytes items) rest = []
 looks_behind (call.entries items) rest = []
 looks_behind (call.told true) rest = []
@@ -85,7 +85,7 @@ looks_behind call.failed rest = []
 looks_behind call.no_memory rest = []
 
 -- their calls
-abbrev pub look_calls : List (List ℕ) → List Answered → List Call
+abbrev pub look_calls : List (List ℕ) → List CallAnswer → List Call
 look_calls [] answers = []
 look_calls (path ∷ paths) [] = []
 look_calls (path ∷ paths) (answer ∷ answers) = look_of path answer ∷ looks_behind answer (look_calls paths answers)
@@ -93,27 +93,27 @@ look_calls (path ∷ paths) (answer ∷ answers) = look_of path answer ∷ looks
 -- ---- the read of a file
 
 -- the call of a read that is due, where it was made
-abbrev pub read_calls : Option (List ℕ) → Option Answered → List Call
+abbrev pub read_calls : Option (List ℕ) → Option CallAnswer → List Call
 read_calls None answer = []
 read_calls (Some path) None = []
 read_calls (Some path) (Some answer) = read_of path answer ∷ []
 
 -- the count of faults behind it
-abbrev pub count_behind : ℕ → Option Answered → ℕ
+abbrev pub count_behind : ℕ → Option CallAnswer → ℕ
 count_behind count None = count
 count_behind count (Some answer) = fault_behind count answer
 
 -- What its answer lets hear, between two counts. Where none was made, and where memory was wanting, nothing is there.
-abbrev pub text_by : ℕ → ℕ → Option Answered → Result (List ℕ) ReadFault
+abbrev pub text_by : ℕ → ℕ → Option CallAnswer → Result (List ℕ) ReadFault
 text_by begun after None = Err Absent
 text_by begun after (Some answer) = unwrap_or (text_answered begun after answer) (Err Absent)
 
 -- something is heard by it
-abbrev pub is_heard : Option Answered → Bool
+abbrev pub is_heard : Option CallAnswer → Bool
 is_heard None = false
 is_heard (Some answer) = is_some (text_answered 0 0 answer)
 
 -- a read that is due was made, and something is heard by its answer; one that is not due was not made
-abbrev pub IsReadWhereDue : Option (List ℕ) → Option Answered → Type 0
+abbrev pub IsReadWhereDue : Option (List ℕ) → Option CallAnswer → Type 0
 IsReadWhereDue None answer = answer ≡ None
 IsReadWhereDue (Some path) answer = is_heard answer ≡ true

@@ -3,7 +3,7 @@ use Rattle.std.specs.Prelude.{◌≡◌, ℕ, false, List, [], ◌∷◌, Option
 use Rattle.std.specs.List.{list_any}
 use Rattle.catalog_core.specs.Catalog.{CatalogLists}
 use Rattle.selection_core.specs.Choice.{is_uncarried}
-use Rattle.diag_core.specs.File.{File, id_at}
+use Rattle.diag_core.specs.File.{File, file_id_at}
 use Rattle.heard_core.specs.declared.fault.ReadFault.{ReadFault}
 use Rattle.load_core.specs.Heard.{LoadHeard}
 use Rattle.load_core.specs.Load.{policy_file}
@@ -12,9 +12,9 @@ use Rattle.load_core.specs.declared.loading.PolicyPaths.{PolicyPaths}
 use Rattle.policy_config.specs.Root.{root_of}
 use Rattle.policy_config.specs.declared.root.RootConfig.{RootConfig}
 use Rattle.policy_core.specs.Exceptions.{ExceptionsRead, no_file, value}
-use Rattle.policy_core.specs.Policy.{PolicyFound, absence_told, policy_found}
+use Rattle.policy_core.specs.Policy.{PolicyFound, absence_findings, policy_found}
 use Rattle.policy_entries.specs.Exceptions.{exceptions_file_of}
-use Rattle.policy_text.specs.Text.{text_told}
+use Rattle.policy_text.specs.Text.{config_text_of}
 use Rattle.policy_text.specs.declared.text.ConfigText.{ConfigText}
 use Rattle.toml_shapes.specs.Shaped.{faults_in}
 use Rattle.toml_subset.specs.Data.{Toml}
@@ -22,12 +22,12 @@ use Rattle.toml_subset.specs.Reading.{read_text}
 
 -- the policy's text: that of its file, or the empty one where no file is there
 abbrev pub IsTextOf : Result (List ℕ) ReadFault → ConfigText → Type 0
-IsTextOf heard text = text_told heard ≡ Ok text
+IsTextOf heard text = config_text_of heard ≡ Ok text
 
 -- An exceptions file that is there: its path is another one than the policy's, it is a text, the text has a value, and
 -- nothing is wrong with the shape of the value.
 pub record ExceptionsFileAt (lists : CatalogLists) (files : List File) (path : List ℕ) (heard : Result (List ℕ) ReadFault) (read : ExceptionsRead) : Type 0 where
-  pub apart : id_at files path ≡ None
+  pub apart : file_id_at files path ≡ None
   pub text : List ℕ
   pub text_heard : heard ≡ Ok text
   pub toml : Toml
@@ -53,5 +53,5 @@ pub record IsPolicyAt (lists : CatalogLists) (paths : PolicyPaths) (heard : Load
   pub carried : list_any is_uncarried root.graph.exclude ≡ false
   pub read : ExceptionsRead
   pub exceptions : ExceptionsAt lists (policy_file paths.policy text.text ∷ []) paths.exceptions heard.exceptions read
-  pub is : found ≡ policy_found lists (record { policy = 0; exceptions = 1 }) (absence_told text.is_there paths.policy) read root
+  pub is : found ≡ policy_found lists (record { policy = 0; exceptions = 1 }) (absence_findings text.is_there paths.policy) read root
   pub valid : list_any is_error found.findings ≡ false

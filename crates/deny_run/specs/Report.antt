@@ -7,20 +7,20 @@ use Rattle.tree_core.specs.declared.reads.ReadRecord.{ReadRecord}
 use Rattle.spdx_core.specs.Reading.{ExpressionView}
 use Rattle.graph_core.specs.Krate.{Record}
 use Rattle.graph_core.specs.Metadata.{Graph}
-use Rattle.records_core.specs.Records.{records_of}
+use Rattle.records_core.specs.Records.{metadata_of}
 use Rattle.selection_core.specs.Roots.{HasRoot}
-use Rattle.reads_core.specs.Read.{AreReads, call_lost, records_in as recorded}
+use Rattle.reads_core.specs.Read.{AreReads, call_lost, records_of_reads}
 use Rattle.pack_core.specs.Calls.{IsFront}
 use Rattle.workspace_core.specs.Krates.{sparse_dir}
 use Rattle.valid_policy.specs.View.{policy_of}
 use Rattle.valid_policy.specs.declared.policy.ValidConfig.{ValidConfig}
 use Rattle.certificate_core.specs.declared.verdict.Verdict.{Verdict}
-use Rattle.priority_core.specs.Priority.{Answer, folder_of}
+use Rattle.priority_core.specs.Priority.{LicenseAnswer, folder_of}
 use Rattle.diag_core.specs.File.{File}
 use Rattle.expression_core.specs.Scanned.{Scanner}
 use Rattle.gather_core.specs.Calls.{CrateReads, CrateTurn, HasOwnReads, files_behind_all, reads_of_all, turn_by, turns_of}
 use Rattle.gather_core.specs.Entries.{entries_of}
-use Rattle.gather_core.specs.Told.{notes_of, source_told}
+use Rattle.gather_core.specs.Told.{notes_of, source_view}
 use Rattle.gather_core.specs.Turns.{IsCutOut, info_in, records_in}
 use Rattle.finding_core.specs.declared.license.LicenseExprSource.{LicenseExprSource}
 use Rattle.finding_core.specs.declared.license.LicenseInfo.{LicenseInfo}
@@ -36,15 +36,15 @@ use Rattle.load_core.specs.declared.loading.PolicyPaths.{PolicyPaths}
 use Rattle.deny_run.specs.declared.error.Error.{Error}
 use Rattle.deny_run.specs.declared.report.CrateReport.{CrateReport}
 use Rattle.deny_run.specs.declared.report.Report.{Report}
-use Rattle.deny_run.specs.declared.words.Request.{Request}
+use Rattle.deny_run.specs.declared.words.CheckRequest.{CheckRequest}
 use Rattle.deny_run.specs.Counts.{counts_of}
 use Rattle.deny_run.specs.Error.{cause_of}
-use Rattle.deny_run.specs.Given.{Given}
-use Rattle.deny_run.specs.Heard.{Found, HearsAllDue, HearsExceptions, HearsPolicy, IsRunHearing, LooksEnd, ReadsItsFiles, all_looked_at, calls_of, count_metadata, exceptions_in, expression_in, files_loaded, found_of, load_heard, metadata_heard, priority_heard, scanner_in, turns_in}
+use Rattle.deny_run.specs.Given.{RunArguments}
+use Rattle.deny_run.specs.Heard.{RunInput, HearsAllDue, HearsExceptions, HearsPolicy, IsRunHearing, LooksEnd, ReadsItsFiles, all_gathered, calls_of, count_metadata, exceptions_path, expression_in, files_loaded, run_input_of, load_heard, metadata_heard, priority_heard, scanner_of_given, turns_in}
 use Rattle.deny_run.specs.Hearing.{MadeOn, RunHearing, TreeSeen, crates_heard}
 use Rattle.deny_run.specs.Policy.{IsPolicyAt}
 use Rattle.deny_run.specs.Selection.{choice_in, AreSelected, Refuses}
-use Rattle.deny_run.specs.Words.{request_of}
+use Rattle.deny_run.specs.Words.{check_request_of}
 
 -- ---- what is asked for
 
@@ -52,27 +52,27 @@ abbrev pub paths_at : List ℕ → Option (List ℕ) → PolicyPaths
 paths_at path exceptions = record { policy = Some path; exceptions = exceptions }
 
 -- The policy's bytes: the looks say where the exceptions file is, and what is heard at the two paths is this policy.
-pub record PolicyAt (given : Given) (hearing : RunHearing) (path : List ℕ) (policy : PolicyFound) : Type 0 where
+pub record PolicyAt (given : RunArguments) (hearing : RunHearing) (path : List ℕ) (policy : PolicyFound) : Type 0 where
   pub exceptions : Option (List ℕ)
-  pub found : exceptions_in given hearing ≡ Ok exceptions
+  pub found : exceptions_path given hearing ≡ Ok exceptions
   pub is : IsPolicyAt given.lists (paths_at path exceptions) (load_heard given hearing) policy
 
 -- the metadata's bytes: the file is a text, and as metadata it tells of this graph
-pub record GraphAt (given : Given) (hearing : RunHearing) (graph : Graph) : Type 0 where
+pub record GraphAt (given : RunArguments) (hearing : RunHearing) (graph : Graph) : Type 0 where
   pub text : List ℕ
   pub heard : metadata_heard given hearing ≡ Ok text
-  pub tells : records_of text sparse_dir ≡ Some (Ok graph)
+  pub tells : metadata_of text sparse_dir ≡ Some (Ok graph)
 
 -- what is to be checked: the request, its policy, the graph of its metadata, and the crates of it that are checked
-pub record Asked : Type 0 where
-  pub request : Request
+pub record CheckInput : Type 0 where
+  pub request : CheckRequest
   pub policy : PolicyFound
   pub graph : Graph
   pub crates : List Record
 
 -- the words, the policy and the metadata are of the forms that are built, and ask to check this
-pub record Asks (given : Given) (hearing : RunHearing) (asked : Asked) : Type 0 where
-  pub request : request_of given.words given.cwd ≡ Some asked.request
+pub record Asks (given : RunArguments) (hearing : RunHearing) (asked : CheckInput) : Type 0 where
+  pub request : check_request_of given.words given.cwd ≡ Some asked.request
   pub policy : PolicyAt given hearing asked.request.config_path asked.policy
   pub metadata : GraphAt given hearing asked.graph
   pub root : HasRoot asked.graph (choice_in asked.policy)
@@ -81,64 +81,64 @@ pub record Asks (given : Given) (hearing : RunHearing) (asked : Asked) : Type 0 
 -- ---- what is reported
 
 -- the answer of an expression, where it comes from and what is noted; where the field stands is left out
-abbrev pub answer_by : Option ExpressionView → Option LicenseExprSource → List (List ℕ) → Option Answer
-answer_by (Some expression) (Some source) notes = Some (record { expression = expression; source = source_told source; notes = notes })
-answer_by _ _ notes = None
+abbrev pub answer_of_parts : Option ExpressionView → Option LicenseExprSource → List (List ℕ) → Option LicenseAnswer
+answer_of_parts (Some expression) (Some source) notes = Some (record { expression = expression; source = source_view source; notes = notes })
+answer_of_parts _ _ notes = None
 
 -- the answer that a report tells
-abbrev pub answer_reported : CrateReport → Option Answer
-answer_reported report = answer_by report.expression report.source report.notes
+abbrev pub answer_in_report : CrateReport → Option LicenseAnswer
+answer_in_report report = answer_of_parts report.expression report.source report.notes
 
 -- The report on a crate, by a valid policy: it lists the crate's reads; it tells what has priority, by what their answers let
 -- hear, and the verdict on that, with what shows it.
-pub record IsReportOf (given : Given) (policy : ValidConfig) (one : CrateReads) (report : CrateReport) : Type 0 where
+pub record IsReportOf (given : RunArguments) (policy : ValidConfig) (one : CrateReads) (report : CrateReport) : Type 0 where
   pub id : report.id ≡ one.krate.id
-  pub reads : report.reads ≡ recorded one.reads
+  pub reads : report.reads ≡ records_of_reads one.reads
   pub expression : report.expression ≡ expression_in (priority_heard given policy one)
-  pub answer : answer_reported report ≡ priority_heard given policy one
+  pub answer : answer_in_report report ≡ priority_heard given policy one
   pub notes : report.notes ≡ notes_of (priority_heard given policy one)
   pub verdict : IsVerdict (policy_of policy) one.krate report.expression report.verdict
 
 -- where the expression of a licence comes from
-abbrev pub source_of : LicenseInfo → Option LicenseExprSource
-source_of (SpdxExpression expression info) = Some info.source
-source_of license_info.Unlicensed = None
+abbrev pub license_source : LicenseInfo → Option LicenseExprSource
+license_source (SpdxExpression expression info) = Some info.source
+license_source license_info.Unlicensed = None
 
 -- The report on a crate tells the source that its turn says: of a field with the place where its manifest writes it, where that
 -- counts.
 abbrev pub TellsSource : CrateTurn → CrateReport → Type 0
-TellsSource own report = report.source ≡ source_of (info_in own.turn)
+TellsSource own report = report.source ≡ license_source (info_in own.turn)
 
 -- The policy that was found is reported, its lists put in order. Each crate that is checked has its one report by it, in the
 -- same order, and the findings are counted.
-pub record GivesVerdicts (given : Given) (hearing : RunHearing) (asked : Asked) (report : Report) : Type 0 where
+pub record GivesVerdicts (given : RunArguments) (hearing : RunHearing) (asked : CheckInput) (report : Report) : Type 0 where
   pub policy : PutsPolicyInOrder asked.policy.licenses report.policy
   pub file : report.policy.file_id ≡ 0
   pub crates : crates_heard hearing ≡ asked.crates
   pub verdicts : AllZip (IsReportOf given report.policy) hearing.crates report.crates
   pub stats : report.stats ≡ counts_of report.findings
 
-abbrev pub verdicts_told : Report → List Verdict
-verdicts_told report = map (λ crate. crate.verdict) report.crates
+abbrev pub verdicts_in : Report → List Verdict
+verdicts_in report = map (λ crate. crate.verdict) report.crates
 
 -- The verdicts are those on what the check has looked at, turn after turn; what was found of each crate, in order, and then of
 -- the policy; and the table that the turns have left, of what was loaded. The labels of what is found on the way to an expression
 -- cut out what they say there; those of a verdict the expression and each of its terms, or the whole string that the policy wrote
 -- with escapes.
 pub record TellsFindings (loaded : List File) (turns : List CrateTurn) (report : Report) : Type 0 where
-  pub are : AreVerdicts (policy_of report.policy) (all_looked_at turns) (verdicts_told report)
-  pub findings : report.findings ≡ findings_of report.policy (all_looked_at turns) (verdicts_told report)
+  pub are : AreVerdicts (policy_of report.policy) (all_gathered turns) (verdicts_in report)
+  pub findings : report.findings ≡ findings_of report.policy (all_gathered turns) (verdicts_in report)
   pub files : report.files ≡ files_behind_all loaded turns
   pub cuts : All (λ own. IsCutOut report.files own.turn) turns
-  pub terms : All (VerdictPoints report.files (policy_of report.policy)) (all_looked_at turns)
+  pub terms : All (VerdictPoints report.files (policy_of report.policy)) (all_gathered turns)
 
 -- ---- what is answered
 
 -- What was heard asks for a check, and the report gives its verdicts: each read that was due was made; the records of the crates'
 -- reads tell what their answers let hear; and each crate's own files were read, once, and no other file for it.
-pub record TellsVerdicts (given : Given) (hearing : RunHearing) (report : Report) : Type 0 where
+pub record TellsVerdicts (given : RunArguments) (hearing : RunHearing) (report : Report) : Type 0 where
   pub due : HearsAllDue given hearing
-  pub asked : Asked
+  pub asked : CheckInput
   pub asks : Asks given hearing asked
   pub records : AreReads (count_metadata given hearing) (reads_of_all hearing.crates)
   pub files : All (ReadsItsFiles given report.policy) hearing.crates
@@ -146,17 +146,17 @@ pub record TellsVerdicts (given : Given) (hearing : RunHearing) (report : Report
 
 -- The report is what is asked for by what was heard: it gives the verdicts; the crates' reads are those that their turns ask for,
 -- with the manifests that the file table lacks; and it tells the sources of the expressions, and what was found.
-pub record IsReport (given : Given) (hearing : RunHearing) (report : Report) : Type 0 where
+pub record IsReport (given : RunArguments) (hearing : RunHearing) (report : Report) : Type 0 where
   pub verdicts : TellsVerdicts given hearing report
   pub own : All HasOwnReads (turns_in given hearing report.policy)
   pub sources : AllZip TellsSource (turns_in given hearing report.policy) report.crates
   pub tells : TellsFindings (files_loaded given hearing) (turns_in given hearing report.policy) report
 
 -- The refusal is the first one, by what was heard up to there.
-pub record IsRefusal (given : Given) (hearing : RunHearing) (error : Error) : Type 0 where
+pub record IsRefusal (given : RunArguments) (hearing : RunHearing) (error : Error) : Type 0 where
   pub due : HearsAllDue given hearing
   pub crates : hearing.crates ≡ []
-  pub refused : Refuses (found_of given hearing) error
+  pub refused : Refuses (run_input_of given hearing) error
 
 -- ---- where memory was wanting, or a write was refused
 
@@ -167,7 +167,7 @@ pub record IsTurnBegun (scanner : Scanner) (policy : ValidConfig) (files : List 
   pub next : Option ReadRecord
   pub crates_are : crates ≡ earlier ++ one ∷ []
   pub lost_is : lost ≡ call_lost (folder_of one.krate) next
-  pub front : IsFront (recorded one.reads ++ option_to_list next)
+  pub front : IsFront (records_of_reads one.reads ++ option_to_list next)
       (records_in (turn_by scanner policy.file_id (entries_of policy) (files_behind_all files (turns_of scanner policy.file_id (entries_of policy) files earlier)) one).turn)
 
 -- The first ones of these crates had their turns, from a file table on, each by its own reads, and perhaps one more was begun.
@@ -178,18 +178,18 @@ pub record HaveTurns (scanner : Scanner) (policy : ValidConfig) (files : List Fi
   pub among : IsFront (map (λ (one : CrateReads). one.krate) crates) checked
 
 -- The same of the crates that are checked by what was heard, under the policy that was found.
-pub record AreChecking (given : Given) (hearing : RunHearing) (lost : List Call) : Type 0 where
-  pub found : Found
-  pub is : found_of given hearing ≡ Ok found
+pub record AreChecking (given : RunArguments) (hearing : RunHearing) (lost : List Call) : Type 0 where
+  pub found : RunInput
+  pub is : run_input_of given hearing ≡ Ok found
   pub policy : ValidConfig
   pub ordered : PutsPolicyInOrder found.policy.licenses policy
   pub checked : List Record
   pub selected : AreSelected found.policy found.graph checked
-  pub turns : HaveTurns (scanner_in given policy) policy (files_loaded given hearing) checked hearing.crates lost
+  pub turns : HaveTurns (scanner_of_given given policy) policy (files_loaded given hearing) checked hearing.crates lost
 
 -- Where a run was given up, what was heard before is all that was due there, and nothing was read behind: among the looks, at the read of
 -- the policy, of the exceptions file or of the metadata, or among the crates, perhaps in a call that found no memory.
-pub data StopsAt (given : Given) (hearing : RunHearing) (lost : List Call) : Type 0 where
+pub data StopsAt (given : RunArguments) (hearing : RunHearing) (lost : List Call) : Type 0 where
   at_looks : hearing.policy ≡ None → hearing.exceptions ≡ None → hearing.metadata ≡ None → hearing.crates ≡ [] → lost ≡ [] → StopsAt given hearing lost
   at_policy : LooksEnd given hearing → hearing.exceptions ≡ None → hearing.metadata ≡ None → hearing.crates ≡ [] → lost ≡ [] → StopsAt given hearing lost
   at_exceptions : LooksEnd given hearing → HearsPolicy given hearing → hearing.metadata ≡ None → hearing.crates ≡ [] → lost ≡ [] → StopsAt given hearing lost
@@ -197,26 +197,26 @@ pub data StopsAt (given : Given) (hearing : RunHearing) (lost : List Call) : Typ
   at_crates : HearsAllDue given hearing → AreChecking given hearing lost → StopsAt given hearing lost
 
 -- The calls that are due by what was heard, up to some place, and perhaps one more, which found no memory.
-pub record IsGivenUp (given : Given) (tree : TreeSeen) (hearing : RunHearing) : Type 0 where
+pub record IsGivenUp (given : RunArguments) (tree : TreeSeen) (hearing : RunHearing) : Type 0 where
   pub begun : hearing.begun ≡ tree.count_before
   pub lost : List Call
   pub made : MadeOn tree (calls_of given hearing ++ lost)
   pub stops : StopsAt given hearing lost
 
 -- want of memory and a refused write may come at any place, and nothing else may
-abbrev pub IsRefusedBy : Given → TreeSeen → RunHearing → Error → Cause → Type 0
-IsRefusedBy given tree hearing error no_memory = IsGivenUp given tree hearing
-IsRefusedBy given tree hearing error (refused_write before after) = IsGivenUp given tree hearing
-IsRefusedBy given tree hearing error _ = IsRunHearing given tree hearing × IsRefusal given hearing error
+abbrev pub IsRefusedRun : RunArguments → TreeSeen → RunHearing → Error → Cause → Type 0
+IsRefusedRun given tree hearing error no_memory = IsGivenUp given tree hearing
+IsRefusedRun given tree hearing error (refused_write before after) = IsGivenUp given tree hearing
+IsRefusedRun given tree hearing error _ = IsRunHearing given tree hearing × IsRefusal given hearing error
 
 -- a report is the one that is asked for by what was heard, and a refusal the first one
-abbrev pub IsAnsweredBy : Given → TreeSeen → RunHearing → Result Report Error → Type 0
+abbrev pub IsAnsweredBy : RunArguments → TreeSeen → RunHearing → Result Report Error → Type 0
 IsAnsweredBy given tree hearing (Ok report) = IsRunHearing given tree hearing × IsReport given hearing report
-IsAnsweredBy given tree hearing (Err error) = IsRefusedBy given tree hearing error (cause_of error)
+IsAnsweredBy given tree hearing (Err error) = IsRefusedRun given tree hearing error (cause_of error)
 
 -- what a run on a tree answers, whatever the tree tells of its content: there is something that it heard, by the answers of its
 -- calls, and no other call was made
-pub record IsAnswer (given : Given) (tree : TreeSeen) (answer : Result Report Error) : Type 0 where
+pub record IsAnswer (given : RunArguments) (tree : TreeSeen) (answer : Result Report Error) : Type 0 where
   pub hearing : RunHearing
   pub answers : IsAnsweredBy given tree hearing answer
 

@@ -3,13 +3,13 @@ use Rattle.std.specs.Prelude.{ℕ, Result, Ok, Err}
 use Rattle.deny_run.specs.declared.error.Error.{Error}
 use Rattle.deny_run.specs.declared.error.Refusal.{Refusal}
 use Rattle.deny_run.specs.declared.report.Report.{Report}
-use Rattle.deny_run.specs.declared.report.Ended.{Ended}
-use Rattle.deny_run.specs.declared.report.Ended.TheVariants.{Checked, Refused}
+use Rattle.deny_run.specs.declared.report.RunEnd.{RunEnd}
+use Rattle.deny_run.specs.declared.report.RunEnd.TheVariants.{Checked, Refused}
 use Rattle.deny_run.specs.Counts.{status_of}
 use Rattle.deny_run.specs.Error.{error_of}
 
 -- how a run ended, as the report or its refusal
-abbrev pub answer_of : Ended → Result Report Error
+abbrev pub answer_of : RunEnd → Result Report Error
 answer_of (Checked report) = Ok report
 answer_of (Refused error) = Err error
 

@@ -12,7 +12,7 @@ use Rattle.policy_core.specs.Policy.{PolicyFound}
 use Rattle.gather_core.specs.Gathered.{include_of}
 use Rattle.deny_run.specs.declared.error.Error.{Error}
 use Rattle.deny_run.specs.declared.error.Error.TheVariants.{NoRoots}
-use Rattle.deny_run.specs.Heard.{Found}
+use Rattle.deny_run.specs.Heard.{RunInput}
 
 -- the crates that these specs leave out; the words leave none out yet
 abbrev pub choice_by : List (List ℕ) → Choice
@@ -32,11 +32,11 @@ abbrev pub AreSelected : PolicyFound → Graph → List Record → Type 0
 AreSelected policy graph crates = IsListOf graph (Selected graph (choice_in policy) (included_in policy)) crates
 
 -- the refusal of the selection: no root is left
-abbrev pub RefusesSelection : Found → Error → Type 0
+abbrev pub RefusesSelection : RunInput → Error → Type 0
 RefusesSelection found (NoRoots base excluded unpublished) = LacksRoots found.graph (choice_in found.policy) base excluded unpublished
 RefusesSelection found _ = ⊥
 
 -- the first refusal: of what is looked for, else of the selection
-abbrev pub Refuses : Result Found Error → Error → Type 0
+abbrev pub Refuses : Result RunInput Error → Error → Type 0
 Refuses (Err first) error = first ≡ error
 Refuses (Ok found) error = RefusesSelection found error

@@ -1,6 +1,6 @@
 -- What the steps of a run answer, one by one.
 use Rattle.std.specs.Prelude.{◌≡◌, ◌⊎◌, ℕ, List, [], ◌∷◌, ◌++◌, map, Option, Some, None, Result, Ok, Err, All}
-use Rattle.tree_core.specs.Call.{Answered, Call}
+use Rattle.tree_core.specs.Call.{CallAnswer, Call}
 use Rattle.tree_core.specs.Trace.{fault_behind}
 use Rattle.catalog_core.specs.Catalog.{CatalogLists}
 use Rattle.catalog_core.specs.declared.identifier.Match.{Match}
@@ -11,9 +11,9 @@ use Rattle.diag_core.specs.File.{File}
 use Rattle.reads_core.specs.Read.{AreReads}
 use Rattle.heard_core.specs.Heard.{read_of, text_answered}
 use Rattle.heard_core.specs.declared.fault.ReadFault.{ReadFault}
-use Rattle.search_core.specs.Looked.{Looked}
+use Rattle.search_core.specs.Looked.{FindsByLooks}
 use Rattle.search_core.specs.Search.{candidates}
-use Rattle.search_core.specs.declared.search.Sought.TheVariants.{Exceptions}
+use Rattle.search_core.specs.declared.search.SoughtFile.TheVariants.{Exceptions}
 use Rattle.selection_core.specs.Choice.{Choice}
 use Rattle.selection_core.specs.Listed.{IsListOf}
 use Rattle.selection_core.specs.Roots.{HasRoot}
@@ -40,49 +40,49 @@ use Rattle.deny_run.specs.declared.check.CheckedCrates.{CheckedCrates}
 use Rattle.certificate_core.specs.declared.verdict.Verdict.{Verdict}
 use Rattle.check_core.specs.Check.{AreVerdicts, findings_of}
 use Rattle.check_core.specs.Labels.{VerdictPoints}
-use Rattle.check_core.specs.Summary.{all_asked}
+use Rattle.check_core.specs.Summary.{gathered_of_licenses}
 use Rattle.deny_run.specs.declared.report.Report.{Report}
 use Rattle.deny_run.specs.Counts.{counts_of}
 use Rattle.deny_run.specs.Heard.{manifest_in}
 use Rattle.deny_run.specs.Hearing.{MadeOn, TreeSeen, read_calls}
-use Rattle.deny_run.specs.Report.{HaveTurns, source_of}
+use Rattle.deny_run.specs.Report.{HaveTurns, license_source}
 use Rattle.deny_run.specs.Selection.{choice_by}
 
 -- ---- one crate after another
 
 -- the expression of a licence that was settled
-abbrev pub expression_told : LicenseInfo → Option ExpressionView
-expression_told (SpdxExpression expression info) = Some expression
-expression_told license_info.Unlicensed = None
+abbrev pub license_expression : LicenseInfo → Option ExpressionView
+license_expression (SpdxExpression expression info) = Some expression
+license_expression license_info.Unlicensed = None
 
 -- the report on a crate, by its licence and the verdict on it
-abbrev pub reported : KrateLicense → Verdict → CrateReport
-reported license verdict = record {
+abbrev pub report_of : KrateLicense → Verdict → CrateReport
+report_of license verdict = record {
   id = (krate_of license).id;
   reads = license.reads;
-  expression = expression_told license.lic_info;
-  source = source_of license.lic_info;
+  expression = license_expression license.lic_info;
+  source = license_source license.lic_info;
   notes = license.notes;
   verdict = verdict;
 }
 
 -- one for each crate, in order
-abbrev pub all_reported : List KrateLicense → List Verdict → List CrateReport
-all_reported [] verdicts = []
-all_reported (license ∷ more) [] = []
-all_reported (license ∷ more) (verdict ∷ verdicts) = reported license verdict ∷ all_reported more verdicts
+abbrev pub reports_of : List KrateLicense → List Verdict → List CrateReport
+reports_of [] verdicts = []
+reports_of (license ∷ more) [] = []
+reports_of (license ∷ more) (verdict ∷ verdicts) = report_of license verdict ∷ reports_of more verdicts
 
 -- what a check of licences comes to, by the verdicts on them
 abbrev pub checked_by : ValidConfig → List KrateLicense → List Verdict → CheckedCrates
 checked_by policy licenses verdicts = record {
   policy = policy;
-  crates = all_reported licenses verdicts;
-  findings = findings_of policy (all_asked licenses) verdicts;
+  crates = reports_of licenses verdicts;
+  findings = findings_of policy (gathered_of_licenses licenses) verdicts;
 }
 
 pub record IsCheckOf (policy : ValidConfig) (licenses : List KrateLicense) (checked : CheckedCrates) : Type 0 where
   pub verdicts : List Verdict
-  pub are : AreVerdicts (policy_of policy) (all_asked licenses) verdicts
+  pub are : AreVerdicts (policy_of policy) (gathered_of_licenses licenses) verdicts
   pub is : checked ≡ checked_by policy licenses verdicts
 
 -- the report of a check, with the file table that is left
@@ -96,15 +96,15 @@ report_with checked files = record {
 }
 
 -- the scanner of a run, by the policy's least score
-abbrev pub scanner_by : CatalogLists → (List ℕ → Match) → ValidConfig → Scanner
-scanner_by lists match_of policy = record { lists = lists; match_of = match_of; threshold = threshold_of policy.confidence_threshold }
+abbrev pub scanner_of_policy : CatalogLists → (List ℕ → Match) → ValidConfig → Scanner
+scanner_of_policy lists match_of policy = record { lists = lists; match_of = match_of; threshold = threshold_of policy.confidence_threshold }
 
 -- ---- over a tree
 
 -- where the two files of a policy are: the policy at this path, and the exceptions file where looks found it
 pub record ArePathsAt (cwd path : List ℕ) (old new : List Call) (paths : PolicyPaths) : Type 0 where
   pub policy : paths.policy ≡ Some path
-  pub looked : Looked (candidates Exceptions (manifest_in cwd)) old new paths.exceptions
+  pub looked : FindsByLooks (candidates Exceptions (manifest_in cwd)) old new paths.exceptions
 
 -- The licences of the crates that are checked, which these reads settled, turn after turn from a file table on to the one that is
 -- left, and the check of them.
@@ -113,7 +113,7 @@ pub record IsChecked (scanner : Scanner) (policy : ValidConfig) (files last : Li
   pub selected : IsListOf graph (Selected graph choice (include_of policy)) (map krate_of licenses)
   pub turns : AreTurnsBy files (turns_of scanner policy.file_id (entries_of policy) files crates) licenses last
   pub check : IsCheckOf policy licenses checked
-  pub points : All (VerdictPoints last (policy_of policy)) (all_asked licenses)
+  pub points : All (VerdictPoints last (policy_of policy)) (gathered_of_licenses licenses)
 
 -- The same over a tree, on which the calls of these reads were made, and no other.
 pub record IsCheckedOn (scanner : Scanner) (policy : ValidConfig) (tree : TreeSeen) (files last : List File) (graph : Graph) (choice : Choice) (checked : CheckedCrates) : Type 0 where
@@ -140,7 +140,7 @@ IsAfterLoad (Krates error) = IsCarried error
 IsAfterLoad _ = ⊥
 
 -- the metadata that was heard tells of this graph, and a root of it is left
-pub record TellsGraph (tree : TreeSeen) (begun : ℕ) (policy : LoadedPolicy) (answer : Answered) (graph : Graph) : Type 0 where
+pub record TellsGraph (tree : TreeSeen) (begun : ℕ) (policy : LoadedPolicy) (answer : CallAnswer) (graph : Graph) : Type 0 where
   pub heard : Result (List ℕ) ReadFault
   pub hears : text_answered begun (fault_behind tree.count_before answer) answer ≡ Some heard
   pub tells : graph_in heard ≡ Ok graph
@@ -148,7 +148,7 @@ pub record TellsGraph (tree : TreeSeen) (begun : ℕ) (policy : LoadedPolicy) (a
 
 -- The metadata's file was read, and then the files of its crates, and no other call was made; and the check of these crates.
 pub record IsCheckedAt (scanner : Scanner) (policy : LoadedPolicy) (tree : TreeSeen) (files last : List File) (begun : ℕ) (path : List ℕ) (checked : CheckedCrates) : Type 0 where
-  pub answer : Answered
+  pub answer : CallAnswer
   pub crates : List CrateReads
   pub made : MadeOn tree (read_of path answer ∷ calls_of_all crates)
   pub graph : Graph
@@ -158,7 +158,7 @@ pub record IsCheckedAt (scanner : Scanner) (policy : LoadedPolicy) (tree : TreeS
 
 -- why there are no crates, by what was heard of the metadata's file, which was the one call
 pub record HasNoCrates (policy : LoadedPolicy) (tree : TreeSeen) (begun : ℕ) (path : List ℕ) (error : KratesError) : Type 0 where
-  pub answer : Answered
+  pub answer : CallAnswer
   pub heard : Result (List ℕ) ReadFault
   pub made : MadeOn tree (read_of path answer ∷ [])
   pub hears : text_answered begun (fault_behind tree.count_before answer) answer ≡ Some heard
@@ -166,7 +166,7 @@ pub record HasNoCrates (policy : LoadedPolicy) (tree : TreeSeen) (begun : ℕ) (
 
 -- the metadata's file was read, and the first ones of its crates had their turns
 pub record AreCheckedInPart (scanner : Scanner) (policy : LoadedPolicy) (tree : TreeSeen) (files : List File) (begun : ℕ) (path : List ℕ) : Type 0 where
-  pub answer : Answered
+  pub answer : CallAnswer
   pub crates : List CrateReads
   pub lost : List Call
   pub made : MadeOn tree (read_of path answer ∷ calls_of_all crates ++ lost)
@@ -179,7 +179,7 @@ pub record AreCheckedInPart (scanner : Scanner) (policy : LoadedPolicy) (tree : 
 -- memory was wanting: no call was made, or the metadata's read, whatever was answered, or crates had their turns behind it
 abbrev pub IsCheckGivenUp : Scanner → LoadedPolicy → TreeSeen → List File → ℕ → List ℕ → Type 0
 IsCheckGivenUp scanner policy tree files begun path =
-    ((answer : Option Answered) × MadeOn tree (read_calls (Some path) answer)) ⊎ AreCheckedInPart scanner policy tree files begun path
+    ((answer : Option CallAnswer) × MadeOn tree (read_calls (Some path) answer)) ⊎ AreCheckedInPart scanner policy tree files begun path
 
 -- want of memory, else the refusal that has its cause
 abbrev pub NoCratesBy : Scanner → LoadedPolicy → TreeSeen → List File → ℕ → List ℕ → KratesError → Type 0

@@ -3,7 +3,7 @@ use Rattle.std.specs.Prelude.{ℕ, Bool, List, [], length, slice_index_or, Optio
 use Rattle.std.specs.declared.string.String.{String}
 use Rattle.std.specs.Str.{bytes_eq}
 use Rattle.deny_text.specs.Path.{join_of}
-use Rattle.deny_run.specs.declared.words.Request.{Request}
+use Rattle.deny_run.specs.declared.words.CheckRequest.{CheckRequest}
 
 -- the words as texts
 abbrev pub texts : {A : Type 0} → List (String A) → List (List ℕ)
@@ -23,8 +23,8 @@ asks_for_check words =
     && bytes_eq (word_at words 6) (codes "licenses")
 
 -- What the words ask for, the two paths joined to the working folder. Other words ask for nothing that is built.
-abbrev pub request_of : List (List ℕ) → List ℕ → Option Request
-request_of words cwd =
+abbrev pub check_request_of : List (List ℕ) → List ℕ → Option CheckRequest
+check_request_of words cwd =
     if asks_for_check words
     then Some (record { metadata_path = join_of cwd (word_at words 2); config_path = join_of cwd (word_at words 4) })
     else None

@@ -8,9 +8,9 @@ ghost use Rattle.policy_core.specs.Places.{PolicyStands};
 ghost use Rattle.gather_core.specs.Premises.{IsPlacedAt};
 ghost use Rattle.unused_core.specs.Laws.{EntriesLie};
 ghost use Rattle.check_core.specs.Labels.{PackLies, VerdictPoints};
-ghost use Rattle.check_core.specs.Summary.{all_asked};
+ghost use Rattle.check_core.specs.Summary.{gathered_of_licenses};
 ghost use Rattle.deny_run.specs.Hearing.{seen};
-ghost use Rattle.deny_run.specs.Steps.{IsCheckCut, IsCheckOf, IsCheckedOn, all_reported, reported, scanner_by};
+ghost use Rattle.deny_run.specs.Steps.{IsCheckCut, IsCheckOf, IsCheckedOn, reports_of, report_of, scanner_of_policy};
 
 use crate::report::CrateReport;
 use check_core::{CheckCtx, Verdicts, judge_all};
@@ -38,7 +38,7 @@ fn report_on(
     license: KrateLicense<'_>,
     verdict: Verdict,
 ) -> Result<CrateReport, AllocError>
-    ensures { IfOk result (λ report. report ≡ reported license.entry verdict) }
+    ensures { IfOk result (λ report. report ≡ report_of license.entry verdict) }
 {
     let KrateLicense {
         krate,
@@ -74,7 +74,7 @@ fn reports_on(
     licenses: KrateLicenses<'_>,
     verdicts: Verdicts,
 ) -> Result<ListOf<CrateReport>, AllocError>
-    ensures { IfOk result (λ reports. reports ≡ all_reported licenses.entry verdicts) }
+    ensures { IfOk result (λ reports. reports ≡ reports_of licenses.entry verdicts) }
 {
     let mut reports = ListOf::new(alloc);
     let verdicts = verdicts.into_vec();
@@ -97,7 +97,7 @@ fn judge_and_report(
     requires entries { EntriesLie files.now policy }
     ensures check { IfOk result (IsCheckOf policy summary.entry.nfos) }
     ensures terms { IfOk result (λ _.
-        All (VerdictPoints files.now (policy_of policy)) (all_asked summary.entry.nfos)) }
+        All (VerdictPoints files.now (policy_of policy)) (gathered_of_licenses summary.entry.nfos)) }
     ensures labels { IfOk result (λ checked. All (PackLies files.now) checked.findings) }
 {
     let ctx = CheckCtx {
@@ -130,12 +130,12 @@ pub(crate) fn settle_and_judge<T: Tree, C: Catalog, I: Identifier>(
     requires { PolicyStands files.old policy }
     // of each graph and choice that the crates are of
     ensures checked { IfOk result (λ checked. (graph : Graph) (choice : Choice) → IsChosen graph choice krates.now
-        → IsCheckedOn (scanner_by (C.lists catalog.now) (I.match_of identifier.now) policy) policy
+        → IsCheckedOn (scanner_of_policy (C.lists catalog.now) (I.match_of identifier.now) policy) policy
         (seen (T.content tree.old) (T.content tree.new) (T.fault_count tree.old) (T.fault_count tree.new)
         (T.trace tree.old) (T.trace tree.new))
         files.old files.new graph choice checked) }
     ensures cut { OnErr result ((graph : Graph) (choice : Choice) → IsChosen graph choice krates.now
-        → IsCheckCut (scanner_by (C.lists catalog.now) (I.match_of identifier.now) policy) policy
+        → IsCheckCut (scanner_of_policy (C.lists catalog.now) (I.match_of identifier.now) policy) policy
         (seen (T.content tree.old) (T.content tree.new) (T.fault_count tree.old) (T.fault_count tree.new)
         (T.trace tree.old) (T.trace tree.new))
         files.old graph choice) }

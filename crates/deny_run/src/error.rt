@@ -10,7 +10,7 @@ use workspace_core::{KratesError, MetaFault, What};
 
 /// A part of the input, in the order in which they are looked at.
 #[derive(Debug, Drop)]
-pub enum Part {
+pub enum InputPart {
     Words,
 }
 
@@ -49,7 +49,7 @@ pub enum Error {
         after: u64,
     },
     /// The first part of the input that is of a form that is not built yet.
-    NotYet(Part),
+    NotYet(InputPart),
 }
 
 impl Error {
@@ -214,7 +214,7 @@ impl From<Refusal> for Error {
     fn from(refusal: Refusal) -> Error {
         match refusal {
             Refusal::Memory => Error::Memory,
-            Refusal::Words => Error::NotYet(Part::Words),
+            Refusal::Words => Error::NotYet(InputPart::Words),
             Refusal::Search(refused) => Error::from(refused),
             Refusal::Load(refused) => Error::from(refused),
             Refusal::Krates(refused) => Error::from(refused),

@@ -115,7 +115,7 @@ pub struct Report {
 
 /// How a run ended.
 #[derive(Drop)]
-pub enum Ended {
+pub enum RunEnd {
     Checked(Report),
     Refused(Error),
 }
@@ -125,5 +125,5 @@ pub enum Ended {
 pub struct Outcome {
     /// The exit status of the program.
     pub status: u8,
-    pub ended: Ended,
+    pub ended: RunEnd,
 }

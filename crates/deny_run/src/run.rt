@@ -4,25 +4,25 @@ ghost use Rattle.std.specs.Option.{ForSome};
 ghost use Rattle.tree_core.specs.Faults.{Gained, GainedPrefix, IsCounted};
 ghost use Rattle.tree_core.specs.Hearing.{MadeSome};
 ghost use Rattle.tree_core.specs.Script.{LineWritten};
-ghost use Rattle.deny_run.specs.declared.error.Part.{Part};
+ghost use Rattle.deny_run.specs.declared.error.InputPart.{InputPart};
 ghost use Rattle.heard_core.specs.declared.fault.ReadFault.{ReadFault};
 ghost use Rattle.heard_core.specs.Cause.{ReadCounts};
 ghost use Rattle.deny_run.specs.Counts.{status_of, summary_of};
 ghost use Rattle.deny_run.specs.Error.{cause_of, fault_line};
-ghost use Rattle.deny_run.specs.Given.{given_of};
+ghost use Rattle.deny_run.specs.Given.{run_arguments_of};
 ghost use Rattle.deny_run.specs.Headline.{Headline, HeadlineRead};
 ghost use Rattle.deny_run.specs.Hearing.{seen};
 ghost use Rattle.deny_run.specs.Report.{IsAnswer, LabelsLie};
 ghost use Rattle.deny_run.specs.Steps.{report_with};
 ghost use Rattle.deny_run.specs.Run.{answer_from, answer_of, exit_status};
 ghost use Rattle.deny_run.specs.Script.{Writes, WritesFirst, WritesLoad, between, plain_log};
-ghost use Rattle.deny_run.specs.Words.{request_of, texts};
+ghost use Rattle.deny_run.specs.Words.{check_request_of, texts};
 
 use crate::check::CheckedCrates;
 use crate::error::{Error, Refusal};
-use crate::report::{AllStats, Ended, Outcome, Report};
+use crate::report::{AllStats, RunEnd, Outcome, Report};
 use crate::stages::{check_crates, policy_paths};
-use crate::words::Request;
+use crate::words::CheckRequest;
 use diag_core::{Files, LevelFilter};
 use load_core::{index_packs, load, print_packs};
 use print_core::{Color, Format, LogContext};
@@ -72,13 +72,13 @@ fn report<T: Tree, E: Sink, C: Catalog, I: Identifier>(
     catalog: &C,
     identifier: &I,
 ) -> Result<Report, Refusal>
-    ensures words { (answer_from result ≡ Err (Error.NotYet Part.Words))
-        ↔ (request_of (texts words.now) cwd.now ≡ None) }
+    ensures words { (answer_from result ≡ Err (Error.NotYet InputPart.Words))
+        ↔ (check_request_of (texts words.now) cwd.now ≡ None) }
     ensures policy { answer_from result ≢ Err (Error.ConfigRead ReadFault.Absent) }
     ensures counts { IfErr (answer_from result) (λ error. ReadCounts
         (T.fault_count tree.old) (T.fault_count tree.old) (T.fault_count tree.new) (cause_of error)) }
     ensures written { WritesLoad
-        (given_of (C.lists catalog.now) (I.match_of identifier.now) words.now cwd.now)
+        (run_arguments_of (C.lists catalog.now) (I.match_of identifier.now) words.now cwd.now)
         (seen (T.content tree.old) (T.content tree.new) (T.fault_count tree.old) (T.fault_count tree.new)
         (T.trace tree.old) (T.trace tree.new))
         (E.written err.old) (E.written err.new) (E.fault_count err.old) (E.fault_count err.new)
@@ -87,10 +87,10 @@ fn report<T: Tree, E: Sink, C: Catalog, I: Identifier>(
     ensures later { E.fault_count err.old ≤ E.fault_count err.new }
 {
     let begun = tree.faults();
-    let Some(request) = Request::from_words(alloc, words, cwd)? else {
+    let Some(request) = CheckRequest::from_words(alloc, words, cwd)? else {
         return Err(Refusal::Words);
     };
-    let Request {
+    let CheckRequest {
         metadata_path,
         config_path,
     } = request;
@@ -146,13 +146,13 @@ fn check<T: Tree, O: Sink, E: Sink, C: Catalog, I: Identifier>(
     catalog: &C,
     identifier: &I,
 ) -> Result<Report, Error>
-    ensures words { (result ≡ Err (Error.NotYet Part.Words)) ↔ (request_of (texts words.now) cwd.now ≡ None) }
+    ensures words { (result ≡ Err (Error.NotYet InputPart.Words)) ↔ (check_request_of (texts words.now) cwd.now ≡ None) }
     ensures policy { result ≢ Err (Error.ConfigRead ReadFault.Absent) }
     ensures counts { IfErr result (λ error.
         ReadCounts (T.fault_count tree.old) (T.fault_count tree.old) (T.fault_count tree.new)
         (cause_of error)) }
     ensures written { WritesFirst
-        (given_of (C.lists catalog.now) (I.match_of identifier.now) words.now cwd.now)
+        (run_arguments_of (C.lists catalog.now) (I.match_of identifier.now) words.now cwd.now)
         (seen (T.content tree.old) (T.content tree.new) (T.fault_count tree.old) (T.fault_count tree.new)
         (T.trace tree.old) (T.trace tree.new))
         (between
@@ -222,12 +222,12 @@ pub fn run<T: Tree, O: Sink, E: Sink, C: Catalog, I: Identifier>(
     // What was read asks for is answered, whatever the tree tells of its content, and nothing else was read: each
     // refusal is the first one, by its cause.
     ensures answer { IsAnswer
-        (given_of (C.lists catalog.now) (I.match_of identifier.now) words.now cwd.now)
+        (run_arguments_of (C.lists catalog.now) (I.match_of identifier.now) words.now cwd.now)
         (seen (T.content tree.old) (T.content tree.new) (T.fault_count tree.old) (T.fault_count tree.new)
         (T.trace tree.old) (T.trace tree.new))
         (answer_of result.ended) }
-    ensures words { (answer_of result.ended ≡ Err (Error.NotYet Part.Words))
-        ↔ (request_of (texts words.now) cwd.now ≡ None) }
+    ensures words { (answer_of result.ended ≡ Err (Error.NotYet InputPart.Words))
+        ↔ (check_request_of (texts words.now) cwd.now ≡ None) }
     ensures policy { answer_of result.ended ≢ Err (Error.ConfigRead ReadFault.Absent) }
 
     // Calls were made on the tree, and nothing else came of it; a failed read has a cause.
@@ -239,7 +239,7 @@ pub fn run<T: Tree, O: Sink, E: Sink, C: Catalog, I: Identifier>(
 
     // What was written, and when a write was refused.
     ensures written { Writes
-        (given_of (C.lists catalog.now) (I.match_of identifier.now) words.now cwd.now)
+        (run_arguments_of (C.lists catalog.now) (I.match_of identifier.now) words.now cwd.now)
         (seen (T.content tree.old) (T.content tree.new) (T.fault_count tree.old) (T.fault_count tree.new)
         (T.trace tree.old) (T.trace tree.new))
         (between
@@ -260,7 +260,7 @@ pub fn run<T: Tree, O: Sink, E: Sink, C: Catalog, I: Identifier>(
     // The headline, in the words of policies, records and verdicts: by what was read, and by the content where the tree
     // tells it.
     ensures headline_read { HeadlineRead
-        (given_of (C.lists catalog.now) (I.match_of identifier.now) words.now cwd.now)
+        (run_arguments_of (C.lists catalog.now) (I.match_of identifier.now) words.now cwd.now)
         (seen (T.content tree.old) (T.content tree.new) (T.fault_count tree.old) (T.fault_count tree.new)
         (T.trace tree.old) (T.trace tree.new))
         (between
@@ -268,7 +268,7 @@ pub fn run<T: Tree, O: Sink, E: Sink, C: Catalog, I: Identifier>(
         (record { tree = T.fault_count tree.new; out = O.fault_count out.new; err = E.fault_count err.new }))
         result }
     ensures headline { ForSome (T.content tree.old) (λ c. Headline
-        (given_of (C.lists catalog.now) (I.match_of identifier.now) words.now cwd.now) c
+        (run_arguments_of (C.lists catalog.now) (I.match_of identifier.now) words.now cwd.now) c
         (between
         (record { tree = T.fault_count tree.old; out = O.fault_count out.old; err = E.fault_count err.old })
         (record { tree = T.fault_count tree.new; out = O.fault_count out.new; err = E.fault_count err.new }))
@@ -277,13 +277,13 @@ pub fn run<T: Tree, O: Sink, E: Sink, C: Catalog, I: Identifier>(
     match check(alloc, words, cwd, tree, out, err, catalog, identifier) {
         Ok(report) => Outcome {
             status: exit_status(&report),
-            ended: Ended::Checked(report),
+            ended: RunEnd::Checked(report),
         },
         Err(error) => {
             write_fault(err, &error);
             Outcome {
                 status: 1,
-                ended: Ended::Refused(error),
+                ended: RunEnd::Refused(error),
             }
         }
     }

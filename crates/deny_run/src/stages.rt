@@ -11,7 +11,7 @@ ghost use Rattle.deny_run.specs.Error.{cause_of, error_of};
 ghost use Rattle.deny_run.specs.Heard.{manifest_in};
 ghost use Rattle.deny_run.specs.Hearing.{seen};
 ghost use Rattle.deny_run.specs.Selection.{choice_by};
-ghost use Rattle.deny_run.specs.Steps.{ArePathsAt, ChecksAt, IsAfterLoad, scanner_by};
+ghost use Rattle.deny_run.specs.Steps.{ArePathsAt, ChecksAt, IsAfterLoad, scanner_of_policy};
 
 use crate::check::{CheckedCrates, settle_and_judge};
 use crate::error::Refusal;
@@ -19,7 +19,7 @@ use deny_text::path::join;
 use deny_text::{PathBuf, Texts};
 use diag_core::Files;
 use load_core::{LoadedPolicy, PolicyPaths};
-use search_core::{SearchError, Sought, find_upwards};
+use search_core::{SearchError, SoughtFile, find_upwards};
 use selection_core::read_specs;
 use spdx_core::{Catalog, Identifier};
 use std::alloc::{AllocError, Global};
@@ -37,7 +37,7 @@ pub(crate) fn policy_paths<T: Tree>(
 ) -> Result<PolicyPaths, SearchError>
     requires { begun ≤ T.fault_count tree.old }
     ensures paths { IfOk result (ArePathsAt cwd.now config_path (T.trace tree.old) (T.trace tree.new)) }
-    ensures given_up { IfErr result (LookedUntil (candidates Sought.Exceptions (manifest_in cwd.now))
+    ensures given_up { IfErr result (LookedUntil (candidates SoughtFile.Exceptions (manifest_in cwd.now))
         (T.trace tree.old) (T.trace tree.new)) }
     ensures made { MadeSome (T.content tree.old) (T.content tree.new) (T.fault_count tree.old)
         (T.fault_count tree.new) (T.trace tree.old) (T.trace tree.new) }
@@ -46,7 +46,7 @@ pub(crate) fn policy_paths<T: Tree>(
         ReadCounts begun (T.fault_count tree.old) (T.fault_count tree.new) (search_cause error)) }
 {
     let manifest = join(alloc, cwd, "Cargo.toml")?;
-    let exceptions = find_upwards(alloc, tree, manifest.as_path(), Sought::Exceptions, begun)?;
+    let exceptions = find_upwards(alloc, tree, manifest.as_path(), SoughtFile::Exceptions, begun)?;
     Ok(PolicyPaths {
         policy: Some(config_path),
         exceptions,
@@ -82,7 +82,7 @@ pub(crate) fn check_crates<T: Tree, C: Catalog, I: Identifier>(
     requires begun { begun ≤ T.fault_count tree.old }
     requires places { PolicyStands files.old policy.licenses }
     ensures checks { ChecksAt
-        (scanner_by (C.lists catalog.now) (I.match_of identifier.now) policy.licenses) policy
+        (scanner_of_policy (C.lists catalog.now) (I.match_of identifier.now) policy.licenses) policy
         (seen (T.content tree.old) (T.content tree.new) (T.fault_count tree.old) (T.fault_count tree.new)
         (T.trace tree.old) (T.trace tree.new))
         files.old files.new begun metadata_path.now result }

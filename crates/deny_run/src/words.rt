@@ -1,6 +1,6 @@
 //! What the words of a command line ask for.
 ghost use Rattle.std.specs.Prelude.{◌≡◌, ◌<◌, length, IfOk, OnErr, IsSome, IsTrue};
-ghost use Rattle.deny_run.specs.Words.{request_of, asks_for_check, word_at, texts};
+ghost use Rattle.deny_run.specs.Words.{check_request_of, asks_for_check, word_at, texts};
 
 use deny_text::PathBuf;
 use deny_text::path::join;
@@ -8,28 +8,28 @@ use std::alloc::{AllocError, Global};
 
 /// Where the metadata and the policy are.
 #[derive(Drop)]
-pub struct Request {
+pub struct CheckRequest {
     pub metadata_path: PathBuf,
     pub config_path: PathBuf,
 }
 
-impl Request {
+impl CheckRequest {
     /// The request of the seven words `PROGRAM --metadata-path M --config P check licenses`; none for
     /// other words.
     pub fn from_words(
         alloc: Global,
         words: &[String],
         cwd: &str,
-    ) -> Result<Option<Request>, AllocError>
-        ensures ok { IfOk result (λ request. request ≡ request_of (texts words.now) cwd.now) }
-        ensures refused { OnErr result (IsSome (request_of (texts words.now) cwd.now)) }
+    ) -> Result<Option<CheckRequest>, AllocError>
+        ensures ok { IfOk result (λ request. request ≡ check_request_of (texts words.now) cwd.now) }
+        ensures refused { OnErr result (IsSome (check_request_of (texts words.now) cwd.now)) }
     {
         if !asks_for_check(words) {
             return Ok(None);
         }
         let metadata_path = join(alloc, cwd, word_at(words, 2))?;
         let config_path = join(alloc, cwd, word_at(words, 4))?;
-        Ok(Some(Request {
+        Ok(Some(CheckRequest {
             metadata_path,
             config_path,
         }))

@@ -11,7 +11,7 @@ use Rattle.std.specs.FinMap.{get, insert, get-insert}
 use Rattle.std.specs.Cmp.Lexicographic.{nat_list_cmp_total}
 use Rattle.deny_text.specs.Path.{path_order, path_order_total, key_of}
 use Rattle.deny_text.proofs.KeyLemmas.{keys_tell_paths}
-use Rattle.diag_core.specs.File.{File, with_source, with_source_at, is_at, id_at}
+use Rattle.diag_core.specs.File.{File, with_source, with_source_at, is_at, file_id_at}
 use Rattle.diag_core.specs.PathIds.{PathIds, Finds}
 
 set-with_source : (files : List File) (id : ℕ) (source : List ℕ) (d : File) → id < length files → set files id (with_source source (get_or files id d)) ≡ with_source_at files id source
@@ -32,7 +32,7 @@ set_itself files id old new there is = ap (set files id) (is ∙ there) ∙ set-
 abbrev id_from : ℕ → List File → List ℕ → Option ℕ
 id_from i files path = position_from (is_at path) i files
 
-id_from-zero : (files : List File) (path : List ℕ) → id_at files path ≡ id_from 0 files path
+id_from-zero : (files : List File) (path : List ℕ) → file_id_at files path ≡ id_from 0 files path
 id_from-zero files path = position_from-zero (is_at path) files
 
 push_other_from : (files : List File) (file : File) (path : List ℕ) (i : ℕ) → is_at path file ≡ false → id_from i (files ++ file ∷ []) path ≡ id_from i files path
@@ -40,7 +40,7 @@ push_other_from [] file path i other = ap (λ b. cond b (Some i) None) other
 push_other_from (f ∷ files) file path i other = ap (λ rest. cond (is_at path f) (Some i) rest) (push_other_from files file path (i + 1) other)
 
 -- a file that the path does not find is added
-id_at-push_other : (files : List File) (file : File) (path : List ℕ) → is_at path file ≡ false → id_at (files ++ file ∷ []) path ≡ id_at files path
+id_at-push_other : (files : List File) (file : File) (path : List ℕ) → is_at path file ≡ false → file_id_at (files ++ file ∷ []) path ≡ file_id_at files path
 id_at-push_other files file path other = id_from-zero _ path ∙ push_other_from files file path 0 other ∙ sym (id_from-zero files path)
 
 push_first_from : (files : List File) (file : File) (path : List ℕ) (i : ℕ) → is_at path file ≡ true → id_from i files path ≡ None → id_from i (files ++ file ∷ []) path ≡ Some (i + length files)
@@ -52,7 +52,7 @@ push_first_from (f ∷ files) file path i here none =
     ] none
 
 -- the first file that the path finds is added
-id_at-push_first : (files : List File) (file : File) (path : List ℕ) → is_at path file ≡ true → id_at files path ≡ None → id_at (files ++ file ∷ []) path ≡ Some (length files)
+id_at-push_first : (files : List File) (file : File) (path : List ℕ) → is_at path file ≡ true → file_id_at files path ≡ None → file_id_at (files ++ file ∷ []) path ≡ Some (length files)
 id_at-push_first files file path here none = id_from-zero _ path ∙ push_first_from files file path 0 here (sym (id_from-zero files path) ∙ none) ∙ ap Some (omega arith)
 
 tied_from : (files : List File) (path other : List ℕ) (i : ℕ) → path_order path other ≡ Equal → id_from i files path ≡ id_from i files other
@@ -62,7 +62,7 @@ tied_from (f ∷ files) path other i ties =
     ∙ ap (λ rest. cond (is_at other f) (Some i) rest) (tied_from files path other (i + 1) ties)
 
 -- equal paths find the same file
-id_at-tied : (files : List File) (path other : List ℕ) → path_order path other ≡ Equal → id_at files path ≡ id_at files other
+id_at-tied : (files : List File) (path other : List ℕ) → path_order path other ≡ Equal → file_id_at files path ≡ file_id_at files other
 id_at-tied files path other ties = id_from-zero files path ∙ tied_from files path other 0 ties ∙ sym (id_from-zero files other)
 
 none_from_test : (found : Option ℕ) → is_some found ≡ false → found ≡ None
@@ -71,7 +71,7 @@ none_from_test (Some id) unknown = absurd (subst T unknown tt)
 
 module _ (ids : PathIds) (files : List File) (finds : Finds ids files) where
   -- a file with a new path is added, and its path to the map
-  pub finds_pushed : (path source : List ℕ) → is_some (id_at files path) ≡ false → Finds (insert ids (key_of path) (length files)) (files ++ record { name = path; source = source; has_path = true } ∷ [])
+  pub finds_pushed : (path source : List ℕ) → is_some (file_id_at files path) ≡ false → Finds (insert ids (key_of path) (length files)) (files ++ record { name = path; source = source; has_path = true } ∷ [])
   finds_pushed path source unknown q =
       get-insert nat_list_cmp_total ids (key_of path) (length files) (key_of q)
       ∙ ap (λ b. cond b (Some (length files)) (get ids (key_of q))) (sym (keys_tell_paths q path))
@@ -80,10 +80,10 @@ module _ (ids : PathIds) (files : List File) (finds : Finds ids files) where
       file : File
       file = record { name = path; source = source; has_path = true }
 
-      other : eq_by_cmp path_order q path ≡ false → get ids (key_of q) ≡ id_at (files ++ file ∷ []) q
+      other : eq_by_cmp path_order q path ≡ false → get ids (key_of q) ≡ file_id_at (files ++ file ∷ []) q
       other apart = finds q ∙ sym (id_at-push_other files file q ((eq_by_cmp_equiv path_order_total).symm path q ∙ apart))
 
-      by : (r : Ordering) → path_order q path ≡ r → cond (is_eq r) (Some (length files)) (get ids (key_of q)) ≡ id_at (files ++ file ∷ []) q
+      by : (r : Ordering) → path_order q path ≡ r → cond (is_eq r) (Some (length files)) (get ids (key_of q)) ≡ file_id_at (files ++ file ∷ []) q
       by Less is = other (ap is_eq is)
       by Equal is = sym (id_at-push_first files file q (ap is_eq (tied_back path_order_total q path is)) (id_at-tied files q path is ∙ none_from_test _ unknown))
       by Greater is = other (ap is_eq is)

@@ -23,20 +23,20 @@ with_source_at (file ∷ files) zero source = with_source source file ∷ files
 with_source_at (file ∷ files) (suc id) source = file ∷ with_source_at files id source
 
 -- the text of the file of that number, where there is one
-abbrev pub source_of : List File → ℕ → Option (List ℕ)
-source_of files id = option_map (λ file. file.source) (slice_get files id)
+abbrev pub source_of_file : List File → ℕ → Option (List ℕ)
+source_of_file files id = option_map (λ file. file.source) (slice_get files id)
 
 -- the name of the file of that number, where there is one
-abbrev pub name_of : List File → ℕ → Option (List ℕ)
-name_of files id = option_map (λ file. file.name) (slice_get files id)
+abbrev pub name_of_file : List File → ℕ → Option (List ℕ)
+name_of_file files id = option_map (λ file. file.name) (slice_get files id)
 
 -- the file is found by the path: its own path has the same parts
 abbrev pub is_at : List ℕ → File → Bool
 is_at path file = file.has_path && eq_by_cmp path_order file.name path
 
 -- the number of the file that is found by the path
-abbrev pub id_at : List File → List ℕ → Option ℕ
-id_at files path = position (is_at path) files
+abbrev pub file_id_at : List File → List ℕ → Option ℕ
+file_id_at files path = position (is_at path) files
 
 -- The files are those that were there, and others behind them: a file that is known keeps its number and its text.
 abbrev pub Grows : List File → List File → Type 0

@@ -4,7 +4,7 @@ ghost use Rattle.std.specs.Prelude.{IfOk, IfErr, OnOk, OnErr};
 ghost use Rattle.std.specs.Prelude.{IsSome, Some, None, Ok, Err, true, false, slice_get};
 ghost use Rattle.std.specs.Option.{ForSome, option_copied, option_and_then};
 ghost use Rattle.deny_text.specs.Path.{key_of};
-ghost use Rattle.diag_core.specs.File.{File, with_source_at, source_of, name_of, id_at, asked_of_text};
+ghost use Rattle.diag_core.specs.File.{File, with_source_at, source_of_file, name_of_file, file_id_at, asked_of_text};
 ghost use Rattle.diag_core.specs.FileName.{name_text, is_path};
 ghost use Rattle.diag_core.specs.Kept.{IsFound};
 ghost use Rattle.diag_core.specs.Position.{line_of, line_range_of, location_of};
@@ -79,7 +79,7 @@ fn make_index_at(files: &mut Vec<SourceFile>, id: FileId, alloc: Global)
 /// The place of the licence field of a file, which is seen as it was.
 fn license_span_at(files: &mut Vec<SourceFile>, id: FileId) -> Option<Span>
     requires { id < length files.old.items }
-    ensures found { ForSome (source_of files.old.items id) (λ text. IsFound text result) }
+    ensures found { ForSome (source_of_file files.old.items id) (λ text. IsFound text result) }
     ensures same { files.new.items ≡ files.old.items }
 {
     files[id].license_span()
@@ -87,7 +87,7 @@ fn license_span_at(files: &mut Vec<SourceFile>, id: FileId) -> Option<Span>
 
 /// The number of the file that is found by the path. It asks one file after another, and takes no memory.
 fn first_at(files: &[SourceFile], path: &str) -> Option<FileId>
-    ensures { result ≡ id_at files.now path.now }
+    ensures { result ≡ file_id_at files.now path.now }
 {
     files.iter().position(|file| file.is_at(path))
 }
@@ -108,7 +108,7 @@ impl Files {
         ensures number { IfOk result (λ id. id ≡ length self.old) }
         ensures ok { OnOk result (self.new
             ≡ self.old ++ record { name = path; source = source; has_path = true } ∷ []) }
-        ensures taken { (result ≡ Err (AddError.PathTaken path source)) ↔ IsSome (id_at self.old path) }
+        ensures taken { (result ≡ Err (AddError.PathTaken path source)) ↔ IsSome (file_id_at self.old path) }
         ensures otherwise { IfErr result (λ error. (error ≡ AddError.PathTaken path source)
             ⊎ (error ≡ AddError.Memory)) }
         ensures err { OnErr result (self.new ≡ self.old) }
@@ -153,7 +153,7 @@ impl Files {
         ensures number { IfOk result (λ id. id ≡ length self.old) }
         ensures ok { OnOk result (self.new
             ≡ self.old ++ record { name = path; source = source; has_path = true } ∷ []) }
-        ensures taken { (result ≡ Err (AddError.PathTaken path source)) ↔ IsSome (id_at self.old path) }
+        ensures taken { (result ≡ Err (AddError.PathTaken path source)) ↔ IsSome (file_id_at self.old path) }
         ensures otherwise { IfErr result (λ error. (error ≡ AddError.PathTaken path source)
             ⊎ (error ≡ AddError.Memory)) }
         ensures err { OnErr result (self.new ≡ self.old) }
@@ -180,7 +180,7 @@ impl Files {
     /// The place of the licence field of a file, as in a manifest; none where there is no such file. A file is
     /// searched once.
     pub fn license_span(&mut self, id: FileId) -> Option<Span>
-        ensures found { ForSome (source_of self.old id) (λ text. IsFound text result) }
+        ensures found { ForSome (source_of_file self.old id) (λ text. IsFound text result) }
         ensures same { self.new ≡ self.old }
     {
         if id < self.files.len() {
@@ -204,25 +204,25 @@ impl Files {
 
     /// The text of a file.
     pub fn source(&self, id: FileId) -> Result<&str, FilesErr>
-        ensures source { IfOk result (λ text. source_of self.now id ≡ Some text.now) }
+        ensures source { IfOk result (λ text. source_of_file self.now id ≡ Some text.now) }
         ensures missing { IfErr result (λ error. (error ≡ FilesErr.FileMissing)
-            × (source_of self.now id ≡ None)) }
+            × (source_of_file self.now id ≡ None)) }
     {
         Ok(self.file(id)?.source())
     }
 
     /// The name of a file: its path, where it has one.
     pub fn name(&self, id: FileId) -> Result<&str, FilesErr>
-        ensures name { IfOk result (λ text. name_of self.now id ≡ Some text.now) }
+        ensures name { IfOk result (λ text. name_of_file self.now id ≡ Some text.now) }
         ensures missing { IfErr result (λ error. (error ≡ FilesErr.FileMissing)
-            × (name_of self.now id ≡ None)) }
+            × (name_of_file self.now id ≡ None)) }
     {
         Ok(self.file(id)?.name())
     }
 
     /// The number of the file that is found by the path, and the path's key where there is memory for it.
     fn looked_up(&self, path: &str) -> (Option<FileId>, Result<Text, AllocError>)
-        ensures number { result.0 ≡ id_at self.now path.now }
+        ensures number { result.0 ≡ file_id_at self.now path.now }
         ensures key { IfOk result.1 (λ key. key ≡ key_of path.now) }
     {
         match key(self.alloc, path) {
@@ -234,14 +234,14 @@ impl Files {
 
     /// The number of the file that is found by the path.
     pub fn id_for_path(&self, path: &str) -> Option<FileId>
-        ensures { result ≡ id_at self.now path.now }
+        ensures { result ≡ file_id_at self.now path.now }
     {
         self.looked_up(path).0
     }
 
     /// The text of the file that is found by the path.
     pub fn source_by_path(&self, path: &str) -> Option<&str>
-        ensures { option_copied result ≡ option_and_then (source_of self.now) (id_at self.now path.now) }
+        ensures { option_copied result ≡ option_and_then (source_of_file self.now) (file_id_at self.now path.now) }
     {
         match self.id_for_path(path) {
             Some(id) => Some(self.files[id].source()),
@@ -251,21 +251,21 @@ impl Files {
 
     /// The line of a place, from 0. A place past the end counts as the end.
     pub fn line_index(&self, id: FileId, byte_index: usize) -> Result<usize, FilesErr>
-        ensures { result ≡ asked_of_text (source_of self.now id) (λ text. Ok (line_of text byte_index)) }
+        ensures { result ≡ asked_of_text (source_of_file self.now id) (λ text. Ok (line_of text byte_index)) }
     {
         Ok(self.file(id)?.line_index(byte_index))
     }
 
     /// The bytes of a line, with its line feed.
     pub fn line_range(&self, id: FileId, line_index: usize) -> Result<Span, FilesErr>
-        ensures { result ≡ asked_of_text (source_of self.now id) (line_range_of line_index) }
+        ensures { result ≡ asked_of_text (source_of_file self.now id) (line_range_of line_index) }
     {
         self.file(id)?.line_range(line_index)
     }
 
     /// The line and the column of a place.
     pub fn location(&self, id: FileId, byte_index: usize) -> Result<Location, FilesErr>
-        ensures place { result ≡ asked_of_text (source_of self.now id) (location_of byte_index) }
+        ensures place { result ≡ asked_of_text (source_of_file self.now id) (location_of byte_index) }
 
         // Both fit also where they are counted from 1.
         ensures room { IfOk result (λ place. (place.line + 1 < 2 ^ 64) × (place.column + 1 < 2 ^ 64)) }

@@ -10,9 +10,9 @@ use Rattle.term_core.specs.declared.error.ParseError.{ParseError}
 use Rattle.term_core.specs.declared.term.LicenseReq.{LicenseReq}
 use Rattle.deny_text.specs.Spans.{LiesBetween}
 use Rattle.toml_places.specs.Placed.{IsSpelled}
-use Rattle.toml_shapes.specs.Shaped.{Shaped, shaped_map}
+use Rattle.toml_shapes.specs.Shaped.{ShapeReading, shaped_map}
 use Rattle.toml_subset.specs.Data.{Entries, Toml}
-use Rattle.toml_subset.specs.Written.{Written}
+use Rattle.toml_subset.specs.Written.{WrittenString}
 use Rattle.toml_value.specs.Taken.{string_of}
 use Rattle.policy_toml.specs.Readings.{list_of}
 use Rattle.key_rows.specs.Rows.{in_table, needed, shaped_by}
@@ -21,10 +21,10 @@ use Rattle.policy_places.specs.Places.{StaysIn, KeepsPlacesIn, keeps_each}
 use Rattle.policy_places.specs.Parts.{file_source_keeps}
 use Rattle.policy_places.proofs.PlaceLemmas.{KeepsInTable, map_stays, then_stays, list_stays, table_stays, needed_stays, rows_stay}
 use Rattle.policy_places.proofs.PartLemmas.{file_source_stays}
-use Rattle.policy_spec.specs.Reading.{spec_of, left_of}
+use Rattle.policy_spec.specs.Reading.{spec_of, rest_of_spec}
 use Rattle.policy_spec.specs.Spec.{Spec}
 use Rattle.policy_entries.specs.Clarifications.{written_of, clarified_at, clarification_of}
-use Rattle.policy_entries.specs.Exceptions.{allowed_at, exception_of, exceptions_of, exceptions_at, exceptions_file_of}
+use Rattle.policy_entries.specs.Exceptions.{allowed_at, exception_of, exceptions_of, exceptions_file_at, exceptions_file_of}
 use Rattle.policy_entries.specs.Licensees.{policy_mode, moved, place_in, licensee_by, part_in, licensee_in, licensee_of, licensees_of}
 use Rattle.policy_entries.specs.WithSpec.{with_spec}
 use Rattle.policy_entries.specs.declared.exception.Exception.{Exception}
@@ -39,10 +39,10 @@ abbrev pub keeps_both : {A : Type 0} → (List ℕ → A → Type 0) → List �
 keeps_both keeps text read = spec_keeps text read.0 × keeps text read.1
 
 -- what a reading and the shape of a table are of
-abbrev ReadBy : {A : Type 0} → (Toml → Shaped A) → Type 0
+abbrev ReadBy : {A : Type 0} → (Toml → ShapeReading A) → Type 0
 ReadBy {A} reads = A
 
-abbrev ShapedBy : {A : Type 0} → (Entries → Span → Shaped A) → Type 0
+abbrev ShapedBy : {A : Type 0} → (Entries → Span → ShapeReading A) → Type 0
 ShapedBy {A} shape = A
 
 abbrev Allowed : CatalogLists → Type 0
@@ -69,13 +69,13 @@ module _ (text : List ℕ) (utf8 : IsUtf8 text) where
   -- ---- licensees
 
   module _ (fits : length text < 2 ^ 64) (lists : CatalogLists) (laws : IsCatalog lists) where
-    plain_fault : (string : Written) (whole : Span) (fault : ParseError) → LiesBetween text whole → string.text ≡ slice_range text whole.start whole.end
+    plain_fault : (string : WrittenString) (whole : Span) (fault : ParseError) → LiesBetween text whole → string.text ≡ slice_range text whole.start whole.end
         → licensee_fault policy_mode lists string.text ≡ Some fault → LiesBetween text (moved whole.start fault.span)
     plain_fault string whole fault lies spelled is =
         let inner = licensee_fault_lies policy_mode lists string.text fault laws (subst IsUtf8 (sym spelled) (part_is_text text whole utf8 lies)) is in
         moved_lies text whole lies fits fault.span (subst (λ (s : List ℕ). LiesBetween s fault.span) spelled inner)
 
-    fault_place : (string : Written) (whole : Span) (fault : ParseError) → LiesBetween text whole → IsSpelled text whole string
+    fault_place : (string : WrittenString) (whole : Span) (fault : ParseError) → LiesBetween text whole → IsSpelled text whole string
         → licensee_fault policy_mode lists string.text ≡ Some fault → LiesBetween text (place_in string whole fault.span)
     fault_place string whole fault lies spelled is =
         elim string.escaped as (λ b. string.escaped ≡ b → LiesBetween text (cond b whole (moved whole.start fault.span))) [
@@ -83,7 +83,7 @@ module _ (text : List ℕ) (utf8 : IsUtf8 text) where
           | false ↦ λ e. plain_fault string whole fault lies (spelled e) is
         ] refl
 
-    licensee_by_stays : (string : Written) (whole : Span) (fault : Option ParseError) (part : Option LicenseReq) → LiesBetween text whole
+    licensee_by_stays : (string : WrittenString) (whole : Span) (fault : Option ParseError) (part : Option LicenseReq) → LiesBetween text whole
         → IsSpelled text whole string → licensee_fault policy_mode lists string.text ≡ fault → StaysIn licensee_keeps text (licensee_by string whole fault part)
     licensee_by_stays string whole (Some fault) part lies spelled is = (fault_place string whole fault lies spelled is, tt)
     licensee_by_stays string whole None (Some req) lies spelled is = lies
@@ -91,7 +91,7 @@ module _ (text : List ℕ) (utf8 : IsUtf8 text) where
 
     pub licensee_stays : KeepsPlacesIn text licensee_keeps (licensee_of lists)
     licensee_stays value placed =
-        then_stays text (keeps_spelling value.span) licensee_keeps (λ (string : Written). licensee_in lists string value.span) (string_of (codes "an SPDX licensee string") value)
+        then_stays text (keeps_spelling value.span) licensee_keeps (λ (string : WrittenString). licensee_in lists string value.span) (string_of (codes "an SPDX licensee string") value)
         (λ string spelled. licensee_by_stays string value.span (licensee_fault policy_mode lists string.text) (part_in lists string.text) placed.0 spelled refl)
         (spelled_string text (codes "an SPDX licensee string") value placed)
 
@@ -100,12 +100,12 @@ module _ (text : List ℕ) (utf8 : IsUtf8 text) where
 
   -- ---- the keys of a spec, and those of a table beside them
 
-  with_spec_stays : {A : Type 0} (keeps : List ℕ → A → Type 0) (shape : Entries → Span → Shaped A) → KeepsInTable text keeps shape
+  with_spec_stays : {A : Type 0} (keeps : List ℕ → A → Type 0) (shape : Entries → Span → ShapeReading A) → KeepsInTable text keeps shape
       → KeepsPlacesIn text (keeps_both keeps) (with_spec shape)
   with_spec_stays {A} keeps shape law value placed =
-      then_stays text spec_keeps (keeps_both keeps) (λ (spec : Spec). shaped_map (λ (keys : A). (spec, keys)) (in_table shape (left_of value))) (spec_of value)
-      (λ spec here. map_stays text keeps (keeps_both keeps) (λ (keys : A). (spec, keys)) (in_table shape (left_of value)) (λ keys kept. (here, kept))
-      (table_stays text keeps shape law (left_of value) (left_stands text value placed)))
+      then_stays text spec_keeps (keeps_both keeps) (λ (spec : Spec). shaped_map (λ (keys : A). (spec, keys)) (in_table shape (rest_of_spec value))) (spec_of value)
+      (λ spec here. map_stays text keeps (keeps_both keeps) (λ (keys : A). (spec, keys)) (in_table shape (rest_of_spec value)) (λ keys kept. (here, kept))
+      (table_stays text keeps shape law (rest_of_spec value) (left_stands text value placed)))
       (spec_stays text utf8 value placed)
 
   -- ---- exceptions
@@ -126,7 +126,7 @@ module _ (text : List ℕ) (utf8 : IsUtf8 text) where
     pub exceptions_stay : KeepsPlacesIn text (keeps_each ExceptionKeeps) (exceptions_of lists)
     exceptions_stay = list_stays text ExceptionKeeps (exception_of lists) exception_stays
 
-    file_stays : KeepsInTable text exceptions_file_keeps (exceptions_at lists)
+    file_stays : KeepsInTable text exceptions_file_keeps (exceptions_file_at lists)
     file_stays entries span lies placed =
         then_stays text (keeps_each ExceptionKeeps) exceptions_file_keeps
         (λ (exceptions : List Exception). shaped_by (codes "exceptions" ∷ []) [] (λ _. record { exceptions = exceptions }) entries span)
@@ -135,14 +135,14 @@ module _ (text : List ℕ) (utf8 : IsUtf8 text) where
         (needed_stays text (keeps_each ExceptionKeeps) (codes "exceptions") (exceptions_of lists) exceptions_stay entries span lies placed)
 
     pub exceptions_file_stays : KeepsPlacesIn text exceptions_file_keeps (exceptions_file_of lists)
-    exceptions_file_stays = table_stays text exceptions_file_keeps (exceptions_at lists) file_stays
+    exceptions_file_stays = table_stays text exceptions_file_keeps (exceptions_file_at lists) file_stays
 
   -- ---- clarifications
 
   written_stays : KeepsPlacesIn text WrittenKeeps written_of
   written_stays value placed =
       map_stays text (keeps_spelling value.span) WrittenKeeps
-      (λ (string : Written). record { text = record { value = string.text; span = value.span }; escapes = string.escaped })
+      (λ (string : WrittenString). record { text = record { value = string.text; span = value.span }; escapes = string.escaped })
       (string_of (codes "a string") value) (λ string spelled. record { expression = placed.0; spelled = spelled })
       (spelled_string text (codes "a string") value placed)
 

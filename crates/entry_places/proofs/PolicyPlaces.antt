@@ -11,12 +11,12 @@ use Rattle.toml_subset.specs.Data.{Entries, Toml, no_entry, entry}
 use Rattle.toml_subset.specs.declared.string.Key.{Key}
 use Rattle.toml_value.specs.Removal.{entry_at}
 use Rattle.toml_shapes.specs.Kinds.{kind_word}
-use Rattle.toml_shapes.specs.declared.shape.Kind.TheVariants as kind
+use Rattle.toml_shapes.specs.declared.shape.ValueKind.TheVariants as kind
 use Rattle.toml_value.specs.Taken.{or_wanted}
 use Rattle.policy_toml.specs.Readings.{as_hundredths, i64_of, u32_of, i32_of, in_32_bits_with_sign, or_out_of_range, hundredths_of, list_of}
 use Rattle.key_rows.specs.Rows.{key, given, key_span}
 use Rattle.policy_parts.specs.Names.{lint_of}
-use Rattle.policy_parts.specs.Tables.{private_of, graph_of, output_of}
+use Rattle.policy_parts.specs.Tables.{private_of, graph_config_of, output_of}
 use Rattle.policy_parts.specs.Values.{target_of}
 use Rattle.policy_parts.specs.declared.graph.GraphConfig.{GraphConfig}
 use Rattle.policy_parts.specs.declared.private.Private.{Private}
@@ -158,7 +158,7 @@ module _ (text : List ℕ) (utf8 : IsUtf8 text) (fits : length text < 2 ^ 64) (l
         (
           key_tells text ConfigKeeps (codes "licenses") (config_of lists) config_stays,
           (
-            key_tells text graph_keeps (codes "graph") graph_of (graph_stays text),
+            key_tells text graph_keeps (codes "graph") graph_config_of (graph_stays text),
             (
               key_tells text (keeps_each target_keeps) (codes "targets") (list_of target_of) (targets_stay text),
               (
@@ -190,9 +190,9 @@ module _ (text : List ℕ) (utf8 : IsUtf8 text) (fits : length text < 2 ^ 64) (l
   root_kept : (entries : Entries) → AreEntriesPlaced text entries → RootKeeps text (root_in lists entries)
   root_kept entries placed = record {
     licenses = given_kept text ConfigKeeps (codes "licenses") (config_of lists) config_stays entries placed;
-    graph = moved_kept text (given (codes "targets") (list_of target_of) entries) (unwrap_or (given (codes "graph") graph_of entries) no_graph).targets
+    graph = moved_kept text (given (codes "targets") (list_of target_of) entries) (unwrap_or (given (codes "graph") graph_config_of entries) no_graph).targets
         (given_kept text (keeps_each target_keeps) (codes "targets") (list_of target_of) (targets_stay text) entries placed)
-        (graph_kept text (given (codes "graph") graph_of entries) (given_kept text graph_keeps (codes "graph") graph_of (graph_stays text) entries placed));
+        (graph_kept text (given (codes "graph") graph_config_of entries) (given_kept text graph_keeps (codes "graph") graph_config_of (graph_stays text) entries placed));
     graph_deprecated = keys_lie text moved_keys entries placed;
     output_deprecated = key_lies text (codes "feature-depth") entries placed;
   }

@@ -12,7 +12,7 @@ use Rattle.semver.specs.declared.error.Error.{Error}
 use Rattle.deny_text.specs.Spans.{LiesBetween}
 use Rattle.toml_places.specs.Placed.{IsSpelled, IsPlaced, IsContentPlaced, AreEntriesPlaced}
 use Rattle.toml_subset.specs.Data.{Content, Entries, Toml, string, integer, decimal, boolean, array, table}
-use Rattle.toml_subset.specs.Written.{Written}
+use Rattle.toml_subset.specs.Written.{WrittenString}
 use Rattle.toml_value.specs.Lookup.{value_at}
 use Rattle.toml_value.specs.Taken.{string_of}
 use Rattle.policy_toml.specs.Readings.{text_of, spanned_of}
@@ -20,13 +20,13 @@ use Rattle.policy_places.specs.Places.{StaysIn, KeepsPlacesIn, keeps_nothing, ke
 use Rattle.policy_places.proofs.PlaceLemmas.{IsPlacedWhere, map_stays, then_stays, text_stays, spanned_stays, found_placed, without_placed}
 use Rattle.deny_text.specs.Cut.{cut_at, is_at_sign, is_colon}
 use Rattle.policy_spec.specs.Grammar.{Split, or_at_colon, split_by, split_of, exact_first_where, requirement_at, end_of, rest_span, spec_of_split, spec_of_string}
-use Rattle.policy_spec.specs.Reading.{string_spec, requirement_of, with_version, named_spec, table_spec_by, entries_left_by, spec_of, left_of}
+use Rattle.policy_spec.specs.Reading.{string_spec, requirement_of, with_version, named_spec, table_spec_by, entries_left_by, spec_of, rest_of_spec}
 use Rattle.entry_places.specs.Entries.{spec_keeps}
 use Rattle.entry_places.proofs.Borders.{part_is_text, part_length, inner_border, behind_first}
 
 -- ---- strings
 
-abbrev pub keeps_spelling : Span → List ℕ → Written → Type 0
+abbrev pub keeps_spelling : Span → List ℕ → WrittenString → Type 0
 keeps_spelling span text written = IsSpelled text span written
 
 string_by : (text expected : List ℕ) (span : Span) (content : Content) → LiesBetween text span → IsContentPlaced text span content
@@ -94,12 +94,12 @@ module _ (text : List ℕ) (utf8 : IsUtf8 text) where
         end_border = lies.end_border;
       }
 
-  plain_rest : (written : Written) (span : Span) (rest : List ℕ) → LiesBetween text span → written.text ≡ slice_range text span.start span.end
+  plain_rest : (written : WrittenString) (span : Span) (rest : List ℕ) → LiesBetween text span → written.text ≡ slice_range text span.start span.end
       → (i : ℕ) × IsCharBoundary written.text i × (rest ≡ drop i written.text) → LiesBetween text (end_of span rest)
   plain_rest written span rest lies spelled stands =
       end_lies span rest lies stands.0 (subst (λ (s : List ℕ). IsCharBoundary s stands.0) spelled stands.1) (stands.2 ∙ ap (drop stands.0) spelled)
 
-  rest_lies : (written : Written) (span : Span) (rest : List ℕ) → LiesBetween text span → IsSpelled text span written
+  rest_lies : (written : WrittenString) (span : Span) (rest : List ℕ) → LiesBetween text span → IsSpelled text span written
       → (written.escaped ≡ false → (i : ℕ) × IsCharBoundary written.text i × (rest ≡ drop i written.text)) → LiesBetween text (rest_span written span rest)
   rest_lies written span rest lies spelled stands =
       elim written.escaped as (λ b. written.escaped ≡ b → LiesBetween text (cond b span (end_of span rest))) [
@@ -111,10 +111,10 @@ module _ (text : List ℕ) (utf8 : IsUtf8 text) where
   requirement_stays place (Ok comparators) lies = tt
   requirement_stays place (Err error) lies = (lies, tt)
 
-  string_utf8 : (written : Written) (span : Span) → LiesBetween text span → written.text ≡ slice_range text span.start span.end → IsUtf8 written.text
+  string_utf8 : (written : WrittenString) (span : Span) → LiesBetween text span → written.text ≡ slice_range text span.start span.end → IsUtf8 written.text
   string_utf8 written span lies spelled = subst IsUtf8 (sym spelled) (part_is_text text span utf8 lies)
 
-  split_stays : (written : Written) (span : Span) (split : Option Split) → LiesBetween text span → IsSpelled text span written
+  split_stays : (written : WrittenString) (span : Span) (split : Option Split) → LiesBetween text span → IsSpelled text span written
       → (written.escaped ≡ false → SplitStands written.text split) → StaysIn spec_keeps text (spec_of_split written span split)
   split_stays written span None lies spelled stands = lies
   split_stays written span (Some split) lies spelled stands =
@@ -123,13 +123,13 @@ module _ (text : List ℕ) (utf8 : IsUtf8 text) where
       (requirement_at (rest_span written span split.rest) (req_of split.rest)) (λ comparators h. lies)
       (requirement_stays (rest_span written span split.rest) (req_of split.rest) (rest_lies written span split.rest lies spelled stands))
 
-  spec_string_stays : (written : Written) (span : Span) → LiesBetween text span → IsSpelled text span written → StaysIn spec_keeps text (spec_of_string written span)
+  spec_string_stays : (written : WrittenString) (span : Span) → LiesBetween text span → IsSpelled text span written → StaysIn spec_keeps text (spec_of_string written span)
   spec_string_stays written span lies spelled =
       split_stays written span (split_of written.text) lies spelled (λ plain. split_stands written.text (string_utf8 written span lies (spelled plain)))
 
   string_spec_stays : (wanted : List ℕ) → KeepsPlacesIn text spec_keeps (string_spec wanted)
   string_spec_stays wanted value placed =
-      then_stays text (keeps_spelling value.span) spec_keeps (λ (written : Written). spec_of_string written value.span) (string_of wanted value)
+      then_stays text (keeps_spelling value.span) spec_keeps (λ (written : WrittenString). spec_of_string written value.span) (string_of wanted value)
       (λ written spelled. spec_string_stays written value.span placed.0 spelled) (spelled_string text wanted value placed)
 
   -- ---- tables
@@ -181,7 +181,7 @@ module _ (text : List ℕ) where
   left_placed false entries placed = without_placed text (codes "version") _ (without_placed text (codes "name") entries placed)
 
   left_content : (span : Span) (content : Content) → LiesBetween text span → IsContentPlaced text span content
-      → IsPlaced text (left_of (record { content = content; span = span }))
+      → IsPlaced text (rest_of_spec (record { content = content; span = span }))
   left_content span (string w) lies placed = (lies, tt)
   left_content span (integer z) lies placed = (lies, tt)
   left_content span (decimal z) lies placed = (lies, tt)
@@ -189,5 +189,5 @@ module _ (text : List ℕ) where
   left_content span (array items) lies placed = (lies, placed)
   left_content span (table entries) lies placed = (lies, left_placed _ entries placed)
 
-  pub left_stands : (value : Toml) → IsPlaced text value → IsPlaced text (left_of value)
+  pub left_stands : (value : Toml) → IsPlaced text value → IsPlaced text (rest_of_spec value)
   left_stands value placed = left_content value.span value.content placed.0 placed.1

@@ -2,7 +2,7 @@
 use Rattle.std.specs.Prelude.{◌≡◌, ℕ, ◌<◌, ◌^◌, false, List, length, slice_range}
 use Rattle.std.specs.Str.{IsUtf8}
 use Rattle.deny_text.specs.Spans.{LiesBetween}
-use Rattle.toml_shapes.specs.Shaped.{Shaped}
+use Rattle.toml_shapes.specs.Shaped.{ShapeReading}
 use Rattle.toml_subset.specs.Data.{Toml}
 use Rattle.policy_spec.specs.Spec.{Spec}
 use Rattle.policy_entries.specs.declared.clarification.Clarification.{Clarification}
@@ -13,7 +13,7 @@ use Rattle.policy_places.specs.Places.{KeepsPlacesIn, keeps_its_span, keeps_each
 use Rattle.policy_places.specs.Parts.{file_source_keeps}
 
 -- Places are kept in each text of characters whose bytes a number of 64 bits counts.
-abbrev pub KeepsPlacesOfTexts : {A : Type 0} → (List ℕ → A → Type 0) → (Toml → Shaped A) → Type 0
+abbrev pub KeepsPlacesOfTexts : {A : Type 0} → (List ℕ → A → Type 0) → (Toml → ShapeReading A) → Type 0
 KeepsPlacesOfTexts keeps reads = (text : List ℕ) → IsUtf8 text → length text < 2 ^ 64 → KeepsPlacesIn text keeps reads
 
 abbrev pub spec_keeps : List ℕ → Spec → Type 0

@@ -10,7 +10,7 @@ use Rattle.valid_policy.specs.declared.policy.ValidException.{ValidException}
 use Rattle.valid_policy.specs.declared.policy.ValidConfig.{ValidConfig}
 use Rattle.valid_policy.specs.Policy.{Grant, hit_by, hit_of}
 use Rattle.valid_policy.specs.View.{grant_of, policy_of}
-use Rattle.evaluate_core.specs.Evaluation.{Evaluation, kept_of}
+use Rattle.evaluate_core.specs.Evaluation.{Evaluation, term_hits}
 
 abbrev pub spec_of : ValidException → Spec
 spec_of exception = exception.spec
@@ -21,7 +21,7 @@ specs_are exceptions = sym (map-map (λ (grant : Grant). grant.spec) grant_of ex
 
 pub kept_is : (policy : ValidConfig) (krate : Record) (terms asked : List ExpressionReq) (exceptions : List ValidException) (exception : Option ℕ) (kept : List (Option Hit))
     → exceptions ≡ policy.exceptions → asked ≡ terms → exception ≡ first_of (matching (map spec_of exceptions) krate)
-    → kept ≡ map (λ term. hit_by (policy_of policy) exception term.req) asked → kept ≡ kept_of (policy_of policy) krate terms
+    → kept ≡ map (λ term. hit_by (policy_of policy) exception term.req) asked → kept ≡ term_hits (policy_of policy) krate terms
 kept_is policy krate terms asked exceptions exception kept are is first h =
     h
     ∙ ap (λ place. map (λ (term : ExpressionReq). hit_by (policy_of policy) place term.req) asked)

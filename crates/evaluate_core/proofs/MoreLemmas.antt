@@ -7,7 +7,7 @@ use Rattle.std.proofs.lemmas.List.{take-append-drop, map-append, length-map}
 use Rattle.std.proofs.lemmas.List.Folds.{list_any-append}
 use Rattle.term_core.specs.declared.term.ExpressionReq.{ExpressionReq}
 use Rattle.term_core.specs.declared.term.LicenseReq.{LicenseReq}
-use Rattle.spdx_core.specs.Grammar.{Tree}
+use Rattle.spdx_core.specs.Grammar.{ExpressionTree}
 use Rattle.graph_core.specs.Krate.{Record}
 use Rattle.policy_spec.specs.Index.{places_from, first_of}
 use Rattle.policy_spec.specs.Matching.{spec_matches}
@@ -18,7 +18,7 @@ use Rattle.certificate_core.specs.Certificates.{has_hit}
 use Rattle.certificate_core.proofs.LawLemmas.{more_hits}
 use Rattle.valid_policy.specs.Satisfied.{satisfies}
 use Rattle.valid_policy.specs.Policy.{Grant, Policy, first_exception, first_entry, granted, exception_hit, hit_by, hit_of}
-use Rattle.evaluate_core.specs.Evaluation.{kept_of, is_allowed}
+use Rattle.evaluate_core.specs.Evaluation.{term_hits, is_allowed}
 use Rattle.evaluate_core.specs.Laws.{with_allowed, with_exception}
 use Rattle.evaluate_core.proofs.PlaceLemmas.{found, within, stays_first}
 
@@ -31,11 +31,11 @@ each f g more [] (suc n) h = h
 each f g more (term ∷ terms) zero h = more term h
 each f g more (term ∷ terms) (suc n) h = each f g more terms n h
 
-still_allowed : (policy other : Policy) (krate : Record) (terms : List ExpressionReq) (tree : Tree)
+still_allowed : (policy other : Policy) (krate : Record) (terms : List ExpressionReq) (tree : ExpressionTree)
     → ((term : LicenseReq) → IsTrue (is_some (hit_of policy krate term)) → IsTrue (is_some (hit_of other krate term)))
     → IsTrue (is_allowed policy krate terms tree) → IsTrue (is_allowed other krate terms tree)
 still_allowed policy other krate terms tree more =
-    more_hits (has_hit (kept_of policy krate terms)) (has_hit (kept_of other krate terms)) tree
+    more_hits (has_hit (term_hits policy krate terms)) (has_hit (term_hits other krate terms)) tree
     (each (λ term. hit_of policy krate term.req) (λ term. hit_of other krate term.req) (λ term. more term.req) terms)
 
 either_some : (one other : Option Hit) → is_some (option_or one other) ≡ (is_some one || is_some other)
@@ -73,7 +73,7 @@ entry_more term xs place x h =
     map_some (first_entry (insert xs place x) term) ∙ found test 0 (insert xs place x)
     ∙ any_more test xs place x (sym (found test 0 xs) ∙ sym (map_some (first_entry xs term)) ∙ h)
 
-pub more_allowed : (policy : Policy) (krate : Record) (terms : List ExpressionReq) (tree : Tree) (place : ℕ) (licensee : LicenseReq)
+pub more_allowed : (policy : Policy) (krate : Record) (terms : List ExpressionReq) (tree : ExpressionTree) (place : ℕ) (licensee : LicenseReq)
     → IsTrue (is_allowed policy krate terms tree) → IsTrue (is_allowed (with_allowed policy place licensee) krate terms tree)
 more_allowed policy krate terms tree place licensee =
     still_allowed policy (with_allowed policy place licensee) krate terms tree (λ term h.
@@ -111,7 +111,7 @@ hit_still policy krate grant term None is h =
     let allowed = option_map Allowed (first_entry policy.allowed term) in
     either_some by_exception allowed ∙ right_of (is_some by_exception) (is_some allowed) h
 
-pub more_exceptions : (policy : Policy) (krate : Record) (terms : List ExpressionReq) (tree : Tree) (grant : Grant)
+pub more_exceptions : (policy : Policy) (krate : Record) (terms : List ExpressionReq) (tree : ExpressionTree) (grant : Grant)
     → IsTrue (is_allowed policy krate terms tree) → IsTrue (is_allowed (with_exception policy grant) krate terms tree)
 more_exceptions policy krate terms tree grant =
     still_allowed policy (with_exception policy grant) krate terms tree (λ term. hit_still policy krate grant term (first_exception policy krate) refl)

@@ -3,9 +3,9 @@ ghost use Rattle.std.specs.Prelude.{◌≡◌, ◌≤◌, [], map, length, IfOk}
 ghost use Rattle.graph_core.specs.Krate.{record_of};
 ghost use Rattle.spdx_core.specs.Reading.{postfix};
 ghost use Rattle.certificate_core.specs.Certificates.{CertificateAnswers};
-ghost use Rattle.policy_spec.specs.Index.{names_of};
+ghost use Rattle.policy_spec.specs.Index.{spec_names};
 ghost use Rattle.valid_policy.specs.View.{policy_of};
-ghost use Rattle.evaluate_core.specs.Evaluation.{kept_of, is_allowed, exception_names};
+ghost use Rattle.evaluate_core.specs.Evaluation.{term_hits, is_allowed, exception_names};
 
 use crate::answers::is_accepted;
 use crate::hits::keep_hits;
@@ -75,7 +75,7 @@ impl Evaluator {
         ensures answer { let policy = policy_of policy.now in
             result ≡ is_allowed policy (record_of krate.now) expression.now.terms expression.now.tree }
         ensures evaluator { let policy = policy_of policy.now in
-            self.new ≡ record self.old { hits = kept_of policy (record_of krate.now) expression.now.terms } }
+            self.new ≡ record self.old { hits = term_hits policy (record_of krate.now) expression.now.terms } }
         ensures steps { steps.old ≤ steps.new }
     {
         let exception = self.exceptions.first(policy.exceptions.items(), krate);

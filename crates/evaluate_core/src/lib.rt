@@ -7,5 +7,5 @@ mod hits;
 pub mod laws;
 mod room;
 
-pub use certificate_core::{Hit, Hits, Places, Verdict};
+pub use certificate_core::{Hit, Hits, TermPlaces, Verdict};
 pub use evaluator::Evaluator;

@@ -10,8 +10,8 @@ use Rattle.term_core.specs.declared.error.ParseError.{ParseError}
 use Rattle.term_core.specs.declared.mode.ParseMode.{ParseMode}
 use Rattle.term_core.specs.Items.{items_of}
 use Rattle.term_core.specs.Faults.{first_fault}
-use Rattle.spdx_core.specs.Expressions.{IsRead}
-use Rattle.spdx_core.specs.Reading.{ExpressionView, expression_if, expression_of, after_items, nothing_read}
+use Rattle.spdx_core.specs.Expressions.{IsExpressionRead}
+use Rattle.spdx_core.specs.Reading.{ExpressionView, expression_if, expression_of_text, after_items, nothing_read}
 use Rattle.spdx_core.specs.Printing.{named_mode, next_names}
 use Rattle.spdx_core.proofs.SpellingLemmas.{is_read}
 use Rattle.expression_core.specs.declared.files.ScannedFile.{ScannedFile}
@@ -19,12 +19,12 @@ use Rattle.expression_core.specs.Joined.{IsJoined, given_by, has_some}
 use Rattle.expression_core.specs.Scanned.{joined_name, names_given}
 use Rattle.expression_core.specs.Taken.{joined_read, joined_text}
 
-pub of_read : (mode : ParseMode) (lists : CatalogLists) (text : List ℕ) (read : ExpressionView) → IsRead mode lists text read → Some read ≡ expression_of mode lists text
+pub of_read : (mode : ParseMode) (lists : CatalogLists) (text : List ℕ) (read : ExpressionView) → IsExpressionRead mode lists text read → Some read ≡ expression_of_text mode lists text
 of_read mode lists text read is =
     sym (is_read mode lists text read.tree read.terms is.spelled
     ∙ ap (λ (own : List ℕ). Some (let e : ExpressionView = record { text = own; terms = read.terms; tree = read.tree } in e)) (sym is.text_kept))
 
-pub of_fault : (mode : ParseMode) (lists : CatalogLists) (text : List ℕ) (fault : ParseError) → first_fault mode lists text ≡ Some fault → None ≡ expression_of mode lists text
+pub of_fault : (mode : ParseMode) (lists : CatalogLists) (text : List ℕ) (fault : ParseError) → first_fault mode lists text ≡ Some fault → None ≡ expression_of_text mode lists text
 of_fault mode lists text fault is =
     sym (ap (λ found. expression_if (is_none found) text (after_items nothing_read (items_of mode lists text))) is)
 
@@ -63,9 +63,9 @@ pub names_given-push : (files : List ScannedFile) (file : ScannedFile) → names
 names_given-push files file =
     filter_map-append (λ (one : ScannedFile). joined_name one.scanned) files (file ∷ []) ∙ ap (λ last. names_given files ++ last) (one_given (joined_name file.scanned))
 
-pub joined_some : (lists : CatalogLists) (names : List (List ℕ)) (text : List ℕ) → text ≡ joined_text names → true ≡ has_some names → expression_of named_mode lists text ≡ joined_read lists names
+pub joined_some : (lists : CatalogLists) (names : List (List ℕ)) (text : List ℕ) → text ≡ joined_text names → true ≡ has_some names → expression_of_text named_mode lists text ≡ joined_read lists names
 joined_some lists [] text is some = cc
-joined_some lists (first ∷ names) text is some = ap (expression_of named_mode lists) is
+joined_some lists (first ∷ names) text is some = ap (expression_of_text named_mode lists) is
 
 pub joined_none : (lists : CatalogLists) (names : List (List ℕ)) → false ≡ has_some names → joined_read lists names ≡ None
 joined_none lists [] none = refl

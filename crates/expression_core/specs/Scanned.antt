@@ -9,10 +9,10 @@ use Rattle.catalog_core.specs.declared.identifier.Match.{Match}
 use Rattle.catalog_core.specs.Catalog.{CatalogLists, entry_of}
 use Rattle.catalog_core.specs.Identifier.{no_match}
 use Rattle.reads_core.specs.declared.bad_read.BadRead.TheVariants as bad
-use Rattle.reads_core.specs.Heard.{Heard, failed, absent, wrong_kind, not_utf8, text, entries}
-use Rattle.expression_core.specs.declared.files.Name.{Name}
-use Rattle.expression_core.specs.declared.files.Scanned.{Scanned}
-use Rattle.expression_core.specs.declared.files.Scanned.TheVariants.{Bad, Unnamed, Low, Unknown, Joined}
+use Rattle.reads_core.specs.Heard.{ReadResult, failed, absent, wrong_kind, not_utf8, text, entries}
+use Rattle.expression_core.specs.declared.files.IdentifiedName.{IdentifiedName}
+use Rattle.expression_core.specs.declared.files.FileResult.{FileResult}
+use Rattle.expression_core.specs.declared.files.FileResult.TheVariants.{Bad, Unnamed, Low, Unknown, Joined}
 use Rattle.expression_core.specs.declared.files.ScannedFile.{ScannedFile}
 
 -- what texts are identified by: a catalogue, what an identifier says of each text, and the least score, in hundredths, that
@@ -34,38 +34,38 @@ abbrev pub begins_as_pixar : List ℕ → Bool
 begins_as_pixar normal = starts_with nat_eq (trim_start normal) (codes "Modified Apache 2.0 License")
 
 -- The text of `Pixar` is that of `Apache-2.0` but for little, so a text that does not begin as it should is the latter.
-abbrev pub name_of : List ℕ → List ℕ → Name
-name_of normal name =
+abbrev pub identified_name : List ℕ → List ℕ → IdentifiedName
+identified_name normal name =
     if bytes_eq name (codes "Pixar")
     then (if begins_as_pixar normal then record { name = name; renamed = false } else record { name = codes "Apache-2.0"; renamed = true })
     else record { name = name; renamed = false }
 
 -- a name is taken at a score of 50 or more
-abbrev pub name_taken : List ℕ → Match → Option Name
-name_taken normal found = if nat_le 50 found.score then option_map (name_of normal) found.name else None
+abbrev pub name_taken : List ℕ → Match → Option IdentifiedName
+name_taken normal found = if nat_le 50 found.score then option_map (identified_name normal) found.name else None
 
 -- ---- what comes of a file
 
 -- a name whose score is enough, by what the catalogue says of it
-abbrev pub known_by : ℕ → ℕ → Name → Option LicenseEntry → Scanned
+abbrev pub known_by : ℕ → ℕ → IdentifiedName → Option LicenseEntry → FileResult
 known_by hash score name None = Unknown hash score name
 known_by hash score name (Some entry) = Joined hash name entry.deprecated
 
-abbrev pub named_by : CatalogLists → ℕ → ℕ → ℕ → Name → Scanned
+abbrev pub named_by : CatalogLists → ℕ → ℕ → ℕ → IdentifiedName → FileResult
 named_by lists threshold hash score name =
     if nat_le threshold score then known_by hash score name (entry_of lists.licences name.name) else Low hash score name
 
-abbrev pub taken_by : CatalogLists → ℕ → ℕ → ℕ → Option Name → Scanned
+abbrev pub taken_by : CatalogLists → ℕ → ℕ → ℕ → Option IdentifiedName → FileResult
 taken_by lists threshold hash score None = Unnamed hash score
 taken_by lists threshold hash score (Some name) = named_by lists threshold hash score name
 
 -- of a text in its normal form
-abbrev pub text_scanned : Scanner → List ℕ → Scanned
+abbrev pub text_scanned : Scanner → List ℕ → FileResult
 text_scanned scanner normal =
     taken_by scanner.lists scanner.threshold (xxh32_of normal) (scanner.match_of normal).score (name_taken normal (scanner.match_of normal))
 
 -- of what is heard of a file, a text in its normal form; a file is never heard as entries
-abbrev pub scanned_of : Scanner → Heard → Scanned
+abbrev pub scanned_of : Scanner → ReadResult → FileResult
 scanned_of scanner (failed before after) = Bad (bad.Failed before after)
 scanned_of scanner absent = Bad bad.Absent
 scanned_of scanner wrong_kind = Bad bad.WrongKind
@@ -74,12 +74,12 @@ scanned_of scanner (text normal) = text_scanned scanner normal
 scanned_of scanner (entries listed) = Bad bad.WrongKind
 
 -- a file and what is heard of it, as what comes of it
-abbrev pub file_scanned : Scanner → List ℕ × Heard → ScannedFile
+abbrev pub file_scanned : Scanner → List ℕ × ReadResult → ScannedFile
 file_scanned scanner file = record { path = file.0; scanned = scanned_of scanner file.1 }
 
 -- ---- what is joined
 
-abbrev pub joined_name : Scanned → Option (List ℕ)
+abbrev pub joined_name : FileResult → Option (List ℕ)
 joined_name (Bad error) = None
 joined_name (Unnamed hash score) = None
 joined_name (Low hash score name) = None

@@ -4,7 +4,7 @@ use Rattle.std.specs.Option.{option_or}
 use Rattle.catalog_core.specs.Catalog.{CatalogLists}
 use Rattle.term_core.specs.declared.mode.ParseMode.{ParseMode}
 use Rattle.spdx_core.specs.Printing.{named_mode, joined_names}
-use Rattle.spdx_core.specs.Reading.{ExpressionView, expression_of}
+use Rattle.spdx_core.specs.Reading.{ExpressionView, expression_of_text}
 
 -- ---- a crate's field
 
@@ -27,7 +27,7 @@ lax = record {
 -- strict with the slash on, or else lax; an empty field is no expression
 abbrev pub field_read : CatalogLists → List ℕ → Option ExpressionView
 field_read lists [] = None
-field_read lists (byte ∷ bytes) = option_or (expression_of strict_with_slash lists (byte ∷ bytes)) (expression_of lax lists (byte ∷ bytes))
+field_read lists (byte ∷ bytes) = option_or (expression_of_text strict_with_slash lists (byte ∷ bytes)) (expression_of_text lax lists (byte ∷ bytes))
 
 -- ---- names
 
@@ -39,4 +39,4 @@ joined_text (first ∷ names) = joined_names first names
 -- the names joined by ` AND `; deprecated names are allowed, and nothing else
 abbrev pub joined_read : CatalogLists → List (List ℕ) → Option ExpressionView
 joined_read lists [] = None
-joined_read lists (first ∷ names) = expression_of named_mode lists (joined_names first names)
+joined_read lists (first ∷ names) = expression_of_text named_mode lists (joined_names first names)

@@ -2,18 +2,18 @@
 ghost use Rattle.std.specs.Prelude.{◌≡◌, IfOk, Some, option_copied, option_map, map, if◌then◌else◌, nat_le};
 ghost use Rattle.reads_core.specs.Views.{heard_file};
 ghost use Rattle.expression_core.specs.Scanned as spec;
-ghost use Rattle.expression_core.specs.Scanned.{Scanner, begins_as_pixar, file_scanned, match_by, name_of};
+ghost use Rattle.expression_core.specs.Scanned.{Scanner, begins_as_pixar, file_scanned, match_by, identified_name};
 ghost use Rattle.expression_core.specs.Scanned.{name_taken, named_by, scanned_of, text_scanned};
 
 use catalog_core::{Catalog, Identifier, Match};
 use deny_text::{ListOf, PathBuf, Text};
-use pack_core::{LicenseText, Pack, PackData};
+use pack_core::{LicenseText, LicensePack, PackFileData};
 use reads_core::BadRead;
 use std::alloc::{AllocError, Global};
 
 /// The name that a text was identified by.
 #[derive(Drop)]
-pub struct Name {
+pub struct IdentifiedName {
     pub name: Text,
     /// The name is `Apache-2.0` in the place of `Pixar`.
     pub renamed: bool,
@@ -21,7 +21,7 @@ pub struct Name {
 
 /// What comes of a licence file. Hashes are those of normal forms, scores hundredths.
 #[derive(Drop)]
-pub enum Scanned {
+pub enum FileResult {
     /// It is no text.
     Bad(BadRead),
     /// No name was taken.
@@ -33,18 +33,18 @@ pub enum Scanned {
     Low {
         hash: u32,
         score: u8,
-        name: Name,
+        name: IdentifiedName,
     },
     /// The catalogue does not know the name.
     Unknown {
         hash: u32,
         score: u8,
-        name: Name,
+        name: IdentifiedName,
     },
     /// The name is joined to the expression.
     Joined {
         hash: u32,
-        name: Name,
+        name: IdentifiedName,
         deprecated: bool,
     },
 }
@@ -53,7 +53,7 @@ pub enum Scanned {
 #[derive(Drop)]
 pub struct ScannedFile {
     pub path: PathBuf,
-    pub scanned: Scanned,
+    pub scanned: FileResult,
 }
 
 /// Whether a text, without white space at its start, begins as that of `Pixar`.
@@ -65,30 +65,30 @@ fn begins_as_pixar(normal: &str) -> bool
         .starts_with("Modified Apache 2.0 License")
 }
 
-fn name_of(alloc: Global, normal: &str, name: Text) -> Result<Name, AllocError>
-    ensures { IfOk result (λ taken. taken ≡ name_of normal.now name) }
+fn name_of(alloc: Global, normal: &str, name: Text) -> Result<IdentifiedName, AllocError>
+    ensures { IfOk result (λ taken. taken ≡ identified_name normal.now name) }
 {
     if name.as_str() == "Pixar" {
         if begins_as_pixar(normal) {
-            return Ok(Name {
+            return Ok(IdentifiedName {
                 name,
                 renamed: false,
             });
         }
         let name = Text::copy(alloc, "Apache-2.0")?;
-        return Ok(Name {
+        return Ok(IdentifiedName {
             name,
             renamed: true,
         });
     }
-    Ok(Name {
+    Ok(IdentifiedName {
         name,
         renamed: false,
     })
 }
 
 /// The name that is taken of what an identifier says of a text.
-fn name_taken(alloc: Global, normal: &str, found: Match) -> Result<Option<Name>, AllocError>
+fn name_taken(alloc: Global, normal: &str, found: Match) -> Result<Option<IdentifiedName>, AllocError>
     ensures { IfOk result (λ taken. taken ≡ name_taken normal.now found) }
 {
     if found.score < 50 {
@@ -121,19 +121,19 @@ fn scan<I: Identifier>(
 }
 
 /// A name, by whether its score is enough and the catalogue knows it.
-fn named<C: Catalog>(threshold: u8, hash: u32, score: u8, name: Name, catalog: &C) -> Scanned
+fn named<C: Catalog>(threshold: u8, hash: u32, score: u8, name: IdentifiedName, catalog: &C) -> FileResult
     ensures { result ≡ named_by (C.lists catalog.now) threshold hash score name }
 {
     if score < threshold {
-        return Scanned::Low { hash, score, name };
+        return FileResult::Low { hash, score, name };
     }
     match catalog.license(name.name.as_str()) {
-        Some(entry) => Scanned::Joined {
+        Some(entry) => FileResult::Joined {
             hash,
             name,
             deprecated: entry.deprecated,
         },
-        None => Scanned::Unknown { hash, score, name },
+        None => FileResult::Unknown { hash, score, name },
     }
 }
 
@@ -143,7 +143,7 @@ fn text_scanned<I: Identifier, C: Catalog>(
     threshold: u8,
     text: &LicenseText,
     catalog: &C,
-) -> Result<Scanned, AllocError>
+) -> Result<FileResult, AllocError>
     ensures { IfOk result (λ scanned. scanned ≡ text_scanned (record {
       lists = C.lists catalog.now;
       match_of = match_by I.match_of (option_copied identifier.entry);
@@ -155,7 +155,7 @@ fn text_scanned<I: Identifier, C: Catalog>(
     let taken = name_taken(alloc, text.as_str(), found)?;
     match taken {
         Some(name) => Ok(named(threshold, text.hash(), score, name, catalog)),
-        None => Ok(Scanned::Unnamed {
+        None => Ok(FileResult::Unnamed {
             hash: text.hash(),
             score,
         }),
@@ -167,9 +167,9 @@ fn scan_file<I: Identifier, C: Catalog>(
     alloc: Global,
     identifier: Option<&I>,
     threshold: u8,
-    kept: &PackData,
+    kept: &PackFileData,
     catalog: &C,
-) -> Result<Scanned, AllocError>
+) -> Result<FileResult, AllocError>
     ensures { IfOk result (λ scanned. scanned ≡ scanned_of (record {
       lists = C.lists catalog.now;
       match_of = match_by I.match_of (option_copied identifier.entry);
@@ -178,7 +178,7 @@ fn scan_file<I: Identifier, C: Catalog>(
 {
     match kept {
         Ok(text) => text_scanned(alloc, identifier, threshold, text, catalog),
-        Err(error) => Ok(Scanned::Bad(*error)),
+        Err(error) => Ok(FileResult::Bad(*error)),
     }
 }
 
@@ -188,7 +188,7 @@ pub fn scan_pack<I: Identifier, C: Catalog>(
     alloc: Global,
     identifier: Option<&I>,
     threshold: u8,
-    pack: &Pack,
+    pack: &LicensePack,
     catalog: &C,
 ) -> Result<ListOf<ScannedFile>, AllocError>
     ensures { IfOk result (λ files. files ≡ map (file_scanned (record {

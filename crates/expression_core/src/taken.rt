@@ -1,11 +1,11 @@
 //! Licence expressions of fields and of names.
 ghost use Rattle.std.specs.Prelude.{◌≡◌, ◌++◌, ℕ, List, IfOk, OnOk, string_bytes, codes, if◌then◌else◌};
-ghost use Rattle.spdx_core.specs.Reading.{expression_of};
+ghost use Rattle.spdx_core.specs.Reading.{expression_of_text};
 ghost use Rattle.expression_core.specs.Joined.{IsJoined, given_by, has_some};
 ghost use Rattle.expression_core.specs.Scanned.{names_given};
 ghost use Rattle.expression_core.specs.Taken.{field_read, joined_read, joined_text};
 
-use crate::files::{Scanned, ScannedFile};
+use crate::files::{FileResult, ScannedFile};
 use spdx_core::{Catalog, ExprError, Expression, ParseMode};
 use std::alloc::{AllocError, Global};
 
@@ -33,7 +33,7 @@ fn expression<C: Catalog>(
     mode: ParseMode,
     catalog: &C,
 ) -> Result<Option<Expression>, AllocError>
-    ensures { IfOk result (λ read. read ≡ expression_of mode (C.lists catalog.now) text.now) }
+    ensures { IfOk result (λ read. read ≡ expression_of_text mode (C.lists catalog.now) text.now) }
 {
     match Expression::parse_mode(alloc, text, mode, catalog) {
         Ok(read) => Ok(Some(read)),
@@ -67,7 +67,7 @@ fn push_given(text: &mut String, file: &ScannedFile, some: bool) -> Result<bool,
         → IfOk result (λ now. IsJoined (names ++ given_by file.now) (string_bytes text.new) now) }
 {
     match &file.scanned {
-        Scanned::Joined { name, .. } => {
+        FileResult::Joined { name, .. } => {
             push_name(text, name.name.as_str(), some)?;
             Ok(true)
         }

@@ -9,15 +9,15 @@ use Rattle.term_core.specs.declared.error.ParseError.{ParseError}
 use Rattle.diag_core.specs.declared.label.Coord.{Coord}
 use Rattle.diag_core.specs.declared.label.LabelStyle.TheVariants.{Primary}
 use Rattle.diag_core.specs.declared.pack.Diag.{Diag}
-use Rattle.diag_core.specs.File.{File, source_of}
+use Rattle.diag_core.specs.File.{File, source_of_file}
 use Rattle.diag_core.specs.Label.{label_at}
 use Rattle.graph_core.specs.Krate.{Record}
 use Rattle.deny_text.specs.Spans.{LiesBetween}
 use Rattle.manifest_core.specs.Synthetic.{cut, marked_of}
 use Rattle.location_core.specs.Location.{PointsAt}
-use Rattle.finding_core.specs.Cuts.{CutOutBy, ExpressionStandsBy, LabelLies, LabelsLieBy, MarksLie, StandsAt, failed_texts, field_texts, labels_of, name_texts, text_under}
-use Rattle.finding_core.specs.Findings.{CaseView, MarksView, Outcome, by_field, by_files, failure_findings, failure_marks, failures_of, field_findings, field_mark, field_place, joined_place, unlicensed_findings}
-use Rattle.finding_core.specs.Pieces.{Seen, listed, crate_kept, joined_pieces, seen_pieces, synthetic_file}
+use Rattle.finding_core.specs.Cuts.{CutOutBy, ExpressionStandsBy, LabelLies, LabelsLieBy, MarksLie, StandsAtCoord, failed_texts, field_texts, labels_of, name_texts, text_under}
+use Rattle.finding_core.specs.Findings.{UnclarifiedCrateView, MarksView, ExpressionBasisView, by_field, by_files, failure_findings, failure_marks, failures_of, field_findings, field_mark, field_place, joined_place, unlicensed_findings}
+use Rattle.finding_core.specs.Pieces.{SeenFilesView, listed, crate_kept, joined_pieces, seen_pieces, synthetic_file}
 use Rattle.finding_core.specs.Premises.{FaultsLie}
 use Rattle.finding_core.proofs.LabelLemmas.{as_many, failure_cuts, failure_lies, field_cuts, field_lies, lie-append, texts-append}
 use Rattle.finding_core.proofs.MarkLemmas.{marks}
@@ -26,9 +26,9 @@ use Rattle.finding_core.proofs.PlaceLemmas.{grown, last_source, points, points_c
 -- ---- a synthetic manifest in the table
 
 -- its text and its marks, each where it cuts out what it marks
-record Made (table : List File) (id : ℕ) (krate : Record) (folder : List ℕ) (joined : Option (List ℕ)) (seen : Seen) : Type 0 where
+record Made (table : List File) (id : ℕ) (krate : Record) (folder : List ℕ) (joined : Option (List ℕ)) (seen : SeenFilesView) : Type 0 where
   text : List ℕ
-  is_text : source_of table id ≡ Some text
+  is_text : source_of_file table id ≡ Some text
   name : Span
   field : Span
   more : List Span
@@ -38,14 +38,14 @@ record Made (table : List File) (id : ℕ) (krate : Record) (folder : List ℕ) 
   more_lie : All (LiesBetween text) more
   more_cut : map (cut text) more ≡ marked_of (joined_pieces joined) ++ marked_of (seen_pieces folder seen)
 
-made : (files : List File) (krate : Record) (folder : List ℕ) (joined : Option (List ℕ)) (seen : Seen)
+made : (files : List File) (krate : Record) (folder : List ℕ) (joined : Option (List ℕ)) (seen : SeenFilesView)
     → All (LiesBetween (crate_kept krate folder joined seen).text) (crate_kept krate folder joined seen).spans
     → Made (files ++ synthetic_file krate (crate_kept krate folder joined seen) ∷ []) (length files) krate folder joined seen
 made files krate folder joined seen lie =
     let kept = crate_kept krate folder joined seen in
     let table = files ++ synthetic_file krate kept ∷ [] in
     let are = marks krate folder joined seen in
-    let source : source_of table (length files) ≡ Some kept.text = last_source files (synthetic_file krate kept) in
+    let source : source_of_file table (length files) ≡ Some kept.text = last_source files (synthetic_file krate kept) in
     let all : All (LiesBetween kept.text) (are.name ∷ are.field ∷ are.more) = subst (All (LiesBetween kept.text)) are.spans lie in
     let rest : All (LiesBetween kept.text) (are.field ∷ are.more) = All-tail (LiesBetween kept.text) are.name (are.field ∷ are.more) all in
     record {
@@ -103,11 +103,11 @@ name_lies files (Some expression) krate id name field more named = All-nil (Labe
 
 -- ---- by the licence files
 
-abbrev all_findings : Record → Option Coord → List ParseError → Seen → Option (List ℕ) → MarksView → List Diag
+abbrev all_findings : Record → Option Coord → List ParseError → SeenFilesView → Option (List ℕ) → MarksView → List Diag
 all_findings krate location faults seen joined marks =
     field_findings krate location faults (field_place location (field_mark marks)) krate.license ++ failure_findings seen joined marks ++ unlicensed_findings joined marks
 
-module _ (files : List File) (krate : Record) (folder : List ℕ) (location : Option Coord) (faults : List ParseError) (seen : Seen) (joined : Option (List ℕ)) (id : ℕ)
+module _ (files : List File) (krate : Record) (folder : List ℕ) (location : Option Coord) (faults : List ParseError) (seen : SeenFilesView) (joined : Option (List ℕ)) (id : ℕ)
     (is : Made files id krate folder joined seen) (located : IfSome location (λ at. PointsAt files at (unwrap_or krate.license [])))
     (lie : FaultsLie (unwrap_or krate.license []) faults) where
   files_cut : map (text_under files) (labels_of (all_findings krate location faults seen joined (marks_of id is.name is.field is.more)))
@@ -150,9 +150,9 @@ module _ (files : List File) (krate : Record) (folder : List ℕ) (location : Op
       let three : All (LabelLies files) (labels_of third) = name_lies files joined krate id is.name is.field is.more is.named in
       lie-append files (first ++ second) third (lie-append files first second one two) three
 
-joined_stands : (files : List File) (folder : List ℕ) (joined : Option (List ℕ)) (seen : Seen) (id : ℕ) (text : List ℕ) (name field : Span) (more : List Span)
-    → source_of files id ≡ Some text → All (LiesBetween text) more → map (cut text) more ≡ marked_of (joined_pieces joined) ++ marked_of (seen_pieces folder seen)
-    → StandsAt files (joined_place joined (marks_of id name field more)) joined
+joined_stands : (files : List File) (folder : List ℕ) (joined : Option (List ℕ)) (seen : SeenFilesView) (id : ℕ) (text : List ℕ) (name field : Span) (more : List Span)
+    → source_of_file files id ≡ Some text → All (LiesBetween text) more → map (cut text) more ≡ marked_of (joined_pieces joined) ++ marked_of (seen_pieces folder seen)
+    → StandsAtCoord files (joined_place joined (marks_of id name field more)) joined
 joined_stands files folder None seen id text name field more is lie cuts = tt
 joined_stands files folder (Some expression) seen id text name field [] is lie cuts = cc
 joined_stands files folder (Some expression) seen id text name field (mark ∷ more) is lie cuts =
@@ -161,14 +161,14 @@ joined_stands files folder (Some expression) seen id text name field (mark ∷ m
 
 -- ---- whatever settles the licence
 
-module _ (krate : Record) (folder : List ℕ) (faults : List ParseError) (settled : Outcome) (files : List File) where
-  abbrev case_of : Option Coord → CaseView
+module _ (krate : Record) (folder : List ℕ) (faults : List ParseError) (settled : ExpressionBasisView) (files : List File) where
+  abbrev case_of : Option Coord → UnclarifiedCrateView
   case_of location = record { krate = krate; folder = folder; location = location; faults = faults; outcome = settled }
 
-  abbrev table_of : Option (List ℕ) → Seen → List File
+  abbrev table_of : Option (List ℕ) → SeenFilesView → List File
   table_of joined seen = files ++ synthetic_file krate (crate_kept krate folder joined seen) ∷ []
 
-  pub cuts_by : (location : Option Coord) (outcome : Outcome) → IfSome location (λ at. PointsAt files at (unwrap_or krate.license []))
+  pub cuts_by : (location : Option Coord) (outcome : ExpressionBasisView) → IfSome location (λ at. PointsAt files at (unwrap_or krate.license []))
       → FaultsLie (unwrap_or krate.license []) faults → MarksLie (case_of location) outcome → CutOutBy (case_of location) files outcome
   cuts_by None by_field located lie between =
       let is = made files krate folder None (listed []) between in
@@ -185,7 +185,7 @@ module _ (krate : Record) (folder : List ℕ) (faults : List ParseError) (settle
       ≡ field_texts location faults krate.license ++ failed_texts folder seen ++ name_texts krate joined) (sym is.spans)
       (files_cut (table_of joined seen) krate folder location faults seen joined (length files) is there lie)
 
-  pub lie_by : (location : Option Coord) (outcome : Outcome) → IfSome location (λ at. PointsAt files at (unwrap_or krate.license []))
+  pub lie_by : (location : Option Coord) (outcome : ExpressionBasisView) → IfSome location (λ at. PointsAt files at (unwrap_or krate.license []))
       → FaultsLie (unwrap_or krate.license []) faults → MarksLie (case_of location) outcome → LabelsLieBy (case_of location) files outcome
   lie_by None by_field located lie between =
       let is = made files krate folder None (listed []) between in
@@ -200,14 +200,14 @@ module _ (krate : Record) (folder : List ℕ) (faults : List ParseError) (settle
       (labels_of (all_findings krate location faults seen joined (record { file = length files; spans = spans })))) (sym is.spans)
       (files_lie (table_of joined seen) krate folder location faults seen joined (length files) is there lie)
 
-  pub stands_by : (location : Option Coord) (outcome : Outcome) → IfSome location (λ at. PointsAt files at (unwrap_or krate.license []))
+  pub stands_by : (location : Option Coord) (outcome : ExpressionBasisView) → IfSome location (λ at. PointsAt files at (unwrap_or krate.license []))
       → MarksLie (case_of location) outcome → ExpressionStandsBy (case_of location) files outcome
   stands_by None by_field located between =
       let is = made files krate folder None (listed []) between in
-      subst (λ (spans : List Span). StandsAt (table_of None (listed [])) (field_mark (record { file = length files; spans = spans })) (Some (unwrap_or krate.license [])))
+      subst (λ (spans : List Span). StandsAtCoord (table_of None (listed [])) (field_mark (record { file = length files; spans = spans })) (Some (unwrap_or krate.license [])))
       (sym is.spans) is.stands
   stands_by (Some at) by_field located between = located
   stands_by location (by_files seen joined) located between =
       let is = made files krate folder joined seen between in
-      subst (λ (spans : List Span). StandsAt (table_of joined seen) (joined_place joined (record { file = length files; spans = spans })) joined)
+      subst (λ (spans : List Span). StandsAtCoord (table_of joined seen) (joined_place joined (record { file = length files; spans = spans })) joined)
       (sym is.spans) (joined_stands (table_of joined seen) folder joined seen (length files) is.text is.name is.field is.more is.is_text is.more_lie is.more_cut)

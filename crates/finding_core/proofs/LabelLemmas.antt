@@ -12,18 +12,18 @@ use Rattle.term_core.specs.Reasons.{reason_text}
 use Rattle.diag_core.specs.declared.label.Coord.{Coord}
 use Rattle.diag_core.specs.declared.label.LabelStyle.TheVariants.{Secondary}
 use Rattle.diag_core.specs.declared.pack.Diag.{Diag}
-use Rattle.diag_core.specs.File.{File, source_of}
+use Rattle.diag_core.specs.File.{File, source_of_file}
 use Rattle.graph_core.specs.Krate.{Record}
 use Rattle.manifest_core.specs.Manifest.{closing_pieces, opening_pieces}
 use Rattle.deny_text.specs.Spans.{LiesBetween}
 use Rattle.manifest_core.specs.Synthetic.{cut, marked_of}
 use Rattle.location_core.specs.Location.{PointsAt}
-use Rattle.expression_core.specs.declared.files.Scanned.{Scanned}
-use Rattle.expression_core.specs.declared.files.Scanned.TheVariants.{Bad, Unnamed, Low, Unknown, Joined}
+use Rattle.expression_core.specs.declared.files.FileResult.{FileResult}
+use Rattle.expression_core.specs.declared.files.FileResult.TheVariants.{Bad, Unnamed, Low, Unknown, Joined}
 use Rattle.expression_core.specs.declared.files.ScannedFile.{ScannedFile}
 use Rattle.finding_core.specs.Cuts.{LabelLies, empty_texts, field_texts, labels_of, text_under}
 use Rattle.finding_core.specs.Findings.{empty_findings, failure, failure_of, failures_of, fault_findings, fault_place, field_fault, field_findings, label_of}
-use Rattle.finding_core.specs.Pieces.{Seen, unlisted, listed, file_pieces, list_pieces, seen_pieces}
+use Rattle.finding_core.specs.Pieces.{SeenFilesView, unlisted, listed, file_pieces, list_pieces, seen_pieces}
 use Rattle.finding_core.specs.Premises.{FaultsLie}
 use Rattle.finding_core.proofs.MarkLemmas.{marked_of-append}
 use Rattle.finding_core.proofs.PlaceLemmas.{fault_points, points, points_cut, points_lie}
@@ -66,7 +66,7 @@ fault_lies files at field stands (fault ∷ faults) lie =
 -- ---- what failed
 
 -- as many marks as failures
-pub failure_cuts : (files : List File) (id : ℕ) (source : List ℕ) → source_of files id ≡ Some source → (words : List (List ℕ)) (spans : List Span) → length words ≡ length spans
+pub failure_cuts : (files : List File) (id : ℕ) (source : List ℕ) → source_of_file files id ≡ Some source → (words : List (List ℕ)) (spans : List Span) → length words ≡ length spans
     → map (text_under files) (labels_of (map (failure id) (zip words spans))) ≡ map (cut source) spans
 failure_cuts files id source is [] [] same = refl
 failure_cuts files id source is [] (span ∷ spans) same = absurd (omega arith)
@@ -76,7 +76,7 @@ failure_cuts files id source is (word ∷ words) (span ∷ spans) same =
     ap (λ (text : List ℕ). text ∷ map (text_under files) (labels_of (map (failure id) (zip words spans)))) (ap (λ (o : Option (List ℕ)). cut (unwrap_or o []) span) is)
     ∙ ap (λ (texts : List (List ℕ)). cut source span ∷ texts) (failure_cuts files id source is words spans fewer)
 
-pub failure_lies : (files : List File) (id : ℕ) (source : List ℕ) → source_of files id ≡ Some source → (words : List (List ℕ)) (spans : List Span) → All (LiesBetween source) spans
+pub failure_lies : (files : List File) (id : ℕ) (source : List ℕ) → source_of_file files id ≡ Some source → (words : List (List ℕ)) (spans : List Span) → All (LiesBetween source) spans
     → All (LabelLies files) (labels_of (map (failure id) (zip words spans)))
 failure_lies files id source is [] spans lie = All-nil (LabelLies files)
 failure_lies files id source is (word ∷ words) [] lie = All-nil (LabelLies files)
@@ -87,7 +87,7 @@ failure_lies files id source is (word ∷ words) (span ∷ spans) lie =
     (points_lie files at (cut source span) Secondary word (points files id source span (cut source span) is here refl))
     (failure_lies files id source is words spans (All-tail (LiesBetween source) span spans lie))
 
-one_mark : (folder : List ℕ) (path : List ℕ) (scanned : Scanned)
+one_mark : (folder : List ℕ) (path : List ℕ) (scanned : FileResult)
     → length (marked_of (file_pieces folder (record { path = path; scanned = scanned }))) ≡ length (option_to_list (failure_of scanned))
 one_mark folder path (Bad error) = refl
 one_mark folder path (Unnamed hash score) = refl
@@ -121,7 +121,7 @@ no_files : (files : List ScannedFile) → length files ≡ 0 → length (failure
 no_files [] none = refl
 no_files (file ∷ files) none = absurd (omega arith)
 
-pub as_many : (folder : List ℕ) (seen : Seen) → length (failures_of seen) ≡ length (marked_of (seen_pieces folder seen))
+pub as_many : (folder : List ℕ) (seen : SeenFilesView) → length (failures_of seen) ≡ length (marked_of (seen_pieces folder seen))
 as_many folder (unlisted error) = refl
 as_many folder (listed files) =
     elim (eqb (length files) 0) as (λ b. eqb (length files) 0 ≡ b → length (failures_of (listed files)) ≡ length (marked_of (cond b [] (list_pieces folder files)))) [

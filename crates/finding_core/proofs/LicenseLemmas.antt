@@ -2,13 +2,13 @@
 use Rattle.std.proofs.Common.{◌≡◌, ℕ, zero, suc, ◌+◌, length, List, [], ◌∷◌, ◌++◌, Option, None, Some}
 use Rattle.deny_text.specs.declared.span.Span.{Span}
 use Rattle.diag_core.specs.declared.label.Coord.{Coord}
-use Rattle.diag_core.specs.File.{File, source_of}
+use Rattle.diag_core.specs.File.{File, source_of_file}
 use Rattle.location_core.specs.Location.{PointsAt}
 use Rattle.finding_core.specs.declared.license.LicenseInfo.{LicenseInfo}
 use Rattle.finding_core.specs.declared.license.LicenseInfo.TheVariants.{SpdxExpression, Unlicensed}
 use Rattle.finding_core.specs.License.{InfoStands, PlaceLies, StandsIn}
 
-pub source_grown : (files more : List File) (id : ℕ) (source : List ℕ) → source_of files id ≡ Some source → source_of (files ++ more) id ≡ Some source
+pub source_grown : (files more : List File) (id : ℕ) (source : List ℕ) → source_of_file files id ≡ Some source → source_of_file (files ++ more) id ≡ Some source
 source_grown [] more zero source is = absurd (cc is)
 source_grown [] more (suc id) source is = absurd (cc is)
 source_grown (first ∷ files) more zero source is = is

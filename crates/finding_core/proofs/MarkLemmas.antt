@@ -11,31 +11,31 @@ use Rattle.diag_core.specs.declared.label.Coord.{Coord}
 use Rattle.diag_core.specs.File.{File}
 use Rattle.graph_core.specs.Krate.{Record}
 use Rattle.semver.specs.Identifiers.{parts_text}
-use Rattle.manifest_core.specs.Synthetic.{Bit, plain, marked, Kept, cut, marked_of, nothing_kept, place_behind, written, written_all}
+use Rattle.manifest_core.specs.Synthetic.{Bit, plain, marked, PlacedText, cut, marked_of, nothing_kept, place_behind, with_piece, written_all}
 use Rattle.manifest_core.proofs.PlaceLemmas.{places_cut_out}
 use Rattle.location_core.specs.Location.{PointsAt}
-use Rattle.finding_core.specs.Findings.{Fits, field_mark, field_place}
-use Rattle.finding_core.specs.Pieces.{Seen, crate_kept, crate_pieces, head_pieces, joined_pieces, seen_pieces}
+use Rattle.finding_core.specs.Findings.{FaultFits, field_mark, field_place}
+use Rattle.finding_core.specs.Pieces.{SeenFilesView, crate_kept, crate_pieces, head_pieces, joined_pieces, seen_pieces}
 use Rattle.finding_core.specs.Premises.{FaultsLie}
 use Rattle.finding_core.proofs.PieceLemmas.{three_written}
 
 -- ---- the marks in order
 
-spans_grow : (kept : Kept) (pieces : List Bit) → (more : List Span) × ((written_all kept pieces).spans ≡ kept.spans ++ more)
+spans_grow : (kept : PlacedText) (pieces : List Bit) → (more : List Span) × ((written_all kept pieces).spans ≡ kept.spans ++ more)
 spans_grow kept [] = ([], sym (append-nil kept.spans))
-spans_grow kept (plain bytes ∷ pieces) = spans_grow (written kept (plain bytes)) pieces
+spans_grow kept (plain bytes ∷ pieces) = spans_grow (with_piece kept (plain bytes)) pieces
 spans_grow kept (marked bytes ∷ pieces) =
-    let rest = spans_grow (written kept (marked bytes)) pieces in
+    let rest = spans_grow (with_piece kept (marked bytes)) pieces in
     (place_behind kept.text bytes ∷ rest.0, rest.1 ∙ append_assoc kept.spans (place_behind kept.text bytes ∷ []) rest.0)
 
-head_spans : (krate : Record) (folder : List ℕ) (joined : Option (List ℕ)) (seen : Seen)
+head_spans : (krate : Record) (folder : List ℕ) (joined : Option (List ℕ)) (seen : SeenFilesView)
     → (more : List Span) × ((crate_kept krate folder joined seen).spans ≡ (written_all nothing_kept (head_pieces krate)).spans ++ more)
 head_spans krate folder joined seen =
     let head = written_all nothing_kept (head_pieces krate) in
     let first = spans_grow head (joined_pieces joined) in
     let second = spans_grow (written_all head (joined_pieces joined)) (seen_pieces folder seen) in (
       first.0 ++ second.0,
-      ap (λ (kept : Kept). kept.spans) (sym (three_written nothing_kept (head_pieces krate) (joined_pieces joined) (seen_pieces folder seen)))
+      ap (λ (kept : PlacedText). kept.spans) (sym (three_written nothing_kept (head_pieces krate) (joined_pieces joined) (seen_pieces folder seen)))
           ∙ second.1 ∙ ap (λ (spans : List Span). spans ++ second.0) first.1 ∙ append_assoc head.spans first.0 second.0,
     )
 
@@ -45,7 +45,7 @@ marked_of-append (plain bytes ∷ first) second = marked_of-append first second
 marked_of-append (marked bytes ∷ first) second = ap (λ (rest : List (List ℕ)). bytes ∷ rest) (marked_of-append first second)
 
 -- the name, the field, and what is marked behind them
-pub record AreMarks (krate : Record) (folder : List ℕ) (joined : Option (List ℕ)) (seen : Seen) : Type 0 where
+pub record AreMarks (krate : Record) (folder : List ℕ) (joined : Option (List ℕ)) (seen : SeenFilesView) : Type 0 where
   pub name : Span
   pub field : Span
   pub more : List Span
@@ -65,7 +65,7 @@ head_two krate = record {
   field = place_behind ((((codes "[package]\nname = \"" ++ krate.name) ++ codes "\"\nversion = \"") ++ parts_text krate.version) ++ codes "\"\nlicense = \"") (unwrap_or krate.license []);
 }
 
-pub marks : (krate : Record) (folder : List ℕ) (joined : Option (List ℕ)) (seen : Seen) → AreMarks krate folder joined seen
+pub marks : (krate : Record) (folder : List ℕ) (joined : Option (List ℕ)) (seen : SeenFilesView) → AreMarks krate folder joined seen
 marks krate folder joined seen =
     let kept = crate_kept krate folder joined seen in
     let head = head_spans krate folder joined seen in
@@ -89,7 +89,7 @@ marks krate folder joined seen =
 -- ---- places that fit
 
 -- the field's mark is as long as the field
-pub field_mark_long : (krate : Record) (folder : List ℕ) (joined : Option (List ℕ)) (seen : Seen) (file : ℕ)
+pub field_mark_long : (krate : Record) (folder : List ℕ) (joined : Option (List ℕ)) (seen : SeenFilesView) (file : ℕ)
     → IfSome (field_mark (record { file = file; spans = (crate_kept krate folder joined seen).spans }))
     (λ at. at.span.end ≡ at.span.start + length (unwrap_or krate.license []))
 field_mark_long krate folder joined seen file =
@@ -108,18 +108,18 @@ points_long files at field points =
 
 -- places in a field fit where the field's end does
 pub all_fit : (at : Coord) (field : List ℕ) (faults : List ParseError) → at.span.end ≡ at.span.start + length field → at.span.end < 2 ^ 64
-    → FaultsLie field faults → All (Fits at) faults
+    → FaultsLie field faults → All (FaultFits at) faults
 all_fit at field faults is fits lie =
-    All-weaker (λ (fault : ParseError). LiesBetween field fault.span) (Fits at)
+    All-weaker (λ (fault : ParseError). LiesBetween field fault.span) (FaultFits at)
     (λ fault within. let first = within.ordered in let second = within.end_border.0 in (omega arith, omega arith)) faults lie
 
 pub location_fits : (files : List File) (at : Coord) (field : List ℕ) (faults : List ParseError) → PointsAt files at field → at.span.end < 2 ^ 64
-    → FaultsLie field faults → All (Fits at) faults
+    → FaultsLie field faults → All (FaultFits at) faults
 location_fits files at field faults points fits lie = all_fit at field faults (points_long files at field points) fits lie
 
-pub mark_fits : (krate : Record) (folder : List ℕ) (joined : Option (List ℕ)) (seen : Seen) (file : ℕ) (faults : List ParseError) (place : Option Coord)
+pub mark_fits : (krate : Record) (folder : List ℕ) (joined : Option (List ℕ)) (seen : SeenFilesView) (file : ℕ) (faults : List ParseError) (place : Option Coord)
     → place ≡ field_mark (record { file = file; spans = (crate_kept krate folder joined seen).spans }) → IfSome place (λ at. at.span.end < 2 ^ 64)
-    → FaultsLie (unwrap_or krate.license []) faults → IfSome place (λ at. All (Fits at) faults)
+    → FaultsLie (unwrap_or krate.license []) faults → IfSome place (λ at. All (FaultFits at) faults)
 mark_fits krate folder joined seen file faults None is fits lie = tt
 mark_fits krate folder joined seen file faults (Some at) is fits lie =
     let long : at.span.end ≡ at.span.start + length (unwrap_or krate.license []) =
@@ -128,11 +128,11 @@ mark_fits krate folder joined seen file faults (Some at) is fits lie =
     all_fit at (unwrap_or krate.license []) faults long fits lie
 
 -- the location, where there is one, or else the mark
-pub place_fits : (krate : Record) (folder : List ℕ) (joined : Option (List ℕ)) (seen : Seen) (files : List File) (file : ℕ) (faults : List ParseError) (location place : Option Coord)
+pub place_fits : (krate : Record) (folder : List ℕ) (joined : Option (List ℕ)) (seen : SeenFilesView) (files : List File) (file : ℕ) (faults : List ParseError) (location place : Option Coord)
     → place ≡ field_place location (field_mark (record { file = file; spans = (crate_kept krate folder joined seen).spans })) → IfSome place (λ at. at.span.end < 2 ^ 64)
-    → IfSome location (λ at. PointsAt files at (unwrap_or krate.license [])) → FaultsLie (unwrap_or krate.license []) faults → IfSome place (λ at. All (Fits at) faults)
+    → IfSome location (λ at. PointsAt files at (unwrap_or krate.license [])) → FaultsLie (unwrap_or krate.license []) faults → IfSome place (λ at. All (FaultFits at) faults)
 place_fits krate folder joined seen files file faults None place is fits points lie = mark_fits krate folder joined seen file faults place is fits lie
 place_fits krate folder joined seen files file faults (Some at) place is fits points lie =
     let here : at.span.end < 2 ^ 64 = subst (λ (o : Option Coord). IfSome o (λ one. one.span.end < 2 ^ 64)) is fits in
-    subst (λ (o : Option Coord). IfSome o (λ one. All (Fits one) faults)) (sym is)
+    subst (λ (o : Option Coord). IfSome o (λ one. All (FaultFits one) faults)) (sym is)
     (location_fits files at (unwrap_or krate.license []) faults points here lie)

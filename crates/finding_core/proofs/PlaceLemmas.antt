@@ -7,7 +7,7 @@ use Rattle.std.proofs.lemmas.List.{drop-drop, drop-take, get_or-drop, get_or-tak
 use Rattle.deny_text.specs.declared.span.Span.{Span}
 use Rattle.diag_core.specs.declared.label.Coord.{Coord}
 use Rattle.diag_core.specs.declared.label.LabelStyle.{LabelStyle}
-use Rattle.diag_core.specs.File.{File, source_of}
+use Rattle.diag_core.specs.File.{File, source_of_file}
 use Rattle.diag_core.specs.Label.{label_at}
 use Rattle.deny_text.specs.Spans.{LiesBetween}
 use Rattle.manifest_core.specs.Synthetic.{cut}
@@ -61,7 +61,7 @@ inner_border text at ordered ends i border =
 -- ---- in a file
 
 -- a place of a file's text
-pub points : (files : List File) (id : ℕ) (source : List ℕ) (span : Span) (bytes : List ℕ) → source_of files id ≡ Some source → LiesBetween source span → cut source span ≡ bytes
+pub points : (files : List File) (id : ℕ) (source : List ℕ) (span : Span) (bytes : List ℕ) → source_of_file files id ≡ Some source → LiesBetween source span → cut source span ≡ bytes
     → PointsAt files (record { file = id; span = span }) bytes
 points files id source span bytes is lies same = record {
   source = source;
@@ -87,13 +87,13 @@ fault_points files at field fault stands lies =
     }
 
 -- what a label at the place cuts out
-pub points_cut : (files : List File) (at : Coord) (bytes : List ℕ) → PointsAt files at bytes → cut (unwrap_or (source_of files at.file) []) at.span ≡ bytes
+pub points_cut : (files : List File) (at : Coord) (bytes : List ℕ) → PointsAt files at bytes → cut (unwrap_or (source_of_file files at.file) []) at.span ≡ bytes
 points_cut files at bytes stands = ap (λ (o : Option (List ℕ)). cut (unwrap_or o []) at.span) stands.is_source ∙ stands.cuts.cut_out
 
 no_some : {A G : Type 0} (x : A) → None ≡ Some x → G
 no_some x e = cc
 
-live_by : (files : List File) (id : ℕ) (source : List ℕ) → source_of files id ≡ Some source → id < length files
+live_by : (files : List File) (id : ℕ) (source : List ℕ) → source_of_file files id ≡ Some source → id < length files
 live_by [] zero source is = no_some source is
 live_by [] (suc id) source is = no_some source is
 live_by (file ∷ files) zero source is = omega arith
@@ -113,11 +113,11 @@ points_lie files at bytes style message stands = record {
 
 -- ---- the table with one file more
 
-pub last_source : (files : List File) (file : File) → source_of (files ++ file ∷ []) (length files) ≡ Some file.source
+pub last_source : (files : List File) (file : File) → source_of_file (files ++ file ∷ []) (length files) ≡ Some file.source
 last_source [] file = refl
 last_source (first ∷ files) file = last_source files file
 
-kept_source : (files : List File) (file : File) (id : ℕ) (source : List ℕ) → source_of files id ≡ Some source → source_of (files ++ file ∷ []) id ≡ Some source
+kept_source : (files : List File) (file : File) (id : ℕ) (source : List ℕ) → source_of_file files id ≡ Some source → source_of_file (files ++ file ∷ []) id ≡ Some source
 kept_source [] file zero source is = no_some source is
 kept_source [] file (suc id) source is = no_some source is
 kept_source (first ∷ files) file zero source is = is

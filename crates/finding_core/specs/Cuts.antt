@@ -8,13 +8,13 @@ use Rattle.graph_core.specs.Krate.{Record}
 use Rattle.diag_core.specs.declared.label.Coord.{Coord}
 use Rattle.diag_core.specs.declared.label.Label.{Label}
 use Rattle.diag_core.specs.declared.pack.Diag.{Diag}
-use Rattle.diag_core.specs.File.{File, source_of}
+use Rattle.diag_core.specs.File.{File, source_of_file}
 use Rattle.deny_text.specs.Spans.{LiesBetween}
 use Rattle.manifest_core.specs.Synthetic.{cut, marked_of}
 use Rattle.location_core.specs.Location.{PointsAt}
-use Rattle.finding_core.specs.Findings.{CaseView, Outcome, by_field, by_files, files_for, is_made, kept_by, marks_by, points_by}
-use Rattle.finding_core.specs.Pieces.{Seen, seen_pieces}
-use Rattle.finding_core.specs.Premises.{field_of}
+use Rattle.finding_core.specs.Findings.{UnclarifiedCrateView, ExpressionBasisView, by_field, by_files, files_for, is_made, synthetic_of, marks_by, points_by}
+use Rattle.finding_core.specs.Pieces.{SeenFilesView, seen_pieces}
+use Rattle.finding_core.specs.Premises.{field_text_of}
 
 -- the labels of findings, in order
 abbrev pub labels_of : List Diag → List Label
@@ -22,7 +22,7 @@ labels_of findings = flat_map (λ (finding : Diag). finding.diag.labels) finding
 
 -- the text that a label cuts out of its file
 abbrev pub text_under : List File → Label → List ℕ
-text_under files label = cut (unwrap_or (source_of files label.file_id) []) label.range
+text_under files label = cut (unwrap_or (source_of_file files label.file_id) []) label.range
 
 -- of an empty field that has a location: the empty text
 abbrev pub empty_texts : Option Coord → List (List ℕ)
@@ -35,7 +35,7 @@ field_texts location faults None = []
 field_texts location faults (Some field) = if length field == 0 then empty_texts location else map (λ (fault : ParseError). cut field fault.span) faults
 
 -- what is marked of the files: a score, a name, or why there is no text or no listing
-abbrev pub failed_texts : List ℕ → Seen → List (List ℕ)
+abbrev pub failed_texts : List ℕ → SeenFilesView → List (List ℕ)
 failed_texts folder seen = marked_of (seen_pieces folder seen)
 
 -- the crate's name, where there is no expression
@@ -43,13 +43,13 @@ abbrev pub name_texts : Record → Option (List ℕ) → List (List ℕ)
 name_texts krate None = krate.name ∷ []
 name_texts krate (Some expression) = []
 
-abbrev pub texts_by : CaseView → Outcome → List (List ℕ)
+abbrev pub texts_by : UnclarifiedCrateView → ExpressionBasisView → List (List ℕ)
 texts_by case by_field = field_texts case.location case.faults case.krate.license
 texts_by case (by_files seen joined) =
     field_texts case.location case.faults case.krate.license ++ failed_texts case.folder seen ++ name_texts case.krate joined
 
 -- each label cuts its text out of the table as it is afterwards
-abbrev pub CutOutBy : CaseView → List File → Outcome → Type 0
+abbrev pub CutOutBy : UnclarifiedCrateView → List File → ExpressionBasisView → Type 0
 CutOutBy case files outcome =
     map (text_under (files_for case outcome files)) (labels_of (points_by case (marks_by case outcome files) outcome).findings) ≡ texts_by case outcome
 
@@ -59,31 +59,31 @@ CutOutBy case files outcome =
 pub record LabelLies (files : List File) (label : Label) : Type 0 where
   pub live : label.file_id < length files
   pub ordered : label.range.start ≤ label.range.end
-  pub starts : IsCharBoundary (unwrap_or (source_of files label.file_id) []) label.range.start
-  pub ends : IsCharBoundary (unwrap_or (source_of files label.file_id) []) label.range.end
+  pub starts : IsCharBoundary (unwrap_or (source_of_file files label.file_id) []) label.range.start
+  pub ends : IsCharBoundary (unwrap_or (source_of_file files label.file_id) []) label.range.end
 
 -- each label of each finding, in the table as it is afterwards
-abbrev pub LabelsLieBy : CaseView → List File → Outcome → Type 0
+abbrev pub LabelsLieBy : UnclarifiedCrateView → List File → ExpressionBasisView → Type 0
 LabelsLieBy case files outcome = All (LabelLies (files_for case outcome files)) (labels_of (points_by case (marks_by case outcome files) outcome).findings)
 
 -- the marks of a synthetic manifest, where it is made, stand between characters of its text
-abbrev pub MarksLie : CaseView → Outcome → Type 0
-MarksLie case outcome = OnTrue (is_made case.location outcome) (All (LiesBetween (kept_by case outcome).text) (kept_by case outcome).spans)
+abbrev pub MarksLie : UnclarifiedCrateView → ExpressionBasisView → Type 0
+MarksLie case outcome = OnTrue (is_made case.location outcome) (All (LiesBetween (synthetic_of case outcome).text) (synthetic_of case outcome).spans)
 
 -- ---- where the expression stands
 
 -- the text of the expression, where there is one: the field, or the joined names
-abbrev pub expression_text : CaseView → Outcome → Option (List ℕ)
-expression_text case by_field = Some (field_of case)
+abbrev pub expression_text : UnclarifiedCrateView → ExpressionBasisView → Option (List ℕ)
+expression_text case by_field = Some (field_text_of case)
 expression_text case (by_files seen joined) = joined
 
 -- a text that is there has a place, which cuts it out
-abbrev pub StandsAt : List File → Option Coord → Option (List ℕ) → Type 0
-StandsAt files None None = ⊤
-StandsAt files None (Some text) = ⊥
-StandsAt files (Some at) None = ⊥
-StandsAt files (Some at) (Some text) = PointsAt files at text
+abbrev pub StandsAtCoord : List File → Option Coord → Option (List ℕ) → Type 0
+StandsAtCoord files None None = ⊤
+StandsAtCoord files None (Some text) = ⊥
+StandsAtCoord files (Some at) None = ⊥
+StandsAtCoord files (Some at) (Some text) = PointsAt files at text
 
-abbrev pub ExpressionStandsBy : CaseView → List File → Outcome → Type 0
+abbrev pub ExpressionStandsBy : UnclarifiedCrateView → List File → ExpressionBasisView → Type 0
 ExpressionStandsBy case files outcome =
-    StandsAt (files_for case outcome files) (points_by case (marks_by case outcome files) outcome).expression (expression_text case outcome)
+    StandsAtCoord (files_for case outcome files) (points_by case (marks_by case outcome files) outcome).expression (expression_text case outcome)

@@ -16,5 +16,5 @@ faults_by (Some fault) None = fault ∷ []
 faults_by (Some fault) (Some other) = if same_span fault.span other.span then fault ∷ [] else fault ∷ other ∷ []
 
 -- an empty field is not read
-abbrev pub faults_of : CatalogLists → List ℕ → List ParseError
-faults_of lists field = if length field == 0 then [] else faults_by (first_fault strict_with_slash lists field) (first_fault lax lists field)
+abbrev pub field_faults : CatalogLists → List ℕ → List ParseError
+field_faults lists field = if length field == 0 then [] else faults_by (first_fault strict_with_slash lists field) (first_fault lax lists field)

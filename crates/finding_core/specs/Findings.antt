@@ -17,12 +17,12 @@ use Rattle.diag_core.specs.declared.severity.Severity.TheVariants.{Warning}
 use Rattle.diag_core.specs.File.{File}
 use Rattle.diag_core.specs.Code.{code_name}
 use Rattle.diag_core.specs.Label.{heap, label_at}
-use Rattle.manifest_core.specs.Synthetic.{Kept}
-use Rattle.expression_core.specs.declared.files.Scanned.{Scanned}
-use Rattle.expression_core.specs.declared.files.Scanned.TheVariants.{Bad, Unnamed, Low, Unknown, Joined}
+use Rattle.manifest_core.specs.Synthetic.{PlacedText}
+use Rattle.expression_core.specs.declared.files.FileResult.{FileResult}
+use Rattle.expression_core.specs.declared.files.FileResult.TheVariants.{Bad, Unnamed, Low, Unknown, Joined}
 use Rattle.expression_core.specs.declared.files.ScannedFile.{ScannedFile}
-use Rattle.finding_core.specs.declared.outcome.Points.{Points}
-use Rattle.finding_core.specs.Pieces.{Seen, unlisted, listed, crate_kept, synthetic_file}
+use Rattle.finding_core.specs.declared.outcome.PlacedFindings.{PlacedFindings}
+use Rattle.finding_core.specs.Pieces.{SeenFilesView, unlisted, listed, crate_kept, synthetic_file}
 
 -- ---- findings
 
@@ -47,8 +47,8 @@ abbrev pub fault_place : Coord → Span → Coord
 fault_place field fault = record { file = field.file; span = record { start = field.span.start + fault.start; end = field.span.start + fault.end } }
 
 -- it is a place of 64 bits
-abbrev pub Fits : Coord → ParseError → Type 0
-Fits field fault = (field.span.start + fault.span.start < 2 ^ 64) × (field.span.start + fault.span.end < 2 ^ 64)
+abbrev pub FaultFits : Coord → ParseError → Type 0
+FaultFits field fault = (field.span.start + fault.span.start < 2 ^ 64) × (field.span.start + fault.span.end < 2 ^ 64)
 
 abbrev pub field_fault : Coord → ParseError → Diag
 field_fault field fault =
@@ -71,7 +71,7 @@ unlicensed name =
 -- ---- what failed
 
 -- why a file gives no name
-abbrev pub failure_of : Scanned → Option (List ℕ)
+abbrev pub failure_of : FileResult → Option (List ℕ)
 failure_of (Bad error) = Some (codes "unable to read license file")
 failure_of (Unnamed hash score) = Some (codes "low confidence in the license text")
 failure_of (Low hash score name) = Some (codes "low confidence in the license text")
@@ -79,7 +79,7 @@ failure_of (Unknown hash score name) = Some (codes "unknown SPDX identifier")
 failure_of (Joined hash name deprecated) = None
 
 -- in path order
-abbrev pub failures_of : Seen → List (List ℕ)
+abbrev pub failures_of : SeenFilesView → List (List ℕ)
 failures_of (unlisted error) = codes "unable to gather license files" ∷ []
 failures_of (listed scanned) = filter_map (λ (file : ScannedFile). failure_of file.scanned) scanned
 
@@ -91,17 +91,17 @@ pub record MarksView : Type 0 where
   pub file : ℕ
   pub spans : List Span
 
-abbrev pub mark_at : MarksView → ℕ → Option Coord
-mark_at marks place = option_map (λ span. record { file = marks.file; span = span }) (slice_get marks.spans place)
+abbrev pub mark_coord : MarksView → ℕ → Option Coord
+mark_coord marks place = option_map (λ span. record { file = marks.file; span = span }) (slice_get marks.spans place)
 
 abbrev pub name_mark : MarksView → Option Coord
-name_mark marks = mark_at marks 0
+name_mark marks = mark_coord marks 0
 
 abbrev pub field_mark : MarksView → Option Coord
-field_mark marks = mark_at marks 1
+field_mark marks = mark_coord marks 1
 
 abbrev pub joined_mark : MarksView → Option Coord
-joined_mark marks = mark_at marks 2
+joined_mark marks = mark_coord marks 2
 
 -- the number of the first mark of what failed
 abbrev pub first_failure : Option (List ℕ) → ℕ
@@ -132,7 +132,7 @@ field_findings krate location faults place None = no_field krate ∷ []
 field_findings krate location faults place (Some field) = if length field == 0 then empty_findings krate location else fault_findings place faults
 
 -- one of each failure, also where another file gives a name
-abbrev pub failure_findings : Seen → Option (List ℕ) → MarksView → List Diag
+abbrev pub failure_findings : SeenFilesView → Option (List ℕ) → MarksView → List Diag
 failure_findings seen joined marks = map (failure marks.file) (zip (failures_of seen) (failure_marks joined marks))
 
 -- there is no expression
@@ -144,19 +144,19 @@ unlicensed_findings (Some expression) marks = []
 
 -- What settles it: its field gives the expression; or its files are looked at, and the expression of joined names is there
 -- where some name is joined.
-pub data Outcome : Type 0 where
-  by_field : Outcome
-  by_files : Seen → Option (List ℕ) → Outcome
+pub data ExpressionBasisView : Type 0 where
+  by_field : ExpressionBasisView
+  by_files : SeenFilesView → Option (List ℕ) → ExpressionBasisView
 
 -- the crate, the folder of its manifest, the location of its field where that counts, the field's faults, and what settles it
-pub record CaseView : Type 0 where
+pub record UnclarifiedCrateView : Type 0 where
   pub krate : Record
   pub folder : List ℕ
   pub location : Option Coord
   pub faults : List ParseError
-  pub outcome : Outcome
+  pub outcome : ExpressionBasisView
 
-abbrev pub field_points : CaseView → MarksView → List Diag
+abbrev pub field_points : UnclarifiedCrateView → MarksView → List Diag
 field_points case marks = field_findings case.krate case.location case.faults (field_place case.location (field_mark marks)) case.krate.license
 
 -- where the expression of joined names stands, where there is one
@@ -165,7 +165,7 @@ joined_place None marks = None
 joined_place (Some text) marks = joined_mark marks
 
 -- where the expression's text stands, and the findings in order
-abbrev pub points_by : CaseView → MarksView → Outcome → Points
+abbrev pub points_by : UnclarifiedCrateView → MarksView → ExpressionBasisView → PlacedFindings
 points_by case marks by_field = record { expression = field_place case.location (field_mark marks); findings = field_points case marks }
 points_by case marks (by_files seen joined) = record {
   expression = joined_place joined marks;
@@ -176,28 +176,28 @@ points_by case marks (by_files seen joined) = record {
 
 -- it is made where something points into it: where the files are looked at, and where the field that gives the expression has
 -- no location
-abbrev pub is_made : Option Coord → Outcome → Bool
+abbrev pub is_made : Option Coord → ExpressionBasisView → Bool
 is_made location by_field = is_none location
 is_made location (by_files seen joined) = true
 
-abbrev pub kept_by : CaseView → Outcome → Kept
-kept_by case by_field = crate_kept case.krate case.folder None (listed [])
-kept_by case (by_files seen joined) = crate_kept case.krate case.folder joined seen
+abbrev pub synthetic_of : UnclarifiedCrateView → ExpressionBasisView → PlacedText
+synthetic_of case by_field = crate_kept case.krate case.folder None (listed [])
+synthetic_of case (by_files seen joined) = crate_kept case.krate case.folder joined seen
 
 -- it is the next file of the table
-abbrev pub marks_by : CaseView → Outcome → List File → MarksView
-marks_by case outcome files = record { file = length files; spans = (kept_by case outcome).spans }
+abbrev pub marks_by : UnclarifiedCrateView → ExpressionBasisView → List File → MarksView
+marks_by case outcome files = record { file = length files; spans = (synthetic_of case outcome).spans }
 
-abbrev pub files_by : CaseView → Outcome → List File → List File
-files_by case outcome files = files ++ synthetic_file case.krate (kept_by case outcome) ∷ []
+abbrev pub files_with_synthetic : UnclarifiedCrateView → ExpressionBasisView → List File → List File
+files_with_synthetic case outcome files = files ++ synthetic_file case.krate (synthetic_of case outcome) ∷ []
 
 -- where the expression stands, and what is found of the crate
-abbrev pub points_of : CaseView → List File → Points
+abbrev pub points_of : UnclarifiedCrateView → List File → PlacedFindings
 points_of case files = points_by case (marks_by case case.outcome files) case.outcome
 
 -- the table afterwards
-abbrev pub files_for : CaseView → Outcome → List File → List File
-files_for case outcome files = if is_made case.location outcome then files_by case outcome files else files
+abbrev pub files_for : UnclarifiedCrateView → ExpressionBasisView → List File → List File
+files_for case outcome files = if is_made case.location outcome then files_with_synthetic case outcome files else files
 
-abbrev pub files_with : CaseView → List File → List File
+abbrev pub files_with : UnclarifiedCrateView → List File → List File
 files_with case files = files_for case case.outcome files

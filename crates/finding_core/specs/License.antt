@@ -3,7 +3,7 @@ use Rattle.std.specs.Prelude.{◌≡◌, ℕ, ◌+◌, ◌≤◌, List, length, 
 use Rattle.std.specs.Str.{IsCharBoundary}
 use Rattle.deny_text.specs.declared.span.Span.{Span}
 use Rattle.spdx_core.specs.Reading.{ExpressionView}
-use Rattle.diag_core.specs.File.{File, source_of}
+use Rattle.diag_core.specs.File.{File, source_of_file}
 use Rattle.location_core.specs.Location.{PointsAt}
 use Rattle.finding_core.specs.declared.license.LicenseExprInfo.{LicenseExprInfo}
 use Rattle.finding_core.specs.declared.license.LicenseInfo.{LicenseInfo}
@@ -19,7 +19,7 @@ expression_of (SpdxExpression expression nfo) = Some expression
 -- a place lies in the text of a file of the table, between characters
 pub record PlaceLies (files : List File) (file : ℕ) (span : Span) : Type 0 where
   pub source : List ℕ
-  pub is_source : source_of files file ≡ Some source
+  pub is_source : source_of_file files file ≡ Some source
   pub ordered : span.start ≤ span.end
   pub starts : IsCharBoundary source span.start
   pub ends : IsCharBoundary source span.end

@@ -4,17 +4,17 @@ use Rattle.term_core.specs.declared.error.ParseError.{ParseError}
 use Rattle.diag_core.specs.File.{File}
 use Rattle.location_core.specs.Location.{PointsAt}
 use Rattle.deny_text.specs.Spans.{LiesBetween}
-use Rattle.finding_core.specs.Findings.{CaseView}
+use Rattle.finding_core.specs.Findings.{UnclarifiedCrateView}
 
 -- the text of the field; empty where there is none
-abbrev pub field_of : CaseView → List ℕ
-field_of case = unwrap_or case.krate.license []
+abbrev pub field_text_of : UnclarifiedCrateView → List ℕ
+field_text_of case = unwrap_or case.krate.license []
 
 -- the faults lie in the field, between its characters
 abbrev pub FaultsLie : List ℕ → List ParseError → Type 0
 FaultsLie field faults = All (λ (fault : ParseError). LiesBetween field fault.span) faults
 
 -- the location, where there is one, cuts the field out of its file, between characters
-pub record IsPlaced (case : CaseView) (files : List File) : Type 0 where
-  pub located : IfSome case.location (λ at. PointsAt files at (field_of case))
-  pub faults : FaultsLie (field_of case) case.faults
+pub record IsFieldPlaced (case : UnclarifiedCrateView) (files : List File) : Type 0 where
+  pub located : IfSome case.location (λ at. PointsAt files at (field_text_of case))
+  pub faults : FaultsLie (field_text_of case) case.faults

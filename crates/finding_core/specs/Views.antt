@@ -2,23 +2,23 @@
 use Rattle.std.specs.Prelude.{ℕ, List, option_copied}
 use Rattle.std.specs.Borrow.{Bor}
 use Rattle.graph_core.specs.Krate.{record_of}
-use Rattle.finding_core.specs.declared.case.Case.{Case}
-use Rattle.finding_core.specs.declared.case.Settles.{Settles}
-use Rattle.finding_core.specs.declared.case.Settles.TheVariants.{Field, Files}
+use Rattle.finding_core.specs.declared.case.UnclarifiedCrate.{UnclarifiedCrate}
+use Rattle.finding_core.specs.declared.case.ExpressionBasis.{ExpressionBasis}
+use Rattle.finding_core.specs.declared.case.ExpressionBasis.TheVariants.{Field, Files}
 use Rattle.finding_core.specs.declared.case.SeenFiles.{SeenFiles}
 use Rattle.finding_core.specs.declared.case.SeenFiles.TheVariants.{Unlisted, Listed}
-use Rattle.finding_core.specs.Findings.{CaseView, Outcome, by_field, by_files}
-use Rattle.finding_core.specs.Pieces.{Seen, unlisted, listed}
+use Rattle.finding_core.specs.Findings.{UnclarifiedCrateView, ExpressionBasisView, by_field, by_files}
+use Rattle.finding_core.specs.Pieces.{SeenFilesView, unlisted, listed}
 
-abbrev pub seen_view : SeenFiles → Seen
+abbrev pub seen_view : SeenFiles → SeenFilesView
 seen_view (Unlisted error) = unlisted error
 seen_view (Listed files) = listed files.now
 
-abbrev pub outcome_view : Settles → Outcome
+abbrev pub outcome_view : ExpressionBasis → ExpressionBasisView
 outcome_view Field = by_field
 outcome_view (Files seen joined) = by_files (seen_view seen) (option_copied joined)
 
-abbrev pub case_view : Case → CaseView
+abbrev pub case_view : UnclarifiedCrate → UnclarifiedCrateView
 case_view case = record {
   krate = record_of case.krate.now;
   folder = case.folder.now;

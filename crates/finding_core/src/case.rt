@@ -16,7 +16,7 @@ pub enum SeenFiles<'a> {
 
 /// What settles a licence.
 #[derive(Clone, Copy)]
-pub enum Settles<'a> {
+pub enum ExpressionBasis<'a> {
     /// The crate's field gives the expression.
     Field,
     /// The files are looked at; joined is the expression of the names that they give, where there is one.
@@ -28,7 +28,7 @@ pub enum Settles<'a> {
 
 /// A crate whose licence no clarification settles.
 #[derive(Clone, Copy)]
-pub struct Case<'a> {
+pub struct UnclarifiedCrate<'a> {
     pub krate: &'a Krate,
     /// The folder of its manifest.
     pub folder: &'a str,
@@ -36,5 +36,5 @@ pub struct Case<'a> {
     pub location: Option<Coord>,
     /// What is wrong with its field.
     pub faults: &'a [ParseError],
-    pub settles: Settles<'a>,
+    pub settles: ExpressionBasis<'a>,
 }

@@ -7,22 +7,22 @@ ghost use Rattle.finding_core.specs.Findings.{failure_of};
 ghost use Rattle.finding_core.specs.Views.{behind, seen_view};
 
 use crate::case::SeenFiles;
-use expression_core::{Scanned, ScannedFile};
+use expression_core::{FileResult, ScannedFile};
 use std::alloc::{AllocError, Global};
 
 /// What is said of failures, in order.
 pub(crate) type Words = Vec<&'static str>;
 
 /// Why a file gives no name; none where it gives one.
-fn failure_of(scanned: &Scanned) -> Option<&'static str>
+fn failure_of(scanned: &FileResult) -> Option<&'static str>
     ensures { option_copied result ≡ failure_of scanned.now }
 {
     match scanned {
-        Scanned::Bad(_) => Some("unable to read license file"),
-        Scanned::Unnamed { .. } => Some("low confidence in the license text"),
-        Scanned::Low { .. } => Some("low confidence in the license text"),
-        Scanned::Unknown { .. } => Some("unknown SPDX identifier"),
-        Scanned::Joined { .. } => None,
+        FileResult::Bad(_) => Some("unable to read license file"),
+        FileResult::Unnamed { .. } => Some("low confidence in the license text"),
+        FileResult::Low { .. } => Some("low confidence in the license text"),
+        FileResult::Unknown { .. } => Some("unknown SPDX identifier"),
+        FileResult::Joined { .. } => None,
     }
 }
 

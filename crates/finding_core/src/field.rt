@@ -1,10 +1,10 @@
 //! Reading a crate's field.
 ghost use Rattle.std.specs.Prelude.{◌≡◌, IfOk, Some};
 ghost use Rattle.term_core.specs.Faults.{first_fault};
-ghost use Rattle.spdx_core.specs.Reading.{expression_of};
+ghost use Rattle.spdx_core.specs.Reading.{expression_of_text};
 ghost use Rattle.expression_core.specs.Taken.{field_read};
 ghost use Rattle.finding_core.specs.Faults as spec;
-ghost use Rattle.finding_core.specs.Faults.{faults_by, faults_of};
+ghost use Rattle.finding_core.specs.Faults.{faults_by, field_faults};
 ghost use Rattle.finding_core.specs.Premises.{FaultsLie};
 
 use deny_text::{ListOf, Span};
@@ -20,18 +20,18 @@ const FIELD: ParseMode = ParseMode {
 };
 
 /// Faults in order.
-pub type Faults = ListOf<ParseError>;
+pub type ParseErrors = ListOf<ParseError>;
 
 /// The expression of a field, if it is one, and what is wrong with it.
 #[derive(Drop)]
 pub struct FieldRead {
     pub expression: Option<Expression>,
-    pub faults: Faults,
+    pub faults: ParseErrors,
 }
 
 /// One reading of a text: the expression, or the first fault.
 #[derive(Drop)]
-struct Reading {
+struct FieldReading {
     expression: Option<Expression>,
     fault: Option<ParseError>,
 }
@@ -42,18 +42,18 @@ fn read_in<C: Catalog>(
     text: &str,
     mode: ParseMode,
     catalog: &C,
-) -> Result<Reading, AllocError>
+) -> Result<FieldReading, AllocError>
     ensures expression { IfOk result (λ reading.
-        reading.expression ≡ expression_of mode (C.lists catalog.now) text.now) }
+        reading.expression ≡ expression_of_text mode (C.lists catalog.now) text.now) }
     ensures fault { IfOk result (λ reading.
         reading.fault ≡ first_fault mode (C.lists catalog.now) text.now) }
 {
     match Expression::parse_mode(alloc, text, mode, catalog) {
-        Ok(read) => Ok(Reading {
+        Ok(read) => Ok(FieldReading {
             expression: Some(read),
             fault: None,
         }),
-        Err(ExprError::Parse(fault)) => Ok(Reading {
+        Err(ExprError::Parse(fault)) => Ok(FieldReading {
             expression: None,
             fault: Some(fault),
         }),
@@ -68,10 +68,10 @@ fn same_span(one: Span, other: Span) -> bool
 }
 
 /// The fault of the lax reading stands behind that of the strict one, but for one at the same place.
-fn faults(alloc: Global, strict: ParseError, lax: Option<ParseError>) -> Result<Faults, AllocError>
+fn faults(alloc: Global, strict: ParseError, lax: Option<ParseError>) -> Result<ParseErrors, AllocError>
     ensures { IfOk result (λ faults. faults ≡ faults_by (Some strict) lax) }
 {
-    let mut faults = Faults::new(alloc);
+    let mut faults = ParseErrors::new(alloc);
     faults.push(strict)?;
     match lax {
         Some(fault) if !same_span(strict.span, fault.span) => faults.push(fault)?,
@@ -82,19 +82,19 @@ fn faults(alloc: Global, strict: ParseError, lax: Option<ParseError>) -> Result<
 
 fn read_both<C: Catalog>(alloc: Global, field: &str, catalog: &C) -> Result<FieldRead, AllocError>
     ensures expression { IfOk result (λ read. read.expression ≡ field_read (C.lists catalog.now) field.now) }
-    ensures faults { IfOk result (λ read. read.faults ≡ faults_of (C.lists catalog.now) field.now) }
+    ensures faults { IfOk result (λ read. read.faults ≡ field_faults (C.lists catalog.now) field.now) }
 {
     if field.is_empty() {
         return Ok(FieldRead {
             expression: None,
-            faults: Faults::new(alloc),
+            faults: ParseErrors::new(alloc),
         });
     }
     let strict = read_in(alloc, field, FIELD, catalog)?;
     match strict.fault {
         None => Ok(FieldRead {
             expression: strict.expression,
-            faults: Faults::new(alloc),
+            faults: ParseErrors::new(alloc),
         }),
         Some(fault) => {
             let lax = read_in(alloc, field, ParseMode::LAX, catalog)?;
@@ -115,7 +115,7 @@ pub fn read_field<C: Catalog>(
     catalog: &C,
 ) -> Result<FieldRead, AllocError>
     ensures expression { IfOk result (λ read. read.expression ≡ field_read (C.lists catalog.now) field.now) }
-    ensures faults { IfOk result (λ read. read.faults ≡ faults_of (C.lists catalog.now) field.now) }
+    ensures faults { IfOk result (λ read. read.faults ≡ field_faults (C.lists catalog.now) field.now) }
     ensures inside { IfOk result (λ read. FaultsLie field.now read.faults) }
 {
     let read = read_both(alloc, field, catalog)?;

@@ -4,7 +4,7 @@ ghost use Rattle.std.specs.List.{zip};
 ghost use Rattle.std.specs.Option.{option_map, option_to_list};
 ghost use Rattle.graph_core.specs.Krate.{record_of};
 ghost use Rattle.finding_core.specs.Findings as spec;
-ghost use Rattle.finding_core.specs.Findings.{Fits, failure, label_of};
+ghost use Rattle.finding_core.specs.Findings.{FaultFits, failure, label_of};
 ghost use Rattle.finding_core.specs.Views.{behind};
 
 use crate::marks::span_at;
@@ -66,7 +66,7 @@ pub fn missing_file(alloc: Global, path: Coord) -> Result<Diag, AllocError>
 
 /// A fault in a field that stands at a place.
 fn field_fault(alloc: Global, field: Coord, fault: ParseError) -> Result<Diag, AllocError>
-    requires { Fits field fault }
+    requires { FaultFits field fault }
     ensures { IfOk result (λ finding. finding ≡ spec.field_fault field fault) }
 {
     let span = Span {
@@ -134,7 +134,7 @@ fn push_faults(
     field: Coord,
     faults: &[ParseError],
 ) -> Result<(), AllocError>
-    requires { All (Fits field) faults.now }
+    requires { All (FaultFits field) faults.now }
     ensures { OnOk result (diags.new ≡ diags.old ++ map (spec.field_fault field) faults.now) }
 {
     'faults: for fault in faults {
@@ -178,7 +178,7 @@ fn fault_findings(
     place: Option<Coord>,
     faults: &[ParseError],
 ) -> Result<Diags, AllocError>
-    requires { IfSome place (λ at. All (Fits at) faults.now) }
+    requires { IfSome place (λ at. All (FaultFits at) faults.now) }
     ensures { IfOk result (λ diags. diags ≡ spec.fault_findings place faults.now) }
 {
     let mut diags = Diags::new(alloc);
@@ -200,7 +200,7 @@ pub(crate) fn field_findings(
     faults: &[ParseError],
     place: Option<Coord>,
 ) -> Result<Diags, AllocError>
-    requires { IfSome place (λ at. All (Fits at) faults.now) }
+    requires { IfSome place (λ at. All (FaultFits at) faults.now) }
     ensures { let krate = record_of krate.now in IfOk result (λ diags. diags
         ≡ spec.field_findings krate location faults.now place krate.license) }
 {

@@ -1,7 +1,7 @@
 //! The places that a synthetic manifest marks.
 ghost use Rattle.std.specs.Prelude.{◌≡◌, ◌<◌, ◌^◌, IfSome, drop, slice_get};
 ghost use Rattle.finding_core.specs.Findings as spec;
-ghost use Rattle.finding_core.specs.Findings.{joined_mark, mark_at, name_mark};
+ghost use Rattle.finding_core.specs.Findings.{joined_mark, mark_coord, name_mark};
 
 use deny_text::Span;
 use diag_core::{Coord, FileId};
@@ -50,7 +50,7 @@ impl Marks {
     }
 
     fn at(&self, place: usize) -> Option<Coord>
-        ensures mark { result ≡ mark_at self.now place }
+        ensures mark { result ≡ mark_coord self.now place }
         ensures fits { IfSome result (λ at. at.span.end < 2 ^ 64) }
     {
         match span_at(&self.spans, place) {

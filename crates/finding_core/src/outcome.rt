@@ -5,14 +5,14 @@ ghost use Rattle.diag_core.specs.File.{Grows};
 ghost use Rattle.graph_core.specs.Krate.{record_of};
 ghost use Rattle.finding_core.specs.Findings as spec;
 ghost use Rattle.finding_core.specs.Findings.{by_field, by_files, failure_findings, field_mark};
-ghost use Rattle.finding_core.specs.Findings.{field_place, files_by, joined_place, marks_by, points_by};
+ghost use Rattle.finding_core.specs.Findings.{field_place, files_with_synthetic, joined_place, marks_by, points_by};
 ghost use Rattle.finding_core.specs.Findings.{points_of, unlicensed_findings};
-ghost use Rattle.finding_core.specs.Cuts.{LabelLies, MarksLie, StandsAt, expression_text, labels_of};
+ghost use Rattle.finding_core.specs.Cuts.{LabelLies, MarksLie, StandsAtCoord, expression_text, labels_of};
 ghost use Rattle.finding_core.specs.Cuts.{text_under, texts_by};
-ghost use Rattle.finding_core.specs.Premises.{FaultsLie, IsPlaced};
+ghost use Rattle.finding_core.specs.Premises.{FaultsLie, IsFieldPlaced};
 ghost use Rattle.finding_core.specs.Views.{case_view, seen_view};
 
-use crate::case::{Case, SeenFiles, Settles};
+use crate::case::{UnclarifiedCrate, SeenFiles, ExpressionBasis};
 use crate::failures::failures_of;
 use crate::findings::{Diags, field_findings, push_failures, push_unlicensed};
 use crate::marks::Marks;
@@ -22,14 +22,14 @@ use std::alloc::{AllocError, Global};
 
 /// Where the expression of a crate stands, and what is found on the way to it.
 #[derive(Drop)]
-pub struct Points {
+pub struct PlacedFindings {
     /// None where there is no expression.
     pub expression: Option<Coord>,
     pub findings: Diags,
 }
 
 /// By the field, which gives the expression and stands at its location.
-fn find_at(alloc: Global, case: &Case<'_>, at: Coord) -> Result<Points, AllocError>
+fn find_at(alloc: Global, case: &UnclarifiedCrate<'_>, at: Coord) -> Result<PlacedFindings, AllocError>
     requires long { let field = unwrap_or (record_of case.now.krate.now).license [] in
         at.span.end ≡ at.span.start + length field }
     requires lie { let field = unwrap_or (record_of case.now.krate.now).license [] in
@@ -40,7 +40,7 @@ fn find_at(alloc: Global, case: &Case<'_>, at: Coord) -> Result<Points, AllocErr
     }) }
 {
     let findings = field_findings(alloc, case.krate, Some(at), case.faults, Some(at))?;
-    Ok(Points {
+    Ok(PlacedFindings {
         expression: Some(at),
         findings,
     })
@@ -50,16 +50,16 @@ fn find_at(alloc: Global, case: &Case<'_>, at: Coord) -> Result<Points, AllocErr
 fn find_without_location(
     alloc: Global,
     files: &mut Files,
-    case: &Case<'_>,
-) -> Result<Points, AllocError>
-    requires { IsPlaced (case_view case.now) files.old }
+    case: &UnclarifiedCrate<'_>,
+) -> Result<PlacedFindings, AllocError>
+    requires { IsFieldPlaced (case_view case.now) files.old }
     ensures points { let case = case_view case.now in
         let mark = field_mark (marks_by case by_field files.old) in
         IfOk result (λ found. found ≡ record {
           expression = mark;
           findings = spec.field_findings case.krate None case.faults mark case.krate.license;
         }) }
-    ensures files { OnOk result (files.new ≡ files_by (case_view case.now) by_field files.old) }
+    ensures files { OnOk result (files.new ≡ files_with_synthetic (case_view case.now) by_field files.old) }
     ensures marks { OnOk result (MarksLie (case_view case.now) by_field) }
     ensures grows { Grows files.old files.new }
 {
@@ -67,7 +67,7 @@ fn find_without_location(
     let marks = synthesize(alloc, files, case.krate, case.folder, None, seen)?;
     let mark = marks.field();
     let findings = field_findings(alloc, case.krate, None, case.faults, mark)?;
-    Ok(Points {
+    Ok(PlacedFindings {
         expression: mark,
         findings,
     })
@@ -124,16 +124,16 @@ fn field_place(location: Option<Coord>, marks: &Marks) -> Option<Coord>
 fn find_by_files(
     alloc: Global,
     files: &mut Files,
-    case: &Case<'_>,
+    case: &UnclarifiedCrate<'_>,
     seen: SeenFiles<'_>,
     joined: Option<&str>,
-) -> Result<Points, AllocError>
-    requires { IsPlaced (case_view case.now) files.old }
+) -> Result<PlacedFindings, AllocError>
+    requires { IsFieldPlaced (case_view case.now) files.old }
     ensures points { let case = case_view case.now in
         let outcome = by_files (seen_view seen.entry) (option_copied joined.entry) in
         IfOk result (λ found. found ≡ points_by case (marks_by case outcome files.old) outcome) }
     ensures files { let outcome = by_files (seen_view seen.entry) (option_copied joined.entry) in
-        OnOk result (files.new ≡ files_by (case_view case.now) outcome files.old) }
+        OnOk result (files.new ≡ files_with_synthetic (case_view case.now) outcome files.old) }
     ensures marks { let outcome = by_files (seen_view seen.entry) (option_copied joined.entry) in
         OnOk result (MarksLie (case_view case.now) outcome) }
     ensures grows { Grows files.old files.new }
@@ -142,33 +142,33 @@ fn find_by_files(
     let place = field_place(case.location, &marks);
     let mut findings = field_findings(alloc, case.krate, case.location, case.faults, place)?;
     let expression = push_files(alloc, &mut findings, &marks, seen, joined)?;
-    Ok(Points {
+    Ok(PlacedFindings {
         expression,
         findings,
     })
 }
 
 /// By what settles the licence.
-fn find_points(alloc: Global, files: &mut Files, case: &Case<'_>) -> Result<Points, AllocError>
-    requires { IsPlaced (case_view case.now) files.old }
+fn find_points(alloc: Global, files: &mut Files, case: &UnclarifiedCrate<'_>) -> Result<PlacedFindings, AllocError>
+    requires { IsFieldPlaced (case_view case.now) files.old }
     ensures points { IfOk result (λ found. found ≡ points_of (case_view case.now) files.old) }
     ensures files { OnOk result (files.new ≡ spec.files_with (case_view case.now) files.old) }
     ensures marks { let case = case_view case.now in OnOk result (MarksLie case case.outcome) }
     ensures grows { Grows files.old files.new }
 {
     match case.settles {
-        Settles::Field => match case.location {
+        ExpressionBasis::Field => match case.location {
             Some(at) => find_at(alloc, case, at),
             None => find_without_location(alloc, files, case),
         },
-        Settles::Files { seen, joined } => find_by_files(alloc, files, case, seen, joined),
+        ExpressionBasis::Files { seen, joined } => find_by_files(alloc, files, case, seen, joined),
     }
 }
 
 /// What is found of a crate, and where its expression stands. Where something points into it, a manifest is
 /// written in place of the crate's own, and joins the table under a name that no path finds.
-pub fn find(alloc: Global, files: &mut Files, case: &Case<'_>) -> Result<Points, AllocError>
-    requires { IsPlaced (case_view case.now) files.old }
+pub fn find(alloc: Global, files: &mut Files, case: &UnclarifiedCrate<'_>) -> Result<PlacedFindings, AllocError>
+    requires { IsFieldPlaced (case_view case.now) files.old }
     ensures points { IfOk result (λ found. found ≡ points_of (case_view case.now) files.old) }
     ensures files { OnOk result (files.new ≡ spec.files_with (case_view case.now) files.old) }
     // each label cuts out what it says: a fault of the field, what failed, the name
@@ -178,7 +178,7 @@ pub fn find(alloc: Global, files: &mut Files, case: &Case<'_>) -> Result<Points,
     ensures inside { IfOk result (λ found. All (LabelLies files.new) (labels_of found.findings)) }
     // the expression has a place exactly where there is one, and the place cuts out its text
     ensures expression { let case = case_view case.now in IfOk result (λ found.
-        StandsAt files.new found.expression (expression_text case case.outcome)) }
+        StandsAtCoord files.new found.expression (expression_text case case.outcome)) }
     // the files that were there are as they were, also where memory is refused
     ensures grows { Grows files.old files.new }
 {

@@ -16,15 +16,15 @@ use crate::marks::Marks;
 use deny_text::Text;
 use deny_text::path::join;
 use diag_core::Files;
-use expression_core::{Scanned, ScannedFile};
+use expression_core::{FileResult, ScannedFile};
 use graph_core::Krate;
-use manifest_core::{Synthetic, Told};
+use manifest_core::{Synthetic, FileNote};
 use reads_core::BadRead;
 use std::alloc::{AllocError, Global};
 
 /// Why there is no text, or no listing.
 fn words_of(error: BadRead) -> &'static str
-    ensures { result.now ≡ spec.words_of error }
+    ensures { result.now ≡ spec.bad_read_text error }
 {
     match error {
         BadRead::Absent => "not found",
@@ -35,28 +35,28 @@ fn words_of(error: BadRead) -> &'static str
 }
 
 /// What a line of the list tells of a file.
-fn told_of(scanned: &Scanned) -> Told<'_>
+fn told_of(scanned: &FileResult) -> FileNote<'_>
     ensures { told_pieces result ≡ scanned_pieces scanned.entry.now }
 {
     match scanned {
-        Scanned::Bad(error) => Told::Bad {
+        FileResult::Bad(error) => FileNote::Bad {
             words: words_of(*error),
         },
-        Scanned::Unnamed { hash, score } => Told::Unnamed {
+        FileResult::Unnamed { hash, score } => FileNote::Unnamed {
             hash: *hash,
             score: *score as u32,
         },
-        Scanned::Low { hash, score, name } => Told::Low {
-            hash: *hash,
-            score: *score as u32,
-            name: name.name.as_str(),
-        },
-        Scanned::Unknown { hash, score, name } => Told::Unknown {
+        FileResult::Low { hash, score, name } => FileNote::Low {
             hash: *hash,
             score: *score as u32,
             name: name.name.as_str(),
         },
-        Scanned::Joined { hash, .. } => Told::Joined { hash: *hash },
+        FileResult::Unknown { hash, score, name } => FileNote::Unknown {
+            hash: *hash,
+            score: *score as u32,
+            name: name.name.as_str(),
+        },
+        FileResult::Joined { hash, .. } => FileNote::Joined { hash: *hash },
     }
 }
 

@@ -8,27 +8,27 @@ use Rattle.tree_core.specs.Call.{Call}
 use Rattle.tree_core.specs.Content.{Content}
 use Rattle.tree_core.specs.declared.reads.ReadKind.TheVariants.{Manifest, Listing, LicenseFile}
 use Rattle.tree_core.specs.declared.reads.ReadRecord.{ReadRecord}
-use Rattle.diag_core.specs.File.{File, Grows, id_at}
+use Rattle.diag_core.specs.File.{File, Grows, file_id_at}
 use Rattle.graph_core.specs.Krate.{Record}
-use Rattle.reads_core.specs.Heard.{Heard, absent, is_kind, is_read}
-use Rattle.reads_core.specs.Read.{Read, first_heard, read_heard, records_in as recorded}
+use Rattle.reads_core.specs.Heard.{ReadResult, absent, is_kind, is_read}
+use Rattle.reads_core.specs.Read.{AnsweredRead, first_heard, read_heard, records_of_reads}
 use Rattle.reads_core.proofs.ReadLemmas.{lacked_behind, no_reads, reads_joined, reads_lacking, records_in-append}
 use Rattle.pack_core.specs.Calls.{IsFront, StarvesAmong}
-use Rattle.pack_core.specs.Ears.{Ears, ears_by}
+use Rattle.pack_core.specs.Ears.{FolderReads, ears_by}
 use Rattle.pack_core.specs.Pack.{reads_of}
 use Rattle.pack_core.specs.Steps.{file_record, records_by}
 use Rattle.pack_core.proofs.CallLemmas.{first_false, front_then, second_false}
 use Rattle.expression_core.specs.Scanned.{Scanner}
 use Rattle.finding_core.proofs.GrowLemmas.{grows_same}
-use Rattle.location_core.specs.declared.location.Located.{Located}
+use Rattle.location_core.specs.declared.location.LocatedField.{LocatedField}
 use Rattle.location_core.specs.Calls.{IsLocatedBy, StarvesLocating, manifest_by}
 use Rattle.location_core.specs.Location.{located_by, located_of}
-use Rattle.priority_core.specs.declared.settle.Settled.{Settled}
+use Rattle.priority_core.specs.declared.settle.SettledLicense.{SettledLicense}
 use Rattle.priority_core.specs.Calls.{IsByReads}
-use Rattle.priority_core.specs.Clarification.{Clarification, files_of}
+use Rattle.priority_core.specs.Clarification.{ClarificationView, named_files}
 use Rattle.priority_core.specs.Priority.{folder_of, is_nothing, looks_at_files, records_of}
 use Rattle.priority_core.specs.Settled.{IsSettledBy}
-use Rattle.gather_core.specs.declared.turn.Taken.{Taken}
+use Rattle.gather_core.specs.declared.turn.LocatedLicense.{LocatedLicense}
 use Rattle.gather_core.specs.Calls.{IsByOwnReads, StarvesTaking}
 use Rattle.gather_core.specs.Taken.{IsLocatedWhere, IsTaken, is_clarified, turn_with}
 use Rattle.gather_core.specs.Turns.{asks_manifest, field_text, in_order, located_where, not_asked, records_in}
@@ -38,21 +38,21 @@ use Rattle.gather_core.proofs.TakenLemmas.{asked_where, located_at, taken_first,
 -- ---- the first read of those that are asked for, among reads that follow one another
 
 -- none of them is
-first_none : (is_asked : ReadRecord → Bool) (reads : List Read) → list_any is_asked (recorded reads) ≡ false → first_heard is_asked reads ≡ absent
+first_none : (is_asked : ReadRecord → Bool) (reads : List AnsweredRead) → list_any is_asked (records_of_reads reads) ≡ false → first_heard is_asked reads ≡ absent
 first_none is_asked [] none = refl
 first_none is_asked (read ∷ reads) none =
-    ap (λ b. cond b (read_heard read) (first_heard is_asked reads)) (first_false (is_asked read.recorded) (list_any is_asked (recorded reads)) none)
-    ∙ first_none is_asked reads (second_false (is_asked read.recorded) (list_any is_asked (recorded reads)) none)
+    ap (λ b. cond b (read_heard read) (first_heard is_asked reads)) (first_false (is_asked read.recorded) (list_any is_asked (records_of_reads reads)) none)
+    ∙ first_none is_asked reads (second_false (is_asked read.recorded) (list_any is_asked (records_of_reads reads)) none)
 
 -- none of the earlier ones is
-first_behind : (is_asked : ReadRecord → Bool) (reads more : List Read) → list_any is_asked (recorded reads) ≡ false → first_heard is_asked (reads ++ more) ≡ first_heard is_asked more
+first_behind : (is_asked : ReadRecord → Bool) (reads more : List AnsweredRead) → list_any is_asked (records_of_reads reads) ≡ false → first_heard is_asked (reads ++ more) ≡ first_heard is_asked more
 first_behind is_asked [] more none = refl
 first_behind is_asked (read ∷ reads) more none =
-    ap (λ b. cond b (read_heard read) (first_heard is_asked (reads ++ more))) (first_false (is_asked read.recorded) (list_any is_asked (recorded reads)) none)
-    ∙ first_behind is_asked reads more (second_false (is_asked read.recorded) (list_any is_asked (recorded reads)) none)
+    ap (λ b. cond b (read_heard read) (first_heard is_asked (reads ++ more))) (first_false (is_asked read.recorded) (list_any is_asked (records_of_reads reads)) none)
+    ∙ first_behind is_asked reads more (second_false (is_asked read.recorded) (list_any is_asked (records_of_reads reads)) none)
 
 -- none of the later ones is
-first_before : (is_asked : ReadRecord → Bool) (reads more : List Read) → list_any is_asked (recorded more) ≡ false → first_heard is_asked (reads ++ more) ≡ first_heard is_asked reads
+first_before : (is_asked : ReadRecord → Bool) (reads more : List AnsweredRead) → list_any is_asked (records_of_reads more) ≡ false → first_heard is_asked (reads ++ more) ≡ first_heard is_asked reads
 first_before is_asked [] more none = first_none is_asked more none
 first_before is_asked (read ∷ reads) more none = ap (λ rest. cond (is_asked read.recorded) (read_heard read) rest) (first_before is_asked reads more none)
 
@@ -83,52 +83,52 @@ manifests_front front rest are = record {
 no_manifest_front : (front rest : List ReadRecord) → HasNoManifest (front ++ rest) → HasNoManifest front
 no_manifest_front front rest none = none_in_front (λ read. is_kind Manifest read.kind) front rest none
 
-of_located : (path field : List ℕ) (files : List File) (manifest : Heard) (asks : Bool) (there : Option ℕ)
+of_located : (path field : List ℕ) (files : List File) (manifest : ReadResult) (asks : Bool) (there : Option ℕ)
     → AreManifests (option_to_list (cond asks (located_by path field files manifest there) not_asked).read)
 of_located path field files manifest false there = record { listings = refl; files = λ parts. refl }
 of_located path field files manifest true None = record { listings = refl; files = λ parts. refl }
 of_located path field files manifest true (Some id) = record { listings = refl; files = λ parts. refl }
 
-pub of_manifests : (asks : Bool) (krate : Record) (files : List File) (manifest : Heard) → AreManifests (option_to_list (located_where asks krate files manifest).read)
-of_manifests asks krate files manifest = of_located krate.manifest_path (field_text krate) files manifest asks (id_at files krate.manifest_path)
+pub of_manifests : (asks : Bool) (krate : Record) (files : List File) (manifest : ReadResult) → AreManifests (option_to_list (located_where asks krate files manifest).read)
+of_manifests asks krate files manifest = of_located krate.manifest_path (field_text krate) files manifest asks (file_id_at files krate.manifest_path)
 
-no_file : (ears : Ears) (paths : List (List ℕ)) → HasNoManifest (map (file_record ears) paths)
+no_file : (ears : FolderReads) (paths : List (List ℕ)) → HasNoManifest (map (file_record ears) paths)
 no_file ears [] = refl
 no_file ears (path ∷ paths) = no_file ears paths
 
-no_manifest_where : (ears : Ears) (folder : List ℕ) (paths : List (List ℕ)) (looks : Bool) → HasNoManifest (cond looks (records_by ears folder paths) [])
+no_manifest_where : (ears : FolderReads) (folder : List ℕ) (paths : List (List ℕ)) (looks : Bool) → HasNoManifest (cond looks (records_by ears folder paths) [])
 no_manifest_where ears folder paths true = no_file ears paths
 no_manifest_where ears folder paths false = refl
 
-pub no_manifest : (scanner : Scanner) (clarifications : List Clarification) (krate : Record) (ears : Ears) → HasNoManifest (records_of scanner clarifications krate ears)
+pub no_manifest : (scanner : Scanner) (clarifications : List ClarificationView) (krate : Record) (ears : FolderReads) → HasNoManifest (records_of scanner clarifications krate ears)
 no_manifest scanner clarifications krate ears =
-    no_manifest_where ears (folder_of krate) (reads_of ears krate.license_file (files_of clarifications)) (looks_at_files scanner clarifications krate)
+    no_manifest_where ears (folder_of krate) (reads_of ears krate.license_file (named_files clarifications)) (looks_at_files scanner clarifications krate)
 
 -- ---- what is heard of files is not changed by reads of manifests, and the other way round
 
-pub ears_behind : (reads more : List Read) → AreManifests (recorded reads) → ears_by (reads ++ more) ≡ ears_by more
+pub ears_behind : (reads more : List AnsweredRead) → AreManifests (records_of_reads reads) → ears_by (reads ++ more) ≡ ears_by more
 ears_behind reads more are =
     λ i. record {
       listing = first_behind (λ read. is_kind Listing read.kind) reads more are.listings i;
       file = λ parts. first_behind (is_read LicenseFile parts) reads more (are.files parts) i;
     }
 
-pub ears_before : (reads more : List Read) → AreManifests (recorded more) → ears_by (reads ++ more) ≡ ears_by reads
+pub ears_before : (reads more : List AnsweredRead) → AreManifests (records_of_reads more) → ears_by (reads ++ more) ≡ ears_by reads
 ears_before reads more are =
     λ i. record {
       listing = first_before (λ read. is_kind Listing read.kind) reads more are.listings i;
       file = λ parts. first_before (is_read LicenseFile parts) reads more (are.files parts) i;
     }
 
-pub manifest_behind : (reads more : List Read) → HasNoManifest (recorded reads) → manifest_by (reads ++ more) ≡ manifest_by more
+pub manifest_behind : (reads more : List AnsweredRead) → HasNoManifest (records_of_reads reads) → manifest_by (reads ++ more) ≡ manifest_by more
 manifest_behind reads more none = first_behind (λ read. is_kind Manifest read.kind) reads more none
 
-pub manifest_before : (reads more : List Read) → HasNoManifest (recorded more) → manifest_by (reads ++ more) ≡ manifest_by reads
+pub manifest_before : (reads more : List AnsweredRead) → HasNoManifest (records_of_reads more) → manifest_by (reads ++ more) ≡ manifest_by reads
 manifest_before reads more none = first_before (λ read. is_kind Manifest read.kind) reads more none
 
 -- ---- locating
 
-pub none_taken : (told : Option Content) (count : ℕ) (calls : List Call) (folder : List ℕ) (IsSo : Ears → Heard → Type 0) → IsSo (ears_by []) (manifest_by [])
+pub none_taken : (told : Option Content) (count : ℕ) (calls : List Call) (folder : List ℕ) (IsSo : FolderReads → ReadResult → Type 0) → IsSo (ears_by []) (manifest_by [])
     → IsByOwnReads told told count count calls calls folder [] IsSo
 none_taken told count calls folder IsSo is = record { reads = []; recorded_are = refl; made = no_reads told count calls folder; is_so = is }
 
@@ -140,7 +140,7 @@ none_located told count calls asks krate files off =
     (subst (λ (b : Bool). IsLocatedWhere b krate files (manifest_by []) not_asked files) (sym off) (record { located_is = refl; files_are = refl }))
 
 module _ {told tells : Option Content} {before after : ℕ} {old new : List Call} (krate : Record) (field : List ℕ) (files : List File) (license : krate.license ≡ Some field) where
-  pub own_located : (located : Located) (left : List File) → IsLocatedBy told tells before after old new krate.manifest_path field files located left
+  pub own_located : (located : LocatedField) (left : List File) → IsLocatedBy told tells before after old new krate.manifest_path field files located left
       → IsByOwnReads told tells before after old new (folder_of krate) (option_to_list located.read) (λ ears manifest. IsLocatedWhere (is_some krate.license) krate files manifest located left)
   own_located located left by = record {
     reads = by.reads;
@@ -162,39 +162,39 @@ module _ {told tells : Option Content} {before after : ℕ} {old new : List Call
   }
 
 -- the table grows where a field is located, and stays where memory is refused
-pub grows_located_by : (told tells : Option Content) (before after : ℕ) (old new : List Call) (path field : List ℕ) (files left : List File) (result : Result Located AllocError)
+pub grows_located_by : (told tells : Option Content) (before after : ℕ) (old new : List Call) (path field : List ℕ) (files left : List File) (result : Result LocatedField AllocError)
     → IfOk result (λ located. IsLocatedBy told tells before after old new path field files located left) → OnErr result (left ≡ files) → Grows files left
 grows_located_by told tells before after old new path field files left (Ok located) by stays =
-    subst (Grows files) (sym by.is.files_are) (grows_by path field files (manifest_by by.reads) (id_at files path))
+    subst (Grows files) (sym by.is.files_are) (grows_by path field files (manifest_by by.reads) (file_id_at files path))
 grows_located_by told tells before after old new path field files left (Err error) by stays = grows_same files left stays
 
 -- ---- fronts
 
 -- what is wanted first is wanted among more
-pub starves_wider : {told tells : Option Content} {before after : ℕ} {old new : List Call} (folder : List ℕ) (wanted wider : Ears → Heard → List ReadRecord)
-    → ((ears : Ears) (manifest : Heard) → IsFront (wanted ears manifest) (wider ears manifest))
+pub starves_wider : {told tells : Option Content} {before after : ℕ} {old new : List Call} (folder : List ℕ) (wanted wider : FolderReads → ReadResult → List ReadRecord)
+    → ((ears : FolderReads) (manifest : ReadResult) → IsFront (wanted ears manifest) (wider ears manifest))
     → StarvesTaking told tells before after old new folder wanted → StarvesTaking told tells before after old new folder wider
 starves_wider folder wanted wider wide starves = record {
   reads = starves.reads;
   next = starves.next;
   made = starves.made;
-  front = front_then (recorded starves.reads ++ option_to_list starves.next) (wanted (ears_by starves.reads) (manifest_by starves.reads)) (wider (ears_by starves.reads) (manifest_by starves.reads))
+  front = front_then (records_of_reads starves.reads ++ option_to_list starves.next) (wanted (ears_by starves.reads) (manifest_by starves.reads)) (wider (ears_by starves.reads) (manifest_by starves.reads))
       starves.front (wide (ears_by starves.reads) (manifest_by starves.reads));
 }
 
 -- memory was wanting behind all that is wanted
-pub starves_behind : {told tells : Option Content} {before after : ℕ} {old new : List Call} (folder : List ℕ) (records : List ReadRecord) (IsSo : Ears → Heard → Type 0) (wanted : Ears → Heard → List ReadRecord)
-    → ((ears : Ears) (manifest : Heard) → IsSo ears manifest → records ≡ wanted ears manifest)
+pub starves_behind : {told tells : Option Content} {before after : ℕ} {old new : List Call} (folder : List ℕ) (records : List ReadRecord) (IsSo : FolderReads → ReadResult → Type 0) (wanted : FolderReads → ReadResult → List ReadRecord)
+    → ((ears : FolderReads) (manifest : ReadResult) → IsSo ears manifest → records ≡ wanted ears manifest)
     → IsByOwnReads told tells before after old new folder records IsSo → StarvesTaking told tells before after old new folder wanted
 starves_behind folder records IsSo wanted all by = record {
   reads = by.reads;
   next = None;
   made = lacked_behind folder by.reads by.made;
-  front = ([], sym (all (ears_by by.reads) (manifest_by by.reads) by.is_so) ∙ sym by.recorded_are ∙ sym (append-nil (recorded by.reads)) ∙ sym (append-nil (recorded by.reads ++ [])));
+  front = ([], sym (all (ears_by by.reads) (manifest_by by.reads) by.is_so) ∙ sym by.recorded_are ∙ sym (append-nil (records_of_reads by.reads)) ∙ sym (append-nil (records_of_reads by.reads ++ [])));
 }
 
 -- memory was wanting before any call
-pub starves_before : (told : Option Content) (count : ℕ) (calls : List Call) (folder : List ℕ) (wanted : Ears → Heard → List ReadRecord) → StarvesTaking told told count count calls calls folder wanted
+pub starves_before : (told : Option Content) (count : ℕ) (calls : List Call) (folder : List ℕ) (wanted : FolderReads → ReadResult → List ReadRecord) → StarvesTaking told told count count calls calls folder wanted
 starves_before told count calls folder wanted = record {
   reads = [];
   next = None;
@@ -206,37 +206,37 @@ front_under : {A : Type 0} (xs front all : List A) → IsFront front all → IsF
 front_under xs front all is = (is.0, ap (λ l. xs ++ l) is.1 ∙ sym (append_assoc xs front is.0))
 
 -- the records of reads and of what follows them, and the record of the call that found no memory
-with_next : (reads more : List Read) (next : List ReadRecord) → recorded (reads ++ more) ++ next ≡ recorded reads ++ (recorded more ++ next)
-with_next reads more next = ap (λ l. l ++ next) (records_in-append reads more) ∙ append_assoc (recorded reads) (recorded more) next
+with_next : (reads more : List AnsweredRead) (next : List ReadRecord) → records_of_reads (reads ++ more) ++ next ≡ records_of_reads reads ++ (records_of_reads more ++ next)
+with_next reads more next = ap (λ l. l ++ next) (records_in-append reads more) ∙ append_assoc (records_of_reads reads) (records_of_reads more) next
 
 -- ---- what a turn asks for, in order
 
-abbrev manifest_asked : Bool → Record → List File → Heard → List ReadRecord
+abbrev manifest_asked : Bool → Record → List File → ReadResult → List ReadRecord
 manifest_asked asks krate files manifest = option_to_list (located_where asks krate files manifest).read
 
 -- the records of a turn, by what is heard
-abbrev pub wanted : Scanner → ℕ → List Clarification → Record → List File → Ears → Heard → List ReadRecord
+abbrev pub wanted : Scanner → ℕ → List ClarificationView → Record → List File → FolderReads → ReadResult → List ReadRecord
 wanted scanner policy clarifications krate files ears manifest = records_in (turn_with scanner policy clarifications krate ears manifest files)
 
 -- the manifest first
-wanted_first : (scanner : Scanner) (policy : ℕ) (clarifications : List Clarification) (krate : Record) (files : List File) (ears : Ears) (manifest : Heard) → is_nothing clarifications ≡ true
+wanted_first : (scanner : Scanner) (policy : ℕ) (clarifications : List ClarificationView) (krate : Record) (files : List File) (ears : FolderReads) (manifest : ReadResult) → is_nothing clarifications ≡ true
     → wanted scanner policy clarifications krate files ears manifest ≡ manifest_asked (is_some krate.license) krate files manifest ++ records_of scanner clarifications krate ears
 wanted_first scanner policy [] krate files ears manifest none = refl
 wanted_first scanner policy (one ∷ more) krate files ears manifest none = cc
 
 -- the files first
-wanted_last : (scanner : Scanner) (policy : ℕ) (clarifications : List Clarification) (krate : Record) (files : List File) (ears : Ears) (manifest : Heard) → is_nothing clarifications ≡ false
+wanted_last : (scanner : Scanner) (policy : ℕ) (clarifications : List ClarificationView) (krate : Record) (files : List File) (ears : FolderReads) (manifest : ReadResult) → is_nothing clarifications ≡ false
     → wanted scanner policy clarifications krate files ears manifest ≡ records_of scanner clarifications krate ears ++ manifest_asked (asks_manifest clarifications krate ears) krate files manifest
 wanted_last scanner policy clarifications krate files ears manifest some =
     ap (λ b. in_order b (located_where (asks_manifest clarifications krate ears) krate files manifest).read (records_of scanner clarifications krate ears)) some
 
 -- ---- what was taken
 
-module _ (scanner : Scanner) (policy : ℕ) (clarifications : List Clarification) (krate : Record) (files : List File) (located : Located) (settled : Settled) (left : List File) where
-  abbrev pub taken_of : List ReadRecord → Taken
+module _ (scanner : Scanner) (policy : ℕ) (clarifications : List ClarificationView) (krate : Record) (files : List File) (located : LocatedField) (settled : SettledLicense) (left : List File) where
+  abbrev pub taken_of : List ReadRecord → LocatedLicense
   taken_of reads = record { by = settled.by; missing = settled.missing; location = located.location; reads = reads }
 
-  abbrev pub IsTakenSo : List ReadRecord → Ears → Heard → Type 0
+  abbrev pub IsTakenSo : List ReadRecord → FolderReads → ReadResult → Type 0
   IsTakenSo reads ears manifest = IsTaken (turn_with scanner policy clarifications krate ears manifest files) (taken_of reads) left
 
   -- memory was wanting behind all reads of the turn
@@ -257,7 +257,7 @@ module _ (scanner : Scanner) (policy : ℕ) (clarifications : List Clarification
         let ears = ears_by then.reads in
         let all_ears : ears_by (here.reads ++ then.reads) ≡ ears =
         ears_behind here.reads then.reads
-        (subst AreManifests (sym (here.recorded_are ∙ ap (λ (l : Located). option_to_list l.read) here.is_so.located_is)) (of_manifests asks krate files manifest)) in
+        (subst AreManifests (sym (here.recorded_are ∙ ap (λ (l : LocatedField). option_to_list l.read) here.is_so.located_is)) (of_manifests asks krate files manifest)) in
         let all_manifest : manifest_by (here.reads ++ then.reads) ≡ manifest =
         manifest_before here.reads then.reads (subst HasNoManifest (sym (then.records ∙ then.is_so.reads_are)) (no_manifest scanner clarifications krate ears)) in
         record {
@@ -265,7 +265,7 @@ module _ (scanner : Scanner) (policy : ℕ) (clarifications : List Clarification
           recorded_are = records_in-append here.reads then.reads ∙ ap₂ (λ (front back : List ReadRecord). front ++ back) here.recorded_are then.records ∙ sym behind;
           made = reads_joined (folder_of krate) here.reads then.reads here.made then.made;
           is_so =
-              subst (λ (heard : Ears). IsTakenSo reads heard (manifest_by (here.reads ++ then.reads))) (sym all_ears)
+              subst (λ (heard : FolderReads). IsTakenSo reads heard (manifest_by (here.reads ++ then.reads))) (sym all_ears)
               (subst (IsTakenSo reads ears) (sym all_manifest)
               (taken_first scanner policy clarifications krate ears manifest files located settled left reads none here.is_so then.is_so behind));
         }
@@ -283,7 +283,7 @@ module _ (scanner : Scanner) (policy : ℕ) (clarifications : List Clarification
         let manifest = manifest_by then.reads in
         let all_ears : ears_by (here.reads ++ then.reads) ≡ ears =
         ears_before here.reads then.reads
-        (subst AreManifests (sym (then.recorded_are ∙ ap (λ (l : Located). option_to_list l.read) then.is_so.located_is)) (of_manifests asks krate files manifest)) in
+        (subst AreManifests (sym (then.recorded_are ∙ ap (λ (l : LocatedField). option_to_list l.read) then.is_so.located_is)) (of_manifests asks krate files manifest)) in
         let all_manifest : manifest_by (here.reads ++ then.reads) ≡ manifest =
         manifest_behind here.reads then.reads (subst HasNoManifest (sym (here.records ∙ here.is_so.reads_are)) (no_manifest scanner clarifications krate ears)) in
         record {
@@ -291,14 +291,14 @@ module _ (scanner : Scanner) (policy : ℕ) (clarifications : List Clarification
           recorded_are = records_in-append here.reads then.reads ∙ ap₂ (λ (front back : List ReadRecord). front ++ back) here.records then.recorded_are ∙ sym behind;
           made = reads_joined (folder_of krate) here.reads then.reads here.made then.made;
           is_so =
-              subst (λ (heard : Ears). IsTakenSo reads heard (manifest_by (here.reads ++ then.reads))) (sym all_ears)
+              subst (λ (heard : FolderReads). IsTakenSo reads heard (manifest_by (here.reads ++ then.reads))) (sym all_ears)
               (subst (IsTakenSo reads ears) (sym all_manifest)
               (taken_last scanner policy clarifications krate ears manifest files located settled left reads some here.is_so then.is_so behind));
         }
 
 -- ---- for want of memory
 
-module _ {told tells : Option Content} {before after : ℕ} {old new : List Call} (scanner : Scanner) (policy : ℕ) (clarifications : List Clarification) (krate : Record) (files : List File) where
+module _ {told tells : Option Content} {before after : ℕ} {old new : List Call} (scanner : Scanner) (policy : ℕ) (clarifications : List ClarificationView) (krate : Record) (files : List File) where
   -- as the manifest was read before the files
   pub starves_first : is_nothing clarifications ≡ true → StarvesTaking told tells before after old new (folder_of krate) (λ ears manifest. option_to_list (located_where (is_some krate.license) krate files manifest).read)
       → StarvesTaking told tells before after old new (folder_of krate) (wanted scanner policy clarifications krate files)
@@ -314,9 +314,9 @@ module _ {told tells : Option Content} {before after : ℕ} {old new : List Call
       (λ ears manifest. (manifest_asked (asks_manifest clarifications krate ears) krate files manifest, wanted_last scanner policy clarifications krate files ears manifest some))
       (record { reads = starves.reads; next = starves.next; made = starves.made; front = starves.front })
 
-module _ {told mid tells : Option Content} {before middle after : ℕ} {old between new : List Call} (scanner : Scanner) (policy : ℕ) (clarifications : List Clarification) (krate : Record) (files : List File) where
+module _ {told mid tells : Option Content} {before middle after : ℕ} {old between new : List Call} (scanner : Scanner) (policy : ℕ) (clarifications : List ClarificationView) (krate : Record) (files : List File) where
   -- as the files were read behind the manifest
-  pub starves_first_settling : (located : Located) (left : List File) → is_nothing clarifications ≡ true
+  pub starves_first_settling : (located : LocatedField) (left : List File) → is_nothing clarifications ≡ true
       → IsByOwnReads told mid before middle old between (folder_of krate) (option_to_list located.read) (λ ears manifest. IsLocatedWhere (is_some krate.license) krate files manifest located left)
       → StarvesAmong mid tells middle after between new (folder_of krate) (records_of scanner clarifications krate)
       → StarvesTaking told tells before after old new (folder_of krate) (wanted scanner policy clarifications krate files)
@@ -324,28 +324,28 @@ module _ {told mid tells : Option Content} {before middle after : ℕ} {old betw
       let asks = is_some krate.license in
       let manifest = manifest_by here.reads in
       let ears = ears_by then.reads in
-      let asked : recorded here.reads ≡ manifest_asked asks krate files manifest = here.recorded_are ∙ ap (λ (l : Located). option_to_list l.read) here.is_so.located_is in
+      let asked : records_of_reads here.reads ≡ manifest_asked asks krate files manifest = here.recorded_are ∙ ap (λ (l : LocatedField). option_to_list l.read) here.is_so.located_is in
       let next = option_to_list then.next in
       let all_ears : ears_by (here.reads ++ then.reads) ≡ ears = ears_behind here.reads then.reads (subst AreManifests (sym asked) (of_manifests asks krate files manifest)) in
       let all_manifest : manifest_by (here.reads ++ then.reads) ≡ manifest =
       manifest_before here.reads then.reads
-      (no_manifest_front (recorded then.reads) (next ++ then.front.0)
-      (subst HasNoManifest (then.front.1 ∙ append_assoc (recorded then.reads) next then.front.0) (no_manifest scanner clarifications krate ears))) in
+      (no_manifest_front (records_of_reads then.reads) (next ++ then.front.0)
+      (subst HasNoManifest (then.front.1 ∙ append_assoc (records_of_reads then.reads) next then.front.0) (no_manifest scanner clarifications krate ears))) in
       record {
         reads = here.reads ++ then.reads;
         next = then.next;
         made = reads_lacking (folder_of krate) here.reads then.reads then.next here.made then.made;
         front =
-            subst (λ (heard : Ears). IsFront (recorded (here.reads ++ then.reads) ++ next) (wanted scanner policy clarifications krate files heard (manifest_by (here.reads ++ then.reads)))) (sym all_ears)
-            (subst (λ (heard : Heard). IsFront (recorded (here.reads ++ then.reads) ++ next) (wanted scanner policy clarifications krate files ears heard)) (sym all_manifest)
-            (subst (IsFront (recorded (here.reads ++ then.reads) ++ next))
+            subst (λ (heard : FolderReads). IsFront (records_of_reads (here.reads ++ then.reads) ++ next) (wanted scanner policy clarifications krate files heard (manifest_by (here.reads ++ then.reads)))) (sym all_ears)
+            (subst (λ (heard : ReadResult). IsFront (records_of_reads (here.reads ++ then.reads) ++ next) (wanted scanner policy clarifications krate files ears heard)) (sym all_manifest)
+            (subst (IsFront (records_of_reads (here.reads ++ then.reads) ++ next))
             (sym (wanted_first scanner policy clarifications krate files ears manifest none ∙ ap (λ (front : List ReadRecord). front ++ records_of scanner clarifications krate ears) (sym asked)))
-            (subst (λ (front : List ReadRecord). IsFront front (recorded here.reads ++ records_of scanner clarifications krate ears)) (sym (with_next here.reads then.reads next))
-            (front_under (recorded here.reads) (recorded then.reads ++ next) (records_of scanner clarifications krate ears) then.front))));
+            (subst (λ (front : List ReadRecord). IsFront front (records_of_reads here.reads ++ records_of scanner clarifications krate ears)) (sym (with_next here.reads then.reads next))
+            (front_under (records_of_reads here.reads) (records_of_reads then.reads ++ next) (records_of scanner clarifications krate ears) then.front))));
       }
 
   -- as the manifest was read behind the files
-  pub starves_last_locating : (settled : Settled) → is_nothing clarifications ≡ false
+  pub starves_last_locating : (settled : SettledLicense) → is_nothing clarifications ≡ false
       → IsByReads told mid before middle old between (folder_of krate) settled.reads (λ ears. IsSettledBy scanner clarifications krate ears settled)
       → StarvesTaking mid tells middle after between new (folder_of krate) (λ ears manifest. option_to_list (located_where (not (is_clarified settled.by) && is_some krate.license) krate files manifest).read)
       → StarvesTaking told tells before after old new (folder_of krate) (wanted scanner policy clarifications krate files)
@@ -353,12 +353,12 @@ module _ {told mid tells : Option Content} {before middle after : ℕ} {old betw
       let asks = not (is_clarified settled.by) && is_some krate.license in
       let ears = ears_by here.reads in
       let manifest = manifest_by then.reads in
-      let settled_are : recorded here.reads ≡ records_of scanner clarifications krate ears = here.records ∙ here.is_so.reads_are in
+      let settled_are : records_of_reads here.reads ≡ records_of scanner clarifications krate ears = here.records ∙ here.is_so.reads_are in
       let next = option_to_list then.next in
       let all_ears : ears_by (here.reads ++ then.reads) ≡ ears =
       ears_before here.reads then.reads
-      (manifests_front (recorded then.reads) (next ++ then.front.0)
-      (subst AreManifests (then.front.1 ∙ append_assoc (recorded then.reads) next then.front.0) (of_manifests asks krate files manifest))) in
+      (manifests_front (records_of_reads then.reads) (next ++ then.front.0)
+      (subst AreManifests (then.front.1 ∙ append_assoc (records_of_reads then.reads) next then.front.0) (of_manifests asks krate files manifest))) in
       let all_manifest : manifest_by (here.reads ++ then.reads) ≡ manifest =
       manifest_behind here.reads then.reads (subst HasNoManifest (sym settled_are) (no_manifest scanner clarifications krate ears)) in
       record {
@@ -366,12 +366,12 @@ module _ {told mid tells : Option Content} {before middle after : ℕ} {old betw
         next = then.next;
         made = reads_lacking (folder_of krate) here.reads then.reads then.next here.made then.made;
         front =
-            subst (λ (heard : Ears). IsFront (recorded (here.reads ++ then.reads) ++ next) (wanted scanner policy clarifications krate files heard (manifest_by (here.reads ++ then.reads)))) (sym all_ears)
-            (subst (λ (heard : Heard). IsFront (recorded (here.reads ++ then.reads) ++ next) (wanted scanner policy clarifications krate files ears heard)) (sym all_manifest)
-            (subst (IsFront (recorded (here.reads ++ then.reads) ++ next))
+            subst (λ (heard : FolderReads). IsFront (records_of_reads (here.reads ++ then.reads) ++ next) (wanted scanner policy clarifications krate files heard (manifest_by (here.reads ++ then.reads)))) (sym all_ears)
+            (subst (λ (heard : ReadResult). IsFront (records_of_reads (here.reads ++ then.reads) ++ next) (wanted scanner policy clarifications krate files ears heard)) (sym all_manifest)
+            (subst (IsFront (records_of_reads (here.reads ++ then.reads) ++ next))
             (sym (wanted_last scanner policy clarifications krate files ears manifest some
             ∙ ap₂ (λ (front back : List ReadRecord). front ++ back) (sym settled_are)
             (ap (λ b. manifest_asked b krate files manifest) (sym (asked_where scanner clarifications krate ears settled.by here.is_so.by_is)))))
-            (subst (λ (front : List ReadRecord). IsFront front (recorded here.reads ++ manifest_asked asks krate files manifest)) (sym (with_next here.reads then.reads next))
-            (front_under (recorded here.reads) (recorded then.reads ++ next) (manifest_asked asks krate files manifest) then.front))));
+            (subst (λ (front : List ReadRecord). IsFront front (records_of_reads here.reads ++ manifest_asked asks krate files manifest)) (sym (with_next here.reads then.reads next))
+            (front_under (records_of_reads here.reads) (records_of_reads then.reads ++ next) (manifest_asked asks krate files manifest) then.front))));
       }

@@ -3,20 +3,20 @@ use Rattle.std.proofs.Common.{◌≡◌, ◌∙◌, ℕ, List, [], ◌∷◌, �
 use Rattle.std.proofs.lemmas.List.Sums.{fold-append}
 use Rattle.std.proofs.lemmas.Slice.Zip.{all_zipped_more}
 use Rattle.std.specs.List.{All, flat_map}
-use Rattle.reads_core.specs.Read.{Read}
+use Rattle.reads_core.specs.Read.{AnsweredRead}
 use Rattle.expression_core.specs.Scanned.{Scanner}
 use Rattle.diag_core.specs.File.{File}
 use Rattle.graph_core.specs.Krate.{Record}
 use Rattle.gather_core.specs.declared.summary.KrateLicense.{KrateLicense}
 use Rattle.gather_core.specs.Calls.{AreTurnsBy, CrateReads, CrateTurn, HasOwnReads, IsTurnBy, files_behind_all, reads_of_all, turn_by, turns_of}
-use Rattle.gather_core.specs.Entries.{Entry}
+use Rattle.gather_core.specs.Entries.{ClarificationEntry}
 use Rattle.gather_core.specs.Gathered.{krate_of}
 use Rattle.gather_core.specs.Premises.{Grows}
 use Rattle.gather_core.specs.Turns.{files_behind}
 use Rattle.gather_core.proofs.PlacedLemmas.{cut_grown}
 use Rattle.gather_core.proofs.ZipLemmas.{all_left, same_maps, zip_weaker}
 
-module _ (scanner : Scanner) (policy : ℕ) (all : List Entry) where
+module _ (scanner : Scanner) (policy : ℕ) (all : List ClarificationEntry) where
   -- their crates
   pub krates_turned : (files : List File) (crates : List CrateReads)
       → map (λ (own : CrateTurn). own.turn.krate) (turns_of scanner policy all files crates) ≡ map (λ (one : CrateReads). one.krate) crates
@@ -26,7 +26,7 @@ module _ (scanner : Scanner) (policy : ℕ) (all : List Entry) where
   -- their reads
   pub reads_turned : (files : List File) (crates : List CrateReads) → flat_map (λ (own : CrateTurn). own.reads) (turns_of scanner policy all files crates) ≡ reads_of_all crates
   reads_turned files [] = refl
-  reads_turned files (one ∷ crates) = ap (λ (rest : List Read). one.reads ++ rest) (reads_turned (files_behind (turn_by scanner policy all files one).turn) crates)
+  reads_turned files (one ∷ crates) = ap (λ (rest : List AnsweredRead). one.reads ++ rest) (reads_turned (files_behind (turn_by scanner policy all files one).turn) crates)
 
   -- one more of them
   turns_push : (one : CrateReads) (files : List File) (crates : List CrateReads)

@@ -3,28 +3,28 @@ use Rattle.std.proofs.Common.{◌≡◌, ◌∙◌, ℕ, List, [], ◌∷◌, �
 use Rattle.std.specs.Prelude.{unwrap_or}
 use Rattle.diag_core.specs.declared.label.Coord.{Coord}
 use Rattle.diag_core.specs.File.{File}
-use Rattle.priority_core.specs.declared.settling.Settling.{Settling}
-use Rattle.priority_core.specs.declared.settling.Settling.TheVariants.{Clarified, Field, Files}
+use Rattle.priority_core.specs.declared.settling.LicenseBasis.{LicenseBasis}
+use Rattle.priority_core.specs.declared.settling.LicenseBasis.TheVariants.{Clarified, Field, Files}
 use Rattle.priority_core.specs.Priority.{answer_in, priority_of}
 use Rattle.finding_core.specs.declared.license.LicenseInfo.{LicenseInfo}
 use Rattle.gather_core.specs.declared.summary.KrateLicense.{KrateLicense}
-use Rattle.gather_core.specs.Told.{answer_told, info_by, notes_of, nowhere}
-use Rattle.gather_core.specs.Turns.{IsTurn, Turn, info_in, located_in, points_in, settling_in}
+use Rattle.gather_core.specs.Told.{answer_view, info_by, notes_of, nowhere}
+use Rattle.gather_core.specs.Turns.{IsTurn, TurnInput, info_in, located_in, points_in, basis_in}
 
 -- ---- what is told has priority
 
-told_answer : (policy : ℕ) (location : Option Coord) (place : Coord) (by : Settling) → answer_told (info_by policy location place by) (notes_of (answer_in by)) ≡ answer_in by
+told_answer : (policy : ℕ) (location : Option Coord) (place : Coord) (by : LicenseBasis) → answer_view (info_by policy location place by) (notes_of (answer_in by)) ≡ answer_in by
 told_answer policy location place (Clarified held) = refl
 told_answer policy location place (Field expression) = refl
 told_answer policy location place (Files seen None) = refl
 told_answer policy location place (Files seen (Some joined)) = refl
 
-pub priority_turn : (turn : Turn) (license : KrateLicense) (files : List File) → IsTurn turn license files
-    → answer_told license.lic_info license.notes ≡ priority_of turn.scanner turn.clarifications turn.krate turn.ears
+pub priority_turn : (turn : TurnInput) (license : KrateLicense) (files : List File) → IsTurn turn license files
+    → answer_view license.lic_info license.notes ≡ priority_of turn.scanner turn.clarifications turn.krate turn.ears
 priority_turn turn license files is =
-    ap (λ (info : LicenseInfo). answer_told info license.notes) is.info
-    ∙ ap (answer_told (info_in turn)) is.noted
-    ∙ told_answer turn.policy (located_in turn).location (unwrap_or (points_in turn).expression nowhere) (settling_in turn)
+    ap (λ (info : LicenseInfo). answer_view info license.notes) is.info
+    ∙ ap (answer_view (info_in turn)) is.noted
+    ∙ told_answer turn.policy (located_in turn).location (unwrap_or (points_in turn).expression nowhere) (basis_in turn)
 
 pub map_push : {A B : Type 0} (f : A → B) (xs : List A) (x : A) → map f (xs ++ x ∷ []) ≡ map f xs ++ f x ∷ []
 map_push f [] x = refl

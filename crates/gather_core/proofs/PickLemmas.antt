@@ -10,8 +10,8 @@ use Rattle.std.proofs.lemmas.List.Elements.{filter_map-append}
 use Rattle.graph_core.specs.Krate.{Record}
 use Rattle.policy_spec.specs.Index.{matching, places_from}
 use Rattle.policy_spec.specs.Matching.{spec_matches}
-use Rattle.priority_core.specs.Clarification.{Clarification, behind}
-use Rattle.gather_core.specs.Entries.{Entry, clarifications_of, item_at, items_at, specs_of}
+use Rattle.priority_core.specs.Clarification.{ClarificationView, behind}
+use Rattle.gather_core.specs.Entries.{ClarificationEntry, clarifications_of, clarification_at, clarifications_at, specs_of}
 
 -- the item behind a front
 behind_front : {A : Type 0} (front : List A) (x : A) (rest : List A) → slice_get (front ++ x ∷ rest) (length front) ≡ Some x
@@ -19,53 +19,53 @@ behind_front front x rest =
     let inside : length front < length (front ++ x ∷ rest) = omega (arith, length-append front (x ∷ rest)) in
     slice_get-get_or (front ++ x ∷ rest) (length front) x inside ∙ ap Some (get_or-append_seam front x rest x)
 
-places-mapped : (n : ℕ) (krate : Record) (entries : List Entry)
-    → places_from n (λ spec. spec_matches spec krate) (specs_of entries) ≡ places_from n (λ (entry : Entry). spec_matches entry.spec krate) entries
+places-mapped : (n : ℕ) (krate : Record) (entries : List ClarificationEntry)
+    → places_from n (λ spec. spec_matches spec krate) (specs_of entries) ≡ places_from n (λ (entry : ClarificationEntry). spec_matches entry.spec krate) entries
 places-mapped n krate [] = refl
 places-mapped n krate (entry ∷ entries) =
     elim (spec_matches entry.spec krate) as (λ b.
     cond b (n ∷ places_from (suc n) (λ spec. spec_matches spec krate) (specs_of entries)) (places_from (suc n) (λ spec. spec_matches spec krate) (specs_of entries))
-    ≡ cond b (n ∷ places_from (suc n) (λ (other : Entry). spec_matches other.spec krate) entries) (places_from (suc n) (λ (other : Entry). spec_matches other.spec krate) entries)) [
+    ≡ cond b (n ∷ places_from (suc n) (λ (other : ClarificationEntry). spec_matches other.spec krate) entries) (places_from (suc n) (λ (other : ClarificationEntry). spec_matches other.spec krate) entries)) [
       | true ↦ ap (λ places. n ∷ places) (places-mapped (suc n) krate entries)
       | false ↦ places-mapped (suc n) krate entries
     ]
 
 -- the places of the entries that pass lead to the clarifications of these
-picked : (test : Entry → Bool) (all front rest : List Entry) (n : ℕ) → all ≡ front ++ rest → n ≡ length front
-    → items_at all (places_from n test rest) ≡ map (λ (entry : Entry). entry.clarification) (filter test rest)
+picked : (test : ClarificationEntry → Bool) (all front rest : List ClarificationEntry) (n : ℕ) → all ≡ front ++ rest → n ≡ length front
+    → clarifications_at all (places_from n test rest) ≡ map (λ (entry : ClarificationEntry). entry.clarification) (filter test rest)
 picked test all front [] n is counted = refl
 picked test all front (x ∷ rest) n is counted =
     let more : suc n ≡ length (front ++ x ∷ []) = omega (arith, counted, length-append front (x ∷ [])) in
     let next = picked test all (front ++ x ∷ []) rest (suc n) (is ∙ sym (append_assoc front (x ∷ []) rest)) more in
-    let here : item_at all n ≡ Some x.clarification =
-    ap (option_map (λ (entry : Entry). entry.clarification))
+    let here : clarification_at all n ≡ Some x.clarification =
+    ap (option_map (λ (entry : ClarificationEntry). entry.clarification))
     (ap (λ xs. slice_get xs n) is ∙ ap (slice_get (front ++ x ∷ rest)) counted ∙ behind_front front x rest) in
-    elim (test x) as (λ b. items_at all (cond b (n ∷ places_from (suc n) test rest) (places_from (suc n) test rest))
-    ≡ map (λ (entry : Entry). entry.clarification) (cond b (x ∷ filter test rest) (filter test rest))) [
-      | true ↦ ap (λ o. cons_option o (items_at all (places_from (suc n) test rest))) here ∙ ap (λ xs. x.clarification ∷ xs) next
+    elim (test x) as (λ b. clarifications_at all (cond b (n ∷ places_from (suc n) test rest) (places_from (suc n) test rest))
+    ≡ map (λ (entry : ClarificationEntry). entry.clarification) (cond b (x ∷ filter test rest) (filter test rest))) [
+      | true ↦ ap (λ o. cons_option o (clarifications_at all (places_from (suc n) test rest))) here ∙ ap (λ xs. x.clarification ∷ xs) next
       | false ↦ next
     ]
 
-pub items_matching : (krate : Record) (entries : List Entry) → items_at entries (matching (specs_of entries) krate) ≡ clarifications_of krate entries
+pub items_matching : (krate : Record) (entries : List ClarificationEntry) → clarifications_at entries (matching (specs_of entries) krate) ≡ clarifications_of krate entries
 items_matching krate entries =
-    ap (items_at entries) (places-mapped 0 krate entries) ∙ picked (λ (entry : Entry). spec_matches entry.spec krate) entries [] entries 0 refl refl
+    ap (clarifications_at entries) (places-mapped 0 krate entries) ∙ picked (λ (entry : ClarificationEntry). spec_matches entry.spec krate) entries [] entries 0 refl refl
 
 -- ---- one more place
 
-behind_list : (item : Option (Bor Clarification)) → map behind (option_to_list item) ≡ option_to_list (option_map behind item)
+behind_list : (item : Option (Bor ClarificationView)) → map behind (option_to_list item) ≡ option_to_list (option_map behind item)
 behind_list None = refl
 behind_list (Some item) = refl
 
-one_at : (o : Option Clarification) → cons_option o [] ≡ option_to_list o
+one_at : (o : Option ClarificationView) → cons_option o [] ≡ option_to_list o
 one_at None = refl
 one_at (Some x) = refl
 
-pub items_push : (entries : List Entry) (places : List ℕ) (i : ℕ) (item : Option (Bor Clarification)) (found new : List (Bor Clarification))
-    → i < length places → new ≡ found ++ option_to_list item → map behind found ≡ items_at entries (take i places)
-    → option_map behind item ≡ item_at entries (get_or places i 0) → map behind new ≡ items_at entries (take (i + 1) places)
+pub items_push : (entries : List ClarificationEntry) (places : List ℕ) (i : ℕ) (item : Option (Bor ClarificationView)) (found new : List (Bor ClarificationView))
+    → i < length places → new ≡ found ++ option_to_list item → map behind found ≡ clarifications_at entries (take i places)
+    → option_map behind item ≡ clarification_at entries (get_or places i 0) → map behind new ≡ clarifications_at entries (take (i + 1) places)
 items_push entries places i item found new inside is so_far here =
     ap (map behind) is ∙ map-append behind found (option_to_list item)
-    ∙ ap (λ (front : List Clarification). front ++ map behind (option_to_list item)) so_far
-    ∙ ap (λ (last : List Clarification). items_at entries (take i places) ++ last)
-    (behind_list item ∙ ap option_to_list here ∙ sym (one_at (item_at entries (get_or places i 0))))
-    ∙ sym (ap (items_at entries) (take_more places i 0 inside) ∙ filter_map-append (item_at entries) (take i places) (get_or places i 0 ∷ []))
+    ∙ ap (λ (front : List ClarificationView). front ++ map behind (option_to_list item)) so_far
+    ∙ ap (λ (last : List ClarificationView). clarifications_at entries (take i places) ++ last)
+    (behind_list item ∙ ap option_to_list here ∙ sym (one_at (clarification_at entries (get_or places i 0))))
+    ∙ sym (ap (clarifications_at entries) (take_more places i 0 inside) ∙ filter_map-append (clarification_at entries) (take i places) (get_or places i 0 ∷ []))

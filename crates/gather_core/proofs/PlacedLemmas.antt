@@ -11,32 +11,32 @@ use Rattle.term_core.specs.declared.error.ParseError.{ParseError}
 use Rattle.spdx_core.specs.Reading.{ExpressionView}
 use Rattle.diag_core.specs.declared.label.Coord.{Coord}
 use Rattle.diag_core.specs.declared.label.Label.{Label}
-use Rattle.diag_core.specs.File.{File, id_at, source_of}
+use Rattle.diag_core.specs.File.{File, file_id_at, source_of_file}
 use Rattle.graph_core.specs.Krate.{Record}
-use Rattle.reads_core.specs.Heard.{Heard, failed, absent, wrong_kind, not_utf8, text, entries}
-use Rattle.pack_core.specs.Ears.{Ears, holds, missing_from}
+use Rattle.reads_core.specs.Heard.{ReadResult, failed, absent, wrong_kind, not_utf8, text, entries}
+use Rattle.pack_core.specs.Ears.{FolderReads, holds, missing_from}
 use Rattle.policy_spec.specs.Matching.{spec_matches}
-use Rattle.location_core.specs.Location.{files_by, files_heard, joined_by, span_in}
+use Rattle.location_core.specs.Location.{files_by, files_with_manifest, joined_by, span_in}
 use Rattle.manifest_core.specs.Synthetic.{cut}
 use Rattle.finding_core.specs.Cuts.{LabelLies, labels_of, text_under}
 use Rattle.finding_core.proofs.GrowLemmas.{grows_itself}
 use Rattle.finding_core.proofs.LicenseLemmas.{info_grown, place_grown, stands_grown}
 use Rattle.priority_core.specs.declared.settling.FilesSeen.{FilesSeen}
-use Rattle.priority_core.specs.declared.settling.Settling.{Settling}
-use Rattle.priority_core.specs.declared.settling.Settling.TheVariants.{Clarified, Field, Files}
-use Rattle.priority_core.specs.Clarification.{Clarification, PlacedFile, held_in, named_in}
+use Rattle.priority_core.specs.declared.settling.LicenseBasis.{LicenseBasis}
+use Rattle.priority_core.specs.declared.settling.LicenseBasis.TheVariants.{Clarified, Field, Files}
+use Rattle.priority_core.specs.Clarification.{ClarificationView, PlacedFile, held_in, named_in}
 use Rattle.priority_core.specs.Priority.{by_seen, field_of, files_scanned, holding, seen_by, settling_by}
 use Rattle.priority_core.specs.Settled.{missing_in, missing_of, span_at}
 use Rattle.gather_core.specs.declared.summary.KrateLicense.{KrateLicense}
-use Rattle.gather_core.specs.declared.turn.Taken.{Taken}
-use Rattle.gather_core.specs.Entries.{Entry, clarifications_of}
-use Rattle.gather_core.specs.Premises.{ArePlacedIn, ByStands, Grows, IsPlacedAt, IsPlacedIn, PlaceLies}
+use Rattle.gather_core.specs.declared.turn.LocatedLicense.{LocatedLicense}
+use Rattle.gather_core.specs.Entries.{ClarificationEntry, clarifications_of}
+use Rattle.gather_core.specs.Premises.{ArePlacedIn, ByStands, Grows, IsPlacedAt, IsClarificationPlaced, PlaceLies}
 use Rattle.gather_core.specs.Taken.{IsTaken}
-use Rattle.gather_core.specs.Turns.{IsCutOut, Turn, asks_manifest, faults_in, field_text, files_behind, files_left, files_located, files_where, located_in, points_in, settling_in}
+use Rattle.gather_core.specs.Turns.{IsCutOut, TurnInput, asks_manifest, faults_in, field_text, files_behind, files_left, files_located, files_where, located_in, points_in, basis_in}
 
 -- ---- sources stay
 
-same_source : (files more : List File) (id : ℕ) → id < length files → source_of (files ++ more) id ≡ source_of files id
+same_source : (files more : List File) (id : ℕ) → id < length files → source_of_file (files ++ more) id ≡ source_of_file files id
 same_source [] more id live = absurd (omega (arith, live))
 same_source (first ∷ files) more zero live = refl
 same_source (first ∷ files) more (suc id) live = let rest : id < length files = omega (arith, live) in same_source files more id rest
@@ -59,17 +59,17 @@ label_grown files more label lies =
       ends = subst (λ (o : Option (List ℕ)). IsCharBoundary (unwrap_or o []) label.range.end) (sym same) lies.ends;
     }
 
-clarification_grown : (files more : List File) (policy : ℕ) (one : Clarification) → IsPlacedIn files policy one → IsPlacedIn (files ++ more) policy one
+clarification_grown : (files more : List File) (policy : ℕ) (one : ClarificationView) → IsClarificationPlaced files policy one → IsClarificationPlaced (files ++ more) policy one
 clarification_grown files more policy one placed = record {
   expression = stands_grown files more policy one.offset one.whole one.expression.text placed.expression;
   paths = All-weaker (λ (file : PlacedFile). PlaceLies files policy file.span) (λ (file : PlacedFile). PlaceLies (files ++ more) policy file.span)
       (λ file lies. place_grown files more policy file.span lies) one.files placed.paths;
 }
 
-pub entries_grown : (files new : List File) (policy : ℕ) (all : List Entry) → Grows files new → ArePlacedIn files policy all → ArePlacedIn new policy all
+pub entries_grown : (files new : List File) (policy : ℕ) (all : List ClarificationEntry) → Grows files new → ArePlacedIn files policy all → ArePlacedIn new policy all
 entries_grown files new policy all grows placed =
     subst (λ (new : List File). ArePlacedIn new policy all) (sym grows.1)
-    (All-weaker (λ (entry : Entry). IsPlacedIn files policy entry.clarification) (λ (entry : Entry). IsPlacedIn (files ++ grows.0) policy entry.clarification)
+    (All-weaker (λ (entry : ClarificationEntry). IsClarificationPlaced files policy entry.clarification) (λ (entry : ClarificationEntry). IsClarificationPlaced (files ++ grows.0) policy entry.clarification)
     (λ entry placed. clarification_grown files grows.0 policy entry.clarification placed) all placed)
 
 license_grown : (files more : List File) (license : KrateLicense) → IsPlacedAt files license → IsPlacedAt (files ++ more) license
@@ -93,13 +93,13 @@ texts_grown files more (label ∷ labels) lie =
     ap (λ (o : Option (List ℕ)). cut (unwrap_or o []) label.range) (same_source files more label.file_id here.live) in
     ap (λ (words : List ℕ). words ∷ map (text_under (files ++ more)) labels) first ∙ ap (λ (rest : List (List ℕ)). text_under files label ∷ rest) rest
 
-cut_on : (files more : List File) (turn : Turn) → IsCutOut files turn → IsCutOut (files ++ more) turn
+cut_on : (files more : List File) (turn : TurnInput) → IsCutOut files turn → IsCutOut (files ++ more) turn
 cut_on files more turn is = record {
   lie = All-weaker (LabelLies files) (LabelLies (files ++ more)) (λ label lies. label_grown files more label lies) (labels_of (points_in turn).findings) is.lie;
   cuts = texts_grown files more (labels_of (points_in turn).findings) is.lie ∙ is.cuts;
 }
 
-pub cut_grown : (files new : List File) (turn : Turn) → Grows files new → IsCutOut files turn → IsCutOut new turn
+pub cut_grown : (files new : List File) (turn : TurnInput) → Grows files new → IsCutOut files turn → IsCutOut new turn
 cut_grown files new turn grows is = subst (λ (new : List File). IsCutOut new turn) (sym grows.1) (cut_on files grows.0 turn is)
 
 -- ---- the table grows
@@ -112,7 +112,7 @@ grows_joined : (path : List ℕ) (files : List File) (bytes : List ℕ) (span : 
 grows_joined path files bytes None = grows_itself files
 grows_joined path files bytes (Some span) = (record { name = path; source = bytes; has_path = true } ∷ [], refl)
 
-grows_heard : (path field : List ℕ) (files : List File) (manifest : Heard) → Grows files (files_heard path field files manifest)
+grows_heard : (path field : List ℕ) (files : List File) (manifest : ReadResult) → Grows files (files_with_manifest path field files manifest)
 grows_heard path field files (failed before after) = grows_itself files
 grows_heard path field files absent = grows_itself files
 grows_heard path field files wrong_kind = grows_itself files
@@ -120,28 +120,28 @@ grows_heard path field files not_utf8 = grows_itself files
 grows_heard path field files (text bytes) = grows_joined path files bytes (span_in field bytes)
 grows_heard path field files (entries listed) = grows_itself files
 
-pub grows_by : (path field : List ℕ) (files : List File) (manifest : Heard) (there : Option ℕ) → Grows files (files_by path field files manifest there)
+pub grows_by : (path field : List ℕ) (files : List File) (manifest : ReadResult) (there : Option ℕ) → Grows files (files_by path field files manifest there)
 grows_by path field files manifest None = grows_heard path field files manifest
 grows_by path field files manifest (Some id) = grows_itself files
 
-grows_asked : (krate : Record) (files : List File) (manifest : Heard) (asks : Bool) → Grows files (files_where asks krate files manifest)
-grows_asked krate files manifest true = grows_by krate.manifest_path (field_text krate) files manifest (id_at files krate.manifest_path)
+grows_asked : (krate : Record) (files : List File) (manifest : ReadResult) (asks : Bool) → Grows files (files_where asks krate files manifest)
+grows_asked krate files manifest true = grows_by krate.manifest_path (field_text krate) files manifest (file_id_at files krate.manifest_path)
 grows_asked krate files manifest false = grows_itself files
 
-pub grows_located : (turn : Turn) → Grows turn.files (files_located turn)
+pub grows_located : (turn : TurnInput) → Grows turn.files (files_located turn)
 grows_located turn = grows_asked turn.krate turn.files turn.manifest (asks_manifest turn.clarifications turn.krate turn.ears)
 
-pub grows_left : (krate : Record) (faults : List ParseError) (location : Option Coord) (files : List File) (by : Settling) → Grows files (files_left krate faults location files by)
+pub grows_left : (krate : Record) (faults : List ParseError) (location : Option Coord) (files : List File) (by : LicenseBasis) → Grows files (files_left krate faults location files by)
 grows_left krate faults location files (Clarified held) = grows_itself files
 grows_left krate faults None files (Field expression) = (_ ∷ [], refl)
 grows_left krate faults (Some at) files (Field expression) = grows_itself files
 grows_left krate faults location files (Files seen joined) = (_ ∷ [], refl)
 
 -- behind each turn the table is what it was, and more
-pub grows_behind : (turn : Turn) → Grows turn.files (files_behind turn)
+pub grows_behind : (turn : TurnInput) → Grows turn.files (files_behind turn)
 grows_behind turn =
     grows_then turn.files (files_located turn) (files_behind turn) (grows_located turn)
-    (grows_left turn.krate (faults_in turn.scanner turn.krate) (located_in turn).location (files_located turn) (settling_in turn))
+    (grows_left turn.krate (faults_in turn.scanner turn.krate) (located_in turn).location (files_located turn) (basis_in turn))
 
 -- ---- what is taken stands in the policy's file
 
@@ -158,28 +158,28 @@ module _ (files : List File) (policy : ℕ) where
   place_lies placed None lie = All-nil (PlaceLies files policy)
   place_lies placed (Some number) lie = span_lies placed number lie
 
-  missing_lies : (ears : Ears) (clarifications : List Clarification) → All (IsPlacedIn files policy) clarifications → All (PlaceLies files policy) (missing_of ears clarifications)
+  missing_lies : (ears : FolderReads) (clarifications : List ClarificationView) → All (IsClarificationPlaced files policy) clarifications → All (PlaceLies files policy) (missing_of ears clarifications)
   missing_lies ears [] placed = All-nil (PlaceLies files policy)
   missing_lies ears (one ∷ more) placed =
-      let here = All-head (IsPlacedIn files policy) one more placed in
-      let rest = missing_lies ears more (All-tail (IsPlacedIn files policy) one more placed) in
+      let here = All-head (IsClarificationPlaced files policy) one more placed in
+      let rest = missing_lies ears more (All-tail (IsClarificationPlaced files policy) one more placed) in
       All-append (PlaceLies files policy) (option_to_list (missing_in ears one)) (cond (holds ears (named_in one)) [] (missing_of ears more))
       (place_lies one.files (missing_from ears 0 (named_in one)) here.paths)
       (elim (holds ears (named_in one)) as (λ b. All (PlaceLies files policy) (cond b [] (missing_of ears more))) [ true ↦ All-nil (PlaceLies files policy) | false ↦ rest ])
 
-  abbrev OneStands : Option Clarification → Type 0
+  abbrev OneStands : Option ClarificationView → Type 0
   OneStands None = Unit {0}
-  OneStands (Some one) = IsPlacedIn files policy one
+  OneStands (Some one) = IsClarificationPlaced files policy one
 
-  holding_stands : (ears : Ears) (clarifications : List Clarification) → All (IsPlacedIn files policy) clarifications → OneStands (holding ears clarifications)
+  holding_stands : (ears : FolderReads) (clarifications : List ClarificationView) → All (IsClarificationPlaced files policy) clarifications → OneStands (holding ears clarifications)
   holding_stands ears [] placed = tt
   holding_stands ears (one ∷ more) placed =
       elim (holds ears (named_in one)) as (λ b. OneStands (cond b (Some one) (holding ears more))) [
-        | true ↦ All-head (IsPlacedIn files policy) one more placed
-        | false ↦ holding_stands ears more (All-tail (IsPlacedIn files policy) one more placed)
+        | true ↦ All-head (IsClarificationPlaced files policy) one more placed
+        | false ↦ holding_stands ears more (All-tail (IsClarificationPlaced files policy) one more placed)
       ]
 
-  by_stands : (one : Option Clarification) (field : Option ExpressionView) (lists : CatalogLists) (seen : FilesSeen) → OneStands one
+  by_stands : (one : Option ClarificationView) (field : Option ExpressionView) (lists : CatalogLists) (seen : FilesSeen) → OneStands one
       → ByStands files policy (settling_by (option_map held_in one) field (by_seen lists seen))
   by_stands (Some one) field lists seen placed = placed.expression
   by_stands None (Some expression) lists seen placed = tt
@@ -190,32 +190,32 @@ places_grown files new policy spans grows lie =
     subst (λ (files : List File). All (PlaceLies files policy) spans) (sym grows.1)
     (All-weaker (PlaceLies files policy) (PlaceLies (files ++ grows.0) policy) (λ span lies. place_grown files grows.0 policy span lies) spans lie)
 
-held_grown : (files more : List File) (policy : ℕ) (by : Settling) → ByStands files policy by → ByStands (files ++ more) policy by
+held_grown : (files more : List File) (policy : ℕ) (by : LicenseBasis) → ByStands files policy by → ByStands (files ++ more) policy by
 held_grown files more policy (Clarified held) stands = stands_grown files more policy held.offset held.whole held.expression.text stands
 held_grown files more policy (Field expression) stands = tt
 held_grown files more policy (Files seen joined) stands = tt
 
-pub by_grown : (files new : List File) (policy : ℕ) (by : Settling) → Grows files new → ByStands files policy by → ByStands new policy by
+pub by_grown : (files new : List File) (policy : ℕ) (by : LicenseBasis) → Grows files new → ByStands files policy by → ByStands new policy by
 by_grown files new policy by grows stands = subst (λ (files : List File). ByStands files policy by) (sym grows.1) (held_grown files grows.0 policy by stands)
 
 -- of a turn over a policy whose places stand in the table
-pub missing_taken : (turn : Turn) (taken : Taken) (new : List File) → IsTaken turn taken new → All (IsPlacedIn turn.files turn.policy) turn.clarifications → All (PlaceLies new turn.policy) taken.missing
+pub missing_taken : (turn : TurnInput) (taken : LocatedLicense) (new : List File) → IsTaken turn taken new → All (IsClarificationPlaced turn.files turn.policy) turn.clarifications → All (PlaceLies new turn.policy) taken.missing
 missing_taken turn taken new is placed =
     subst (λ (missing : List Span). All (PlaceLies new turn.policy) missing) (sym is.missing)
     (subst (λ (files : List File). All (PlaceLies files turn.policy) (missing_of turn.ears turn.clarifications)) (sym is.table)
     (places_grown turn.files (files_located turn) turn.policy (missing_of turn.ears turn.clarifications) (grows_located turn)
     (missing_lies turn.files turn.policy turn.ears turn.clarifications placed)))
 
-pub held_taken : (turn : Turn) (taken : Taken) (new : List File) → IsTaken turn taken new → All (IsPlacedIn turn.files turn.policy) turn.clarifications → ByStands new turn.policy taken.by
+pub held_taken : (turn : TurnInput) (taken : LocatedLicense) (new : List File) → IsTaken turn taken new → All (IsClarificationPlaced turn.files turn.policy) turn.clarifications → ByStands new turn.policy taken.by
 held_taken turn taken new is placed =
     let stands = by_stands turn.files turn.policy (holding turn.ears turn.clarifications) (field_of turn.scanner.lists turn.krate) turn.scanner.lists
     (seen_by turn.ears.listing (files_scanned turn.scanner turn.clarifications turn.krate turn.ears)) (holding_stands turn.files turn.policy turn.ears turn.clarifications placed) in
-    subst (λ (by : Settling). ByStands new turn.policy by) (sym is.by)
-    (subst (λ (files : List File). ByStands files turn.policy (settling_in turn)) (sym is.table)
-    (by_grown turn.files (files_located turn) turn.policy (settling_in turn) (grows_located turn) stands))
+    subst (λ (by : LicenseBasis). ByStands new turn.policy by) (sym is.by)
+    (subst (λ (files : List File). ByStands files turn.policy (basis_in turn)) (sym is.table)
+    (by_grown turn.files (files_located turn) turn.policy (basis_in turn) (grows_located turn) stands))
 
 -- those that are for a crate stand where all do
-pub for_krate : (files : List File) (policy : ℕ) (krate : Record) (all : List Entry) → ArePlacedIn files policy all → All (IsPlacedIn files policy) (clarifications_of krate all)
+pub for_krate : (files : List File) (policy : ℕ) (krate : Record) (all : List ClarificationEntry) → ArePlacedIn files policy all → All (IsClarificationPlaced files policy) (clarifications_of krate all)
 for_krate files policy krate all placed =
-    All-map (IsPlacedIn files policy) (λ (entry : Entry). entry.clarification) _
-    (All-filter (λ (entry : Entry). spec_matches entry.spec krate) (λ (entry : Entry). IsPlacedIn files policy entry.clarification) all placed)
+    All-map (IsClarificationPlaced files policy) (λ (entry : ClarificationEntry). entry.clarification) _
+    (All-filter (λ (entry : ClarificationEntry). spec_matches entry.spec krate) (λ (entry : ClarificationEntry). IsClarificationPlaced files policy entry.clarification) all placed)

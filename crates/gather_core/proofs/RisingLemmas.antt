@@ -4,21 +4,21 @@ use Rattle.std.specs.List.{AllZip, flat_map}
 use Rattle.tree_core.specs.Call.{Call}
 use Rattle.tree_core.specs.Content.{Content}
 use Rattle.tree_core.specs.declared.reads.ReadRecord.{ReadRecord}
-use Rattle.reads_core.specs.Read.{records_in as recorded}
+use Rattle.reads_core.specs.Read.{records_of_reads}
 use Rattle.reads_core.specs.Rising.{RiseInOrder}
 use Rattle.reads_core.proofs.ReadLemmas.{reads_rise, records_in-append}
 use Rattle.expression_core.specs.Scanned.{Scanner}
 use Rattle.diag_core.specs.File.{File}
 use Rattle.gather_core.specs.declared.summary.KrateLicense.{KrateLicense}
 use Rattle.gather_core.specs.Calls.{AreTurnsByReads, CrateTurn, IsTurnBy, reads_of_all, turns_of}
-use Rattle.gather_core.specs.Entries.{Entry}
+use Rattle.gather_core.specs.Entries.{ClarificationEntry}
 use Rattle.gather_core.specs.Gathered.{all_reads}
 use Rattle.gather_core.proofs.CrateTurns.{reads_turned}
 use Rattle.gather_core.proofs.TurnCalls.{counts_of_all}
 
 -- the records that are told of crates are those of their reads
 records_told : (turns : List CrateTurn) (licenses : List KrateLicense) (last : List File) → AllZip (IsTurnBy last) turns licenses
-    → recorded (flat_map (λ (own : CrateTurn). own.reads) turns) ≡ all_reads licenses
+    → records_of_reads (flat_map (λ (own : CrateTurn). own.reads) turns) ≡ all_reads licenses
 records_told [] [] last each = refl
 records_told [] (license ∷ licenses) last each = absurd each
 records_told (own ∷ turns) [] last each = absurd each
@@ -26,11 +26,11 @@ records_told (own ∷ turns) (license ∷ licenses) last each =
     records_in-append own.reads (flat_map (λ (own : CrateTurn). own.reads) turns)
     ∙ ap₂ (λ (front back : List ReadRecord). front ++ back) each.0.recorded_are (records_told turns licenses last each.1)
 
-module _ {told tells : Option Content} {before after : ℕ} {old new : List Call} (scanner : Scanner) (policy : ℕ) (all : List Entry) (files : List File) (licenses : List KrateLicense) (last : List File)
+module _ {told tells : Option Content} {before after : ℕ} {old new : List Call} (scanner : Scanner) (policy : ℕ) (all : List ClarificationEntry) (files : List File) (licenses : List KrateLicense) (last : List File)
     (by : AreTurnsByReads told tells before after old new scanner policy all files licenses last) where
   pub rises_by_reads : RiseInOrder before (all_reads licenses) after
   rises_by_reads =
       let turns = turns_of scanner policy all files by.crates in
-      subst (λ (records : List ReadRecord). RiseInOrder before records after) (ap recorded (sym (reads_turned scanner policy all files by.crates)) ∙ records_told turns licenses last by.turns.each)
-      (subst (λ (high : ℕ). RiseInOrder before (recorded (reads_of_all by.crates)) high) (sym (by.made.counts ∙ counts_of_all before by.crates))
+      subst (λ (records : List ReadRecord). RiseInOrder before records after) (ap records_of_reads (sym (reads_turned scanner policy all files by.crates)) ∙ records_told turns licenses last by.turns.each)
+      (subst (λ (high : ℕ). RiseInOrder before (records_of_reads (reads_of_all by.crates)) high) (sym (by.made.counts ∙ counts_of_all before by.crates))
       (reads_rise [] before (reads_of_all by.crates) by.are))

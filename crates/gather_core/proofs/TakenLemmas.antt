@@ -7,22 +7,22 @@ use Rattle.tree_core.specs.declared.reads.ReadRecord.{ReadRecord}
 use Rattle.spdx_core.specs.Reading.{ExpressionView}
 use Rattle.diag_core.specs.File.{File}
 use Rattle.graph_core.specs.Krate.{Record}
-use Rattle.reads_core.specs.Heard.{Heard}
-use Rattle.pack_core.specs.Ears.{Ears}
+use Rattle.reads_core.specs.Heard.{ReadResult}
+use Rattle.pack_core.specs.Ears.{FolderReads}
 use Rattle.expression_core.specs.Scanned.{Scanner}
-use Rattle.location_core.specs.declared.location.Located.{Located}
+use Rattle.location_core.specs.declared.location.LocatedField.{LocatedField}
 use Rattle.location_core.specs.Location.{IsLocated, files_after, located_of}
-use Rattle.priority_core.specs.declared.settle.Settled.{Settled}
+use Rattle.priority_core.specs.declared.settle.SettledLicense.{SettledLicense}
 use Rattle.priority_core.specs.declared.settling.FilesSeen.{FilesSeen}
-use Rattle.priority_core.specs.declared.settling.Settling.{Settling}
-use Rattle.priority_core.specs.Clarification.{Clarification, held_in}
-use Rattle.priority_core.specs.Priority.{by_seen, field_of, files_scanned, holding, is_nothing, records_of, seen_by, settling_by, settling_of}
+use Rattle.priority_core.specs.declared.settling.LicenseBasis.{LicenseBasis}
+use Rattle.priority_core.specs.Clarification.{ClarificationView, held_in}
+use Rattle.priority_core.specs.Priority.{by_seen, field_of, files_scanned, holding, is_nothing, records_of, seen_by, settling_by, basis_of}
 use Rattle.priority_core.specs.Settled.{IsSettledBy}
 use Rattle.gather_core.specs.Taken.{IsLocatedWhere, IsTaken, is_clarified, turn_with}
 use Rattle.gather_core.specs.Turns.{asks_manifest, files_where, in_order, located_where, not_asked}
 
 -- a field that is there is located
-pub located_at : (krate : Record) (field : List ℕ) (old : List File) (manifest : Heard) (located : Located) (new : List File) → krate.license ≡ Some field
+pub located_at : (krate : Record) (field : List ℕ) (old : List File) (manifest : ReadResult) (located : LocatedField) (new : List File) → krate.license ≡ Some field
     → IsLocated krate.manifest_path field old manifest located new → IsLocatedWhere (is_some krate.license) krate old manifest located new
 located_at krate field old manifest located new license is = record {
   located_is =
@@ -35,15 +35,15 @@ located_at krate field old manifest located new license is = record {
 
 -- ---- where no clarification is for the crate
 
-pub taken_first : (scanner : Scanner) (policy : ℕ) (clarifications : List Clarification) (krate : Record) (ears : Ears) (manifest : Heard) (old : List File) (located : Located) (settled : Settled) (new : List File) (reads : List ReadRecord)
+pub taken_first : (scanner : Scanner) (policy : ℕ) (clarifications : List ClarificationView) (krate : Record) (ears : FolderReads) (manifest : ReadResult) (old : List File) (located : LocatedField) (settled : SettledLicense) (new : List File) (reads : List ReadRecord)
     → is_nothing clarifications ≡ true → IsLocatedWhere (is_some krate.license) krate old manifest located new → IsSettledBy scanner clarifications krate ears settled
     → reads ≡ option_to_list located.read ++ settled.reads
     → IsTaken (turn_with scanner policy clarifications krate ears manifest old) (record { by = settled.by; missing = settled.missing; location = located.location; reads = reads }) new
 taken_first scanner policy [] krate ears manifest old located settled new reads none here is behind = record {
   by = is.by_is;
   missing = is.missing_is;
-  location = ap (λ (l : Located). l.location) here.located_is;
-  reads = behind ∙ ap (λ (l : Located). option_to_list l.read ++ settled.reads) here.located_is
+  location = ap (λ (l : LocatedField). l.location) here.located_is;
+  reads = behind ∙ ap (λ (l : LocatedField). option_to_list l.read ++ settled.reads) here.located_is
       ∙ ap (λ (more : List ReadRecord). option_to_list (located_where (is_some krate.license) krate old manifest).read ++ more) is.reads_are;
   table = here.files_are;
 }
@@ -51,20 +51,20 @@ taken_first scanner policy (one ∷ more) krate ears manifest old located settle
 
 -- ---- where a clarification is for the crate
 
-not_clarified : (one : Option Clarification) (field : Option ExpressionView) (lists : CatalogLists) (seen : FilesSeen)
+not_clarified : (one : Option ClarificationView) (field : Option ExpressionView) (lists : CatalogLists) (seen : FilesSeen)
     → not (is_clarified (settling_by (option_map held_in one) field (by_seen lists seen))) ≡ is_none one
 not_clarified (Some one) field lists seen = refl
 not_clarified None (Some e) lists seen = refl
 not_clarified None None lists seen = refl
 
-pub asked_where : (scanner : Scanner) (clarifications : List Clarification) (krate : Record) (ears : Ears) (by : Settling) → by ≡ settling_of scanner clarifications krate ears
+pub asked_where : (scanner : Scanner) (clarifications : List ClarificationView) (krate : Record) (ears : FolderReads) (by : LicenseBasis) → by ≡ basis_of scanner clarifications krate ears
     → (not (is_clarified by) && is_some krate.license) ≡ asks_manifest clarifications krate ears
 asked_where scanner clarifications krate ears by is =
-    ap (λ (by : Settling). not (is_clarified by) && is_some krate.license) is
+    ap (λ (by : LicenseBasis). not (is_clarified by) && is_some krate.license) is
     ∙ ap (λ b. b && is_some krate.license)
     (not_clarified (holding ears clarifications) (field_of scanner.lists krate) scanner.lists (seen_by ears.listing (files_scanned scanner clarifications krate ears)))
 
-pub taken_last : (scanner : Scanner) (policy : ℕ) (clarifications : List Clarification) (krate : Record) (ears : Ears) (manifest : Heard) (old : List File) (located : Located) (settled : Settled) (new : List File) (reads : List ReadRecord)
+pub taken_last : (scanner : Scanner) (policy : ℕ) (clarifications : List ClarificationView) (krate : Record) (ears : FolderReads) (manifest : ReadResult) (old : List File) (located : LocatedField) (settled : SettledLicense) (new : List File) (reads : List ReadRecord)
     → is_nothing clarifications ≡ false → IsSettledBy scanner clarifications krate ears settled
     → IsLocatedWhere (not (is_clarified settled.by) && is_some krate.license) krate old manifest located new
     → reads ≡ settled.reads ++ option_to_list located.read
@@ -75,9 +75,9 @@ taken_last scanner policy clarifications krate ears manifest old located settled
     record {
       by = is.by_is;
       missing = is.missing_is;
-      location = ap (λ (l : Located). l.location) located_is;
+      location = ap (λ (l : LocatedField). l.location) located_is;
       reads =
-          behind ∙ ap (λ (l : Located). settled.reads ++ option_to_list l.read) located_is
+          behind ∙ ap (λ (l : LocatedField). settled.reads ++ option_to_list l.read) located_is
           ∙ ap (λ (front : List ReadRecord). front ++ option_to_list (located_where (asks_manifest clarifications krate ears) krate old manifest).read) is.reads_are
           ∙ sym (ap (λ b. in_order b (located_where (asks_manifest clarifications krate ears) krate old manifest).read (records_of scanner clarifications krate ears)) some);
       table = here.files_are ∙ ap (λ b. files_where b krate old manifest) asks;

@@ -11,38 +11,38 @@ use Rattle.catalog_core.specs.Catalog.{CatalogLists}
 use Rattle.term_core.specs.declared.mode.ParseMode.{ParseMode}
 use Rattle.term_core.specs.Faults.{first_fault}
 use Rattle.term_core.specs.Items.{items_of}
-use Rattle.spdx_core.specs.Grammar.{Tree}
-use Rattle.spdx_core.specs.Reading.{ExpressionView, Read, after_items, expression_if, expression_of, level_tree, nothing_read}
+use Rattle.spdx_core.specs.Grammar.{ExpressionTree}
+use Rattle.spdx_core.specs.Reading.{ExpressionView, ReaderState, after_items, expression_if, expression_of_text, level_tree, nothing_read}
 use Rattle.graph_core.specs.Krate.{Record}
 use Rattle.diag_core.specs.declared.label.Coord.{Coord}
-use Rattle.diag_core.specs.File.{File, source_of}
+use Rattle.diag_core.specs.File.{File, source_of_file}
 use Rattle.expression_core.specs.Taken.{field_read, lax, strict_with_slash}
 use Rattle.location_core.specs.Location.{PointsAt}
-use Rattle.finding_core.specs.Cuts.{LabelLies, StandsAt, labels_of}
+use Rattle.finding_core.specs.Cuts.{LabelLies, StandsAtCoord, labels_of}
 use Rattle.priority_core.specs.declared.settling.FilesSeen.{FilesSeen}
-use Rattle.priority_core.specs.declared.settling.Settling.{Settling}
-use Rattle.priority_core.specs.declared.settling.Settling.TheVariants.{Clarified, Field, Files}
-use Rattle.priority_core.specs.Clarification.{Clarification, held_in}
+use Rattle.priority_core.specs.declared.settling.LicenseBasis.{LicenseBasis}
+use Rattle.priority_core.specs.declared.settling.LicenseBasis.TheVariants.{Clarified, Field, Files}
+use Rattle.priority_core.specs.Clarification.{ClarificationView, held_in}
 use Rattle.priority_core.specs.Priority.{by_seen, field_of, files_scanned, holding, seen_by, settling_by}
 use Rattle.gather_core.specs.Premises.{ByStands, InfoStands, PlaceLies, StandsIn, TextIs}
 use Rattle.gather_core.specs.Told.{info_by, nowhere}
-use Rattle.gather_core.specs.Turns.{Turn, field_text, missing_findings, settling_in, text_settled}
+use Rattle.gather_core.specs.Turns.{TurnInput, field_text, missing_findings, basis_in, text_settled}
 
 -- ---- the expression of a field is its text
 
 no_some : {A G : Type 0} (x : A) → None ≡ Some x → G
 no_some x e = cc
 
-by_tree : (words : List ℕ) (read : Read) (tree : Option Tree) (e : ExpressionView)
-    → option_map (λ (tree : Tree). let e : ExpressionView = record { text = words; terms = read.terms; tree = tree } in e) tree ≡ Some e → e.text ≡ words
+by_tree : (words : List ℕ) (read : ReaderState) (tree : Option ExpressionTree) (e : ExpressionView)
+    → option_map (λ (tree : ExpressionTree). let e : ExpressionView = record { text = words; terms = read.terms; tree = tree } in e) tree ≡ Some e → e.text ≡ words
 by_tree words read None e is = no_some e is
 by_tree words read (Some tree) e is = sym (ap (λ (o : Option ExpressionView). option_map_or (λ (e : ExpressionView). e.text) o words) is)
 
-text_if : (fine : Bool) (words : List ℕ) (read : Read) (e : ExpressionView) → expression_if fine words read ≡ Some e → e.text ≡ words
+text_if : (fine : Bool) (words : List ℕ) (read : ReaderState) (e : ExpressionView) → expression_if fine words read ≡ Some e → e.text ≡ words
 text_if false words read e is = no_some e is
 text_if true words read e is = by_tree words read (level_tree read.level) e is
 
-text_of : (mode : ParseMode) (lists : CatalogLists) (words : List ℕ) (e : ExpressionView) → expression_of mode lists words ≡ Some e → e.text ≡ words
+text_of : (mode : ParseMode) (lists : CatalogLists) (words : List ℕ) (e : ExpressionView) → expression_of_text mode lists words ≡ Some e → e.text ≡ words
 text_of mode lists words e is = text_if (is_none (first_fault mode lists words)) words (after_items nothing_read (items_of mode lists words)) e is
 
 either_text : (a b : Option ExpressionView) (words : List ℕ) (e : ExpressionView) → ((e : ExpressionView) → a ≡ Some e → e.text ≡ words) → ((e : ExpressionView) → b ≡ Some e → e.text ≡ words)
@@ -53,20 +53,20 @@ either_text (Some x) b words e one two is = one e is
 read_text : (lists : CatalogLists) (field : List ℕ) (e : ExpressionView) → field_read lists field ≡ Some e → e.text ≡ field
 read_text lists [] e is = no_some e is
 read_text lists (byte ∷ bytes) e is =
-    either_text (expression_of strict_with_slash lists (byte ∷ bytes)) (expression_of lax lists (byte ∷ bytes)) (byte ∷ bytes) e
+    either_text (expression_of_text strict_with_slash lists (byte ∷ bytes)) (expression_of_text lax lists (byte ∷ bytes)) (byte ∷ bytes) e
     (text_of strict_with_slash lists (byte ∷ bytes)) (text_of lax lists (byte ∷ bytes)) is
 
 field_text_is : (lists : CatalogLists) (field : Option (List ℕ)) (e : ExpressionView) → option_and_then (field_read lists) field ≡ Some e → e.text ≡ unwrap_or field []
 field_text_is lists None e is = no_some e is
 field_text_is lists (Some field) e is = read_text lists field e is
 
-text_by : (one : Option Clarification) (field : Option ExpressionView) (lists : CatalogLists) (seen : FilesSeen) (words : List ℕ) → ((e : ExpressionView) → field ≡ Some e → e.text ≡ words)
+text_by : (one : Option ClarificationView) (field : Option ExpressionView) (lists : CatalogLists) (seen : FilesSeen) (words : List ℕ) → ((e : ExpressionView) → field ≡ Some e → e.text ≡ words)
     → TextIs words (settling_by (option_map held_in one) field (by_seen lists seen))
 text_by (Some one) field lists seen words is = tt
 text_by None (Some e) lists seen words is = is e refl
 text_by None None lists seen words is = tt
 
-pub text_settles : (turn : Turn) → TextIs (field_text turn.krate) (settling_in turn)
+pub text_settles : (turn : TurnInput) → TextIs (field_text turn.krate) (basis_in turn)
 text_settles turn =
     text_by (holding turn.ears turn.clarifications) (field_of turn.scanner.lists turn.krate) turn.scanner.lists
     (seen_by turn.ears.listing (files_scanned turn.scanner turn.clarifications turn.krate turn.ears)) (field_text turn.krate)
@@ -83,22 +83,22 @@ points_from files at words points =
     let end : at.span.end ≡ at.span.start + length words = (let ordered : at.span.start ≤ at.span.end = points.cuts.ordered in omega arith) in
     subst (λ (e : ℕ). PointsAt files (record { file = at.file; span = record { start = at.span.start; end = e } }) words) end points
 
-at_place : (files : List File) (place : Option Coord) (words : List ℕ) → StandsAt files place (Some words) → StandsIn files (unwrap_or place nowhere).file (unwrap_or place nowhere).span.start None words
+at_place : (files : List File) (place : Option Coord) (words : List ℕ) → StandsAtCoord files place (Some words) → StandsIn files (unwrap_or place nowhere).file (unwrap_or place nowhere).span.start None words
 at_place files None words stands = absurd stands
 at_place files (Some at) words stands = points_from files at words stands
 
-pub info_stands : (files : List File) (policy : ℕ) (krate : Record) (location place : Option Coord) (by : Settling)
-    → ByStands files policy by → TextIs (field_text krate) by → StandsAt files place (text_settled krate by)
+pub info_stands : (files : List File) (policy : ℕ) (krate : Record) (location place : Option Coord) (by : LicenseBasis)
+    → ByStands files policy by → TextIs (field_text krate) by → StandsAtCoord files place (text_settled krate by)
     → InfoStands files (info_by policy location (unwrap_or place nowhere) by)
 info_stands files policy krate location place (Clarified held) held_stands words stands = held_stands
 info_stands files policy krate location place (Field expression) held_stands words stands =
-    at_place files place expression.text (subst (λ (words : List ℕ). StandsAt files place (Some words)) (sym words) stands)
+    at_place files place expression.text (subst (λ (words : List ℕ). StandsAtCoord files place (Some words)) (sym words) stands)
 info_stands files policy krate location place (Files seen None) held_stands words stands = tt
 info_stands files policy krate location place (Files seen (Some joined)) held_stands words stands = at_place files place joined.expression.text stands
 
 -- ---- labels of files that are not there
 
-live_by : (files : List File) (id : ℕ) (source : List ℕ) → source_of files id ≡ Some source → id < length files
+live_by : (files : List File) (id : ℕ) (source : List ℕ) → source_of_file files id ≡ Some source → id < length files
 live_by [] zero source is = no_some source is
 live_by [] (suc id) source is = no_some source is
 live_by (file ∷ files) zero source is = omega arith

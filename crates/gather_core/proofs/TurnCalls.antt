@@ -12,7 +12,7 @@ use Rattle.tree_core.specs.Trace.{fault_behind, faults_after}
 use Rattle.tree_core.specs.declared.reads.ReadRecord.{ReadRecord}
 use Rattle.tree_core.proofs.MadeLemmas.{faults_after-append, made_as, made_joined, made_none}
 use Rattle.graph_core.specs.Krate.{Record}
-use Rattle.reads_core.specs.Read.{AreReads, MadeReads, Read, calls_in, records_in as recorded}
+use Rattle.reads_core.specs.Read.{AreReads, MadeReads, AnsweredRead, calls_in, records_of_reads}
 use Rattle.reads_core.proofs.ReadLemmas.{are_joined, calls_in-append}
 use Rattle.pack_core.specs.Calls.{IsFront}
 use Rattle.pack_core.specs.Ears.{ears_by}
@@ -23,7 +23,7 @@ use Rattle.priority_core.specs.Priority.{folder_of}
 use Rattle.gather_core.specs.declared.summary.KrateLicense.{KrateLicense}
 use Rattle.gather_core.specs.Calls.{AreTurnsByReads, CrateReads, IsByOwnReads, IsTurnHeard, StarvesGathering, StarvesTaking}
 use Rattle.gather_core.specs.Calls.{calls_of_all, reads_of_all, turn_by, turns_of}
-use Rattle.gather_core.specs.Entries.{Entry, clarifications_of}
+use Rattle.gather_core.specs.Entries.{ClarificationEntry, clarifications_of}
 use Rattle.gather_core.specs.Gathered.{krate_of, turn_of}
 use Rattle.gather_core.specs.Premises.{Grows}
 use Rattle.gather_core.specs.Taken.{turn_with}
@@ -35,8 +35,8 @@ use Rattle.gather_core.proofs.GatheredLemmas.{map_push, priority_turn}
 -- ---- one crate
 
 -- what is told of a crate is what its turn says by its own reads
-pub license_answered : {told tells : Option Content} {before after : ℕ} {old new : List Call} (scanner : Scanner) (policy : ℕ) (all : List Entry) (files last : List File) (krate : Record)
-    (records : List ReadRecord) (reads : List Read) (result : Result KrateLicense AllocError) → recorded reads ≡ records → MadeReads told tells before after old new (folder_of krate) reads
+pub license_answered : {told tells : Option Content} {before after : ℕ} {old new : List Call} (scanner : Scanner) (policy : ℕ) (all : List ClarificationEntry) (files last : List File) (krate : Record)
+    (records : List ReadRecord) (reads : List AnsweredRead) (result : Result KrateLicense AllocError) → records_of_reads reads ≡ records → MadeReads told tells before after old new (folder_of krate) reads
     → IfOk result (λ license. krate_of license ≡ krate) → IfOk result (λ license. license.reads ≡ records)
     → IfOk result (λ license. IsTurn (turn_with scanner policy (clarifications_of krate all) krate (ears_by reads) (manifest_by reads) files) license last)
     → OnOk result (IsCutOut last (turn_with scanner policy (clarifications_of krate all) krate (ears_by reads) (manifest_by reads) files))
@@ -53,7 +53,7 @@ license_answered {told} {tells} {before} {after} {old} {new} scanner policy all 
 license_answered scanner policy all files last krate records reads (Err error) recorded_are made krate_is reads_are is cut = tt
 
 -- memory was wanting behind a crate's turn
-pub starves_told : {told tells : Option Content} {before after : ℕ} {old new : List Call} (scanner : Scanner) (policy : ℕ) (all : List Entry) (files last : List File) (license : KrateLicense)
+pub starves_told : {told tells : Option Content} {before after : ℕ} {old new : List Call} (scanner : Scanner) (policy : ℕ) (all : List ClarificationEntry) (files last : List File) (license : KrateLicense)
     → IsByOwnReads told tells before after old new (folder_of (krate_of license)) license.reads (IsTurnHeard scanner policy all files license last)
     → StarvesTaking told tells before after old new (folder_of (krate_of license)) (λ ears manifest. records_in (turn_of scanner policy all ears manifest files license))
 starves_told scanner policy all files last license by =
@@ -63,7 +63,7 @@ starves_told scanner policy all files last license by =
 -- ---- the calls of crates, one after another
 
 -- the count behind reads is the same in any folder
-faults_in : (count : ℕ) (folder other : List ℕ) (reads : List Read) → faults_after count (calls_in folder reads) ≡ faults_after count (calls_in other reads)
+faults_in : (count : ℕ) (folder other : List ℕ) (reads : List AnsweredRead) → faults_after count (calls_in folder reads) ≡ faults_after count (calls_in other reads)
 faults_in count folder other [] = refl
 faults_in count folder other (read ∷ reads) = faults_in (fault_behind count read.answer) folder other reads
 
@@ -84,21 +84,21 @@ calls_push crates one =
 
 reads_push : (crates : List CrateReads) (one : CrateReads) → reads_of_all (crates ++ one ∷ []) ≡ reads_of_all crates ++ one.reads
 reads_push crates one =
-    flat_map-append (λ (one : CrateReads). one.reads) crates (one ∷ []) ∙ ap (λ (reads : List Read). reads_of_all crates ++ reads) (append-nil one.reads)
+    flat_map-append (λ (one : CrateReads). one.reads) crates (one ∷ []) ∙ ap (λ (reads : List AnsweredRead). reads_of_all crates ++ reads) (append-nil one.reads)
 
 -- records tell what the answers let hear, and so do those of the next crate
-are_then : {told mid : Option Content} {before middle : ℕ} {old between : List Call} (crates : List CrateReads) (more : List Read) → Made told mid before middle old between (calls_of_all crates)
+are_then : {told mid : Option Content} {before middle : ℕ} {old between : List Call} (crates : List CrateReads) (more : List AnsweredRead) → Made told mid before middle old between (calls_of_all crates)
     → AreReads before (reads_of_all crates) → AreReads middle more → AreReads before (reads_of_all crates ++ more)
 are_then {told} {mid} {before} {middle} crates more made first then =
     are_joined before [] (reads_of_all crates) more first (subst (λ (count : ℕ). AreReads count more) (made.counts ∙ counts_of_all before crates) then)
 
 -- ---- turn after turn
 
-pub no_turns : (told : Option Content) (count : ℕ) (calls : List Call) (scanner : Scanner) (policy : ℕ) (all : List Entry) (files : List File)
+pub no_turns : (told : Option Content) (count : ℕ) (calls : List Call) (scanner : Scanner) (policy : ℕ) (all : List ClarificationEntry) (files : List File)
     → AreTurnsByReads told told count count calls calls scanner policy all files [] files
 no_turns told count calls scanner policy all files = record { crates = []; made = made_none told count calls; are = tt; turns = record { each = tt; left = refl } }
 
-module _ {told mid tells : Option Content} {before between_count after : ℕ} {old between new : List Call} (scanner : Scanner) (policy : ℕ) (all : List Entry) (files : List File) (licenses : List KrateLicense) where
+module _ {told mid tells : Option Content} {before between_count after : ℕ} {old between new : List Call} (scanner : Scanner) (policy : ℕ) (all : List ClarificationEntry) (files : List File) (licenses : List KrateLicense) where
   -- one more crate
   pub turns_then : (license : KrateLicense) (middle last : List File) → AreTurnsByReads told mid before between_count old between scanner policy all files licenses middle → Grows middle last
       → IsByOwnReads mid tells between_count after between new (folder_of (krate_of license)) license.reads (IsTurnHeard scanner policy all middle license last)
@@ -125,7 +125,7 @@ module _ {told mid tells : Option Content} {before between_count after : ℕ} {o
 -- ---- for want of memory
 
 -- memory was wanting at the turn of the next crate
-pub starves_next : {told mid tells : Option Content} {before between_count after : ℕ} {old between new : List Call} (scanner : Scanner) (policy : ℕ) (all : List Entry) (files : List File)
+pub starves_next : {told mid tells : Option Content} {before between_count after : ℕ} {old between new : List Call} (scanner : Scanner) (policy : ℕ) (all : List ClarificationEntry) (files : List File)
     (licenses : List KrateLicense) (middle : List File) (krate : Record) (krates : List Record) → AreTurnsByReads told mid before between_count old between scanner policy all files licenses middle
     → StarvesTaking mid tells between_count after between new (folder_of krate) (λ ears manifest. records_in (turn_with scanner policy (clarifications_of krate all) krate ears manifest middle))
     → IsFront (map krate_of licenses ++ krate ∷ []) krates
@@ -140,7 +140,7 @@ starves_next scanner policy all files licenses middle krate krates first starves
       are = are_then first.crates starves.reads first.made first.are starves.made.are;
       own = own_turns files (turns_of scanner policy all files first.crates) licenses middle first.turns;
       front =
-          subst (λ (files : List File). IsFront (recorded starves.reads ++ option_to_list starves.next) (records_in (turn_by scanner policy all files begun).turn)) first.turns.left starves.front;
+          subst (λ (files : List File). IsFront (records_of_reads starves.reads ++ option_to_list starves.next) (records_in (turn_by scanner policy all files begun).turn)) first.turns.left starves.front;
       among =
           subst (λ (those : List Record). IsFront (those ++ krate ∷ []) krates) (sym (krates_told scanner policy all files first.crates licenses middle first.turns)) among;
     }

@@ -6,42 +6,42 @@ use Rattle.deny_text.specs.declared.span.Span.{Span}
 use Rattle.term_core.specs.declared.error.ParseError.{ParseError}
 use Rattle.diag_core.specs.declared.label.Coord.{Coord}
 use Rattle.diag_core.specs.File.{File}
-use Rattle.priority_core.specs.declared.settling.Settling.{Settling}
+use Rattle.priority_core.specs.declared.settling.LicenseBasis.{LicenseBasis}
 use Rattle.priority_core.specs.Priority.{answer_in}
 use Rattle.priority_core.specs.Settled.{missing_of}
-use Rattle.finding_core.specs.declared.outcome.Points.{Points}
+use Rattle.finding_core.specs.declared.outcome.PlacedFindings.{PlacedFindings}
 use Rattle.finding_core.specs.Cuts.{LabelLies, labels_of, text_under}
 use Rattle.gather_core.specs.declared.summary.KrateLicense.{KrateLicense}
-use Rattle.gather_core.specs.declared.turn.Taken.{Taken}
+use Rattle.gather_core.specs.declared.turn.LocatedLicense.{LocatedLicense}
 use Rattle.gather_core.specs.Taken.{IsTaken}
 use Rattle.gather_core.specs.Told.{info_by, notes_of, nowhere}
-use Rattle.gather_core.specs.Turns.{IsCutOut, IsTurn, Turn, faults_in, files_left, files_located, located_in, missing_findings, points_for, points_in, texts_for}
+use Rattle.gather_core.specs.Turns.{IsCutOut, IsTurn, TurnInput, faults_in, files_left, files_located, located_in, missing_findings, points_for, points_in, label_texts_for}
 
-pub points_are : (turn : Turn) (faults : List ParseError) (taken : Taken) (points : Points) (old : List File) → faults ≡ faults_in turn.scanner turn.krate → IsTaken turn taken old
+pub points_are : (turn : TurnInput) (faults : List ParseError) (taken : LocatedLicense) (points : PlacedFindings) (old : List File) → faults ≡ faults_in turn.scanner turn.krate → IsTaken turn taken old
     → points ≡ points_for turn.krate faults taken.location old taken.by → points ≡ points_in turn
 points_are turn faults taken points old faults_are is found =
     found
     ∙ ap (λ (faults : List ParseError). points_for turn.krate faults taken.location old taken.by) faults_are
     ∙ ap (λ (at : Option Coord). points_for turn.krate (faults_in turn.scanner turn.krate) at old taken.by) is.location
     ∙ ap (λ (files : List File). points_for turn.krate (faults_in turn.scanner turn.krate) (located_in turn).location files taken.by) is.table
-    ∙ ap (λ (by : Settling). points_for turn.krate (faults_in turn.scanner turn.krate) (located_in turn).location (files_located turn) by) is.by
+    ∙ ap (λ (by : LicenseBasis). points_for turn.krate (faults_in turn.scanner turn.krate) (located_in turn).location (files_located turn) by) is.by
 
 -- the labels of what is found cut out what they say
-pub found_turn : (turn : Turn) (faults : List ParseError) (taken : Taken) (points : Points) (old new : List File) → faults ≡ faults_in turn.scanner turn.krate → IsTaken turn taken old
+pub found_turn : (turn : TurnInput) (faults : List ParseError) (taken : LocatedLicense) (points : PlacedFindings) (old new : List File) → faults ≡ faults_in turn.scanner turn.krate → IsTaken turn taken old
     → points ≡ points_for turn.krate faults taken.location old taken.by → All (LabelLies new) (labels_of points.findings)
-    → map (text_under new) (labels_of points.findings) ≡ texts_for turn.krate faults taken.location taken.by → IsCutOut new turn
+    → map (text_under new) (labels_of points.findings) ≡ label_texts_for turn.krate faults taken.location taken.by → IsCutOut new turn
 found_turn turn faults taken points old new faults_are is found lie cuts =
     let all_points = points_are turn faults taken points old faults_are is found in
     record {
-      lie = subst (λ (points : Points). All (LabelLies new) (labels_of points.findings)) all_points lie;
+      lie = subst (λ (points : PlacedFindings). All (LabelLies new) (labels_of points.findings)) all_points lie;
       cuts =
-          ap (λ (points : Points). map (text_under new) (labels_of points.findings)) (sym all_points) ∙ cuts
-          ∙ ap (λ (faults : List ParseError). texts_for turn.krate faults taken.location taken.by) faults_are
-          ∙ ap (λ (at : Option Coord). texts_for turn.krate (faults_in turn.scanner turn.krate) at taken.by) is.location
-          ∙ ap (λ (by : Settling). texts_for turn.krate (faults_in turn.scanner turn.krate) (located_in turn).location by) is.by;
+          ap (λ (points : PlacedFindings). map (text_under new) (labels_of points.findings)) (sym all_points) ∙ cuts
+          ∙ ap (λ (faults : List ParseError). label_texts_for turn.krate faults taken.location taken.by) faults_are
+          ∙ ap (λ (at : Option Coord). label_texts_for turn.krate (faults_in turn.scanner turn.krate) at taken.by) is.location
+          ∙ ap (λ (by : LicenseBasis). label_texts_for turn.krate (faults_in turn.scanner turn.krate) (located_in turn).location by) is.by;
     }
 
-pub told_turn : (turn : Turn) (license : KrateLicense) (faults : List ParseError) (taken : Taken) (points : Points) (old new : List File)
+pub told_turn : (turn : TurnInput) (license : KrateLicense) (faults : List ParseError) (taken : LocatedLicense) (points : PlacedFindings) (old new : List File)
     → faults ≡ faults_in turn.scanner turn.krate → IsTaken turn taken old
     → points ≡ points_for turn.krate faults taken.location old taken.by → new ≡ files_left turn.krate faults taken.location old taken.by
     → license.lic_info ≡ info_by turn.policy taken.location (unwrap_or points.expression nowhere) taken.by → license.notes ≡ notes_of (answer_in taken.by)
@@ -53,18 +53,18 @@ told_turn turn license faults taken points old new faults_are is found files_are
       info =
           info
           ∙ ap (λ (at : Option Coord). info_by turn.policy at (unwrap_or points.expression nowhere) taken.by) is.location
-          ∙ ap (λ (points : Points). info_by turn.policy (located_in turn).location (unwrap_or points.expression nowhere) taken.by) all_points
-          ∙ ap (λ (by : Settling). info_by turn.policy (located_in turn).location (unwrap_or (points_in turn).expression nowhere) by) is.by;
-      noted = notes ∙ ap (λ (by : Settling). notes_of (answer_in by)) is.by;
+          ∙ ap (λ (points : PlacedFindings). info_by turn.policy (located_in turn).location (unwrap_or points.expression nowhere) taken.by) all_points
+          ∙ ap (λ (by : LicenseBasis). info_by turn.policy (located_in turn).location (unwrap_or (points_in turn).expression nowhere) by) is.by;
+      noted = notes ∙ ap (λ (by : LicenseBasis). notes_of (answer_in by)) is.by;
       found =
           diags
           ∙ ap (λ (missing : List Span). missing_findings turn.policy missing ++ points.findings) is.missing
-          ∙ ap (λ (points : Points). missing_findings turn.policy (missing_of turn.ears turn.clarifications) ++ points.findings) all_points;
+          ∙ ap (λ (points : PlacedFindings). missing_findings turn.policy (missing_of turn.ears turn.clarifications) ++ points.findings) all_points;
       read = reads ∙ is.reads;
       table =
           files_are
           ∙ ap (λ (faults : List ParseError). files_left turn.krate faults taken.location old taken.by) faults_are
           ∙ ap (λ (at : Option Coord). files_left turn.krate (faults_in turn.scanner turn.krate) at old taken.by) is.location
           ∙ ap (λ (files : List File). files_left turn.krate (faults_in turn.scanner turn.krate) (located_in turn).location files taken.by) is.table
-          ∙ ap (λ (by : Settling). files_left turn.krate (faults_in turn.scanner turn.krate) (located_in turn).location (files_located turn) by) is.by;
+          ∙ ap (λ (by : LicenseBasis). files_left turn.krate (faults_in turn.scanner turn.krate) (located_in turn).location (files_located turn) by) is.by;
     }

@@ -8,41 +8,41 @@ use Rattle.tree_core.specs.Content.{Content}
 use Rattle.tree_core.specs.Hearing.{Made}
 use Rattle.tree_core.specs.declared.reads.ReadRecord.{ReadRecord}
 use Rattle.graph_core.specs.Krate.{Record}
-use Rattle.reads_core.specs.Heard.{Heard}
-use Rattle.reads_core.specs.Read.{AreReads, LackedMemory, MadeReads, Read, call_lost, calls_in, records_in as recorded}
+use Rattle.reads_core.specs.Heard.{ReadResult}
+use Rattle.reads_core.specs.Read.{AreReads, LackedMemory, MadeReads, AnsweredRead, call_lost, calls_in, records_of_reads}
 use Rattle.pack_core.specs.Calls.{IsFront}
-use Rattle.pack_core.specs.Ears.{Ears, ears_by}
+use Rattle.pack_core.specs.Ears.{FolderReads, ears_by}
 use Rattle.expression_core.specs.Scanned.{Scanner}
 use Rattle.diag_core.specs.File.{File}
 use Rattle.location_core.specs.Calls.{manifest_by}
 use Rattle.priority_core.specs.Priority.{folder_of, priority_of}
-use Rattle.gather_core.specs.Entries.{Entry, clarifications_of}
+use Rattle.gather_core.specs.Entries.{ClarificationEntry, clarifications_of}
 use Rattle.gather_core.specs.declared.summary.KrateLicense.{KrateLicense}
 use Rattle.gather_core.specs.Gathered.{krate_of, turn_of}
 use Rattle.gather_core.specs.Taken.{turn_with}
-use Rattle.gather_core.specs.Told.{answer_told}
-use Rattle.gather_core.specs.Turns.{IsCutOut, IsTurn, Turn, files_behind, records_in}
+use Rattle.gather_core.specs.Told.{answer_view}
+use Rattle.gather_core.specs.Turns.{IsCutOut, IsTurn, TurnInput, files_behind, records_in}
 
 -- ---- one crate
 
 -- Reads with these records were made over a tree, for a crate in this folder: their calls were made, and no other, and this is so
 -- by what their answers let hear of the crate's files and of its manifest.
-pub record IsByOwnReads (told tells : Option Content) (before after : ℕ) (old new : List Call) (folder : List ℕ) (records : List ReadRecord) (IsSo : Ears → Heard → Type 0) : Type 0 where
-  pub reads : List Read
-  pub recorded_are : recorded reads ≡ records
+pub record IsByOwnReads (told tells : Option Content) (before after : ℕ) (old new : List Call) (folder : List ℕ) (records : List ReadRecord) (IsSo : FolderReads → ReadResult → Type 0) : Type 0 where
+  pub reads : List AnsweredRead
+  pub recorded_are : records_of_reads reads ≡ records
   pub made : MadeReads told tells before after old new folder reads
   pub is_so : IsSo (ears_by reads) (manifest_by reads)
 
 -- These reads were made over a tree, for a crate in this folder, and then memory was wanting, perhaps in the call of one more.
 -- They, and that one, are the first ones of those that are made by what they let hear.
-pub record StarvesTaking (told tells : Option Content) (before after : ℕ) (old new : List Call) (folder : List ℕ) (wanted : Ears → Heard → List ReadRecord) : Type 0 where
-  pub reads : List Read
+pub record StarvesTaking (told tells : Option Content) (before after : ℕ) (old new : List Call) (folder : List ℕ) (wanted : FolderReads → ReadResult → List ReadRecord) : Type 0 where
+  pub reads : List AnsweredRead
   pub next : Option ReadRecord
   pub made : LackedMemory told tells before after old new folder reads next
-  pub front : IsFront (recorded reads ++ option_to_list next) (wanted (ears_by reads) (manifest_by reads))
+  pub front : IsFront (records_of_reads reads ++ option_to_list next) (wanted (ears_by reads) (manifest_by reads))
 
 -- what is told of a crate is what its turn says by what is heard, and the labels of what is found cut out what they say
-abbrev pub IsTurnHeard : Scanner → ℕ → List Entry → List File → KrateLicense → List File → Ears → Heard → Type 0
+abbrev pub IsTurnHeard : Scanner → ℕ → List ClarificationEntry → List File → KrateLicense → List File → FolderReads → ReadResult → Type 0
 IsTurnHeard scanner policy all files license last ears manifest =
     IsTurn (turn_of scanner policy all ears manifest files license) license last
     × IsCutOut last (turn_of scanner policy all ears manifest files license)
@@ -52,22 +52,22 @@ IsTurnHeard scanner policy all files license last ears manifest =
 -- a crate, and the reads of its turn
 pub record CrateReads : Type 0 where
   pub krate : Record
-  pub reads : List Read
+  pub reads : List AnsweredRead
 
 -- the turn of a crate, with its reads
 pub record CrateTurn : Type 0 where
-  pub reads : List Read
-  pub turn : Turn
+  pub reads : List AnsweredRead
+  pub turn : TurnInput
 
 -- the turn of a crate among all, by what its own reads let hear, with the table that the crates before have left
-abbrev pub turn_by : Scanner → ℕ → List Entry → List File → CrateReads → CrateTurn
+abbrev pub turn_by : Scanner → ℕ → List ClarificationEntry → List File → CrateReads → CrateTurn
 turn_by scanner policy all files one = record {
   reads = one.reads;
   turn = turn_with scanner policy (clarifications_of one.krate all) one.krate (ears_by one.reads) (manifest_by one.reads) files;
 }
 
 -- the turns of crates, one after another, each with the table that the one before has left
-abbrev pub turns_of : Scanner → ℕ → List Entry → List File → List CrateReads → List CrateTurn
+abbrev pub turns_of : Scanner → ℕ → List ClarificationEntry → List File → List CrateReads → List CrateTurn
 turns_of scanner policy all files [] = []
 turns_of scanner policy all files (one ∷ crates) =
     turn_by scanner policy all files one ∷ turns_of scanner policy all (files_behind (turn_by scanner policy all files one).turn) crates
@@ -78,22 +78,22 @@ files_behind_all files turns = fold (λ (before : List File) (own : CrateTurn). 
 
 -- the reads of a crate are those that its turn asks for
 abbrev pub HasOwnReads : CrateTurn → Type 0
-HasOwnReads own = recorded own.reads ≡ records_in own.turn
+HasOwnReads own = records_of_reads own.reads ≡ records_in own.turn
 
 -- the calls of their reads, crate after crate, each crate's in its own folder
 abbrev pub calls_of_all : List CrateReads → List Call
 calls_of_all crates = flat_map (λ one. calls_in (folder_of one.krate) one.reads) crates
 
-abbrev pub reads_of_all : List CrateReads → List Read
+abbrev pub reads_of_all : List CrateReads → List AnsweredRead
 reads_of_all crates = flat_map (λ one. one.reads) crates
 
 -- What is told of a crate is what its turn says by its own reads, which have the records that are told of it; it has priority by
 -- them; and the labels of what is found cut out what they say, in the table that is left at last.
 pub record IsTurnBy (last : List File) (own : CrateTurn) (license : KrateLicense) : Type 0 where
   pub krate : own.turn.krate ≡ krate_of license
-  pub recorded_are : recorded own.reads ≡ license.reads
+  pub recorded_are : records_of_reads own.reads ≡ license.reads
   pub turn : IsTurn own.turn license (files_behind own.turn)
-  pub answer : answer_told license.lic_info license.notes ≡ priority_of own.turn.scanner own.turn.clarifications own.turn.krate own.turn.ears
+  pub answer : answer_view license.lic_info license.notes ≡ priority_of own.turn.scanner own.turn.clarifications own.turn.krate own.turn.ears
   pub cuts : IsCutOut last own.turn
 
 -- what is told of crates, one by one, is what these turns say, and the table that is left at last is theirs
@@ -103,7 +103,7 @@ pub record AreTurnsBy (files : List File) (turns : List CrateTurn) (licenses : L
 
 -- Crates had their turns over a tree, each by its own reads: the calls of these were made, one crate after another, and no other;
 -- their records tell what the answers let hear; and what is told of each crate is what its turn says by them.
-pub record AreTurnsByReads (told tells : Option Content) (before after : ℕ) (old new : List Call) (scanner : Scanner) (policy : ℕ) (all : List Entry) (files : List File) (licenses : List KrateLicense) (last : List File) : Type 0 where
+pub record AreTurnsByReads (told tells : Option Content) (before after : ℕ) (old new : List Call) (scanner : Scanner) (policy : ℕ) (all : List ClarificationEntry) (files : List File) (licenses : List KrateLicense) (last : List File) : Type 0 where
   pub crates : List CrateReads
   pub made : Made told tells before after old new (calls_of_all crates)
   pub are : AreReads before (reads_of_all crates)
@@ -113,12 +113,12 @@ pub record AreTurnsByReads (told tells : Option Content) (before after : ℕ) (o
 
 -- Some of these crates, the first ones, had their turns over a tree, and memory was wanting at the turn of the next one, perhaps in
 -- a call. Its reads, and that call's, are the first ones of those that its turn asks for by what they let hear.
-pub record StarvesGathering (told tells : Option Content) (before after : ℕ) (old new : List Call) (scanner : Scanner) (policy : ℕ) (all : List Entry) (files : List File) (krates : List Record) : Type 0 where
+pub record StarvesGathering (told tells : Option Content) (before after : ℕ) (old new : List Call) (scanner : Scanner) (policy : ℕ) (all : List ClarificationEntry) (files : List File) (krates : List Record) : Type 0 where
   pub crates : List CrateReads
   pub begun : CrateReads
   pub next : Option ReadRecord
   pub made : Made told tells before after old new (calls_of_all crates ++ (calls_in (folder_of begun.krate) begun.reads ++ call_lost (folder_of begun.krate) next))
   pub are : AreReads before (reads_of_all crates ++ begun.reads)
   pub own : All HasOwnReads (turns_of scanner policy all files crates)
-  pub front : IsFront (recorded begun.reads ++ option_to_list next) (records_in (turn_by scanner policy all (files_behind_all files (turns_of scanner policy all files crates)) begun).turn)
+  pub front : IsFront (records_of_reads begun.reads ++ option_to_list next) (records_in (turn_by scanner policy all (files_behind_all files (turns_of scanner policy all files crates)) begun).turn)
   pub among : IsFront (map (λ (one : CrateReads). one.krate) crates ++ begun.krate ∷ []) krates

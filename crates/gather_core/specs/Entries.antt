@@ -7,43 +7,43 @@ use Rattle.policy_spec.specs.Matching.{spec_matches}
 use Rattle.policy_spec.specs.Spec.{Spec}
 use Rattle.valid_policy.specs.declared.policy.ValidClarification.{ValidClarification}
 use Rattle.valid_policy.specs.declared.policy.ValidConfig.{ValidConfig}
-use Rattle.priority_core.specs.Clarification.{Clarification, PlacedFile}
+use Rattle.priority_core.specs.Clarification.{ClarificationView, PlacedFile}
 
 -- a clarification, and the crates that it is for
-pub record Entry : Type 0 where
+pub record ClarificationEntry : Type 0 where
   pub spec : Spec
-  pub clarification : Clarification
+  pub clarification : ClarificationView
 
 abbrev pub placed_of : FileSource → PlacedFile
 placed_of file = record { named = record { path = file.path.value; hash = file.hash }; span = file.path.span }
 
-abbrev pub clarification_of : ValidClarification → Clarification
-clarification_of entry = record {
+abbrev pub clarification_view : ValidClarification → ClarificationView
+clarification_view entry = record {
   expression = entry.expression;
   offset = entry.expr_offset;
   whole = entry.whole;
   files = map placed_of entry.license_files;
 }
 
-abbrev pub entry_of : ValidClarification → Entry
-entry_of entry = record { spec = entry.spec; clarification = clarification_of entry }
+abbrev pub clarification_entry : ValidClarification → ClarificationEntry
+clarification_entry entry = record { spec = entry.spec; clarification = clarification_view entry }
 
 -- all clarifications of a policy, in its order
-abbrev pub entries_of : ValidConfig → List Entry
-entries_of policy = map entry_of policy.clarifications
+abbrev pub entries_of : ValidConfig → List ClarificationEntry
+entries_of policy = map clarification_entry policy.clarifications
 
 -- the clarifications whose spec matches a crate, in the policy's order
-abbrev pub clarifications_of : Record → List Entry → List Clarification
+abbrev pub clarifications_of : Record → List ClarificationEntry → List ClarificationView
 clarifications_of krate entries = map (λ entry. entry.clarification) (filter (λ entry. spec_matches entry.spec krate) entries)
 
 -- ---- found by places
 
-abbrev pub specs_of : List Entry → List Spec
+abbrev pub specs_of : List ClarificationEntry → List Spec
 specs_of entries = map (λ entry. entry.spec) entries
 
 -- the clarification at a place, if there is one
-abbrev pub item_at : List Entry → ℕ → Option Clarification
-item_at entries place = option_map (λ entry. entry.clarification) (slice_get entries place)
+abbrev pub clarification_at : List ClarificationEntry → ℕ → Option ClarificationView
+clarification_at entries place = option_map (λ entry. entry.clarification) (slice_get entries place)
 
-abbrev pub items_at : List Entry → List ℕ → List Clarification
-items_at entries places = filter_map (item_at entries) places
+abbrev pub clarifications_at : List ClarificationEntry → List ℕ → List ClarificationView
+clarifications_at entries places = filter_map (clarification_at entries) places

@@ -5,17 +5,17 @@ use Rattle.catalog_core.specs.Catalog.{CatalogLists}
 use Rattle.catalog_core.specs.declared.identifier.Match.{Match}
 use Rattle.tree_core.specs.declared.reads.ReadRecord.{ReadRecord}
 use Rattle.graph_core.specs.Krate.{Record, record_of}
-use Rattle.pack_core.specs.Ears.{Ears}
+use Rattle.pack_core.specs.Ears.{FolderReads}
 use Rattle.expression_core.specs.Scanned.{Scanner, match_by}
 use Rattle.selection_core.specs.declared.selection.Include.{Include}
 use Rattle.valid_policy.specs.declared.policy.ValidConfig.{ValidConfig}
-use Rattle.reads_core.specs.Heard.{Heard}
+use Rattle.reads_core.specs.Heard.{ReadResult}
 use Rattle.diag_core.specs.File.{File}
-use Rattle.gather_core.specs.Entries.{Entry, clarifications_of}
+use Rattle.gather_core.specs.Entries.{ClarificationEntry, clarifications_of}
 use Rattle.gather_core.specs.declared.gatherer.Gatherer.{Gatherer}
 use Rattle.gather_core.specs.declared.summary.KrateLicense.{KrateLicense}
 use Rattle.gather_core.specs.Taken.{turn_with}
-use Rattle.gather_core.specs.Turns.{Turn}
+use Rattle.gather_core.specs.Turns.{TurnInput}
 
 -- the least score of a name that is joined: a number of hundredths, cut to 0..100
 abbrev pub threshold_of : ℤ → ℕ
@@ -27,8 +27,8 @@ abbrev pub IsDefault : {I : Type 0} → Gatherer I → Type 0
 IsDefault gatherer = gatherer ≡ record { store = None; threshold = 80 }
 
 -- what texts are identified by
-abbrev pub scanner_of : {I : Type 0} → CatalogLists → (I → List ℕ → Match) → Gatherer I → Scanner
-scanner_of lists match_of gatherer = record {
+abbrev pub scanner_of_gatherer : {I : Type 0} → CatalogLists → (I → List ℕ → Match) → Gatherer I → Scanner
+scanner_of_gatherer lists match_of gatherer = record {
   lists = lists;
   match_of = match_by match_of (option_copied gatherer.store);
   threshold = gatherer.threshold;
@@ -47,7 +47,7 @@ krate_of license = record_of license.krate.now
 -- ---- turn after turn
 
 -- the turn of a crate among all, with the table that the crates before have left
-abbrev pub turn_of : Scanner → ℕ → List Entry → Ears → Heard → List File → KrateLicense → Turn
+abbrev pub turn_of : Scanner → ℕ → List ClarificationEntry → FolderReads → ReadResult → List File → KrateLicense → TurnInput
 turn_of scanner policy all ears manifest files license =
     turn_with scanner policy (clarifications_of (krate_of license) all) (krate_of license) ears manifest files
 

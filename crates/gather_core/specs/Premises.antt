@@ -4,32 +4,32 @@ use Rattle.diag_core.specs.File.{File}
 pub use Rattle.diag_core.specs.File.{Grows}
 use Rattle.finding_core.specs.Cuts.{LabelLies, labels_of}
 pub use Rattle.finding_core.specs.License.{InfoStands, PlaceLies, StandsIn}
-use Rattle.priority_core.specs.declared.settling.Settling.{Settling}
-use Rattle.priority_core.specs.declared.settling.Settling.TheVariants.{Clarified, Field, Files}
-use Rattle.priority_core.specs.Clarification.{Clarification, PlacedFile}
+use Rattle.priority_core.specs.declared.settling.LicenseBasis.{LicenseBasis}
+use Rattle.priority_core.specs.declared.settling.LicenseBasis.TheVariants.{Clarified, Field, Files}
+use Rattle.priority_core.specs.Clarification.{ClarificationView, PlacedFile}
 use Rattle.gather_core.specs.declared.summary.KrateLicense.{KrateLicense}
-use Rattle.gather_core.specs.Entries.{Entry}
+use Rattle.gather_core.specs.Entries.{ClarificationEntry}
 
 -- ---- what is asked of a policy
 
 -- the paths of its files lie in the policy's file, and its expression stands there
-pub record IsPlacedIn (files : List File) (policy : ℕ) (one : Clarification) : Type 0 where
+pub record IsClarificationPlaced (files : List File) (policy : ℕ) (one : ClarificationView) : Type 0 where
   pub expression : StandsIn files policy one.offset one.whole one.expression.text
   pub paths : All (λ (file : PlacedFile). PlaceLies files policy file.span) one.files
 
-abbrev pub ArePlacedIn : List File → ℕ → List Entry → Type 0
-ArePlacedIn files policy entries = All (λ (entry : Entry). IsPlacedIn files policy entry.clarification) entries
+abbrev pub ArePlacedIn : List File → ℕ → List ClarificationEntry → Type 0
+ArePlacedIn files policy entries = All (λ (entry : ClarificationEntry). IsClarificationPlaced files policy entry.clarification) entries
 
 -- ---- what was taken
 
 -- an expression of a clarification that settles the licence stands in the policy's file
-abbrev pub ByStands : List File → ℕ → Settling → Type 0
+abbrev pub ByStands : List File → ℕ → LicenseBasis → Type 0
 ByStands files policy (Clarified held) = StandsIn files policy held.offset held.whole held.expression.text
 ByStands files policy (Field expression) = ⊤
 ByStands files policy (Files seen joined) = ⊤
 
 -- the expression of a field is its text
-abbrev pub TextIs : List ℕ → Settling → Type 0
+abbrev pub TextIs : List ℕ → LicenseBasis → Type 0
 TextIs words (Clarified held) = ⊤
 TextIs words (Field expression) = expression.text ≡ words
 TextIs words (Files seen joined) = ⊤

@@ -1,29 +1,29 @@
 -- What is taken at a crate's turn.
 use Rattle.std.specs.Prelude.{◌≡◌, ℕ, Bool, true, false, List}
 use Rattle.graph_core.specs.Krate.{Record}
-use Rattle.reads_core.specs.Heard.{Heard}
-use Rattle.pack_core.specs.Ears.{Ears}
+use Rattle.reads_core.specs.Heard.{ReadResult}
+use Rattle.pack_core.specs.Ears.{FolderReads}
 use Rattle.expression_core.specs.Scanned.{Scanner}
 use Rattle.diag_core.specs.File.{File}
-use Rattle.location_core.specs.declared.location.Located.{Located}
-use Rattle.priority_core.specs.Clarification.{Clarification}
+use Rattle.location_core.specs.declared.location.LocatedField.{LocatedField}
+use Rattle.priority_core.specs.Clarification.{ClarificationView}
 use Rattle.priority_core.specs.Settled.{missing_of}
-use Rattle.priority_core.specs.declared.settling.Settling.{Settling}
-use Rattle.priority_core.specs.declared.settling.Settling.TheVariants.{Clarified, Field, Files}
-use Rattle.gather_core.specs.declared.turn.Taken.{Taken}
-use Rattle.gather_core.specs.Turns.{Turn, files_located, files_where, located_in, located_where, records_in, settling_in}
+use Rattle.priority_core.specs.declared.settling.LicenseBasis.{LicenseBasis}
+use Rattle.priority_core.specs.declared.settling.LicenseBasis.TheVariants.{Clarified, Field, Files}
+use Rattle.gather_core.specs.declared.turn.LocatedLicense.{LocatedLicense}
+use Rattle.gather_core.specs.Turns.{TurnInput, files_located, files_where, located_in, located_where, records_in, basis_in}
 
-abbrev pub is_clarified : Settling → Bool
+abbrev pub is_clarified : LicenseBasis → Bool
 is_clarified (Clarified held) = true
 is_clarified (Field expression) = false
 is_clarified (Files seen joined) = false
 
 -- a field was located where it was asked for, and the table is what it is then
-pub record IsLocatedWhere (asks : Bool) (krate : Record) (old : List File) (manifest : Heard) (located : Located) (new : List File) : Type 0 where
+pub record IsLocatedWhere (asks : Bool) (krate : Record) (old : List File) (manifest : ReadResult) (located : LocatedField) (new : List File) : Type 0 where
   pub located_is : located ≡ located_where asks krate old manifest
   pub files_are : new ≡ files_where asks krate old manifest
 
-abbrev pub turn_with : Scanner → ℕ → List Clarification → Record → Ears → Heard → List File → Turn
+abbrev pub turn_with : Scanner → ℕ → List ClarificationView → Record → FolderReads → ReadResult → List File → TurnInput
 turn_with scanner policy clarifications krate ears manifest files = record {
   scanner = scanner;
   policy = policy;
@@ -35,8 +35,8 @@ turn_with scanner policy clarifications krate ears manifest files = record {
 }
 
 -- what was taken is what the turn asks for, and the table has what it says
-pub record IsTaken (turn : Turn) (taken : Taken) (files : List File) : Type 0 where
-  pub by : taken.by ≡ settling_in turn
+pub record IsTaken (turn : TurnInput) (taken : LocatedLicense) (files : List File) : Type 0 where
+  pub by : taken.by ≡ basis_in turn
   pub missing : taken.missing ≡ missing_of turn.ears turn.clarifications
   pub location : taken.location ≡ (located_in turn).location
   pub reads : taken.reads ≡ records_in turn

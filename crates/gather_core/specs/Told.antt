@@ -2,10 +2,10 @@
 use Rattle.std.specs.Prelude.{ℕ, List, [], Option, Some, None, option_map}
 use Rattle.std.specs.Option.{option_map_or}
 use Rattle.diag_core.specs.declared.label.Coord.{Coord}
-use Rattle.priority_core.specs.declared.settling.Settling.{Settling}
-use Rattle.priority_core.specs.declared.settling.Settling.TheVariants.{Clarified, Field, Files}
+use Rattle.priority_core.specs.declared.settling.LicenseBasis.{LicenseBasis}
+use Rattle.priority_core.specs.declared.settling.LicenseBasis.TheVariants.{Clarified, Field, Files}
 use Rattle.priority_core.specs.declared.settling.JoinedNames.{JoinedNames}
-use Rattle.priority_core.specs.Priority.{Answer, Source, metadata, user_override, license_files}
+use Rattle.priority_core.specs.Priority.{LicenseAnswer, ExpressionSource, metadata, user_override, license_files}
 use Rattle.finding_core.specs.declared.license.LicenseExprInfo.{LicenseExprInfo}
 use Rattle.finding_core.specs.declared.license.LicenseExprSource.{LicenseExprSource}
 use Rattle.finding_core.specs.declared.license.LicenseExprSource.TheVariants.{Metadata, UserOverride, LicenseFiles}
@@ -31,7 +31,7 @@ abbrev pub joined_info : Coord → Option JoinedNames → LicenseInfo
 joined_info place None = Unlicensed
 joined_info place (Some joined) = SpdxExpression joined.expression (info_at place (LicenseFiles joined.paths))
 
-abbrev pub info_by : ℕ → Option Coord → Coord → Settling → LicenseInfo
+abbrev pub info_by : ℕ → Option Coord → Coord → LicenseBasis → LicenseInfo
 info_by policy location place (Clarified held) =
     SpdxExpression held.expression (record { file_id = policy; offset = held.offset; whole = held.whole; source = UserOverride })
 info_by policy location place (Field expression) = SpdxExpression expression (info_at place (field_source location))
@@ -43,14 +43,14 @@ joined_notes (Some joined) = joined.notes
 
 -- ---- the answer that has priority, as it is told
 
-abbrev pub source_told : LicenseExprSource → Source
-source_told (Metadata location) = metadata
-source_told UserOverride = user_override
-source_told (LicenseFiles paths) = license_files paths
+abbrev pub source_view : LicenseExprSource → ExpressionSource
+source_view (Metadata location) = metadata
+source_view UserOverride = user_override
+source_view (LicenseFiles paths) = license_files paths
 
-abbrev pub answer_told : LicenseInfo → List (List ℕ) → Option Answer
-answer_told Unlicensed notes = None
-answer_told (SpdxExpression expression nfo) notes = Some (record { expression = expression; source = source_told nfo.source; notes = notes })
+abbrev pub answer_view : LicenseInfo → List (List ℕ) → Option LicenseAnswer
+answer_view Unlicensed notes = None
+answer_view (SpdxExpression expression nfo) notes = Some (record { expression = expression; source = source_view nfo.source; notes = notes })
 
-abbrev pub notes_of : Option Answer → List (List ℕ)
+abbrev pub notes_of : Option LicenseAnswer → List (List ℕ)
 notes_of answer = option_map_or (λ answer. answer.notes) answer []

@@ -6,8 +6,8 @@ use Rattle.tree_core.specs.declared.reads.ReadRecord.{ReadRecord}
 use Rattle.deny_text.specs.declared.span.Span.{Span}
 use Rattle.term_core.specs.declared.error.ParseError.{ParseError}
 use Rattle.graph_core.specs.Krate.{Record}
-use Rattle.reads_core.specs.Heard.{Heard}
-use Rattle.pack_core.specs.Ears.{Ears}
+use Rattle.reads_core.specs.Heard.{ReadResult}
+use Rattle.pack_core.specs.Ears.{FolderReads}
 use Rattle.expression_core.specs.Scanned.{Scanner}
 use Rattle.diag_core.specs.declared.label.Coord.{Coord}
 use Rattle.diag_core.specs.declared.pack.Diag.{Diag}
@@ -15,35 +15,35 @@ use Rattle.diag_core.specs.File.{File}
 use Rattle.priority_core.specs.declared.settling.FilesSeen.{FilesSeen}
 use Rattle.priority_core.specs.declared.settling.FilesSeen.TheVariants.{Unlisted, Listed}
 use Rattle.priority_core.specs.declared.settling.JoinedNames.{JoinedNames}
-use Rattle.priority_core.specs.declared.settling.Settling.{Settling}
-use Rattle.priority_core.specs.declared.settling.Settling.TheVariants.{Clarified, Field, Files}
-use Rattle.priority_core.specs.Clarification.{Clarification}
-use Rattle.priority_core.specs.Priority.{answer_in, folder_of, holding, is_nothing, records_of, settling_of}
+use Rattle.priority_core.specs.declared.settling.LicenseBasis.{LicenseBasis}
+use Rattle.priority_core.specs.declared.settling.LicenseBasis.TheVariants.{Clarified, Field, Files}
+use Rattle.priority_core.specs.Clarification.{ClarificationView}
+use Rattle.priority_core.specs.Priority.{answer_in, folder_of, holding, is_nothing, records_of, basis_of}
 use Rattle.priority_core.specs.Settled.{missing_of}
-use Rattle.location_core.specs.declared.location.Located.{Located}
+use Rattle.location_core.specs.declared.location.LocatedField.{LocatedField}
 use Rattle.location_core.specs.Location.{files_after, located_of}
-use Rattle.finding_core.specs.declared.outcome.Points.{Points}
+use Rattle.finding_core.specs.declared.outcome.PlacedFindings.{PlacedFindings}
 use Rattle.finding_core.specs.Cuts.{LabelLies, labels_of, text_under, texts_by}
-use Rattle.finding_core.specs.Faults.{faults_of}
-use Rattle.finding_core.specs.Findings.{CaseView, Outcome, by_field, by_files, files_with, missing_file, points_of}
-use Rattle.finding_core.specs.Pieces.{Seen, unlisted, listed}
+use Rattle.finding_core.specs.Faults.{field_faults}
+use Rattle.finding_core.specs.Findings.{UnclarifiedCrateView, ExpressionBasisView, by_field, by_files, files_with, missing_file, points_of}
+use Rattle.finding_core.specs.Pieces.{SeenFilesView, unlisted, listed}
 use Rattle.finding_core.specs.declared.license.LicenseInfo.{LicenseInfo}
 use Rattle.gather_core.specs.declared.summary.KrateLicense.{KrateLicense}
 use Rattle.gather_core.specs.Told.{info_by, notes_of, nowhere}
 
 -- What texts are identified by; the number of the policy's file; the clarifications that are for the crate; the crate; what is
 -- heard of its folder and its files, and of its manifest; and the file table as the turn begins.
-pub record Turn : Type 0 where
+pub record TurnInput : Type 0 where
   pub scanner : Scanner
   pub policy : ℕ
-  pub clarifications : List Clarification
+  pub clarifications : List ClarificationView
   pub krate : Record
-  pub ears : Ears
-  pub manifest : Heard
+  pub ears : FolderReads
+  pub manifest : ReadResult
   pub files : List File
 
-abbrev pub settling_in : Turn → Settling
-settling_in turn = settling_of turn.scanner turn.clarifications turn.krate turn.ears
+abbrev pub basis_in : TurnInput → LicenseBasis
+basis_in turn = basis_of turn.scanner turn.clarifications turn.krate turn.ears
 
 -- the text of the field; empty where there is none
 abbrev pub field_text : Record → List ℕ
@@ -52,24 +52,24 @@ field_text krate = unwrap_or krate.license []
 -- ---- the manifest
 
 -- it is asked for where no clarification holds and the field is not null; an empty field counts
-abbrev pub asks_manifest : List Clarification → Record → Ears → Bool
+abbrev pub asks_manifest : List ClarificationView → Record → FolderReads → Bool
 asks_manifest clarifications krate ears = is_none (holding ears clarifications) && is_some krate.license
 
-abbrev pub not_asked : Located
+abbrev pub not_asked : LocatedField
 not_asked = record { location = None; read = None }
 
 -- where a manifest is asked for, and where it is not
-abbrev pub located_where : Bool → Record → List File → Heard → Located
+abbrev pub located_where : Bool → Record → List File → ReadResult → LocatedField
 located_where asks krate files manifest = if asks then located_of krate.manifest_path (field_text krate) files manifest else not_asked
 
-abbrev pub files_where : Bool → Record → List File → Heard → List File
+abbrev pub files_where : Bool → Record → List File → ReadResult → List File
 files_where asks krate files manifest = if asks then files_after krate.manifest_path (field_text krate) files manifest else files
 
-abbrev pub located_in : Turn → Located
+abbrev pub located_in : TurnInput → LocatedField
 located_in turn = located_where (asks_manifest turn.clarifications turn.krate turn.ears) turn.krate turn.files turn.manifest
 
 -- the table with the manifest, where the field's location counts
-abbrev pub files_located : Turn → List File
+abbrev pub files_located : TurnInput → List File
 files_located turn = files_where (asks_manifest turn.clarifications turn.krate turn.ears) turn.krate turn.files turn.manifest
 
 -- ---- the reads
@@ -78,29 +78,29 @@ files_located turn = files_where (asks_manifest turn.clarifications turn.krate t
 abbrev pub in_order : Bool → Option ReadRecord → List ReadRecord → List ReadRecord
 in_order manifest_first manifest reads = if manifest_first then option_to_list manifest ++ reads else reads ++ option_to_list manifest
 
-abbrev pub records_in : Turn → List ReadRecord
+abbrev pub records_in : TurnInput → List ReadRecord
 records_in turn =
     in_order (is_nothing turn.clarifications) (located_in turn).read (records_of turn.scanner turn.clarifications turn.krate turn.ears)
 
 -- ---- what is found
 
-abbrev pub seen_as : FilesSeen → Seen
+abbrev pub seen_as : FilesSeen → SeenFilesView
 seen_as (Unlisted error) = unlisted error
 seen_as (Listed files) = listed files
 
-abbrev pub joined_text : Option JoinedNames → Option (List ℕ)
-joined_text joined = option_map (λ names. names.expression.text) joined
+abbrev pub joined_expression_text : Option JoinedNames → Option (List ℕ)
+joined_expression_text joined = option_map (λ names. names.expression.text) joined
 
 abbrev pub faults_in : Scanner → Record → List ParseError
-faults_in scanner krate = option_map_or (faults_of scanner.lists) krate.license []
+faults_in scanner krate = option_map_or (field_faults scanner.lists) krate.license []
 
 -- what settles the licence, as findings take it; none where that is a clarification
-abbrev pub outcome_in : Settling → Option Outcome
+abbrev pub outcome_in : LicenseBasis → Option ExpressionBasisView
 outcome_in (Clarified held) = None
 outcome_in (Field expression) = Some by_field
-outcome_in (Files seen joined) = Some (by_files (seen_as seen) (joined_text joined))
+outcome_in (Files seen joined) = Some (by_files (seen_as seen) (joined_expression_text joined))
 
-abbrev pub case_with : Record → List ParseError → Option Coord → Outcome → CaseView
+abbrev pub case_with : Record → List ParseError → Option Coord → ExpressionBasisView → UnclarifiedCrateView
 case_with krate faults location outcome = record {
   krate = krate;
   folder = folder_of krate;
@@ -109,63 +109,63 @@ case_with krate faults location outcome = record {
   outcome = outcome;
 }
 
-abbrev pub no_points : Points
+abbrev pub no_points : PlacedFindings
 no_points = record { expression = None; findings = [] }
 
 -- the text of the expression that findings point at, where there is one: none of a clarification
-abbrev pub text_settled : Record → Settling → Option (List ℕ)
+abbrev pub text_settled : Record → LicenseBasis → Option (List ℕ)
 text_settled krate (Clarified held) = None
 text_settled krate (Field expression) = Some (field_text krate)
-text_settled krate (Files seen joined) = joined_text joined
+text_settled krate (Files seen joined) = joined_expression_text joined
 
 -- where the expression stands, what is found, and the table afterwards: nothing of a clarification
-abbrev pub points_for : Record → List ParseError → Option Coord → List File → Settling → Points
+abbrev pub points_for : Record → List ParseError → Option Coord → List File → LicenseBasis → PlacedFindings
 points_for krate faults location files by = option_map_or (λ outcome. points_of (case_with krate faults location outcome) files) (outcome_in by) no_points
 
-abbrev pub files_left : Record → List ParseError → Option Coord → List File → Settling → List File
+abbrev pub files_left : Record → List ParseError → Option Coord → List File → LicenseBasis → List File
 files_left krate faults location files by = option_map_or (λ outcome. files_with (case_with krate faults location outcome) files) (outcome_in by) files
 
 -- where the policy's file writes what is not there
 abbrev pub missing_findings : ℕ → List Span → List Diag
 missing_findings policy missing = map (λ span. missing_file (record { file = policy; span = span })) missing
 
-abbrev pub points_in : Turn → Points
-points_in turn = points_for turn.krate (faults_in turn.scanner turn.krate) (located_in turn).location (files_located turn) (settling_in turn)
+abbrev pub points_in : TurnInput → PlacedFindings
+points_in turn = points_for turn.krate (faults_in turn.scanner turn.krate) (located_in turn).location (files_located turn) (basis_in turn)
 
 -- The findings of a crate: the files of clarifications that are not there; and where none of them holds those of its field, of
 -- its files, and that there is no expression.
-abbrev pub findings_in : Turn → List Diag
+abbrev pub findings_in : TurnInput → List Diag
 findings_in turn = missing_findings turn.policy (missing_of turn.ears turn.clarifications) ++ (points_in turn).findings
 
 -- ---- what is told, and what is left
 
-abbrev pub info_in : Turn → LicenseInfo
-info_in turn = info_by turn.policy (located_in turn).location (unwrap_or (points_in turn).expression nowhere) (settling_in turn)
+abbrev pub info_in : TurnInput → LicenseInfo
+info_in turn = info_by turn.policy (located_in turn).location (unwrap_or (points_in turn).expression nowhere) (basis_in turn)
 
-abbrev pub notes_in : Turn → List (List ℕ)
-notes_in turn = notes_of (answer_in (settling_in turn))
+abbrev pub notes_in : TurnInput → List (List ℕ)
+notes_in turn = notes_of (answer_in (basis_in turn))
 
 -- the table behind a crate: with its manifest where the field's location counts, and then its synthetic manifest where
 -- something points into it
-abbrev pub files_behind : Turn → List File
-files_behind turn = files_left turn.krate (faults_in turn.scanner turn.krate) (located_in turn).location (files_located turn) (settling_in turn)
+abbrev pub files_behind : TurnInput → List File
+files_behind turn = files_left turn.krate (faults_in turn.scanner turn.krate) (located_in turn).location (files_located turn) (basis_in turn)
 
 -- ---- what the labels cut out
 
 -- what each label says: a fault of the field, the empty field, what failed, the name
-abbrev pub texts_for : Record → List ParseError → Option Coord → Settling → List (List ℕ)
-texts_for krate faults location by = option_map_or (λ outcome. texts_by (case_with krate faults location outcome) outcome) (outcome_in by) []
+abbrev pub label_texts_for : Record → List ParseError → Option Coord → LicenseBasis → List (List ℕ)
+label_texts_for krate faults location by = option_map_or (λ outcome. texts_by (case_with krate faults location outcome) outcome) (outcome_in by) []
 
-abbrev pub texts_in : Turn → List (List ℕ)
-texts_in turn = texts_for turn.krate (faults_in turn.scanner turn.krate) (located_in turn).location (settling_in turn)
+abbrev pub label_texts : TurnInput → List (List ℕ)
+label_texts turn = label_texts_for turn.krate (faults_in turn.scanner turn.krate) (located_in turn).location (basis_in turn)
 
 -- each label of what is found lies in its file, between characters, and cuts that out
-pub record IsCutOut (files : List File) (turn : Turn) : Type 0 where
+pub record IsCutOut (files : List File) (turn : TurnInput) : Type 0 where
   pub lie : All (LabelLies files) (labels_of (points_in turn).findings)
-  pub cuts : map (text_under files) (labels_of (points_in turn).findings) ≡ texts_in turn
+  pub cuts : map (text_under files) (labels_of (points_in turn).findings) ≡ label_texts turn
 
 -- what is told of a crate is what its turn says, and so is the table that it leaves
-pub record IsTurn (turn : Turn) (license : KrateLicense) (files : List File) : Type 0 where
+pub record IsTurn (turn : TurnInput) (license : KrateLicense) (files : List File) : Type 0 where
   pub info : license.lic_info ≡ info_in turn
   pub noted : license.notes ≡ notes_in turn
   pub found : license.diags ≡ findings_in turn

@@ -3,7 +3,7 @@ ghost use Rattle.std.specs.Prelude.{◌≡◌, ◌++◌, map, option_map, IfOk, 
 ghost use Rattle.std.specs.Option.{option_to_list};
 ghost use Rattle.graph_core.specs.Krate.{record_of};
 ghost use Rattle.priority_core.specs.Clarification.{behind};
-ghost use Rattle.gather_core.specs.Entries.{clarifications_of, entry_of, item_at, items_at, placed_of};
+ghost use Rattle.gather_core.specs.Entries.{clarifications_of, clarification_entry, clarification_at, clarifications_at, placed_of};
 
 use graph_core::Krate;
 use policy_parts::FileSource;
@@ -23,9 +23,9 @@ struct EntryRef<'p> {
 impl<'p> Model for EntryRef<'p> {
     ghost use Rattle.std.specs.Coded.{codes};
     ghost use Rattle.priority_core.specs.Clarification.{clarification_code};
-    ghost use Rattle.gather_core.specs.Entries.{Entry};
+    ghost use Rattle.gather_core.specs.Entries.{ClarificationEntry};
 
-    ghost Value = { Entry };
+    ghost Value = { ClarificationEntry };
 
     ghost coded = { Prim.hlevel (codes, clarification_code) };
 
@@ -45,25 +45,25 @@ pub(crate) type ClarificationRefs<'a, 'p> = Vec<&'a ClarificationRef<'p>>;
 
 /// All clarifications of a policy, found by the names of crates.
 #[derive(Drop)]
-pub(crate) struct Clarifications<'p> {
+pub(crate) struct ClarificationIndex<'p> {
     entries: Vec<EntryRef<'p>>,
     index: SpecIndex,
 }
 
-impl<'p> Model for Clarifications<'p> {
+impl<'p> Model for ClarificationIndex<'p> {
     ghost use Rattle.std.specs.Prelude.{◌≡◌, List};
     ghost use Rattle.std.specs.Coded.{codes};
-    ghost use Rattle.policy_spec.specs.Index.{names_of};
+    ghost use Rattle.policy_spec.specs.Index.{spec_names};
     ghost use Rattle.priority_core.specs.Clarification.{clarification_code};
-    ghost use Rattle.gather_core.specs.Entries.{Entry, specs_of};
+    ghost use Rattle.gather_core.specs.Entries.{ClarificationEntry, specs_of};
 
-    ghost Value = { List Entry };
+    ghost Value = { List ClarificationEntry };
 
     ghost coded = { Prim.hlevel (codes, clarification_code) };
 
     ghost view = { λ c. c.entries.items };
 
-    ghost invariant = { λ c. names_of (specs_of c.entries.items) ≡ c.index };
+    ghost invariant = { λ c. spec_names (specs_of c.entries.items) ≡ c.index };
 }
 
 fn file_refs(alloc: Global, files: &[FileSource]) -> Result<Vec<FileRef<'_>>, AllocError>
@@ -78,7 +78,7 @@ fn file_refs(alloc: Global, files: &[FileSource]) -> Result<Vec<FileRef<'_>>, Al
 }
 
 fn entry_ref(alloc: Global, entry: &ValidClarification) -> Result<EntryRef<'_>, AllocError>
-    ensures { IfOk result (λ found. found ≡ entry_of entry.now) }
+    ensures { IfOk result (λ found. found ≡ clarification_entry entry.now) }
 {
     let files = file_refs(alloc, entry.license_files.items())?;
     let clarification = ClarificationRef::new(
@@ -97,7 +97,7 @@ fn entry_refs(
     alloc: Global,
     entries: &[ValidClarification],
 ) -> Result<Vec<EntryRef<'_>>, AllocError>
-    ensures { IfOk result (λ refs. refs.items ≡ map entry_of entries.now) }
+    ensures { IfOk result (λ refs. refs.items ≡ map clarification_entry entries.now) }
 {
     let mut refs = Vec::new(alloc);
     'entries: for entry in entries {
@@ -125,7 +125,7 @@ fn clarification_at<'a, 'p>(
     entries: &'a [EntryRef<'p>],
     place: usize,
 ) -> Option<&'a ClarificationRef<'p>>
-    ensures { option_map behind result ≡ item_at entries.entry.now place }
+    ensures { option_map behind result ≡ clarification_at entries.entry.now place }
 {
     match entries.get(place) {
         Some(entry) => Some(&entry.clarification),
@@ -139,7 +139,7 @@ fn at_places<'a, 'p>(
     entries: &'a [EntryRef<'p>],
     places: &[usize],
 ) -> Result<ClarificationRefs<'a, 'p>, AllocError>
-    ensures { IfOk result (λ found. map behind found.items ≡ items_at entries.entry.now places.now) }
+    ensures { IfOk result (λ found. map behind found.items ≡ clarifications_at entries.entry.now places.now) }
 {
     let mut found = Vec::new(alloc);
     'places: for place in places {
@@ -149,17 +149,17 @@ fn at_places<'a, 'p>(
     Ok(found)
 }
 
-impl<'p> Clarifications<'p> {
+impl<'p> ClarificationIndex<'p> {
     /// The clarifications of a policy, in its order.
     pub(crate) fn of(
         alloc: Global,
         entries: &'p [ValidClarification],
-    ) -> Result<Clarifications<'p>, AllocError>
-        ensures { IfOk result (λ all. all ≡ map entry_of entries.entry.now) }
+    ) -> Result<ClarificationIndex<'p>, AllocError>
+        ensures { IfOk result (λ all. all ≡ map clarification_entry entries.entry.now) }
     {
         let entries = entry_refs(alloc, entries)?;
         let index = SpecIndex::of(alloc, &entries)?;
-        Ok(Clarifications { entries, index })
+        Ok(ClarificationIndex { entries, index })
     }
 
     /// Those that are for a crate, in order. It looks at those of the crate's name alone.

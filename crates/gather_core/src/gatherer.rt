@@ -5,26 +5,26 @@ ghost use Rattle.tree_core.specs.Hearing.{Made};
 ghost use Rattle.graph_core.specs.Krate.{record_of};
 ghost use Rattle.graph_core.specs.Metadata.{Graph};
 ghost use Rattle.priority_core.specs.Priority.{field_of, folder_of};
-ghost use Rattle.priority_core.specs.Settled.{scanner_with};
+ghost use Rattle.priority_core.specs.Settled.{scanner_of_scan};
 ghost use Rattle.selection_core.specs.Choice.{Choice};
 ghost use Rattle.selection_core.specs.Listed.{IsChosen, IsListOf, record_behind, selected_in};
 ghost use Rattle.selection_core.specs.Walks.{Selected};
-ghost use Rattle.finding_core.specs.Faults.{faults_of};
+ghost use Rattle.finding_core.specs.Faults.{field_faults};
 ghost use Rattle.finding_core.specs.Premises.{FaultsLie};
 ghost use Rattle.gather_core.specs.Calls.{AreTurnsByReads, IsByOwnReads, IsTurnHeard, StarvesGathering, StarvesTaking};
 ghost use Rattle.gather_core.specs.Entries.{clarifications_of, entries_of};
-ghost use Rattle.gather_core.specs.Gathered.{include_of, krate_of, scanner_of, threshold_of};
+ghost use Rattle.gather_core.specs.Gathered.{include_of, krate_of, scanner_of_gatherer, threshold_of};
 ghost use Rattle.gather_core.specs.Premises.{ArePlacedIn, Grows, IsPlacedAt};
 ghost use Rattle.gather_core.specs.Taken.{turn_with};
 ghost use Rattle.gather_core.specs.Turns.{field_text, records_in};
 
-use crate::clarifications::Clarifications;
+use crate::clarifications::ClarificationIndex;
 use crate::summary::{KrateLicense, KrateLicenses, Summary};
 use crate::tell::tell;
 use crate::turn::take;
 use catalog_core::{Catalog, Identifier};
 use diag_core::{FileId, Files};
-use finding_core::{Faults, FieldRead, read_field};
+use finding_core::{ParseErrors, FieldRead, read_field};
 use graph_core::Krate;
 use priority_core::Scan;
 use selection_core::{Include, Krates};
@@ -61,14 +61,14 @@ fn read_krate<C: Catalog>(
     ensures expression { IfOk result (λ read.
         read.expression ≡ field_of (C.lists catalog.now) (record_of krate.now)) }
     ensures faults { IfOk result (λ read.
-        read.faults ≡ option_map_or (faults_of (C.lists catalog.now)) (record_of krate.now).license []) }
+        read.faults ≡ option_map_or (field_faults (C.lists catalog.now)) (record_of krate.now).license []) }
     ensures inside { IfOk result (λ read. FaultsLie (field_text (record_of krate.now)) read.faults) }
 {
     match &krate.license {
         Some(text) => read_field(alloc, text.as_str(), catalog),
         None => Ok(FieldRead {
             expression: None,
-            faults: Faults::new(alloc),
+            faults: ParseErrors::new(alloc),
         }),
     }
 }
@@ -80,7 +80,7 @@ fn license_of<'k, T: Tree, I: Identifier, C: Catalog>(
     files: &mut Files,
     scan: &Scan<'_, I, C>,
     policy: FileId,
-    clarifications: &Clarifications<'_>,
+    clarifications: &ClarificationIndex<'_>,
     krate: &'k Krate,
 ) -> Result<KrateLicense<'k>, AllocError>
     ensures krate { IfOk result (λ license. krate_of license ≡ record_of krate.now) }
@@ -89,12 +89,12 @@ fn license_of<'k, T: Tree, I: Identifier, C: Catalog>(
         IsByOwnReads (T.content tree.old) (T.content tree.new) (T.fault_count tree.old)
         (T.fault_count tree.new) (T.trace tree.old) (T.trace tree.new)
         (folder_of (krate_of license)) license.reads (IsTurnHeard
-        (scanner_with C.lists I.match_of scan.now) policy clarifications.now files.old license files.new)) }
+        (scanner_of_scan C.lists I.match_of scan.now) policy clarifications.now files.old license files.new)) }
     ensures no_memory { let krate = record_of krate.now in OnErr result (
         StarvesTaking (T.content tree.old) (T.content tree.new) (T.fault_count tree.old)
         (T.fault_count tree.new) (T.trace tree.old) (T.trace tree.new)
         (folder_of krate) (λ ears manifest. records_in (turn_with
-        (scanner_with C.lists I.match_of scan.now) policy (clarifications_of krate clarifications.now) krate
+        (scanner_of_scan C.lists I.match_of scan.now) policy (clarifications_of krate clarifications.now) krate
         ears manifest files.old))) }
     ensures grows { Grows files.old files.new }
     ensures placed { ArePlacedIn files.old policy clarifications.now
@@ -113,7 +113,7 @@ fn gather_all<'k, T: Tree, I: Identifier, C: Catalog>(
     files: &mut Files,
     scan: &Scan<'_, I, C>,
     policy: FileId,
-    clarifications: &Clarifications<'_>,
+    clarifications: &ClarificationIndex<'_>,
     krates: &[&'k Krate],
 ) -> Result<KrateLicenses<'k>, AllocError>
     ensures krates { IfOk result (λ licenses. map krate_of licenses ≡ map record_behind krates.now) }
@@ -121,11 +121,11 @@ fn gather_all<'k, T: Tree, I: Identifier, C: Catalog>(
     ensures answered { IfOk result (λ licenses.
         AreTurnsByReads (T.content tree.old) (T.content tree.new) (T.fault_count tree.old)
         (T.fault_count tree.new) (T.trace tree.old) (T.trace tree.new)
-        (scanner_with C.lists I.match_of scan.now) policy clarifications.now files.old licenses files.new) }
+        (scanner_of_scan C.lists I.match_of scan.now) policy clarifications.now files.old licenses files.new) }
     ensures no_memory { OnErr result (
         StarvesGathering (T.content tree.old) (T.content tree.new) (T.fault_count tree.old)
         (T.fault_count tree.new) (T.trace tree.old) (T.trace tree.new)
-        (scanner_with C.lists I.match_of scan.now) policy clarifications.now files.old
+        (scanner_of_scan C.lists I.match_of scan.now) policy clarifications.now files.old
         (map record_behind krates.now)) }
     ensures grows { Grows files.old files.new }
     ensures placed { ArePlacedIn files.old policy clarifications.now
@@ -186,7 +186,7 @@ impl<'i, I: Identifier> Gatherer<'i, I> {
         ensures answered { IfOk result (λ summary.
             AreTurnsByReads (T.content tree.old) (T.content tree.new) (T.fault_count tree.old)
             (T.fault_count tree.new) (T.trace tree.old) (T.trace tree.new)
-            (scanner_of (C.lists catalog.now) I.match_of self.entry) policy.now.file_id (entries_of policy.now)
+            (scanner_of_gatherer (C.lists catalog.now) I.match_of self.entry) policy.now.file_id (entries_of policy.now)
             files.old summary.nfos files.new) }
         // for want of memory no call was made, or those of the first crates and the first ones of the next crate
         ensures no_memory { OnErr result (
@@ -194,7 +194,7 @@ impl<'i, I: Identifier> Gatherer<'i, I> {
             (T.fault_count tree.new) (T.trace tree.old) (T.trace tree.new) []
             ⊎ StarvesGathering (T.content tree.old) (T.content tree.new) (T.fault_count tree.old)
             (T.fault_count tree.new) (T.trace tree.old) (T.trace tree.new)
-            (scanner_of (C.lists catalog.now) I.match_of self.entry) policy.now.file_id (entries_of policy.now)
+            (scanner_of_gatherer (C.lists catalog.now) I.match_of self.entry) policy.now.file_id (entries_of policy.now)
             files.old (selected_in (include_of policy.now) krates.entry.now)) }
         // where the policy's places stand in its file, each label and each expression stands in its own, in the
         // table that is left
@@ -208,7 +208,7 @@ impl<'i, I: Identifier> Gatherer<'i, I> {
             build: policy.include_build,
         };
         let selected = krates.selected(alloc, include)?;
-        let clarifications = Clarifications::of(alloc, policy.clarifications.items())?;
+        let clarifications = ClarificationIndex::of(alloc, policy.clarifications.items())?;
         let scan = Scan {
             identifier: self.store,
             threshold: self.threshold,

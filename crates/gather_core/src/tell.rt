@@ -3,25 +3,25 @@ ghost use Rattle.std.specs.Prelude.{◌≡◌, IfOk, OnOk, IfSome, All, map, opt
 ghost use Rattle.std.specs.Prelude.{option_map};
 ghost use Rattle.graph_core.specs.Krate.{record_of};
 ghost use Rattle.location_core.specs.Location.{PointsAt};
-ghost use Rattle.finding_core.specs.Cuts.{LabelLies, StandsAt, labels_of, text_under};
+ghost use Rattle.finding_core.specs.Cuts.{LabelLies, StandsAtCoord, labels_of, text_under};
 ghost use Rattle.finding_core.specs.Premises.{FaultsLie};
 ghost use Rattle.finding_core.specs.Views.{outcome_view, seen_view};
 ghost use Rattle.gather_core.specs.Gathered.{krate_of};
 ghost use Rattle.gather_core.specs.Premises.{ByStands, Grows, IsPlacedAt, PlaceLies, TextIs};
 ghost use Rattle.gather_core.specs.Taken.{IsTaken};
 ghost use Rattle.gather_core.specs.Turns as spec;
-ghost use Rattle.gather_core.specs.Turns.{IsCutOut, IsTurn, Turn, faults_in, field_text, files_left};
-ghost use Rattle.gather_core.specs.Turns.{joined_text, outcome_in, points_for, seen_as, text_settled};
-ghost use Rattle.gather_core.specs.Turns.{texts_for};
+ghost use Rattle.gather_core.specs.Turns.{IsCutOut, IsTurn, TurnInput, faults_in, field_text, files_left};
+ghost use Rattle.gather_core.specs.Turns.{joined_expression_text, outcome_in, points_for, seen_as, text_settled};
+ghost use Rattle.gather_core.specs.Turns.{label_texts_for};
 
 use crate::summary::KrateLicense;
 use crate::told::told_by;
-use crate::turn::{Taken, joined};
+use crate::turn::{LocatedLicense, joined};
 use deny_text::Span;
 use diag_core::{Coord, FileId, Files};
-use finding_core::{Case, Diags, Faults, Points, SeenFiles, Settles, find, missing_file};
+use finding_core::{UnclarifiedCrate, Diags, ParseErrors, PlacedFindings, SeenFiles, ExpressionBasis, find, missing_file};
 use graph_core::Krate;
-use priority_core::{FilesSeen, JoinedNames, Settling, folder};
+use priority_core::{FilesSeen, JoinedNames, LicenseBasis, folder};
 use std::alloc::{AllocError, Global};
 
 /// Findings of files of clarifications that are not there, by their places in the policy's file.
@@ -54,7 +54,7 @@ fn seen_files(seen: &FilesSeen) -> SeenFiles<'_>
 
 /// The text of joined names, where there is one.
 fn text_of(joined: &Option<JoinedNames>) -> Option<&str>
-    ensures { option_copied result ≡ joined_text joined.entry.now }
+    ensures { option_copied result ≡ joined_expression_text joined.entry.now }
 {
     match joined {
         Some(names) => Some(names.expression.as_ref()),
@@ -63,13 +63,13 @@ fn text_of(joined: &Option<JoinedNames>) -> Option<&str>
 }
 
 /// What settles the licence, as finding takes it; none where that is a clarification.
-fn settles(by: &Settling) -> Option<Settles<'_>>
+fn settles(by: &LicenseBasis) -> Option<ExpressionBasis<'_>>
     ensures { option_map outcome_view result ≡ outcome_in by.entry.now }
 {
     match by {
-        Settling::Clarified(_) => None,
-        Settling::Field(_) => Some(Settles::Field),
-        Settling::Files { seen, joined } => Some(Settles::Files {
+        LicenseBasis::Clarified(_) => None,
+        LicenseBasis::Field(_) => Some(ExpressionBasis::Field),
+        LicenseBasis::Files { seen, joined } => Some(ExpressionBasis::Files {
             seen: seen_files(seen),
             joined: text_of(joined),
         }),
@@ -82,9 +82,9 @@ fn find_points(
     alloc: Global,
     files: &mut Files,
     krate: &Krate,
-    faults: &Faults,
-    taken: &Taken,
-) -> Result<Points, AllocError>
+    faults: &ParseErrors,
+    taken: &LocatedLicense,
+) -> Result<PlacedFindings, AllocError>
     requires faults { FaultsLie (field_text (record_of krate.now)) faults.now }
     requires located { IfSome taken.now.location (λ at.
         PointsAt files.old at (field_text (record_of krate.now))) }
@@ -94,14 +94,14 @@ fn find_points(
         ≡ files_left (record_of krate.now) faults.now taken.now.location files.old taken.now.by) }
     ensures inside { IfOk result (λ found. All (LabelLies files.new) (labels_of found.findings)) }
     ensures cuts { IfOk result (λ found. map (text_under files.new) (labels_of found.findings)
-        ≡ texts_for (record_of krate.now) faults.now taken.now.location taken.now.by) }
+        ≡ label_texts_for (record_of krate.now) faults.now taken.now.location taken.now.by) }
     ensures expression { IfOk result (λ found.
-        StandsAt files.new found.expression (text_settled (record_of krate.now) taken.now.by)) }
+        StandsAtCoord files.new found.expression (text_settled (record_of krate.now) taken.now.by)) }
     ensures grows { Grows files.old files.new }
 {
     match settles(&taken.by) {
         Some(settles) => {
-            let case = Case {
+            let case = UnclarifiedCrate {
                 krate,
                 folder: folder(krate),
                 location: taken.location,
@@ -110,7 +110,7 @@ fn find_points(
             };
             find(alloc, files, &case)
         }
-        None => Ok(Points {
+        None => Ok(PlacedFindings {
             expression: None,
             findings: Diags::new(alloc),
         }),
@@ -123,18 +123,18 @@ pub(crate) fn tell<'k>(
     files: &mut Files,
     policy: FileId,
     krate: &'k Krate,
-    faults: &Faults,
-    taken: Taken,
+    faults: &ParseErrors,
+    taken: LocatedLicense,
 ) -> Result<KrateLicense<'k>, AllocError>
     requires faults { FaultsLie (field_text (record_of krate.now)) faults.now }
     requires located { IfSome taken.location (λ at.
         PointsAt files.old at (field_text (record_of krate.now))) }
     ensures krate { IfOk result (λ license. krate_of license ≡ record_of krate.now) }
     ensures reads { IfOk result (λ license. license.reads ≡ taken.reads) }
-    ensures turn { (turn : Turn) → turn.krate ≡ record_of krate.now → turn.policy ≡ policy
+    ensures turn { (turn : TurnInput) → turn.krate ≡ record_of krate.now → turn.policy ≡ policy
         → faults.now ≡ faults_in turn.scanner turn.krate → IsTaken turn taken files.old
         → IfOk result (λ license. IsTurn turn license files.new) }
-    ensures found { (turn : Turn) → turn.krate ≡ record_of krate.now
+    ensures found { (turn : TurnInput) → turn.krate ≡ record_of krate.now
         → faults.now ≡ faults_in turn.scanner turn.krate → IsTaken turn taken files.old
         → OnOk result (IsCutOut files.new turn) }
     // where the policy's places stand in its file

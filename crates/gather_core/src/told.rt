@@ -7,13 +7,13 @@ ghost use Rattle.gather_core.specs.Told.{nowhere};
 use deny_text::Span;
 use diag_core::{Coord, FileId, Notes};
 use finding_core::{LicenseExprInfo, LicenseExprSource, LicenseInfo};
-use priority_core::{Held, JoinedNames, Settling};
+use priority_core::{HeldClarification, JoinedNames, LicenseBasis};
 use spdx_core::Expression;
 use std::alloc::Global;
 
 /// The licence of a crate, with what is noted of its files.
 #[derive(Drop)]
-pub(crate) struct Told {
+pub(crate) struct NotedLicense {
     pub(crate) info: LicenseInfo,
     pub(crate) notes: Notes,
 }
@@ -55,8 +55,8 @@ fn source_of(location: Option<Coord>) -> LicenseExprSource
 }
 
 /// By a clarification.
-fn told_by_policy(policy: FileId, held: Held) -> LicenseInfo
-    ensures { result ≡ info_by policy None nowhere (Settling.Clarified held) }
+fn told_by_policy(policy: FileId, held: HeldClarification) -> LicenseInfo
+    ensures { result ≡ info_by policy None nowhere (LicenseBasis.Clarified held) }
 {
     let nfo = LicenseExprInfo {
         file_id: policy,
@@ -71,7 +71,7 @@ fn told_by_policy(policy: FileId, held: Held) -> LicenseInfo
 }
 
 /// By the licence files.
-fn told_by_files(alloc: Global, place: Coord, joined: Option<JoinedNames>) -> Told
+fn told_by_files(alloc: Global, place: Coord, joined: Option<JoinedNames>) -> NotedLicense
     ensures info { result.info ≡ joined_info place joined }
     ensures notes { result.notes ≡ joined_notes joined }
 {
@@ -82,12 +82,12 @@ fn told_by_files(alloc: Global, place: Coord, joined: Option<JoinedNames>) -> To
                 paths,
                 notes,
             } = joined;
-            Told {
+            NotedLicense {
                 info: told_at(expression, place, LicenseExprSource::LicenseFiles(paths)),
                 notes,
             }
         }
-        None => Told {
+        None => NotedLicense {
             info: LicenseInfo::Unlicensed,
             notes: Notes::new(alloc),
         },
@@ -100,21 +100,21 @@ pub(crate) fn told_by(
     policy: FileId,
     location: Option<Coord>,
     place: Option<Coord>,
-    by: Settling,
-) -> Told
+    by: LicenseBasis,
+) -> NotedLicense
     ensures info { result.info ≡ info_by policy location (unwrap_or place nowhere) by }
     ensures notes { result.notes ≡ notes_of (answer_in by) }
 {
     let place = place_or_nowhere(place);
     match by {
-        Settling::Clarified(held) => Told {
+        LicenseBasis::Clarified(held) => NotedLicense {
             info: told_by_policy(policy, held),
             notes: Notes::new(alloc),
         },
-        Settling::Field(expression) => Told {
+        LicenseBasis::Field(expression) => NotedLicense {
             info: told_at(expression, place, source_of(location)),
             notes: Notes::new(alloc),
         },
-        Settling::Files { joined, .. } => told_by_files(alloc, place, joined),
+        LicenseBasis::Files { joined, .. } => told_by_files(alloc, place, joined),
     }
 }

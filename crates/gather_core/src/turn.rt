@@ -7,7 +7,7 @@ ghost use Rattle.location_core.specs.Location.{PointsAt};
 ghost use Rattle.priority_core.specs.Clarification.{behind};
 ghost use Rattle.priority_core.specs.Priority as spec;
 ghost use Rattle.priority_core.specs.Priority.{field_of, folder_of};
-ghost use Rattle.priority_core.specs.Settled.{scanner_with};
+ghost use Rattle.priority_core.specs.Settled.{scanner_of_scan};
 ghost use Rattle.gather_core.specs.Calls.{IsByOwnReads, StarvesTaking};
 ghost use Rattle.gather_core.specs.Premises.{Grows};
 ghost use Rattle.gather_core.specs.Taken.{IsLocatedWhere, IsTaken, is_clarified, turn_with};
@@ -17,16 +17,16 @@ use catalog_core::Identifier;
 use deny_text::ListOf;
 use diag_core::{Coord, Files};
 use graph_core::Krate;
-use location_core::{Located, locate};
-use priority_core::{ClarificationRef, Scan, Settling, Spans, settle_licence};
+use location_core::{LocatedField, locate};
+use priority_core::{ClarificationRef, Scan, LicenseBasis, Spans, settle_licence};
 use spdx_core::{Catalog, Expression};
 use std::alloc::{AllocError, Global};
 use tree_core::{ReadRecord, Reads, Tree};
 
 /// What settles a crate's licence, where its manifest writes its field, and the reads of its turn.
 #[derive(Drop)]
-pub(crate) struct Taken {
-    pub(crate) by: Settling,
+pub(crate) struct LocatedLicense {
+    pub(crate) by: LicenseBasis,
     pub(crate) missing: Spans,
     pub(crate) location: Option<Coord>,
     pub(crate) reads: Reads,
@@ -60,7 +60,7 @@ fn locate_field<T: Tree>(
     tree: &mut T,
     files: &mut Files,
     krate: &Krate,
-) -> Result<Located, AllocError>
+) -> Result<LocatedField, AllocError>
     // over any tree, by the answers to the reads that are made, which are all the calls
     ensures answered { let krate = record_of krate.now in IfOk result (λ located.
         IsByOwnReads (T.content tree.old) (T.content tree.new) (T.fault_count tree.old)
@@ -79,7 +79,7 @@ fn locate_field<T: Tree>(
 {
     match &krate.license {
         Some(field) => locate(alloc, tree, files, &krate.manifest_path, field.as_str()),
-        None => Ok(Located {
+        None => Ok(LocatedField {
             location: None,
             read: None,
         }),
@@ -87,13 +87,13 @@ fn locate_field<T: Tree>(
 }
 
 /// Whether a clarification settles a licence.
-fn is_clarified(by: &Settling) -> bool
+fn is_clarified(by: &LicenseBasis) -> bool
     ensures { result ≡ is_clarified by.now }
 {
     match by {
-        Settling::Clarified(_) => true,
-        Settling::Field(_) => false,
-        Settling::Files { .. } => false,
+        LicenseBasis::Clarified(_) => true,
+        LicenseBasis::Field(_) => false,
+        LicenseBasis::Files { .. } => false,
     }
 }
 
@@ -103,8 +103,8 @@ fn locate_unless_clarified<T: Tree>(
     tree: &mut T,
     files: &mut Files,
     krate: &Krate,
-    by: &Settling,
-) -> Result<Located, AllocError>
+    by: &LicenseBasis,
+) -> Result<LocatedField, AllocError>
     // over any tree, by the answers to the reads that are made, which are all the calls
     ensures answered { let krate = record_of krate.now in IfOk result (λ located.
         IsByOwnReads (T.content tree.old) (T.content tree.new) (T.fault_count tree.old)
@@ -122,7 +122,7 @@ fn locate_unless_clarified<T: Tree>(
     ensures grows { Grows files.old files.new }
 {
     if is_clarified(by) {
-        return Ok(Located {
+        return Ok(LocatedField {
             location: None,
             read: None,
         });
@@ -139,7 +139,7 @@ fn take_manifest_first<T: Tree, I: Identifier, C: Catalog>(
     krate: &Krate,
     clarifications: &[&ClarificationRef<'_>],
     field: Option<Expression>,
-) -> Result<Taken, AllocError>
+) -> Result<LocatedLicense, AllocError>
     requires nothing { spec.is_nothing (map behind clarifications.now) ≡ true }
     requires field { field ≡ field_of (C.lists scan.now.catalog.now) (record_of krate.now) }
     // over any tree, by the answers to the turn's own reads, which are all the calls
@@ -147,13 +147,13 @@ fn take_manifest_first<T: Tree, I: Identifier, C: Catalog>(
         IsByOwnReads (T.content tree.old) (T.content tree.new) (T.fault_count tree.old)
         (T.fault_count tree.new) (T.trace tree.old) (T.trace tree.new)
         (folder_of krate) taken.reads (λ ears manifest. IsTaken (turn_with
-        (scanner_with C.lists I.match_of scan.now) policy (map behind clarifications.now) krate ears manifest
+        (scanner_of_scan C.lists I.match_of scan.now) policy (map behind clarifications.now) krate ears manifest
         files.old) taken files.new)) }
     ensures no_memory { let krate = record_of krate.now in (policy : ℕ) → OnErr result (
         StarvesTaking (T.content tree.old) (T.content tree.new) (T.fault_count tree.old)
         (T.fault_count tree.new) (T.trace tree.old) (T.trace tree.new)
         (folder_of krate) (λ ears manifest. records_in (turn_with
-        (scanner_with C.lists I.match_of scan.now) policy (map behind clarifications.now) krate ears manifest
+        (scanner_of_scan C.lists I.match_of scan.now) policy (map behind clarifications.now) krate ears manifest
         files.old))) }
     ensures points { IfOk result (λ taken. IfSome taken.location (λ at.
         PointsAt files.new at (field_text (record_of krate.now)))) }
@@ -163,7 +163,7 @@ fn take_manifest_first<T: Tree, I: Identifier, C: Catalog>(
     let settled = settle_licence(alloc, tree, scan, krate, clarifications, field)?;
     let front = reads_of(alloc, located.read)?;
     let reads = joined(front, settled.reads)?;
-    Ok(Taken {
+    Ok(LocatedLicense {
         by: settled.by,
         missing: settled.missing,
         location: located.location,
@@ -181,7 +181,7 @@ fn take_files_first<T: Tree, I: Identifier, C: Catalog>(
     krate: &Krate,
     clarifications: &[&ClarificationRef<'_>],
     field: Option<Expression>,
-) -> Result<Taken, AllocError>
+) -> Result<LocatedLicense, AllocError>
     requires some { spec.is_nothing (map behind clarifications.now) ≡ false }
     requires field { field ≡ field_of (C.lists scan.now.catalog.now) (record_of krate.now) }
     // over any tree, by the answers to the turn's own reads, which are all the calls
@@ -189,13 +189,13 @@ fn take_files_first<T: Tree, I: Identifier, C: Catalog>(
         IsByOwnReads (T.content tree.old) (T.content tree.new) (T.fault_count tree.old)
         (T.fault_count tree.new) (T.trace tree.old) (T.trace tree.new)
         (folder_of krate) taken.reads (λ ears manifest. IsTaken (turn_with
-        (scanner_with C.lists I.match_of scan.now) policy (map behind clarifications.now) krate ears manifest
+        (scanner_of_scan C.lists I.match_of scan.now) policy (map behind clarifications.now) krate ears manifest
         files.old) taken files.new)) }
     ensures no_memory { let krate = record_of krate.now in (policy : ℕ) → OnErr result (
         StarvesTaking (T.content tree.old) (T.content tree.new) (T.fault_count tree.old)
         (T.fault_count tree.new) (T.trace tree.old) (T.trace tree.new)
         (folder_of krate) (λ ears manifest. records_in (turn_with
-        (scanner_with C.lists I.match_of scan.now) policy (map behind clarifications.now) krate ears manifest
+        (scanner_of_scan C.lists I.match_of scan.now) policy (map behind clarifications.now) krate ears manifest
         files.old))) }
     ensures points { IfOk result (λ taken. IfSome taken.location (λ at.
         PointsAt files.new at (field_text (record_of krate.now)))) }
@@ -205,7 +205,7 @@ fn take_files_first<T: Tree, I: Identifier, C: Catalog>(
     let located = locate_unless_clarified(alloc, tree, files, krate, &settled.by)?;
     let back = reads_of(alloc, located.read)?;
     let reads = joined(settled.reads, back)?;
-    Ok(Taken {
+    Ok(LocatedLicense {
         by: settled.by,
         missing: settled.missing,
         location: located.location,
@@ -230,20 +230,20 @@ pub(crate) fn take<T: Tree, I: Identifier, C: Catalog>(
     krate: &Krate,
     clarifications: &[&ClarificationRef<'_>],
     field: Option<Expression>,
-) -> Result<Taken, AllocError>
+) -> Result<LocatedLicense, AllocError>
     requires { field ≡ field_of (C.lists scan.now.catalog.now) (record_of krate.now) }
     // over any tree, by the answers to the turn's own reads, which are all the calls
     ensures answered { let krate = record_of krate.now in (policy : ℕ) → IfOk result (λ taken.
         IsByOwnReads (T.content tree.old) (T.content tree.new) (T.fault_count tree.old)
         (T.fault_count tree.new) (T.trace tree.old) (T.trace tree.new)
         (folder_of krate) taken.reads (λ ears manifest. IsTaken (turn_with
-        (scanner_with C.lists I.match_of scan.now) policy (map behind clarifications.now) krate ears manifest
+        (scanner_of_scan C.lists I.match_of scan.now) policy (map behind clarifications.now) krate ears manifest
         files.old) taken files.new)) }
     ensures no_memory { let krate = record_of krate.now in (policy : ℕ) → OnErr result (
         StarvesTaking (T.content tree.old) (T.content tree.new) (T.fault_count tree.old)
         (T.fault_count tree.new) (T.trace tree.old) (T.trace tree.new)
         (folder_of krate) (λ ears manifest. records_in (turn_with
-        (scanner_with C.lists I.match_of scan.now) policy (map behind clarifications.now) krate ears manifest
+        (scanner_of_scan C.lists I.match_of scan.now) policy (map behind clarifications.now) krate ears manifest
         files.old))) }
     ensures points { IfOk result (λ taken. IfSome taken.location (λ at.
         PointsAt files.new at (field_text (record_of krate.now)))) }

@@ -2,13 +2,13 @@
 //! is read and listed, where fields stand, its pack, and the names that are joined.
 use crate::given::{OF_FEED, World, first_word, policy_of, world_of};
 use case_files::tree::text_of;
-use case_files::{Case, Entry, Named, Shown};
+use case_files::{Case, CaseEntry, NameIdentifier, AnswerText};
 use deny_text::{PathBuf, Span, Text};
 use diag_core::{Diag, Files, Label, LabelStyle};
 use expression_core::{joined, scan_pack};
 use gather_core::{Gatherer, KrateLicense, LicenseExprSource, LicenseInfo, Summary};
-use location_core::{Located, locate};
-use pack_core::{Pack, Tried};
+use location_core::{LocatedField, locate};
+use pack_core::{LicensePack, TriedClarification};
 use priority_core::FileRef;
 use reads_core::{FolderHeard, list_folder, listing_record, read_file};
 use records_core::records;
@@ -32,13 +32,13 @@ fn krates(alloc: Global, case: &Case<'_>) -> Option<Krates> {
 }
 
 /// Puts texts, each behind a mark.
-fn put_texts(out: &mut Shown, mark: &str, texts: &[Text]) {
+fn put_texts(out: &mut AnswerText, mark: &str, texts: &[Text]) {
     for text in texts {
         write!(out, "{mark}{text}");
     }
 }
 
-fn put_info(out: &mut Shown, info: &LicenseInfo) {
+fn put_info(out: &mut AnswerText, info: &LicenseInfo) {
     let LicenseInfo::SpdxExpression { expr, nfo } = info else {
         return out.put("unlicensed");
     };
@@ -55,7 +55,7 @@ fn put_info(out: &mut Shown, info: &LicenseInfo) {
 }
 
 /// Each read, behind a `;`.
-pub fn put_reads(out: &mut Shown, reads: &[ReadRecord]) {
+pub fn put_reads(out: &mut AnswerText, reads: &[ReadRecord]) {
     for read in reads {
         write!(out, "; {:?} {} {:?}", read.kind, read.path, read.answer);
     }
@@ -63,7 +63,7 @@ pub fn put_reads(out: &mut Shown, reads: &[ReadRecord]) {
 
 /// A line for each crate, behind its id where there is more than one: its expression and where it comes from; each note behind
 /// a `#`; each read.
-fn put_licences(out: &mut Shown, licences: &[KrateLicense<'_>]) {
+fn put_licences(out: &mut AnswerText, licences: &[KrateLicense<'_>]) {
     for license in licences {
         if licences.len() > 1 {
             write!(out, "{}: ", license.krate.id);
@@ -76,7 +76,7 @@ fn put_licences(out: &mut Shown, licences: &[KrateLicense<'_>]) {
 }
 
 /// The place of a label, with lines and columns from 0, what it cuts out, and its text, with a mark where its style is primary.
-fn put_label(out: &mut Shown, files: &Files, label: &Label) {
+fn put_label(out: &mut AnswerText, files: &Files, label: &Label) {
     let name = files.name(label.file_id).unwrap_or("no file");
     if let Ok(at) = files.location(label.file_id, label.range.start) {
         write!(out, " {name}:{}:{}", at.line, at.column);
@@ -93,7 +93,7 @@ fn put_label(out: &mut Shown, files: &Files, label: &Label) {
 }
 
 /// Each finding in a line: its code and its labels.
-pub fn put_findings(out: &mut Shown, files: &Files, findings: &[Diag]) {
+pub fn put_findings(out: &mut AnswerText, files: &Files, findings: &[Diag]) {
     for finding in findings {
         match finding.code {
             Some(code) => write!(out, "{code}"),
@@ -107,7 +107,7 @@ pub fn put_findings(out: &mut Shown, files: &Files, findings: &[Diag]) {
 }
 
 /// The file and the offset of an expression whose text stands there.
-fn put_place(out: &mut Shown, files: &Files, info: &LicenseInfo) {
+fn put_place(out: &mut AnswerText, files: &Files, info: &LicenseInfo) {
     if let LicenseInfo::SpdxExpression { expr, nfo } = info {
         let source = files.source(nfo.file_id).unwrap_or("");
         let there = source.get(nfo.offset..).unwrap_or("");
@@ -126,9 +126,9 @@ fn gathered<'k>(
     policy: &ValidConfig,
     threshold: i64,
 ) -> Option<Summary<'k>> {
-    let gatherer: Gatherer<'_, Named> = Gatherer::default();
+    let gatherer: Gatherer<'_, NameIdentifier> = Gatherer::default();
     let gatherer = gatherer
-        .with_store(&Named)
+        .with_store(&NameIdentifier)
         .with_confidence_threshold(threshold);
     let files = &mut world.files;
     gatherer
@@ -137,7 +137,7 @@ fn gathered<'k>(
 }
 
 /// Puts the licence of each crate, what is found of each, or the text of the second file of the table.
-fn put_of(out: &mut Shown, key: &str, files: &Files, licences: &[KrateLicense<'_>]) {
+fn put_of(out: &mut AnswerText, key: &str, files: &Files, licences: &[KrateLicense<'_>]) {
     match key {
         "gathered" => put_licences(out, licences),
         "found" => {
@@ -151,7 +151,7 @@ fn put_of(out: &mut Shown, key: &str, files: &Files, licences: &[KrateLicense<'_
 }
 
 /// Puts what a key names of what is gathered in a case.
-pub fn put(alloc: Global, case: &Case<'_>, key: &str, out: &mut Shown) -> Option<()> {
+pub fn put(alloc: Global, case: &Case<'_>, key: &str, out: &mut AnswerText) -> Option<()> {
     let krates = krates(alloc, case)?;
     let policy = policy_of(alloc, case)?;
     let mut world = world_of(alloc, case)?;
@@ -162,7 +162,7 @@ pub fn put(alloc: Global, case: &Case<'_>, key: &str, out: &mut Shown) -> Option
 }
 
 /// What the record of a listing answers, and the entries of the folder.
-fn put_folder(out: &mut Shown, path: &str, heard: &FolderHeard, record: &ReadRecord) {
+fn put_folder(out: &mut AnswerText, path: &str, heard: &FolderHeard, record: &ReadRecord) {
     write!(out, "{path}: {:?}\n", record.answer);
     if let Ok(entries) = heard {
         for entry in entries.items() {
@@ -173,7 +173,7 @@ fn put_folder(out: &mut Shown, path: &str, heard: &FolderHeard, record: &ReadRec
 }
 
 /// Where a field stands, the read of its manifest, and how many files the table has then.
-fn put_located(out: &mut Shown, located: &Located, files: &Files) {
+fn put_located(out: &mut AnswerText, located: &LocatedField, files: &Files) {
     match &located.location {
         Some(at) => write!(out, "{}:{}..{}", at.file, at.span.start, at.span.end),
         None => out.put("nowhere"),
@@ -190,7 +190,7 @@ fn put_located(out: &mut Shown, located: &Located, files: &Files) {
     write!(out, "; {count} files\n");
 }
 
-fn put_read(alloc: Global, out: &mut Shown, tree: &mut MemTree, path: &str) -> Option<()> {
+fn put_read(alloc: Global, out: &mut AnswerText, tree: &mut MemTree, path: &str) -> Option<()> {
     let heard = read_file(alloc, tree, "/w", path).ok()?;
     match &heard {
         Ok(text) => write!(out, "{path}: {:?}\n", text.as_str()),
@@ -199,7 +199,7 @@ fn put_read(alloc: Global, out: &mut Shown, tree: &mut MemTree, path: &str) -> O
     Some(())
 }
 
-fn put_listed(alloc: Global, out: &mut Shown, tree: &mut MemTree, path: &str) -> Option<()> {
+fn put_listed(alloc: Global, out: &mut AnswerText, tree: &mut MemTree, path: &str) -> Option<()> {
     let heard = list_folder(alloc, tree, path).ok()?;
     let record = listing_record(alloc, path, &heard).ok()?;
     put_folder(out, path, &heard, &record);
@@ -207,7 +207,7 @@ fn put_listed(alloc: Global, out: &mut Shown, tree: &mut MemTree, path: &str) ->
 }
 
 /// Puts where the field stands that is written behind a path.
-fn put_field(alloc: Global, out: &mut Shown, world: &mut World, words: &str) -> Option<()> {
+fn put_field(alloc: Global, out: &mut AnswerText, world: &mut World, words: &str) -> Option<()> {
     let (path, field) = first_word(words);
     let path = PathBuf::copy(alloc, path).ok()?;
     let located = locate(alloc, &mut world.tree, &mut world.files, &path, field).ok()?;
@@ -216,7 +216,7 @@ fn put_field(alloc: Global, out: &mut Shown, world: &mut World, words: &str) -> 
 }
 
 /// Reads, lists or looks for what an entry names.
-fn put_entry(alloc: Global, out: &mut Shown, world: &mut World, entry: &Entry) -> Option<()> {
+fn put_entry(alloc: Global, out: &mut AnswerText, world: &mut World, entry: &CaseEntry) -> Option<()> {
     let words = entry.word.as_str();
     match entry.key.as_str() {
         "read" => put_read(alloc, out, &mut world.tree, words),
@@ -227,7 +227,7 @@ fn put_entry(alloc: Global, out: &mut Shown, world: &mut World, entry: &Entry) -
 }
 
 /// What is heard of each file by the key `read` and of each folder by the key `list`, and where each field by the key `locate` stands.
-pub fn put_each(alloc: Global, case: &Case<'_>, out: &mut Shown) -> Option<()> {
+pub fn put_each(alloc: Global, case: &Case<'_>, out: &mut AnswerText) -> Option<()> {
     let mut world = world_of(alloc, case)?;
     for entry in case.own {
         put_entry(alloc, out, &mut world, entry)?;
@@ -236,18 +236,18 @@ pub fn put_each(alloc: Global, case: &Case<'_>, out: &mut Shown) -> Option<()> {
 }
 
 /// The pack of the crate, with the `license-file` that the case has, of which nothing is said.
-fn pack(alloc: Global, tree: &mut MemTree, case: &Case<'_>) -> Option<Pack> {
+fn pack(alloc: Global, tree: &mut MemTree, case: &Case<'_>) -> Option<LicensePack> {
     match case.entry("license-file") {
         Some(entry) => {
             let path = PathBuf::copy(alloc, entry.word.as_str()).ok()?;
-            Pack::read(alloc, tree, "/w", Some(&path)).ok()
+            LicensePack::read(alloc, tree, "/w", Some(&path)).ok()
         }
-        None => Pack::read(alloc, tree, "/w", None).ok(),
+        None => LicensePack::read(alloc, tree, "/w", None).ok(),
     }
 }
 
 /// The files of the clarification, by the key `clarified`.
-fn paths(alloc: Global, entries: &[Entry]) -> Option<Vec<PathBuf>> {
+fn paths(alloc: Global, entries: &[CaseEntry]) -> Option<Vec<PathBuf>> {
     let mut paths = Vec::new(alloc);
     for entry in entries {
         if entry.key.as_str() == "clarified" {
@@ -268,14 +268,14 @@ fn files_at(alloc: Global, paths: &[PathBuf]) -> Option<Vec<FileRef<'_>>> {
     Some(files)
 }
 
-fn tried(alloc: Global, case: &Case<'_>, files: &[FileRef<'_>]) -> Option<Tried> {
+fn tried(alloc: Global, case: &Case<'_>, files: &[FileRef<'_>]) -> Option<TriedClarification> {
     let mut world = world_of(alloc, case)?;
     let pack = pack(alloc, &mut world.tree, case)?;
     pack.tries(alloc, &mut world.tree, files).ok()
 }
 
 /// Whether a clarification, whose files have the hash of one LF, holds by the crate's pack, and each read.
-pub fn put_tried(alloc: Global, case: &Case<'_>, out: &mut Shown) -> Option<()> {
+pub fn put_tried(alloc: Global, case: &Case<'_>, out: &mut AnswerText) -> Option<()> {
     let paths = paths(alloc, case.own)?;
     let files = files_at(alloc, &paths)?;
     let tried = tried(alloc, case, &files)?;
@@ -284,8 +284,8 @@ pub fn put_tried(alloc: Global, case: &Case<'_>, out: &mut Shown) -> Option<()> 
     Some(())
 }
 
-fn put_names(alloc: Global, pack: &Pack, threshold: u8, out: &mut Shown) -> Option<()> {
-    let files = scan_pack(alloc, Some(&Named), threshold, pack, &Table).ok()?;
+fn put_names(alloc: Global, pack: &LicensePack, threshold: u8, out: &mut AnswerText) -> Option<()> {
+    let files = scan_pack(alloc, Some(&NameIdentifier), threshold, pack, &Table).ok()?;
     let joined = joined(alloc, files.items(), &Table).ok()?;
     match &joined {
         Some(read) => out.put(read.as_ref()),
@@ -295,7 +295,7 @@ fn put_names(alloc: Global, pack: &Pack, threshold: u8, out: &mut Shown) -> Opti
 }
 
 /// The expression that the names of the crate's files are joined to.
-pub fn put_joined(alloc: Global, case: &Case<'_>, out: &mut Shown) -> Option<()> {
+pub fn put_joined(alloc: Global, case: &Case<'_>, out: &mut AnswerText) -> Option<()> {
     let mut world = world_of(alloc, case)?;
     let pack = pack(alloc, &mut world.tree, case)?;
     let threshold = case.word("threshold").parse::<u8>().unwrap_or(80);

@@ -2,7 +2,7 @@
 //! `c@52-53: ISC@66-69` an exception for a crate. Each is none where it can't be read or has no memory.
 use case_files::cases::wanted;
 use case_files::tree::{text_of, tree_of};
-use case_files::{Case, Entry};
+use case_files::{Case, CaseEntry};
 use deny_text::{PathBuf, Span, Spanned, Text, TextMap, Texts};
 use diag_core::Files;
 use graph_core::Krate;
@@ -118,7 +118,7 @@ pub fn table(alloc: Global, case: &Case<'_>) -> Option<Files> {
     Some(files)
 }
 
-fn add_file(alloc: Global, files: &mut Files, case: &Case<'_>, entry: &Entry) -> Option<()> {
+fn add_file(alloc: Global, files: &mut Files, case: &Case<'_>, entry: &CaseEntry) -> Option<()> {
     let bytes = text_of(alloc, case, entry).ok()?;
     let text = Text::copy(alloc, str::from_utf8(&bytes).ok()?).ok()?;
     let path = PathBuf::copy(alloc, entry.word.as_str()).ok()?;
@@ -232,7 +232,7 @@ fn clarification(alloc: Global, words: &str) -> Option<ValidClarification> {
 }
 
 /// The clarifications, by the key `clarify`.
-fn clarifications(alloc: Global, entries: &[Entry]) -> Option<ValidClarifications> {
+fn clarifications(alloc: Global, entries: &[CaseEntry]) -> Option<ValidClarifications> {
     let mut clarifications = ValidClarifications::new(alloc);
     for entry in entries {
         if entry.key.as_str() == "clarify" {

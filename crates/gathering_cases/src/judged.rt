@@ -6,11 +6,11 @@ use crate::given::{
     expression, first_word, krate, number, placed_text, policy, policy_of, span, table, texts,
     value,
 };
-use case_files::{Case, Entry, Shown};
+use case_files::{Case, CaseEntry, AnswerText};
 use deny_text::{Steps, Text, Texts};
 use diag_core::licenses::Code;
 use diag_core::{Diag, Files, Label, Labels, LevelFilter, Notes, Pack, Severity};
-use evaluate_core::{Evaluator, Hit, Hits, Places, Verdict};
+use evaluate_core::{Evaluator, Hit, Hits, TermPlaces, Verdict};
 use gather_core::{LicenseExprInfo, LicenseExprSource};
 use graph_core::{Krate, Source};
 use print_core::{Color, DiagPrinter, Format, LogContext, pack_labels_are_inside};
@@ -19,18 +19,18 @@ use std::alloc::{AllocError, Global};
 use std::marker::Brand;
 use std::sync::ledger::{Blank, Ledger};
 use tree_core::MemSink;
-use unused_core::{Encountered, last_pack};
+use unused_core::{EntryHits, last_pack};
 use valid_policy::ValidConfig;
 use verdict_findings::{finding, fits, judged, pack_of, skipped, unlicensed};
 
-fn put_places(out: &mut Shown, of: &str, places: &Places) {
+fn put_places(out: &mut AnswerText, of: &str, places: &TermPlaces) {
     out.put(of);
     for place in places.items() {
         write!(out, " {place}");
     }
 }
 
-fn put_hits(out: &mut Shown, hits: &Hits) {
+fn put_hits(out: &mut AnswerText, hits: &Hits) {
     for hit in hits.items() {
         match hit {
             Hit::Allowed(entry) => write!(out, " allowed {entry}"),
@@ -39,7 +39,7 @@ fn put_hits(out: &mut Shown, hits: &Hits) {
     }
 }
 
-fn put_certificate(out: &mut Shown, verdict: &Verdict) {
+fn put_certificate(out: &mut AnswerText, verdict: &Verdict) {
     match verdict {
         Verdict::Skipped | Verdict::Unlicensed => out.put(" none"),
         Verdict::Accepted { choice, hits } => {
@@ -57,7 +57,7 @@ fn put_certificate(out: &mut Shown, verdict: &Verdict) {
 /// What an evaluator answers the second time that it is asked, and the certificate.
 fn asked_twice<L: Ledger>(
     alloc: Global,
-    out: &mut Shown,
+    out: &mut AnswerText,
     expression: &Expression,
     krate: &Krate,
     policy: &ValidConfig,
@@ -85,7 +85,7 @@ fn beside_bar(text: &str) -> (&str, &str) {
 }
 
 /// The verdict on an expression; behind bars stand the allowed licences and the exceptions.
-pub fn put_verdict(alloc: Global, text: &str, out: &mut Shown) -> Option<()> {
+pub fn put_verdict(alloc: Global, text: &str, out: &mut AnswerText) -> Option<()> {
     let (text, lists) = beside_bar(text);
     let (allow, exceptions) = beside_bar(lists);
     let expression = expression(alloc, text)?;
@@ -126,7 +126,7 @@ fn yes_or_no(is_so: bool) -> &'static str {
 }
 
 /// Whether a crate is passed over where private ones are, and where they are not.
-pub fn put_passed_over(alloc: Global, text: &str, out: &mut Shown) -> Option<()> {
+pub fn put_passed_over(alloc: Global, text: &str, out: &mut AnswerText) -> Option<()> {
     let krate = published(alloc, text)?;
     let mut policy = policy(alloc, "", "")?;
     out.put(yes_or_no(policy.is_private(&krate)));
@@ -181,7 +181,7 @@ fn info_of(alloc: Global, case: &Case<'_>) -> Option<LicenseExprInfo> {
 }
 
 /// What is noted of the files of the crate.
-fn notes_of(alloc: Global, entries: &[Entry]) -> Option<Notes> {
+fn notes_of(alloc: Global, entries: &[CaseEntry]) -> Option<Notes> {
     let mut notes = Notes::new(alloc);
     for entry in entries {
         if entry.key.as_str() == "note" {
@@ -203,7 +203,7 @@ fn labels_of(alloc: Global, words: &str) -> Option<Labels> {
 }
 
 /// A warning that was gathered: its code and its label, and its message below.
-fn warning(alloc: Global, entry: &Entry) -> Option<Diag> {
+fn warning(alloc: Global, entry: &CaseEntry) -> Option<Diag> {
     let (code, words) = first_word(entry.word.as_str());
     let code = Code::from_str(code).ok()?;
     let message = str::from_utf8(&entry.text).ok()?;
@@ -212,7 +212,7 @@ fn warning(alloc: Global, entry: &Entry) -> Option<Diag> {
     finding(alloc, Severity::Warning, code, message, labels, notes).ok()
 }
 
-fn warnings(alloc: Global, entries: &[Entry]) -> Option<Vec<Diag>> {
+fn warnings(alloc: Global, entries: &[CaseEntry]) -> Option<Vec<Diag>> {
     let mut warnings = Vec::new(alloc);
     for entry in entries {
         if entry.key.as_str() == "gathered" {
@@ -256,7 +256,7 @@ fn krate_pack(alloc: Global, case: &Case<'_>) -> Option<Pack> {
 /// The pack of the policy, after each crate of a case that is not passed over.
 fn policy_pack(alloc: Global, case: &Case<'_>) -> Option<Pack> {
     let policy = policy_of(alloc, case)?;
-    let mut encountered = Encountered::of(alloc, &policy).ok()?;
+    let mut encountered = EntryHits::of(alloc, &policy).ok()?;
     for entry in case.own {
         if entry.key.as_str() == "crate" {
             let hits = hits_of(alloc, entry.word.as_str())?;
@@ -267,7 +267,7 @@ fn policy_pack(alloc: Global, case: &Case<'_>) -> Option<Pack> {
 }
 
 /// A line for each finding with the crates that it is about.
-fn put_about(out: &mut Shown, pack: &Pack) {
+fn put_about(out: &mut AnswerText, pack: &Pack) {
     for finding in pack.iter() {
         for node in finding.graph_nodes.items() {
             out.put(node.kid.as_str());
@@ -277,7 +277,7 @@ fn put_about(out: &mut Shown, pack: &Pack) {
 }
 
 /// What is printed of a pack.
-fn put_printed(alloc: Global, out: &mut Shown, format: Format, pack: &Pack, files: &Files) {
+fn put_printed(alloc: Global, out: &mut AnswerText, format: Format, pack: &Pack, files: &Files) {
     let context = LogContext {
         format,
         color: Color::Auto,
@@ -298,7 +298,7 @@ fn put_printed(alloc: Global, out: &mut Shown, format: Format, pack: &Pack, file
 }
 
 /// What is printed of a pack, or else the crates that it is about.
-fn put_pack(alloc: Global, out: &mut Shown, key: &str, pack: &Pack, files: &Files) {
+fn put_pack(alloc: Global, out: &mut AnswerText, key: &str, pack: &Pack, files: &Files) {
     match key {
         "human" => put_printed(alloc, out, Format::Human, pack, files),
         "json" => put_printed(alloc, out, Format::Json, pack, files),
@@ -307,7 +307,7 @@ fn put_pack(alloc: Global, out: &mut Shown, key: &str, pack: &Pack, files: &File
 }
 
 /// What is told of the crate, where the case has a verdict on it, and of the policy, where it has one.
-pub fn put_told(alloc: Global, case: &Case<'_>, key: &str, out: &mut Shown) -> Option<()> {
+pub fn put_told(alloc: Global, case: &Case<'_>, key: &str, out: &mut AnswerText) -> Option<()> {
     let files = table(alloc, case)?;
     if case.entry("verdict").is_some() {
         let pack = krate_pack(alloc, case)?;

@@ -7,7 +7,7 @@ mod judged;
 mod pointed;
 mod texts;
 
-use case_files::{Answered, Case, Cases, Rows, Shown, compare_cases, compare_rows, exit_code};
+use case_files::{KeyAnswer, Case, Cases, Rows, AnswerText, compare_cases, compare_rows, exit_code};
 use std::alloc::Global;
 use std::process::ExitCode;
 
@@ -15,7 +15,7 @@ use std::process::ExitCode;
 struct TextRows;
 
 impl Rows for TextRows {
-    fn answer(&self, alloc: Global, group: &str, text: &str, out: &mut Shown) -> bool {
+    fn answer(&self, alloc: Global, group: &str, text: &str, out: &mut AnswerText) -> bool {
         let tried = match group {
             "terms of a field" => texts::put_terms(alloc, text, out),
             "value of a manifest" => texts::put_value(text, out),
@@ -59,7 +59,7 @@ impl Cases for CrateCases {
         is_given
     }
 
-    fn told(&self, alloc: Global, case: &Case<'_>, key: &str, out: &mut Shown) -> Answered {
+    fn told(&self, alloc: Global, case: &Case<'_>, key: &str, out: &mut AnswerText) -> KeyAnswer {
         let tried = match key {
             "gathered" | "found" | "second-file" => gathering::put(alloc, case, key, out),
             "points" | "messages" | "first-file" => pointed::put(alloc, case, key, out),
@@ -69,11 +69,11 @@ impl Cases for CrateCases {
             "pack" => gathering::put_tried(alloc, case, out),
             "joined" => gathering::put_joined(alloc, case, out),
             "human" | "json" | "about" => judged::put_told(alloc, case, key, out),
-            _ => return Answered::NoSuchKey,
+            _ => return KeyAnswer::NoSuchKey,
         };
         match tried {
-            Some(()) => Answered::Yes,
-            None => Answered::CantBeTried,
+            Some(()) => KeyAnswer::Yes,
+            None => KeyAnswer::CantBeTried,
         }
     }
 }

@@ -4,11 +4,11 @@ ghost use Rattle.graph_core.specs.Krate.{record_of};
 
 use crate::gathering::put_findings;
 use crate::given::{World, file_told, first_word, krate, span, table, value, world_of};
-use case_files::{Case, Entry, Shown};
+use case_files::{Case, CaseEntry, AnswerText};
 use deny_text::{ListOf, PathBuf, Text};
 use diag_core::{Coord, Diag, Files};
-use expression_core::{Name, Scanned, ScannedFile};
-use finding_core::{Case as Unsettled, Points, SeenFiles, Settles, find, missing_file, read_field};
+use expression_core::{IdentifiedName, FileResult, ScannedFile};
+use finding_core::{UnclarifiedCrate as Unsettled, PlacedFindings, SeenFiles, ExpressionBasis, find, missing_file, read_field};
 use graph_core::Krate;
 use location_core::locate;
 use reads_core::BadRead;
@@ -27,15 +27,15 @@ fn bad_read(word: &str) -> Option<BadRead> {
     }
 }
 
-fn named(alloc: Global, how: &str, hash: u32, score: u8, name: &str) -> Option<Scanned> {
-    let name = Name {
+fn named(alloc: Global, how: &str, hash: u32, score: u8, name: &str) -> Option<FileResult> {
+    let name = IdentifiedName {
         name: Text::copy(alloc, name).ok()?,
         renamed: false,
     };
     Some(match how {
-        "low" => Scanned::Low { hash, score, name },
-        "unknown" => Scanned::Unknown { hash, score, name },
-        _ => Scanned::Joined {
+        "low" => FileResult::Low { hash, score, name },
+        "unknown" => FileResult::Unknown { hash, score, name },
+        _ => FileResult::Joined {
             hash,
             name,
             deprecated: false,
@@ -43,17 +43,17 @@ fn named(alloc: Global, how: &str, hash: u32, score: u8, name: &str) -> Option<S
     })
 }
 
-fn scanned(alloc: Global, words: &str) -> Option<Scanned> {
+fn scanned(alloc: Global, words: &str) -> Option<FileResult> {
     let (how, hash, score, name) = file_told(words);
     match bad_read(how) {
-        Some(error) => Some(Scanned::Bad(error)),
-        None if how == "unnamed" => Some(Scanned::Unnamed { hash, score }),
+        Some(error) => Some(FileResult::Bad(error)),
+        None if how == "unnamed" => Some(FileResult::Unnamed { hash, score }),
         None => named(alloc, how, hash, score, name),
     }
 }
 
 /// What comes of the crate's licence files, by the key `scanned`.
-fn scanned_files(alloc: Global, entries: &[Entry]) -> Option<ListOf<ScannedFile>> {
+fn scanned_files(alloc: Global, entries: &[CaseEntry]) -> Option<ListOf<ScannedFile>> {
     let mut files = ListOf::new(alloc);
     for entry in entries {
         if entry.key.as_str() == "scanned" {
@@ -67,15 +67,15 @@ fn scanned_files(alloc: Global, entries: &[Entry]) -> Option<ListOf<ScannedFile>
 }
 
 /// What settles the licence: the field, or else the files or why they were not listed, with what is joined.
-fn settles<'a>(case: &Case<'_>, files: &'a [ScannedFile], joined: Option<&'a str>) -> Settles<'a> {
+fn settles<'a>(case: &Case<'_>, files: &'a [ScannedFile], joined: Option<&'a str>) -> ExpressionBasis<'a> {
     if case.word("settles") == "field" {
-        return Settles::Field;
+        return ExpressionBasis::Field;
     }
     let seen = match bad_read(case.word("unlisted")) {
         Some(error) => SeenFiles::Unlisted(error),
         None => SeenFiles::Listed(files),
     };
-    Settles::Files { seen, joined }
+    ExpressionBasis::Files { seen, joined }
 }
 
 /// The text of a crate's field; the empty text where there is none.
@@ -89,7 +89,7 @@ fn field_of(krate: &Krate) -> &str
 }
 
 /// What is found, of which nothing is said.
-fn found(alloc: Global, world: &mut World, krate: &Krate, settles: Settles<'_>) -> Option<Points> {
+fn found(alloc: Global, world: &mut World, krate: &Krate, settles: ExpressionBasis<'_>) -> Option<PlacedFindings> {
     let field = field_of(krate);
     let read = read_field(alloc, field, &Table).ok()?;
     let files = &mut world.files;
@@ -106,7 +106,7 @@ fn found(alloc: Global, world: &mut World, krate: &Krate, settles: Settles<'_>) 
 }
 
 /// The level and the message of each finding.
-fn put_messages(out: &mut Shown, findings: &[Diag]) {
+fn put_messages(out: &mut AnswerText, findings: &[Diag]) {
     for finding in findings {
         write!(out, "{:?}", finding.diag.severity);
         if !finding.diag.message.as_str().is_empty() {
@@ -125,7 +125,7 @@ fn krate_of(alloc: Global, case: &Case<'_>) -> Option<Krate> {
     Some(krate)
 }
 
-fn put_found(out: &mut Shown, key: &str, files: &Files, findings: &[Diag]) {
+fn put_found(out: &mut AnswerText, key: &str, files: &Files, findings: &[Diag]) {
     match key {
         "points" => put_findings(out, files, findings),
         "messages" => put_messages(out, findings),
@@ -139,7 +139,7 @@ fn put_of(
     krate: &Krate,
     joined: Option<&str>,
     key: &str,
-    out: &mut Shown,
+    out: &mut AnswerText,
 ) -> Option<()> {
     let scanned = scanned_files(alloc, case.own)?;
     let mut world = world_of(alloc, case)?;
@@ -150,7 +150,7 @@ fn put_of(
 }
 
 /// The places that the findings of a case point at, their levels and messages, or the text of the first file of the table.
-pub fn put(alloc: Global, case: &Case<'_>, key: &str, out: &mut Shown) -> Option<()> {
+pub fn put(alloc: Global, case: &Case<'_>, key: &str, out: &mut AnswerText) -> Option<()> {
     let krate = krate_of(alloc, case)?;
     let names = Text::copy(alloc, value(case, "joined-names").unwrap_or("")).ok()?;
     let joined = match case.entry("joined-names") {
@@ -161,7 +161,7 @@ pub fn put(alloc: Global, case: &Case<'_>, key: &str, out: &mut Shown) -> Option
 }
 
 /// What is told of a file of a clarification that is not there, whose path stands at these bytes of the first file of the table.
-pub fn put_missing(alloc: Global, case: &Case<'_>, out: &mut Shown) -> Option<()> {
+pub fn put_missing(alloc: Global, case: &Case<'_>, out: &mut AnswerText) -> Option<()> {
     let files = table(alloc, case)?;
     let span = span(case.word("missing"), "..");
     let finding = missing_file(alloc, Coord { file: 0, span }).ok()?;

@@ -5,7 +5,7 @@ use Rattle.graph_core.specs.declared.krate.Krate.{Krate}
 use Rattle.graph_core.specs.declared.edge.Edge.{Edge}
 use Rattle.graph_core.specs.Graph.{graph_with}
 use Rattle.graph_core.specs.Krate.{Record, record_of, id_of}
-use Rattle.graph_core.specs.Metadata.{Graph, Node, Link, nodes_of, id_at, link_of, ids_of, id_of_node, link_in, edges_at, AreRising, ArePlaces, IsPlace, LeadWithin}
+use Rattle.graph_core.specs.Metadata.{Graph, Node, Link, nodes_of, crate_id_at, link_of, ids_of, id_of_node, link_in, edges_at, AreRising, ArePlaces, IsPlace, LeadWithin}
 
 pub krates-nodes : (all crates : List Krate) (lists : List (List Edge))
     → map (λ node. node.krate) (nodes_of all crates lists) ≡ map record_of crates
@@ -49,7 +49,7 @@ module _ (crates : List Krate) (lists : List (List Edge)) (members : List (List 
   pub made-root : option_map (id_of_node made) root ≡ made.root
   made-root = ap (λ found. option_map (λ place. unwrap_or (slice_get found place) []) root) ids
 
-  pub made-members : (places : List ℕ) → map (id_of_node made) places ≡ map (id_at crates) places
+  pub made-members : (places : List ℕ) → map (id_of_node made) places ≡ map (crate_id_at crates) places
   made-members places = ap (λ found. map (λ place. unwrap_or (slice_get found place) []) places) ids
 
   pub made-place : IsPlace (length crates) root → IsPlace (length made.nodes) root

@@ -69,13 +69,13 @@ ids_in crates = map (λ krate. krate.id) crates
 -- ---- what is said of a crate
 
 -- whether a list holds a text
-abbrev pub holds : List (List ℕ) → List ℕ → Bool
-holds texts text = list_any (λ other. bytes_eq other text) texts
+abbrev pub has_text : List (List ℕ) → List ℕ → Bool
+has_text texts text = list_any (λ other. bytes_eq other text) texts
 
 -- the publish list is there, and each of its names is in the list of registries
 abbrev pub is_private : List (List ℕ) → Option (List (List ℕ)) → Bool
 is_private registries None = false
-is_private registries (Some names) = list_all (holds registries) names
+is_private registries (Some names) = list_all (has_text registries) names
 
 -- a crate without a source matches no address
 abbrev pub SourceMatches : Bool → Option Source → Parts → Type 0

@@ -31,11 +31,11 @@ pub record Graph : Type 0 where
   pub root : Option (List ℕ)
 
 -- the id of the crate at a place; the empty text where there is none
-abbrev pub id_at : List Krate → ℕ → List ℕ
-id_at crates place = unwrap_or (slice_get (map id_of crates) place) []
+abbrev pub crate_id_at : List Krate → ℕ → List ℕ
+crate_id_at crates place = unwrap_or (slice_get (map id_of crates) place) []
 
 abbrev pub link_of : List Krate → Edge → Link
-link_of crates edge = record { to = id_at crates edge.to; kinds = edge.kinds }
+link_of crates edge = record { to = crate_id_at crates edge.to; kinds = edge.kinds }
 
 -- crates with the lists of their edges; a crate for which there is no list has none
 abbrev pub nodes_of : List Krate → List Krate → List (List Edge) → List Node
@@ -67,7 +67,7 @@ pub record FitTogether (crates : List Krate) (lists : List (List Edge)) (members
   pub rising : AreRising (map id_of crates)
   pub counted : length lists ≡ length crates
   pub within : All (LeadWithin (length crates)) lists
-  pub member_ids : map (id_at crates) places ≡ members
+  pub member_ids : map (crate_id_at crates) places ≡ members
   pub member_places : ArePlaces (length crates) places
   pub root_place : IsPlace (length crates) root
 

@@ -45,14 +45,14 @@ pub struct Krate {
 
 /// Whether a list holds a text.
 fn holds(texts: &[Text], text: &Text) -> bool
-    ensures { result ≡ spec.holds texts.now text.now }
+    ensures { result ≡ spec.has_text texts.now text.now }
 {
     texts.iter().any(|other| other.as_str() == text.as_str())
 }
 
 /// Whether a list holds each of some texts.
 fn holds_all(texts: &[Text], names: &[Text]) -> bool
-    ensures { result ≡ list_all (spec.holds texts.now) names.now }
+    ensures { result ≡ list_all (spec.has_text texts.now) names.now }
 {
     names.iter().all(|name| holds(texts, name))
 }

@@ -6,13 +6,13 @@ use Rattle.std.proofs.lemmas.Str.{is_utf8-from_IsUtf8, IsUtf8-from_is_utf8}
 use Rattle.tree_core.specs.Call as call
 use Rattle.tree_core.specs.Call.{Call}
 use Rattle.tree_core.specs.Content.{file}
-use Rattle.tree_core.specs.Trace.{read_call, refused}
+use Rattle.tree_core.specs.Trace.{read_call, refusal_answer}
 use Rattle.tree_core.specs.declared.tree.TreeError.{TreeError}
 use Rattle.tree_core.specs.declared.tree.TreeError.TheVariants as tree
 use Rattle.heard_core.specs.declared.fault.ReadFault.{ReadFault}
 use Rattle.heard_core.specs.declared.fault.ReadFault.TheVariants.{Failed, Absent, Folder, NotUtf8}
 use Rattle.heard_core.specs.Cause.{ReadCounts, heard_cause}
-use Rattle.heard_core.specs.Heard.{IsRead, heard_of, read_of, text_answered}
+use Rattle.heard_core.specs.Heard.{IsTextRead, heard_of, read_of, text_answered}
 
 pub heard_text : (bytes : List ℕ) → IsUtf8 bytes → heard_of (Some (file bytes)) ≡ Ok bytes
 unfolding heard_of
@@ -47,22 +47,22 @@ file_counts begun before after bytes (Err (NotUtf8 at)) is = tt
 -- ---- by the answer of the one call that was made
 
 module _ (begun after : ℕ) (old new : List Call) (path : List ℕ) where
-  pub file_read : (bytes : List ℕ) (heard : Result (List ℕ) ReadFault) → new ≡ old ++ read_call path (Ok bytes) ∷ [] → heard ≡ heard_of (Some (file bytes)) → IsRead begun after old new path heard
+  pub file_read : (bytes : List ℕ) (heard : Result (List ℕ) ReadFault) → new ≡ old ++ read_call path (Ok bytes) ∷ [] → heard ≡ heard_of (Some (file bytes)) → IsTextRead begun after old new path heard
   file_read bytes heard made is = record { answer = call.bytes bytes; made = made; hears = ap Some (sym is) }
 
   -- what a refusal lets hear
-  refused_read : (error : TreeError) (fault : ReadFault) → new ≡ old ++ read_call path (Err error) ∷ [] → text_answered begun after (refused error) ≡ Some (Err fault) → IsRead begun after old new path (Err fault)
-  refused_read error fault made hears = record { answer = refused error; made = made; hears = hears }
+  refused_read : (error : TreeError) (fault : ReadFault) → new ≡ old ++ read_call path (Err error) ∷ [] → text_answered begun after (refusal_answer error) ≡ Some (Err fault) → IsTextRead begun after old new path (Err fault)
+  refused_read error fault made hears = record { answer = refusal_answer error; made = made; hears = hears }
 
-  pub absent_read : (error : TreeError) → error ≡ tree.Absent → new ≡ old ++ read_call path (Err error) ∷ [] → IsRead begun after old new path (Err Absent)
-  absent_read error is made = refused_read error Absent made (ap (λ one. text_answered begun after (refused one)) is)
+  pub absent_read : (error : TreeError) → error ≡ tree.Absent → new ≡ old ++ read_call path (Err error) ∷ [] → IsTextRead begun after old new path (Err Absent)
+  absent_read error is made = refused_read error Absent made (ap (λ one. text_answered begun after (refusal_answer one)) is)
 
-  pub folder_read : (error : TreeError) → error ≡ tree.WrongKind → new ≡ old ++ read_call path (Err error) ∷ [] → IsRead begun after old new path (Err Folder)
-  folder_read error is made = refused_read error Folder made (ap (λ one. text_answered begun after (refused one)) is)
+  pub folder_read : (error : TreeError) → error ≡ tree.WrongKind → new ≡ old ++ read_call path (Err error) ∷ [] → IsTextRead begun after old new path (Err Folder)
+  folder_read error is made = refused_read error Folder made (ap (λ one. text_answered begun after (refusal_answer one)) is)
 
-  pub failure_read : (error : TreeError) (now : ℕ) → error ≡ tree.Failed → now ≡ after → new ≡ old ++ read_call path (Err error) ∷ [] → IsRead begun after old new path (Err (Failed begun now))
+  pub failure_read : (error : TreeError) (now : ℕ) → error ≡ tree.Failed → now ≡ after → new ≡ old ++ read_call path (Err error) ∷ [] → IsTextRead begun after old new path (Err (Failed begun now))
   failure_read error now is same made =
-      refused_read error (Failed begun now) made (ap (λ one. text_answered begun after (refused one)) is ∙ ap (λ count. Some (Err (Failed begun count))) (sym same))
+      refused_read error (Failed begun now) made (ap (λ one. text_answered begun after (refusal_answer one)) is ∙ ap (λ count. Some (Err (Failed begun count))) (sym same))
 
   pub memory_read : (error : TreeError) → error ≡ tree.Memory → new ≡ old ++ read_call path (Err error) ∷ [] → new ≡ old ++ read_of path call.no_memory ∷ []
   memory_read error is made = made ∙ ap (λ one. old ++ read_call path (Err one) ∷ []) is

@@ -5,4 +5,4 @@ pub mod fault;
 pub mod read;
 
 pub use fault::ReadFault;
-pub use read::{Heard, load};
+pub use read::{TextHeard, read_file_text};

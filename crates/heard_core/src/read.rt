@@ -3,7 +3,7 @@ ghost use Rattle.std.specs.Prelude.{◌≡◌, ◌≤◌, ◌++◌, [], ◌∷�
 ghost use Rattle.tree_core.specs.Content.{file};
 ghost use Rattle.tree_core.specs.Hearing.{MadeSome};
 ghost use Rattle.heard_core.specs.Cause.{ReadCounts, heard_cause};
-ghost use Rattle.heard_core.specs.Heard.{IsRead, heard_of, read_of};
+ghost use Rattle.heard_core.specs.Heard.{IsTextRead, heard_of, read_of};
 ghost use Rattle.tree_core.specs.Call.{no_memory};
 
 use crate::fault::ReadFault;
@@ -12,10 +12,10 @@ use std::alloc::{AllocError, Global};
 use tree_core::{Tree, TreeError};
 
 /// A file's text, or why there is none.
-pub type Heard = Result<Text, ReadFault>;
+pub type TextHeard = Result<Text, ReadFault>;
 
 /// A file's bytes as a text, which is made of them without a copy.
-fn text_of(bytes: Bytes) -> Heard
+fn text_of(bytes: Bytes) -> TextHeard
     ensures { result ≡ heard_of (Some (file bytes)) }
 {
     match String::from_utf8(bytes.into_vec()) {
@@ -28,15 +28,15 @@ fn text_of(bytes: Bytes) -> Heard
 
 /// What is heard of the file at a path, by the answer of the one call that is made, the read of that path.
 /// `before` is the tree's count of faults when the run began.
-pub fn load<T: Tree>(
+pub fn read_file_text<T: Tree>(
     alloc: Global,
     tree: &mut T,
     path: &str,
     before: u64,
-) -> Result<Heard, AllocError>
+) -> Result<TextHeard, AllocError>
     requires { before ≤ T.fault_count tree.old }
     ensures read { IfOk result
-        (IsRead before (T.fault_count tree.new) (T.trace tree.old) (T.trace tree.new) path.now) }
+        (IsTextRead before (T.fault_count tree.new) (T.trace tree.old) (T.trace tree.new) path.now) }
     ensures no_memory { OnErr result (T.trace tree.new ≡ T.trace tree.old ++ read_of path.now no_memory ∷ []) }
     ensures made { MadeSome (T.content tree.old) (T.content tree.new) (T.fault_count tree.old)
         (T.fault_count tree.new) (T.trace tree.old) (T.trace tree.new) }

@@ -11,7 +11,7 @@ use Rattle.std.proofs.lemmas.Map.Text.{is_eq-slice_cmp}
 use Rattle.std.proofs.lemmas.Slice.Eq.{bytes_eq-Decides}
 use Rattle.deny_text.specs.TextMap.{TextMapTo}
 use Rattle.toml_subset.specs.declared.string.Key.{Key}
-use Rattle.key_index.specs.KeyPlaces.{place_of, HasPlaces, HasPlacesFrom, few, IsIndex}
+use Rattle.key_index.specs.KeyPlaces.{first_key_place, HasKeyPlaces, HasPlacesFrom, few, IsIndex}
 
 -- a place, or else that of a further key
 abbrev or_last : Bool → ℕ → Option ℕ → Option ℕ
@@ -23,13 +23,13 @@ later b n (Some i) = refl
 later true n None = refl
 later false n None = refl
 
-place_of-push : (name : List ℕ) (keys : List Key) (key : Key) → place_of name (keys ++ key ∷ []) ≡ or_last (bytes_eq name key.name.text) (length keys) (place_of name keys)
+place_of-push : (name : List ℕ) (keys : List Key) (key : Key) → first_key_place name (keys ++ key ∷ []) ≡ or_last (bytes_eq name key.name.text) (length keys) (first_key_place name keys)
 place_of-push name [] key = refl
 place_of-push name (other ∷ more) key =
-    elim (bytes_eq name other.name.text) as (λ b. cond b (Some 0) (option_map suc (place_of name (more ++ key ∷ [])))
-    ≡ or_last (bytes_eq name key.name.text) (suc (length more)) (cond b (Some 0) (option_map suc (place_of name more)))) [
+    elim (bytes_eq name other.name.text) as (λ b. cond b (Some 0) (option_map suc (first_key_place name (more ++ key ∷ [])))
+    ≡ or_last (bytes_eq name key.name.text) (suc (length more)) (cond b (Some 0) (option_map suc (first_key_place name more)))) [
       | true ↦ refl
-      | false ↦ ap (option_map suc) (place_of-push name more key) ∙ later (bytes_eq name key.name.text) (length more) (place_of name more)
+      | false ↦ ap (option_map suc) (place_of-push name more key) ∙ later (bytes_eq name key.name.text) (length more) (first_key_place name more)
     ]
 
 either : (b : Bool) (n : ℕ) (o : Option ℕ) → (b ≡ true → o ≡ None) → cond b (Some n) o ≡ or_last b n o
@@ -39,14 +39,14 @@ either false n None absent = refl
 either false n (Some i) absent = refl
 
 -- a further key, of a name that is new, has its place behind the others
-pub has_places-push : (places : TextMapTo ℕ) (keys : List Key) (key : Key) → HasPlaces places keys → place_of key.name.text keys ≡ None
-    → HasPlaces (insert places key.name.text (length keys)) (keys ++ key ∷ [])
+pub has_places-push : (places : TextMapTo ℕ) (keys : List Key) (key : Key) → HasKeyPlaces places keys → first_key_place key.name.text keys ≡ None
+    → HasKeyPlaces (insert places key.name.text (length keys)) (keys ++ key ∷ [])
 has_places-push places keys key has absent name =
     get-insert nat_list_cmp_total places key.name.text (length keys) name
     ∙ ap (λ b. cond b (Some (length keys)) (get places name)) (is_eq-slice_cmp name key.name.text)
     ∙ ap (λ o. cond (bytes_eq name key.name.text) (Some (length keys)) o) (has name)
-    ∙ either (bytes_eq name key.name.text) (length keys) (place_of name keys)
-    (λ same. ap (λ n. place_of n keys) ((bytes_eq-Decides name key.name.text).0 same) ∙ absent)
+    ∙ either (bytes_eq name key.name.text) (length keys) (first_key_place name keys)
+    (λ same. ap (λ n. first_key_place n keys) ((bytes_eq-Decides name key.name.text).0 same) ∙ absent)
     ∙ sym (place_of-push name keys key)
 
 -- a look-up key by key
@@ -56,17 +56,17 @@ shifted true i o = ap Some (omega arith)
 shifted false i None = refl
 shifted false i (Some j) = ap Some (omega arith)
 
-place_from : (name : List ℕ) (i : ℕ) (keys : List Key) → position_from (λ key. bytes_eq name key.name.text) i keys ≡ option_map (λ j. i + j) (place_of name keys)
+place_from : (name : List ℕ) (i : ℕ) (keys : List Key) → position_from (λ key. bytes_eq name key.name.text) i keys ≡ option_map (λ j. i + j) (first_key_place name keys)
 place_from name i [] = refl
 place_from name i (key ∷ more) =
-    ap (λ o. cond (bytes_eq name key.name.text) (Some i) o) (place_from name (i + 1) more) ∙ shifted (bytes_eq name key.name.text) i (place_of name more)
+    ap (λ o. cond (bytes_eq name key.name.text) (Some i) o) (place_from name (i + 1) more) ∙ shifted (bytes_eq name key.name.text) i (first_key_place name more)
 
 from_zero : (o : Option ℕ) → option_map (λ j. 0 + j) o ≡ o
 from_zero None = refl
 from_zero (Some j) = ap Some (omega arith)
 
-pub position-place : (name : List ℕ) (keys : List Key) → position (λ key. bytes_eq name key.name.text) keys ≡ place_of name keys
-position-place name keys = position_from-zero (λ key. bytes_eq name key.name.text) keys ∙ place_from name 0 keys ∙ from_zero (place_of name keys)
+pub position-place : (name : List ℕ) (keys : List Key) → position (λ key. bytes_eq name key.name.text) keys ≡ first_key_place name keys
+position-place name keys = position_from-zero (λ key. bytes_eq name key.name.text) keys ∙ place_from name 0 keys ∙ from_zero (first_key_place name keys)
 
 -- all places
 
@@ -80,22 +80,22 @@ one_more_place first key more places has name =
     get-insert nat_list_cmp_total places key.name.text first name
     ∙ ap (λ b. cond b (Some first) (get places name)) (is_eq-slice_cmp name key.name.text)
     ∙ ap (λ o. cond (bytes_eq name key.name.text) (Some first) o) (has name)
-    ∙ shifted (bytes_eq name key.name.text) first (place_of name more)
+    ∙ shifted (bytes_eq name key.name.text) first (first_key_place name more)
 
-pub counted_from_zero : (places : TextMapTo ℕ) (keys : List Key) → HasPlacesFrom 0 places keys → HasPlaces places keys
-counted_from_zero places keys has name = has name ∙ from_zero (place_of name keys)
+pub counted_from_zero : (places : TextMapTo ℕ) (keys : List Key) → HasPlacesFrom 0 places keys → HasKeyPlaces places keys
+counted_from_zero places keys has name = has name ∙ from_zero (first_key_place name keys)
 
 pub few_indexed : (places : TextMapTo ℕ) (keys : List Key) (key : Key) → length keys < few → IsIndex places (keys ++ key ∷ [])
 few_indexed places keys key short long = let longs = length-append keys (key ∷ []) in absurd (omega arith)
 
 -- the first map, and one for a further key
-pub first_indexed : (places new : TextMapTo ℕ) (keys : List Key) (key : Key) → length keys ≡ few → HasPlacesFrom 0 places keys → place_of key.name.text keys ≡ None
+pub first_indexed : (places new : TextMapTo ℕ) (keys : List Key) (key : Key) → length keys ≡ few → HasPlacesFrom 0 places keys → first_key_place key.name.text keys ≡ None
     → new ≡ insert places key.name.text few → IsIndex new (keys ++ key ∷ [])
 first_indexed places new keys key count has absent is long =
-    subst (λ (m : TextMapTo ℕ). HasPlaces m (keys ++ key ∷ [])) (ap (insert places key.name.text) count ∙ sym is)
+    subst (λ (m : TextMapTo ℕ). HasKeyPlaces m (keys ++ key ∷ [])) (ap (insert places key.name.text) count ∙ sym is)
     (has_places-push places keys key (counted_from_zero places keys has) absent)
 
-pub more_indexed : (places new : TextMapTo ℕ) (keys : List Key) (key : Key) → few < length keys → IsIndex places keys → place_of key.name.text keys ≡ None
+pub more_indexed : (places new : TextMapTo ℕ) (keys : List Key) (key : Key) → few < length keys → IsIndex places keys → first_key_place key.name.text keys ≡ None
     → new ≡ insert places key.name.text (length keys) → IsIndex new (keys ++ key ∷ [])
 more_indexed places new keys key many index absent is long =
-    subst (λ (m : TextMapTo ℕ). HasPlaces m (keys ++ key ∷ [])) (sym is) (has_places-push places keys key (index many) absent)
+    subst (λ (m : TextMapTo ℕ). HasKeyPlaces m (keys ++ key ∷ [])) (sym is) (has_places-push places keys key (index many) absent)

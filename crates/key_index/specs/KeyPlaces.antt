@@ -6,21 +6,21 @@ use Rattle.deny_text.specs.TextMap.{TextMapTo}
 use Rattle.toml_subset.specs.declared.string.Key.{Key}
 
 -- the place of the first key of a name
-abbrev pub place_of : List ℕ → List Key → Option ℕ
-place_of name [] = None
-place_of name (key ∷ more) = if bytes_eq name key.name.text then Some 0 else option_map suc (place_of name more)
+abbrev pub first_key_place : List ℕ → List Key → Option ℕ
+first_key_place name [] = None
+first_key_place name (key ∷ more) = if bytes_eq name key.name.text then Some 0 else option_map suc (first_key_place name more)
 
 -- a map from names has the place of each
-abbrev pub HasPlaces : TextMapTo ℕ → List Key → Type 0
-HasPlaces places keys = (name : List ℕ) → finmap.get places name ≡ place_of name keys
+abbrev pub HasKeyPlaces : TextMapTo ℕ → List Key → Type 0
+HasKeyPlaces places keys = (name : List ℕ) → finmap.get places name ≡ first_key_place name keys
 
 -- the same, counted from a first place on
 abbrev pub HasPlacesFrom : ℕ → TextMapTo ℕ → List Key → Type 0
-HasPlacesFrom first places keys = (name : List ℕ) → finmap.get places name ≡ option_map (λ i. first + i) (place_of name keys)
+HasPlacesFrom first places keys = (name : List ℕ) → finmap.get places name ≡ option_map (λ i. first + i) (first_key_place name keys)
 
 -- Few keys need no map.
 abbrev pub few : ℕ
 few = 8
 
 abbrev pub IsIndex : TextMapTo ℕ → List Key → Type 0
-IsIndex places keys = few < length keys → HasPlaces places keys
+IsIndex places keys = few < length keys → HasKeyPlaces places keys

@@ -2,7 +2,7 @@
 #![tactic(auto)]
 
 ghost use Rattle.std.specs.Prelude.{◌≡◌, [], ◌∷◌, ◌++◌, length, None, IfOk};
-ghost use Rattle.key_index.specs.KeyPlaces.{place_of};
+ghost use Rattle.key_index.specs.KeyPlaces.{first_key_place};
 
 mod parts;
 mod places;
@@ -47,7 +47,7 @@ impl<'de> KeyIndex<'de> {
 
     /// The place of a name among the keys.
     pub fn find(&self, name: &str) -> Option<usize>
-        ensures { result ≡ place_of name.now self.now }
+        ensures { result ≡ first_key_place name.now self.now }
     {
         if self.keys.len() <= FEW {
             scan(&self.keys, name)
@@ -58,7 +58,7 @@ impl<'de> KeyIndex<'de> {
 
     /// The keys and a further one, whose name none of them has. Where memory ends, nothing is left.
     pub fn with(self, alloc: Global, key: Key<'de>) -> Result<KeyIndex<'de>, AllocError>
-        requires new { place_of key.name.text self ≡ None }
+        requires new { first_key_place key.name.text self ≡ None }
         ensures { IfOk result (λ index. index ≡ self.entry ++ key.entry ∷ []) }
     {
         let KeyIndex { mut keys, places } = self;

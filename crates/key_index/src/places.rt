@@ -3,7 +3,7 @@ ghost use Rattle.std.specs.Prelude.{◌≡◌, ◌+◌, ◌<◌, ◌^◌, [], �
 ghost use Rattle.std.specs.FinMap as finmap;
 ghost use Rattle.std.specs.List.{position};
 ghost use Rattle.std.specs.Str.{bytes_eq};
-ghost use Rattle.key_index.specs.KeyPlaces.{place_of, HasPlacesFrom, IsIndex};
+ghost use Rattle.key_index.specs.KeyPlaces.{first_key_place, HasPlacesFrom, IsIndex};
 
 use deny_text::{Text, TextMap};
 use std::alloc::{AllocError, Global};
@@ -55,7 +55,7 @@ pub(crate) fn noted(
     key: &Key<'_>,
 ) -> Result<TextMap<usize>, AllocError>
     requires index { IsIndex places keys.now }
-    requires new { place_of key.now.name.text keys.now ≡ None }
+    requires new { first_key_place key.now.name.text keys.now ≡ None }
     ensures { IfOk result (λ new. IsIndex new (keys.now ++ key.now ∷ [])) }
 {
     if keys.len() < FEW {

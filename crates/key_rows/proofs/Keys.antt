@@ -6,7 +6,7 @@ use Rattle.std.proofs.lemmas.Slice.Eq.{bytes_eq-Decides}
 use Rattle.toml_subset.specs.Data.{Entries, Toml, no_entry, entry}
 use Rattle.toml_subset.specs.declared.string.Key.{Key}
 use Rattle.policy_toml.specs.HelperState.{HelperState, read_at}
-use Rattle.toml_shapes.specs.Shaped.{Shaped}
+use Rattle.toml_shapes.specs.Shaped.{ShapeReading}
 use Rattle.toml_value.specs.Lookup.{value_at}
 use Rattle.toml_value.specs.Removal.{entry_at, entries_without}
 
@@ -21,7 +21,7 @@ value_at_of_entry name (entry key span content more) =
     ]
 
 -- what is read at a key is read of the entry that is taken out
-pub read_of_entry : {A : Type 0} (name : List ℕ) (reads : Toml → Shaped A) (state : HelperState) {taken : Option (Key × Toml)} → taken ≡ entry_at name state.left
+pub read_of_entry : {A : Type 0} (name : List ℕ) (reads : Toml → ShapeReading A) (state : HelperState) {taken : Option (Key × Toml)} → taken ≡ entry_at name state.left
     → read_at name reads state ≡ option_map reads (option_map (λ p. p.1) taken)
 read_of_entry name reads state is = ap (option_map reads) (value_at_of_entry name state.left ∙ ap (option_map (λ (p : Key × Toml). p.1)) (sym is))
 

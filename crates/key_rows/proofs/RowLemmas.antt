@@ -6,7 +6,7 @@ use Rattle.std.specs.Str.{bytes_eq}
 use Rattle.deny_text.specs.declared.span.Span.{Span}
 use Rattle.toml_subset.specs.Data.{Entries, Toml}
 use Rattle.toml_subset.specs.declared.string.Key.{Key}
-use Rattle.toml_shapes.specs.Shaped.{Shaped, Tells, shaped_map, shaped_then, answer_of}
+use Rattle.toml_shapes.specs.Shaped.{ShapeReading, TellsFaults, shaped_map, shaped_then, shaped_of}
 use Rattle.toml_shapes.specs.Shapes.{Fault, fault_alone, missing}
 use Rattle.toml_shapes.specs.declared.shape.DeserError.{DeserError}
 use Rattle.toml_shapes.specs.declared.shape.DeserError.TheVariants.{Faults, Memory}
@@ -14,14 +14,14 @@ use Rattle.toml_value.specs.Lookup.{value_at}
 use Rattle.toml_value.specs.Removal.{entry_at, entries_without, names_in}
 use Rattle.toml_value.specs.Taken.{as_table, left_by, left_where, or_wanted}
 use Rattle.policy_toml.specs.HelperState.{HelperState, with_faults, without_key, opened_table, optional_of, required_of, needed_value, given_value, faults_at_end, unexpected_faults}
-use Rattle.key_rows.specs.Rows.{Row, passed_key, key_span, names_of_rows, rows_faults, entries_besides, table_faults, in_table, left_of_table, needed, needed_at, given, is_besides, are_apart}
+use Rattle.key_rows.specs.Rows.{KeyRow, passed_key, key_span, names_of_rows, rows_faults, entries_besides, table_faults, in_table, left_of_table, needed, needed_at, given, is_besides, are_apart}
 use Rattle.key_rows.proofs.Keys.{value_at_without, entry_at_without}
 
 -- a state behind one more row, and behind several
-abbrev pub after_row : Row → HelperState → HelperState
+abbrev pub after_row : KeyRow → HelperState → HelperState
 after_row row state = with_faults (row.faults (value_at row.name state.left)) (without_key row.name state)
 
-abbrev pub after_rows : List Row → HelperState → HelperState
+abbrev pub after_rows : List KeyRow → HelperState → HelperState
 after_rows [] state = state
 after_rows (row ∷ rows) state = after_rows rows (after_row row state)
 
@@ -31,7 +31,7 @@ not_so false e = refl
 
 -- ---- other keys are found as before
 
-rows_without : (name : List ℕ) (rows : List Row) (entries : Entries) → is_besides name (names_of_rows rows) ≡ true
+rows_without : (name : List ℕ) (rows : List KeyRow) (entries : Entries) → is_besides name (names_of_rows rows) ≡ true
     → rows_faults rows (entries_without name entries) ≡ rows_faults rows entries
 rows_without name [] entries apart = refl
 rows_without name (row ∷ rows) entries apart =
@@ -73,14 +73,14 @@ passed_span name passed entries state apart left =
 
 -- ---- a field behind the keys that were read before it
 
-pub field : {A : Type 0} (name : List ℕ) (reads : Toml → Shaped A) (passed : List (List ℕ)) (entries : Entries) (state : HelperState) (x : Option A)
+pub field : {A : Type 0} (name : List ℕ) (reads : Toml → ShapeReading A) (passed : List (List ℕ)) (entries : Entries) (state : HelperState) (x : Option A)
     → none_is name passed ≡ true → state.left ≡ entries_besides passed entries → x ≡ optional_of name reads state → x ≡ given name reads entries
 field name reads passed entries state x apart left is =
     is ∙ ap (λ value. given_value (option_map reads value)) (ap (value_at name) left ∙ found_behind name passed entries apart)
 
 -- ---- the faults of a table
 
-gathered : (rows : List Row) (state : HelperState) → are_apart (names_of_rows rows) ≡ true
+gathered : (rows : List KeyRow) (state : HelperState) → are_apart (names_of_rows rows) ≡ true
     → after_rows rows state ≡ record { left = entries_besides (names_of_rows rows) state.left; span = state.span; faults = state.faults ++ rows_faults rows state.left }
 gathered [] state apart = ap (λ (faults : List Fault). record state { faults = faults }) (sym (append-nil state.faults))
 gathered (row ∷ rows) state apart =
@@ -104,7 +104,7 @@ apart_back [] names apart = apart
 apart_back (name ∷ front) names apart =
     apart_back front names (second_so (is_besides name (front ++ names)) (are_apart (front ++ names)) apart)
 
-rows_behind : (passed : List (List ℕ)) (rows : List Row) (entries : Entries) → are_apart (passed ++ names_of_rows rows) ≡ true
+rows_behind : (passed : List (List ℕ)) (rows : List KeyRow) (entries : Entries) → are_apart (passed ++ names_of_rows rows) ≡ true
     → rows_faults rows (entries_besides passed entries) ≡ rows_faults rows entries
 rows_behind [] rows entries apart = refl
 rows_behind (name ∷ passed) rows entries apart =
@@ -122,27 +122,27 @@ besides_both (name ∷ passed) names entries = besides_both passed names (entrie
 abbrev pub begun : List (List ℕ) → Entries → Span → HelperState
 begun passed entries span = record { left = entries_besides passed entries; span = span; faults = [] }
 
-abbrev ended_by : {A : Type 0} → Span → A → Entries → List Fault → Shaped A
-ended_by span x left faults = answer_of (faults ++ unexpected_faults (names_in left) span) x
+abbrev ended_by : {A : Type 0} → Span → A → Entries → List Fault → ShapeReading A
+ended_by span x left faults = shaped_of (faults ++ unexpected_faults (names_in left) span) x
 
 -- the end of a table whose rows were read one after another
-pub finished : {A : Type 0} (passed : List (List ℕ)) (rows : List Row) (entries : Entries) (span : Span) (after : HelperState) (x : A)
+pub finished : {A : Type 0} (passed : List (List ℕ)) (rows : List KeyRow) (entries : Entries) (span : Span) (after : HelperState) (x : A)
     → are_apart (passed ++ names_of_rows rows) ≡ true → after ≡ after_rows rows (begun passed entries span)
-    → answer_of (faults_at_end false after) x ≡ answer_of (table_faults passed rows entries span) x
+    → shaped_of (faults_at_end false after) x ≡ shaped_of (table_faults passed rows entries span) x
 finished passed rows entries span after x apart is =
-    ap (λ (s : HelperState). answer_of (faults_at_end false s) x) (is ∙ gathered rows (begun passed entries span) (apart_back passed (names_of_rows rows) apart))
+    ap (λ (s : HelperState). shaped_of (faults_at_end false s) x) (is ∙ gathered rows (begun passed entries span) (apart_back passed (names_of_rows rows) apart))
     ∙ ap (λ left. ended_by span x left (rows_faults rows (entries_besides passed entries))) (besides_both passed (names_of_rows rows) entries)
     ∙ ap (ended_by span x (entries_besides (passed ++ names_of_rows rows) entries)) (rows_behind passed rows entries apart)
 
 -- ---- a key that has to be there, before any other
 
-needed_is : {A : Type 0} (name : List ℕ) (read : Option (Shaped A)) (state : HelperState) → state.faults ≡ []
+needed_is : {A : Type 0} (name : List ℕ) (read : Option (ShapeReading A)) (state : HelperState) → state.faults ≡ []
     → needed_value name state read ≡ needed_at name state.span read
 needed_is name None state none = ap (λ faults. Err (faults ++ fault_alone (missing name) state.span)) none
 needed_is name (Some (Ok x)) state none = refl
 needed_is name (Some (Err faults)) state none = ap (λ before. Err (before ++ faults)) none
 
-pub required_is : {A : Type 0} (name : List ℕ) (reads : Toml → Shaped A) (state : HelperState) → state.faults ≡ []
+pub required_is : {A : Type 0} (name : List ℕ) (reads : Toml → ShapeReading A) (state : HelperState) → state.faults ≡ []
     → required_of name reads state ≡ needed name reads state.left state.span
 required_is name reads state none = needed_is name (option_map reads (value_at name state.left)) state none
 
@@ -151,13 +151,13 @@ required_is name reads state none = needed_is name (option_map reads (value_at n
 abbrev unread : Span → Entries → HelperState
 unread span entries = record { left = entries; span = span; faults = [] }
 
-opened_by : {A : Type 0} (reads : Entries → Span → Shaped A) (value : Toml) (there : Option Entries)
+opened_by : {A : Type 0} (reads : Entries → Span → ShapeReading A) (value : Toml) (there : Option Entries)
     → shaped_then (λ (entries : Entries). reads entries value.span) (or_wanted (codes "a table") value there)
     ≡ shaped_then (λ (state : HelperState). reads state.left state.span) (shaped_map (unread value.span) (or_wanted (codes "a table") value there))
 opened_by reads value None = refl
 opened_by reads value (Some entries) = refl
 
-abbrev faults_so_far : Shaped HelperState → List Fault
+abbrev faults_so_far : ShapeReading HelperState → List Fault
 faults_so_far (Ok state) = state.faults
 faults_so_far (Err faults) = []
 
@@ -172,7 +172,7 @@ left_by_kind value None = refl
 left_by_kind value (Some entries) = refl
 
 -- the shape of a table, read from the helper
-pub in_table-opened : {A : Type 0} (reads : Entries → Span → Shaped A) (value : Toml)
+pub in_table-opened : {A : Type 0} (reads : Entries → Span → ShapeReading A) (value : Toml)
     → in_table reads value ≡ shaped_then (λ state. reads state.left state.span) (opened_table value)
 in_table-opened reads value = opened_by reads value (as_table value.content)
 
@@ -183,8 +183,8 @@ pub opened-left : (value : Toml) → left_by (opened_table value) value ≡ left
 opened-left value = left_by_kind value (as_table value.content)
 
 -- what refuses a table refuses what is read of it
-pub opened-refused : {A : Type 0} (reads : Entries → Span → Shaped A) (value : Toml) (error : DeserError) → Tells (opened_table value) error
-    → Tells (in_table reads value) error
+pub opened-refused : {A : Type 0} (reads : Entries → Span → ShapeReading A) (value : Toml) (error : DeserError) → TellsFaults (opened_table value) error
+    → TellsFaults (in_table reads value) error
 opened-refused reads value (Faults told) h =
     (in_table-opened reads value ∙ ap (shaped_then (λ (state : HelperState). reads state.left state.span)) h.0, h.1)
 opened-refused reads value Memory h = h

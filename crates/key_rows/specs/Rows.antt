@@ -3,7 +3,7 @@ use Rattle.std.specs.Prelude.{ℕ, Bool, true, not, ◌&&◌, List, [], ◌∷�
 use Rattle.std.specs.Str.{bytes_eq}
 use Rattle.deny_text.specs.declared.span.Span.{Span}
 use Rattle.toml_subset.specs.Data.{Entries, Toml}
-use Rattle.toml_shapes.specs.Shaped.{Shaped, shaped_then, answer_of}
+use Rattle.toml_shapes.specs.Shaped.{ShapeReading, shaped_then, shaped_of}
 use Rattle.toml_shapes.specs.Shapes.{Fault, fault_alone, missing}
 use Rattle.toml_value.specs.Lookup.{value_at}
 use Rattle.toml_value.specs.Removal.{entry_at, entries_without, names_in}
@@ -12,24 +12,24 @@ use Rattle.policy_toml.specs.HelperState.{given_value, faults_of, unexpected_fau
 
 -- ---- rows
 
-pub record Row : Type 0 where
+pub record KeyRow : Type 0 where
   pub name : List ℕ
   -- what is wrong with the value at the key, where it is there
   pub faults : Option Toml → List Fault
 
 -- a key whose value is read so
-abbrev pub key : {A : Type 0} → List ℕ → (Toml → Shaped A) → Row
+abbrev pub key : {A : Type 0} → List ℕ → (Toml → ShapeReading A) → KeyRow
 key name reads = record { name = name; faults = λ value. faults_of (option_map reads value) }
 
 -- a key that is passed over, whatever its value is
-abbrev pub passed_key : List ℕ → Row
+abbrev pub passed_key : List ℕ → KeyRow
 passed_key name = record { name = name; faults = λ value. [] }
 
-abbrev pub names_of_rows : List Row → List (List ℕ)
+abbrev pub names_of_rows : List KeyRow → List (List ℕ)
 names_of_rows rows = map (λ row. row.name) rows
 
 -- what the key of a table stands for, where it is there and its value can be read
-abbrev pub given : {A : Type 0} → List ℕ → (Toml → Shaped A) → Entries → Option A
+abbrev pub given : {A : Type 0} → List ℕ → (Toml → ShapeReading A) → Entries → Option A
 given name reads entries = given_value (option_map reads (value_at name entries))
 
 -- the place of a key, where it is there
@@ -39,7 +39,7 @@ key_span name entries = option_map (λ found. found.0.span) (entry_at name entri
 -- ---- the faults of a table
 
 -- what is wrong with the values, row by row
-abbrev pub rows_faults : List Row → Entries → List Fault
+abbrev pub rows_faults : List KeyRow → Entries → List Fault
 rows_faults [] entries = []
 rows_faults (row ∷ rows) entries = row.faults (value_at row.name entries) ++ rows_faults rows entries
 
@@ -50,18 +50,18 @@ entries_besides (name ∷ names) entries = entries_besides names (entries_withou
 
 -- Then the keys that no row names, as one fault of the table. The first names are those of keys that have to be there,
 -- and were read.
-abbrev pub table_faults : List (List ℕ) → List Row → Entries → Span → List Fault
+abbrev pub table_faults : List (List ℕ) → List KeyRow → Entries → Span → List Fault
 table_faults needed rows entries span =
     rows_faults rows entries ++ unexpected_faults (names_in (entries_besides (needed ++ names_of_rows rows) entries)) span
 
 -- ---- the shape of a table
 
 -- what the keys stand for, where nothing is wrong with the table
-abbrev pub shaped_by : {A : Type 0} → List (List ℕ) → List Row → (Entries → A) → Entries → Span → Shaped A
-shaped_by needed rows stands_for entries span = answer_of (table_faults needed rows entries span) (stands_for entries)
+abbrev pub shaped_by : {A : Type 0} → List (List ℕ) → List KeyRow → (Entries → A) → Entries → Span → ShapeReading A
+shaped_by needed rows stands_for entries span = shaped_of (table_faults needed rows entries span) (stands_for entries)
 
 -- a value that has to be a table
-abbrev pub in_table : {A : Type 0} → (Entries → Span → Shaped A) → Toml → Shaped A
+abbrev pub in_table : {A : Type 0} → (Entries → Span → ShapeReading A) → Toml → ShapeReading A
 in_table reads value =
     shaped_then (λ entries. reads entries value.span) (or_wanted (codes "a table") value (as_table value.content))
 
@@ -70,11 +70,11 @@ abbrev pub left_of_table : Toml → Toml
 left_of_table value = left_where (is_some (as_table value.content)) value
 
 -- A key that has to be there. Where it is missing or its value is refused, the table ends.
-abbrev pub needed_at : {A : Type 0} → List ℕ → Span → Option (Shaped A) → Shaped A
+abbrev pub needed_at : {A : Type 0} → List ℕ → Span → Option (ShapeReading A) → ShapeReading A
 needed_at name span None = Err (fault_alone (missing name) span)
 needed_at name span (Some read) = read
 
-abbrev pub needed : {A : Type 0} → List ℕ → (Toml → Shaped A) → Entries → Span → Shaped A
+abbrev pub needed : {A : Type 0} → List ℕ → (Toml → ShapeReading A) → Entries → Span → ShapeReading A
 needed name reads entries span = needed_at name span (option_map reads (value_at name entries))
 
 -- ---- names that differ

@@ -4,7 +4,7 @@
 ghost use Rattle.std.specs.Prelude.{◌≡◌, [], ◌++◌, false, option_map, option_to_list, unwrap_or, IfOk, OnOk};
 ghost use Rattle.deny_text.specs.declared.span.Span.{Span};
 ghost use Rattle.toml_subset.specs.Data as «data»;
-ghost use Rattle.toml_shapes.specs.Shaped.{Shaped, Gives, answer_of};
+ghost use Rattle.toml_shapes.specs.Shaped.{ShapeReading, AnswersShape, shaped_of};
 ghost use Rattle.toml_value.specs.Lookup.{value_at};
 ghost use Rattle.toml_value.specs.Removal.{entries_without};
 ghost use Rattle.toml_value.specs.Views.{value_view, entries_view};
@@ -19,24 +19,24 @@ use std::alloc::{AllocError, Global};
 pub type Spans = ListOf<Span>;
 
 /// A type that is read from the keys of a table, in a context.
-pub trait Keyed<X> {
+pub trait FromKeys<X> {
     /// What the entries of a table at a place stand for, as they were written.
-    ghost shape: { X → data.Entries → Span → Shaped Self };
+    ghost shape: { X → data.Entries → Span → ShapeReading Self };
 
     /// Reads the keys of a table of which none was read yet.
     fn read_keys(alloc: Global, table: TableHelper<'_>, context: &X) -> Result<Self, DeserError>
         requires { (state_of table).faults ≡ [] }
         ensures { let state = state_of table.entry in
-            Gives (shape context.now state.left state.span) result };
+            AnswersShape (shape context.now state.left state.span) result };
 }
 
 /// Reads a type from a value that has to be a table, and takes that out.
-pub fn read_table<T: Keyed<X>, X>(
+pub fn read_table<T: FromKeys<X>, X>(
     alloc: Global,
     value: &mut Value<'_>,
     context: &X,
 ) -> Result<T, DeserError>
-    ensures read { Gives (in_table (T.shape context.now) (value_view value.old)) result }
+    ensures read { AnswersShape (in_table (T.shape context.now) (value_view value.old)) result }
     ensures left { value_view value.new ≡ left_of_table (value_view value.old) }
 {
     match TableHelper::new(alloc, value) {
@@ -85,7 +85,7 @@ pub fn deprecated<T: Deserialize<X>, X>(
 
 /// Ends a table whose keys were all read, with what it stands for. A key that is left is a fault.
 pub fn finish<T: Drop>(alloc: Global, table: TableHelper<'_>, value: T) -> Result<T, DeserError>
-    ensures { Gives (answer_of (faults_at_end false (state_of table.entry)) value) result }
+    ensures { AnswersShape (shaped_of (faults_at_end false (state_of table.entry)) value) result }
 {
     match table.finalize(alloc, None) {
         Ok(()) => Ok(value),

@@ -1,12 +1,12 @@
 //! Texts as expressions, and the certificates of their verdicts.
 use crate::terms::{pair_of, put_fault, put_span};
-use case_files::Shown;
-use certificate_core::{Hit, Hits, Places, Verdict, certificate};
+use case_files::AnswerText;
+use certificate_core::{Hit, Hits, TermPlaces, Verdict, certificate};
 use spdx_core::{ExprError, ExprNode, Expression, ParseMode, Table};
 use std::alloc::{AllocError, Global};
 
 /// What is made of an expression; behind a bar stands what was found of its terms.
-pub fn put(alloc: Global, out: &mut Shown, group: &str, text: &str) {
+pub fn put(alloc: Global, out: &mut AnswerText, group: &str, text: &str) {
     let (text, hits) = pair_of(text);
     match read(alloc, group, text) {
         Ok(read) => {
@@ -35,7 +35,7 @@ fn read(alloc: Global, group: &str, text: &str) -> Result<Expression, ExprError>
 
 fn put_read(
     alloc: Global,
-    out: &mut Shown,
+    out: &mut AnswerText,
     group: &str,
     read: &Expression,
     hits: &str,
@@ -56,7 +56,7 @@ fn put_read(
 }
 
 /// How many terms and nodes there are, and where the last term stands.
-fn put_size(out: &mut Shown, read: &Expression) {
+fn put_size(out: &mut AnswerText, read: &Expression) {
     let terms = read.requirements().len();
     let nodes = read.nodes().len();
     write!(out, "{terms} {nodes}");
@@ -66,7 +66,7 @@ fn put_size(out: &mut Shown, read: &Expression) {
 }
 
 /// The terms with their places, and the nodes.
-fn put_expression(out: &mut Shown, read: &Expression) {
+fn put_expression(out: &mut AnswerText, read: &Expression) {
     for term in read.requirements() {
         let req = &term.req;
         write!(out, "{req}");
@@ -101,14 +101,14 @@ fn hits_of(alloc: Global, words: &str) -> Result<Vec<Option<Hit>>, AllocError> {
     Ok(hits)
 }
 
-fn put_places(out: &mut Shown, places: &Places) {
+fn put_places(out: &mut AnswerText, places: &TermPlaces) {
     for place in places.items() {
         write!(out, " {place}");
     }
     out.put(";");
 }
 
-fn put_hits(out: &mut Shown, hits: &Hits) {
+fn put_hits(out: &mut AnswerText, hits: &Hits) {
     for hit in hits.items() {
         match hit {
             Hit::Allowed(entry) => write!(out, " allowed {entry}"),
@@ -119,7 +119,7 @@ fn put_hits(out: &mut Shown, hits: &Hits) {
 }
 
 /// A verdict with its certificate.
-fn put_verdict(out: &mut Shown, verdict: &Verdict) {
+fn put_verdict(out: &mut AnswerText, verdict: &Verdict) {
     match verdict {
         Verdict::Skipped => out.put("skipped"),
         Verdict::Unlicensed => out.put("unlicensed"),

@@ -6,15 +6,15 @@ mod expressions;
 mod terms;
 mod texts;
 
-use case_files::{Rows, Shown, compare_rows, exit_code};
+use case_files::{Rows, AnswerText, compare_rows, exit_code};
 use catalog_core::{Catalog, Table};
 use std::alloc::Global;
 use std::process::ExitCode;
 use std::rt::Runtime;
-use texts::Files;
+use texts::RowTexts;
 
-impl Rows for Files {
-    fn answer(&self, alloc: Global, group: &str, text: &str, out: &mut Shown) -> bool {
+impl Rows for RowTexts {
+    fn answer(&self, alloc: Global, group: &str, text: &str, out: &mut AnswerText) -> bool {
         match group {
             "license name" => put_license(out, text),
             "exception name" => out.put(if Table.exception(text) { "yes" } else { "no" }),
@@ -34,7 +34,7 @@ impl Rows for Files {
 }
 
 /// What the catalogue knows of a licence name.
-fn put_license(out: &mut Shown, name: &str) {
+fn put_license(out: &mut AnswerText, name: &str) {
     let Some(entry) = Table.license(name) else {
         return out.put("none");
     };
@@ -47,7 +47,7 @@ fn put_license(out: &mut Shown, name: &str) {
 }
 
 /// What a text begins with as an imprecise text: the length and the licence.
-fn put_beginning(out: &mut Shown, text: &str) {
+fn put_beginning(out: &mut AnswerText, text: &str) {
     match Table.imprecise(text) {
         Some(found) => {
             let len = found.len;

@@ -1,14 +1,14 @@
 //! Texts of licensees and terms, and pairs of them.
 ghost use Rattle.std.specs.Prelude.{◌≡◌, ◌<◌};
 
-use case_files::Shown;
+use case_files::AnswerText;
 use deny_text::{Span, Steps, Text};
 use spdx_core::Table;
 use std::alloc::{AllocError, Global};
 use std::cmp::Ordering;
 use std::marker::Brand;
 use std::sync::ledger::{Blank, Ledger};
-use term_core::{ExprError, Item, LicenseReq, Licensee, ParseMode, What, items};
+use term_core::{ExprError, Item, LicenseReq, Licensee, ParseMode, ItemKind, items};
 
 const NAMED: ParseMode = ParseMode {
     allow_deprecated: true,
@@ -18,7 +18,7 @@ const NAMED: ParseMode = ParseMode {
 };
 
 /// Puts what a text or a pair is in a group, and returns whether there is such a group.
-pub fn put(alloc: Global, out: &mut Shown, group: &str, text: &str) -> bool {
+pub fn put(alloc: Global, out: &mut AnswerText, group: &str, text: &str) -> bool {
     let (one, other) = pair_of(text);
     match group {
         "licensee" => put_licensee(alloc, out, text, ParseMode::LAX),
@@ -44,13 +44,13 @@ pub fn pair_of(text: &str) -> (&str, &str) {
     text.split_once(" | ").unwrap_or((text, ""))
 }
 
-pub fn put_span(out: &mut Shown, span: Span) {
+pub fn put_span(out: &mut AnswerText, span: Span) {
     let Span { start, end } = span;
     write!(out, " {start} {end}");
 }
 
 /// The reason and the place of a fault.
-pub fn put_fault(out: &mut Shown, error: &ExprError) {
+pub fn put_fault(out: &mut AnswerText, error: &ExprError) {
     match error {
         ExprError::Parse(fault) => {
             let reason = fault.reason;
@@ -61,7 +61,7 @@ pub fn put_fault(out: &mut Shown, error: &ExprError) {
     }
 }
 
-fn put_licensee(alloc: Global, out: &mut Shown, text: &str, mode: ParseMode) {
+fn put_licensee(alloc: Global, out: &mut AnswerText, text: &str, mode: ParseMode) {
     match Licensee::parse_mode(alloc, text, mode, &Table) {
         Ok(licensee) => write!(out, "{licensee}"),
         Err(error) => put_fault(out, &error),
@@ -69,7 +69,7 @@ fn put_licensee(alloc: Global, out: &mut Shown, text: &str, mode: ParseMode) {
 }
 
 /// What a group asks of the first as a licensee and the second.
-fn put_pair(alloc: Global, out: &mut Shown, group: &str, one: &str, other: &str) {
+fn put_pair(alloc: Global, out: &mut AnswerText, group: &str, one: &str, other: &str) {
     match Licensee::parse_mode(alloc, one, NAMED, &Table) {
         Ok(one) => match group {
             "order" => put_order(alloc, out, &one, other),
@@ -80,7 +80,7 @@ fn put_pair(alloc: Global, out: &mut Shown, group: &str, one: &str, other: &str)
 }
 
 /// How a licensee compares to another.
-fn put_order(alloc: Global, out: &mut Shown, one: &Licensee, other: &str) {
+fn put_order(alloc: Global, out: &mut AnswerText, one: &Licensee, other: &str) {
     match Licensee::parse_mode(alloc, other, NAMED, &Table) {
         Ok(other) => out.put(match one.cmp(&other) {
             Ordering::Less => "less",
@@ -92,7 +92,7 @@ fn put_order(alloc: Global, out: &mut Shown, one: &Licensee, other: &str) {
 }
 
 /// The term that a text is, or whether a licensee satisfies it.
-fn put_term(alloc: Global, out: &mut Shown, licensee: Option<&Licensee>, text: &str) {
+fn put_term(alloc: Global, out: &mut AnswerText, licensee: Option<&Licensee>, text: &str) {
     match term_of(alloc, text) {
         Ok(Some(term)) => match licensee {
             Some(licensee) => out.put(if satisfied(licensee, &term) {
@@ -113,7 +113,7 @@ fn term_of(alloc: Global, text: &str) -> Result<Option<LicenseReq>, AllocError> 
     term_among(alloc, items.items())
 }
 
-fn what_at(items: &[Item], place: usize) -> Option<&What> {
+fn what_at(items: &[Item], place: usize) -> Option<&ItemKind> {
     match items.get(place) {
         Some(item) => Some(&item.what),
         None => None,
@@ -121,11 +121,11 @@ fn what_at(items: &[Item], place: usize) -> Option<&What> {
 }
 
 fn term_among(alloc: Global, items: &[Item]) -> Result<Option<LicenseReq>, AllocError> {
-    let Some(What::Term(named)) = what_at(items, 0) else {
+    let Some(ItemKind::Term(named)) = what_at(items, 0) else {
         return Ok(None);
     };
     let exception = match what_at(items, 2) {
-        Some(What::Exception(name)) => Some(Text::copy(alloc, name.as_str())?),
+        Some(ItemKind::Exception(name)) => Some(Text::copy(alloc, name.as_str())?),
         _ => None,
     };
     let item = named.item.copy(alloc)?;

@@ -1,5 +1,5 @@
 //! Texts of licences, which rows name by their files, and what stores of texts find.
-use case_files::Shown;
+use case_files::AnswerText;
 use catalog_core::{Identifier, LicenseStore, StoreText, StoreTexts};
 use deny_text::Text;
 use std::alloc::{AllocError, Global};
@@ -8,11 +8,11 @@ use std::{fs, io};
 
 /// The texts of the files that rows name, and of a store, each behind its name.
 #[derive(Drop)]
-pub struct Files {
+pub struct RowTexts {
     items: Vec<(&'static str, String)>,
 }
 
-impl Files {
+impl RowTexts {
     /// The text of a file, or none.
     fn text(&self, name: &str) -> &str {
         for (known, text) in self.items.iter() {
@@ -32,16 +32,16 @@ const NAMES: [&str; 5] = [
     "stored.txt",
 ];
 
-fn push_file(rt: &HostRuntime, files: &mut Files, name: &'static str) -> io::Result<()> {
+fn push_file(rt: &HostRuntime, files: &mut RowTexts, name: &'static str) -> io::Result<()> {
     let text = fs::read_to_string(rt, name)?;
     files.items.push((name, text))?;
     Ok(())
 }
 
 /// Reads the files that rows name.
-pub fn read(rt: &HostRuntime) -> io::Result<Files> {
+pub fn read(rt: &HostRuntime) -> io::Result<RowTexts> {
     let items = Vec::new(rt.alloc());
-    let mut files = Files { items };
+    let mut files = RowTexts { items };
     for name in NAMES {
         push_file(rt, &mut files, name)?;
     }
@@ -51,8 +51,8 @@ pub fn read(rt: &HostRuntime) -> io::Result<Files> {
 /// The licence that a text is by a group's texts, and how sure that is.
 pub fn put_found(
     alloc: Global,
-    out: &mut Shown,
-    files: &Files,
+    out: &mut AnswerText,
+    files: &RowTexts,
     group: &str,
     text: &str,
 ) -> Result<(), AllocError> {
@@ -69,14 +69,14 @@ pub fn put_found(
 }
 
 /// A text with that of a file in place of the file's name, which stands in braces.
-fn filled(alloc: Global, files: &Files, text: &str) -> Result<String, AllocError> {
+fn filled(alloc: Global, files: &RowTexts, text: &str) -> Result<String, AllocError> {
     let (before, rest) = text.split_once('{').unwrap_or((text, ""));
     let (name, behind) = rest.split_once('}').unwrap_or((rest, ""));
     let there = files.text(name);
     format!(in alloc; "{before}{there}{behind}")
 }
 
-fn store_of(alloc: Global, files: &Files, group: &str) -> Result<LicenseStore, AllocError> {
+fn store_of(alloc: Global, files: &RowTexts, group: &str) -> Result<LicenseStore, AllocError> {
     match group {
         "built-in texts" => LicenseStore::from_cache(alloc),
         "no texts" => Ok(LicenseStore::default(alloc)),

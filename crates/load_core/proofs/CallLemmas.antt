@@ -9,22 +9,22 @@ use Rattle.tree_core.specs.Trace.{faults_after}
 use Rattle.tree_core.proofs.MadeLemmas.{made_these}
 use Rattle.diag_core.specs.File.{File, Grows}
 use Rattle.diag_core.specs.declared.diagnostic.Diagnostic.{Diagnostic}
-use Rattle.heard_core.specs.Heard.{IsRead, read_of as call_of}
+use Rattle.heard_core.specs.Heard.{IsTextRead, read_of as call_of}
 use Rattle.heard_core.specs.declared.fault.ReadFault.{ReadFault}
 use Rattle.heard_core.specs.declared.fault.ReadFault.TheVariants.{Absent}
 use Rattle.print_core.specs.declared.context.LogContext.{LogContext}
 use Rattle.policy_config.specs.declared.root.RootConfig.{RootConfig}
-use Rattle.policy_text.specs.Config.{IsTold, config_told}
-use Rattle.policy_text.specs.Text.{text_told}
+use Rattle.policy_text.specs.Config.{AnswersConfig, config_of_text}
+use Rattle.policy_text.specs.Text.{config_text_of}
 use Rattle.policy_text.specs.declared.error.ConfigError.{ConfigError}
 use Rattle.policy_text.specs.declared.error.ConfigError.TheVariants as config
 use Rattle.policy_text.specs.declared.text.ConfigText.{ConfigText}
 use Rattle.policy_core.specs.Heard.{ExceptionsHeard, IsReadOf, MayReadOf, no_path}
 use Rattle.policy_core.specs.Load.{LoadsPolicyBy}
-use Rattle.policy_core.specs.Policy.{absence_told}
+use Rattle.policy_core.specs.Policy.{absence_findings}
 use Rattle.policy_core.specs.declared.load.LoadedPolicy.{LoadedPolicy}
 use Rattle.policy_core.proofs.ExceptionLemmas.{unread_of}
-use Rattle.load_core.specs.Answer.{Comes, Ends, IsCutLoad, IsUnprinted, LoadsBy, LoadsRootBy, LoadsTextBy, MayReadFurther, Prints, ReadsBehind, ReadsFurther, refused_by}
+use Rattle.load_core.specs.Answer.{Comes, EndsLoad, IsCutLoad, IsUnprinted, LoadsBy, LoadsRootBy, LoadsTextBy, MayReadFurther, Prints, ReadsBehind, ReadsFurther, refused_by}
 use Rattle.load_core.specs.Heard.{IsPolicyRead, MayReadPolicy, exceptions_heard}
 use Rattle.load_core.specs.Load.{error_of_config, load_by_config, load_by_text, with_policy}
 use Rattle.load_core.specs.Print.{printed_findings}
@@ -37,7 +37,7 @@ use Rattle.load_core.proofs.StageLemmas.{refused_text_comes, root_comes, root_te
 -- ---- the policy's file
 
 pub policy_read : {E : Type 0} (begun after : ℕ) (calls more : List Call) (path : Option (List ℕ)) (own : List ℕ) (result : Result (Result (List ℕ) ReadFault) E) → path ≡ Some own
-    → IfOk result (IsRead begun after calls more own) → IfOk result (IsPolicyRead begun after calls more path)
+    → IfOk result (IsTextRead begun after calls more own) → IfOk result (IsPolicyRead begun after calls more path)
 policy_read begun after calls more path own (Ok told) is read = subst (λ one. IsPolicyRead begun after calls more one told) (sym is) read
 policy_read begun after calls more path own (Err error) is read = tt
 
@@ -60,7 +60,7 @@ grows_behind files middle new file added grows = (
 pub reads_root : (lists : CatalogLists) (context : LogContext) (file : ℕ) (absence : List Diagnostic) (root : RootConfig) (path : Option (List ℕ))
     (mid after : ℕ) (calls more : List Call) (old new : List File) (found : List Diagnostic) (before behind : Option (List ℕ)) (policy : LoadedPolicy) (result : Result LoadedPolicy LoadError)
     → LoadsPolicyBy lists mid after calls more file absence root path (record { files = old; found = [] }) (record { files = new; found = found }) policy
-    → Ends policy found result → Prints before behind (printed_findings context new found) result
+    → EndsLoad policy found result → Prints before behind (printed_findings context new found) result
     → LoadsRootBy lists context file absence root path mid after calls more old new before behind result
 reads_root lists context file absence root path mid after calls more old new found before behind policy result loads ends prints = record {
   exceptions = loads.hearing;
@@ -77,8 +77,8 @@ unread_further calls files path (Err refused) = refl
 
 module _ (lists : CatalogLists) (context : LogContext) (paths : PolicyPaths) (text : ConfigText) (mid after : ℕ) (calls : List Call)
     (old new : List File) (before behind : Option (List ℕ)) where
-  root_reads : (more : List Call) (root : RootConfig) (result : Result LoadedPolicy LoadError) → config_told lists text.text ≡ Ok root
-      → LoadsRootBy lists context (length old) (absence_told text.is_there paths.policy) root paths.exceptions mid after calls more (with_policy old paths text) new before behind result
+  root_reads : (more : List Call) (root : RootConfig) (result : Result LoadedPolicy LoadError) → config_of_text lists text.text ≡ Ok root
+      → LoadsRootBy lists context (length old) (absence_findings text.is_there paths.policy) root paths.exceptions mid after calls more (with_policy old paths text) new before behind result
       → LoadsTextBy lists context paths text mid after calls more old new before behind result
   root_reads more root result told loads = record {
     exceptions = loads.exceptions;
@@ -87,16 +87,16 @@ module _ (lists : CatalogLists) (context : LogContext) (paths : PolicyPaths) (te
   }
 
   -- a policy that has its shape
-  pub reads_by_root : (more : List Call) (root : RootConfig) (result : Result LoadedPolicy LoadError) → config_told lists text.text ≡ Ok root
+  pub reads_by_root : (more : List Call) (root : RootConfig) (result : Result LoadedPolicy LoadError) → config_of_text lists text.text ≡ Ok root
       → (IsUnprinted before behind result × MayReadOf calls more (with_policy old paths text) paths.exceptions)
-      ⊎ LoadsRootBy lists context (length old) (absence_told text.is_there paths.policy) root paths.exceptions mid after calls more (with_policy old paths text) new before behind result
-      → (IsUnprinted before behind result × MayReadFurther calls more (with_policy old paths text) paths.exceptions (config_told lists text.text))
+      ⊎ LoadsRootBy lists context (length old) (absence_findings text.is_there paths.policy) root paths.exceptions mid after calls more (with_policy old paths text) new before behind result
+      → (IsUnprinted before behind result × MayReadFurther calls more (with_policy old paths text) paths.exceptions (config_of_text lists text.text))
       ⊎ LoadsTextBy lists context paths text mid after calls more old new before behind result
   reads_by_root more root result told (inl (unprinted, may)) =
       inl (unprinted, subst (MayReadFurther calls more (with_policy old paths text) paths.exceptions) (sym told) may)
   reads_by_root more root result told (inr loads) = inr (root_reads more root result told loads)
 
-  refusal_reads : (refused : ConfigError) (error : LoadError) → config_told lists text.text ≡ Err refused
+  refusal_reads : (refused : ConfigError) (error : LoadError) → config_of_text lists text.text ≡ Err refused
       → Comes (refused_by (length old) refused) context (with_policy old paths text) new before behind (Err error)
       → LoadsTextBy lists context paths text mid after calls calls old new before behind (Err error)
   refusal_reads refused error told comes = record {
@@ -106,13 +106,13 @@ module _ (lists : CatalogLists) (context : LogContext) (paths : PolicyPaths) (te
   }
 
   -- the refusal of a policy's text
-  pub reads_by_refusal : (refused : ConfigError) (error : LoadError) → IsTold (config_told lists text.text) (Err refused)
+  pub reads_by_refusal : (refused : ConfigError) (error : LoadError) → AnswersConfig (config_of_text lists text.text) (Err refused)
       → Comes (refused_by (length old) refused) context (with_policy old paths text) new before behind (Err error)
       → (refused ≡ config.Memory → IsUnprinted before behind (Err error))
-      → (IsUnprinted before behind (Err error) × MayReadFurther calls calls (with_policy old paths text) paths.exceptions (config_told lists text.text))
+      → (IsUnprinted before behind (Err error) × MayReadFurther calls calls (with_policy old paths text) paths.exceptions (config_of_text lists text.text))
       ⊎ LoadsTextBy lists context paths text mid after calls calls old new before behind (Err error)
   reads_by_refusal config.Memory error told comes quiet =
-      inl (quiet refl, unread_further calls (with_policy old paths text) paths.exceptions (config_told lists text.text))
+      inl (quiet refl, unread_further calls (with_policy old paths text) paths.exceptions (config_of_text lists text.text))
   reads_by_refusal (config.ConfigRead fault) error told comes quiet = inr (refusal_reads (config.ConfigRead fault) error told comes)
   reads_by_refusal (config.ConfigSyntax fault) error told comes quiet = inr (refusal_reads (config.ConfigSyntax fault) error told comes)
   reads_by_refusal (config.ConfigShape faults) error told comes quiet = inr (refusal_reads (config.ConfigShape faults) error told comes)
@@ -129,7 +129,7 @@ counts_of {told} {tells} {before} {after} {old} {new} some read is = (made_these
 pub reads_refused : (lists : CatalogLists) (context : LogContext) (paths : PolicyPaths) (begun first after : ℕ) (calls more : List Call) (old : List File) (held : Option (List ℕ))
     (told : Result (List ℕ) ReadFault) (refused : ConfigError) (error : LoadError)
     → IsPolicyRead begun after calls more paths.policy told → ((read : List Call) → more ≡ calls ++ read → after ≡ faults_after first read)
-    → text_told told ≡ Err refused → error ≡ error_of_config refused
+    → config_text_of told ≡ Err refused → error ≡ error_of_config refused
     → LoadsBy lists context paths begun first after calls more old old held held (Err error)
 reads_refused lists context paths begun first after calls more old held told refused error policy counts is same = record {
   heard = record { policy = told; exceptions = Err Absent };
@@ -162,7 +162,7 @@ module _ (lists : CatalogLists) (context : LogContext) (paths : PolicyPaths) (te
   load_so exceptions (Err refused) reads = refl
 
   module _ (begun first : ℕ) (calls : List Call) (told : Result (List ℕ) ReadFault) (new : List File) (held behind : Option (List ℕ)) (result : Result LoadedPolicy LoadError)
-      (is : text_told told ≡ Ok text) (policy : IsPolicyRead begun mid calls between paths.policy told)
+      (is : config_text_of told ≡ Ok text) (policy : IsPolicyRead begun mid calls between paths.policy told)
       (counts : (read : List Call) → between ≡ calls ++ read → mid ≡ faults_after first read) where
     text_reads : LoadsTextBy lists context paths text mid after between more old new held behind result
         → LoadsBy lists context paths begun first after calls more old new held behind result
@@ -174,14 +174,14 @@ module _ (lists : CatalogLists) (context : LogContext) (paths : PolicyPaths) (te
       counts = counts;
       reads =
           subst (ReadsBehind lists old paths mid after between more (text_of loads.exceptions)) (sym is)
-          (further_so loads.exceptions (config_told lists text.text) loads.reads);
+          (further_so loads.exceptions (config_of_text lists text.text) loads.reads);
       comes =
           subst (λ it. Comes it context old new held behind result)
-          (sym (ap (load_by_text lists old paths (text_of loads.exceptions)) is ∙ load_so loads.exceptions (config_told lists text.text) loads.reads)) loads.comes;
+          (sym (ap (load_by_text lists old paths (text_of loads.exceptions)) is ∙ load_so loads.exceptions (config_of_text lists text.text) loads.reads)) loads.comes;
     }
 
     -- behind the policy's text, which was heard
-    pub reads_either : (IsUnprinted held behind result × MayReadFurther between more known paths.exceptions (config_told lists text.text))
+    pub reads_either : (IsUnprinted held behind result × MayReadFurther between more known paths.exceptions (config_of_text lists text.text))
         ⊎ LoadsTextBy lists context paths text mid after between more old new held behind result
         → IsCutLoad lists begun calls more old paths held behind result ⊎ LoadsBy lists context paths begun first after calls more old new held behind result
     reads_either (inl (unprinted, may)) = inl (record {

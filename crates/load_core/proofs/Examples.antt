@@ -2,12 +2,12 @@
 use Rattle.std.proofs.Common.{◌≡◌, ℕ, List, [], ◌∷◌, ◌++◌, codes, Some, None, Result, Ok, Err, refl}
 use Rattle.std.specs.Path.{path_components, path_names}
 use Rattle.catalog_core.specs.Catalog.{CatalogLists}
-use Rattle.tree_core.specs.Call.{Answered, Call, absent, bytes, failed}
+use Rattle.tree_core.specs.Call.{CallAnswer, Call, absent, bytes, failed}
 use Rattle.tree_core.specs.Content.{file}
 use Rattle.heard_core.specs.Heard.{heard_of, read_of}
 use Rattle.heard_core.specs.declared.fault.ReadFault.{ReadFault}
 use Rattle.heard_core.specs.declared.fault.ReadFault.TheVariants.{Absent, Failed}
-use Rattle.policy_text.specs.Text.{text_told}
+use Rattle.policy_text.specs.Text.{config_text_of}
 use Rattle.load_core.specs.Answer.{ReadsBehind}
 use Rattle.load_core.specs.declared.loading.PolicyPaths.{PolicyPaths}
 
@@ -19,7 +19,7 @@ both = record { policy = Some (codes "/p"); exceptions = Some (codes "/e") }
 
 -- what is read behind this of the policy's file, where this is heard of the exceptions file
 abbrev Behind : PolicyPaths → Result (List ℕ) ReadFault → Result (List ℕ) ReadFault → List Call → List Call → Type 0
-Behind paths policy exceptions calls more = ReadsBehind lists [] paths 0 1 calls more exceptions (text_told policy)
+Behind paths policy exceptions calls more = ReadsBehind lists [] paths 0 1 calls more exceptions (config_text_of policy)
 
 module _ (calls more : List Call) (exceptions : Result (List ℕ) ReadFault) where
   -- a policy that was not read, one without a value, and one of another shape: nothing more is read
@@ -33,11 +33,11 @@ module _ (calls more : List Call) (exceptions : Result (List ℕ) ReadFault) whe
   of_another_shape reads = reads
 
   -- an absent policy, and an empty one: the exceptions file is read, and nothing else
-  absent_policy : Behind both (Err Absent) exceptions calls more → (answer : Answered) × (more ≡ calls ++ read_of (codes "/e") answer ∷ [])
+  absent_policy : Behind both (Err Absent) exceptions calls more → (answer : CallAnswer) × (more ≡ calls ++ read_of (codes "/e") answer ∷ [])
   unfolding path_components path_names
   absent_policy reads = (reads.2.answer, reads.2.made)
 
-  empty_policy : Behind both (Ok []) exceptions calls more → (answer : Answered) × (more ≡ calls ++ read_of (codes "/e") answer ∷ [])
+  empty_policy : Behind both (Ok []) exceptions calls more → (answer : CallAnswer) × (more ≡ calls ++ read_of (codes "/e") answer ∷ [])
   unfolding path_components path_names
   empty_policy reads = (reads.2.answer, reads.2.made)
 

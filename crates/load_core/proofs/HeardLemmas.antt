@@ -4,7 +4,7 @@ use Rattle.std.specs.List.{position_from}
 use Rattle.std.proofs.lemmas.Iterator.Adapters.{position_from-zero}
 use Rattle.std.specs.Option.{ForSome}
 use Rattle.tree_core.specs.Call.{Call}
-use Rattle.diag_core.specs.File.{File, id_at, is_at}
+use Rattle.diag_core.specs.File.{File, file_id_at, is_at}
 use Rattle.heard_core.specs.declared.fault.ReadFault.{ReadFault}
 use Rattle.heard_core.specs.declared.fault.ReadFault.TheVariants.{Absent}
 use Rattle.policy_core.specs.Heard.{ExceptionsHeard, no_path, the_policy, heard, IsReadAt, IsReadOf}
@@ -21,14 +21,14 @@ last_from path file (first ∷ old) i none =
       | false ↦ λ rest. last_from path file old (i + 1) rest ∙ ap (λ n. cond (is_at path file) (Some n) None) (omega arith)
     ] none
 
-id_at-last : (old : List File) (file : File) (path : List ℕ) → id_at old path ≡ None → id_at (old ++ file ∷ []) path ≡ cond (is_at path file) (Some (length old)) None
+id_at-last : (old : List File) (file : File) (path : List ℕ) → file_id_at old path ≡ None → file_id_at (old ++ file ∷ []) path ≡ cond (is_at path file) (Some (length old)) None
 id_at-last old file path none =
     position_from-zero (is_at path) (old ++ file ∷ [])
     ∙ last_from path file old 0 (sym (position_from-zero (is_at path) old) ∙ none)
     ∙ ap (λ n. cond (is_at path file) (Some n) None) (omega arith)
 
 -- so what the path finds is the last file
-pub last_alone : (old : List File) (file : File) (path : List ℕ) → id_at old path ≡ None → ForSome (id_at (old ++ file ∷ []) path) (λ id. id ≡ length old)
+pub last_alone : (old : List File) (file : File) (path : List ℕ) → file_id_at old path ≡ None → ForSome (file_id_at (old ++ file ∷ []) path) (λ id. id ≡ length old)
 last_alone old file path none id found =
     elim (is_at path file) as (λ b. cond b (Some (length old)) None ≡ Some id → id ≡ length old) [
       | true ↦ λ e. cc
@@ -47,7 +47,7 @@ pub read_so : (known : List File) (path : Option (List ℕ)) (before after : ℕ
 unfolding text_of
 read_so known None before after calls more exceptions (same, still) = sym same
 read_so known (Some path) before after calls more exceptions reads =
-    elim (id_at known path) as (λ found. IsReadAt before after calls more found path exceptions → exceptions_at found path (text_of exceptions) ≡ exceptions) [
+    elim (file_id_at known path) as (λ found. IsReadAt before after calls more found path exceptions → exceptions_at found path (text_of exceptions) ≡ exceptions) [
       | Some id ↦ λ (same, still). sym same
       | None ↦ λ (found, same, read). ap (λ one. heard path (text_of one)) same ∙ sym same
     ] reads

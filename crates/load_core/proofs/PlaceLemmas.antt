@@ -10,13 +10,13 @@ use Rattle.deny_text.specs.declared.span.Span.{Span}
 use Rattle.catalog_core.specs.Catalog.{CatalogLists, IsCatalog}
 use Rattle.deny_text.specs.Spans.{LiesBetween}
 use Rattle.toml_places.proofs.Texts.{text_placed}
-use Rattle.toml_subset.specs.Answer.{Read}
+use Rattle.toml_subset.specs.Answer.{TomlReading}
 use Rattle.toml_subset.specs.Data.{Toml}
 use Rattle.toml_subset.specs.Reading.{read_text}
 use Rattle.toml_subset.proofs.Law.Whole.{text_sound}
-use Rattle.toml_shapes.specs.Shaped.{Shaped}
+use Rattle.toml_shapes.specs.Shaped.{ShapeReading}
 use Rattle.toml_shapes.specs.Shapes.{Fault}
-use Rattle.diag_core.specs.File.{File, source_of}
+use Rattle.diag_core.specs.File.{File, source_of_file}
 use Rattle.diag_core.specs.Label.{label_at}
 use Rattle.diag_core.specs.declared.diagnostic.Diagnostic.{Diagnostic}
 use Rattle.diag_core.specs.declared.label.Label.{Label}
@@ -27,10 +27,10 @@ use Rattle.policy_config.specs.Root.{root_of}
 use Rattle.policy_config.specs.declared.root.RootConfig.{RootConfig}
 use Rattle.entry_places.specs.Policies.{RootKeeps}
 use Rattle.entry_places.proofs.PolicyPlaces.{root_stays}
-use Rattle.policy_core.specs.Exceptions.{shape_told}
-use Rattle.policy_core.specs.Places.{IsPlacedIn, LabelPoints, PointInto}
+use Rattle.policy_core.specs.Exceptions.{shape_diagnostic}
+use Rattle.policy_core.specs.Places.{IsConfigPlaced, LabelPointsInFile, PointInto}
 use Rattle.selection_core.specs.Choice.{is_uncarried}
-use Rattle.policy_text.specs.Config.{IsTold, config_told, if_carried, or_shape, or_syntax, shape_told as shape_read, then_told}
+use Rattle.policy_text.specs.Config.{AnswersConfig, config_of_text, if_carried, or_shape, or_syntax, config_of_value, then_config}
 use Rattle.policy_text.specs.declared.error.ConfigError.{ConfigError}
 use Rattle.policy_text.specs.declared.error.ConfigError.TheVariants as config
 use Rattle.policy_text.specs.declared.error.ConfigError.TheVariants.{ConfigShape, NotCarried}
@@ -47,27 +47,27 @@ carried_keeps : (text : List ℕ) (root : RootConfig) → RootKeeps text root �
 carried_keeps text root keeps =
     elim (list_any is_uncarried root.graph.exclude) as (λ b. Keeps text (cond b (Err NotCarried) (Ok root))) [ true ↦ tt | false ↦ keeps ]
 
-shape_keeps : (text : List ℕ) (shaped : Shaped RootConfig) → StaysIn RootKeeps text shaped → Keeps text (then_told if_carried (or_shape shaped))
+shape_keeps : (text : List ℕ) (shaped : ShapeReading RootConfig) → StaysIn RootKeeps text shaped → Keeps text (then_config if_carried (or_shape shaped))
 shape_keeps text (Ok root) keeps = carried_keeps text root keeps
 shape_keeps text (Err faults) keeps = keeps
 
 module _ (text : List ℕ) (utf8 : IsUtf8 text) (short : length text < 2 ^ 64) (lists : CatalogLists) (laws : IsCatalog lists) where
-  value_keeps : (read : Read Toml) → read_text text ≡ read → Keeps text (then_told (λ value. then_told if_carried (shape_read lists value)) (or_syntax read))
+  value_keeps : (read : TomlReading Toml) → read_text text ≡ read → Keeps text (then_config (λ value. then_config if_carried (config_of_value lists value)) (or_syntax read))
   value_keeps (Ok value) is = shape_keeps text (root_of lists value) (root_stays text utf8 short lists laws value (text_placed text utf8 value (text_sound text value is)))
   value_keeps (Err fault) is = tt
 
-  pub told_keeps : Keeps text (config_told lists text)
+  pub told_keeps : Keeps text (config_of_text lists text)
   told_keeps = value_keeps (read_text text) refl
 
-  pub root_placed : (root : RootConfig) → config_told lists text ≡ Ok root → RootKeeps text root
+  pub root_placed : (root : RootConfig) → config_of_text lists text ≡ Ok root → RootKeeps text root
   root_placed root told = subst (Keeps text) told told_keeps
 
-  pub faults_placed : (faults : List Fault) → config_told lists text ≡ Err (ConfigShape faults) → AllByRecursion (IsToldIn text) faults
+  pub faults_placed : (faults : List Fault) → config_of_text lists text ≡ Err (ConfigShape faults) → AllByRecursion (IsToldIn text) faults
   faults_placed faults told = subst (Keeps text) told told_keeps
 
 -- ---- labels in the last file
 
-source_last : (old : List File) (file : File) → source_of (old ++ file ∷ []) (length old) ≡ Some file.source
+source_last : (old : List File) (file : File) → source_of_file (old ++ file ∷ []) (length old) ≡ Some file.source
 source_last [] file = refl
 source_last (first ∷ old) file = source_last old file
 
@@ -83,7 +83,7 @@ label_inside old file span words lies =
     }
 
 faults_by_recursion : (old : List File) (file : File) (faults : List Fault) → AllByRecursion (IsToldIn file.source) faults
-    → AllByRecursion (LabelsAreInside (old ++ file ∷ [])) (map (shape_told (length old)) faults)
+    → AllByRecursion (LabelsAreInside (old ++ file ∷ [])) (map (shape_diagnostic (length old)) faults)
 faults_by_recursion old file [] told = tt
 faults_by_recursion old file (fault ∷ faults) told = (
   All-from_recursion (LabelIsInside (old ++ file ∷ [])) (label_at Primary (length old) fault.span [] ∷ []) (label_inside old file fault.span [] told.0, tt),
@@ -92,9 +92,9 @@ faults_by_recursion old file (fault ∷ faults) told = (
 
 -- the findings of a shape's faults point into the file that was added last
 pub faults_inside : (old : List File) (file : File) (faults : List Fault) → AllByRecursion (IsToldIn file.source) faults
-    → AreInside (old ++ file ∷ []) (map (shape_told (length old)) faults)
+    → AreInside (old ++ file ∷ []) (map (shape_diagnostic (length old)) faults)
 faults_inside old file faults told =
-    All-from_recursion (LabelsAreInside (old ++ file ∷ [])) (map (shape_told (length old)) faults) (faults_by_recursion old file faults told)
+    All-from_recursion (LabelsAreInside (old ++ file ∷ [])) (map (shape_diagnostic (length old)) faults) (faults_by_recursion old file faults told)
 
 none_inside : (files : List File) → AreInside files []
 none_inside files k d within = absurd (omega arith)
@@ -102,10 +102,10 @@ none_inside files k d within = absurd (omega arith)
 -- ---- what `load_text` owes its two calls, where the policy's file was added last
 
 module _ (old : List File) (file : File) (utf8 : IsUtf8 file.source) (short : length file.source < 2 ^ 64) (lists : CatalogLists) (laws : IsCatalog lists) where
-  pub root_in : (root : RootConfig) → config_told lists file.source ≡ Ok root → IsPlacedIn (old ++ file ∷ []) (length old) root
+  pub root_in : (root : RootConfig) → config_of_text lists file.source ≡ Ok root → IsConfigPlaced (old ++ file ∷ []) (length old) root
   root_in root told = record { text = file.source; source = source_last old file; is_text = record { utf8 = utf8; fits = short }; keeps = root_placed file.source utf8 short lists laws root told }
 
-  pub refusal_inside : (refused : ConfigError) → IsTold (config_told lists file.source) (Err refused) → AreInside (old ++ file ∷ []) (refusal_findings (length old) refused)
+  pub refusal_inside : (refused : ConfigError) → AnswersConfig (config_of_text lists file.source) (Err refused) → AreInside (old ++ file ∷ []) (refusal_findings (length old) refused)
   refusal_inside config.Memory told = none_inside (old ++ file ∷ [])
   refusal_inside (config.ConfigRead fault) told = none_inside (old ++ file ∷ [])
   refusal_inside (config.ConfigSyntax fault) told = none_inside (old ++ file ∷ [])
@@ -115,12 +115,12 @@ module _ (old : List File) (file : File) (utf8 : IsUtf8 file.source) (short : le
 -- ---- findings that point into their files
 
 -- a number that finds a text is that of a file
-live_number : (files : List File) (id : ℕ) (text : List ℕ) → source_of files id ≡ Some text → id < length files
+live_number : (files : List File) (id : ℕ) (text : List ℕ) → source_of_file files id ≡ Some text → id < length files
 live_number [] id text is = absurd (cc)
 live_number (file ∷ files) zero text is = omega arith
 live_number (file ∷ files) (suc id) text is = let rest = live_number files id text is in omega arith
 
-point_inside : (files : List File) (label : Label) → LabelPoints files label → LabelIsInside files label
+point_inside : (files : List File) (label : Label) → LabelPointsInFile files label → LabelIsInside files label
 point_inside files label points =
     let own : source_under files label ≡ points.text = ap (λ found. unwrap_or found []) points.source in
     record {
@@ -130,7 +130,7 @@ point_inside files label points =
       ends = subst (λ text. IsCharBoundary text label.range.end) (sym own) points.lies.end_border;
     }
 
-labels_inside : (files : List File) (labels : List Label) → AllByRecursion (LabelPoints files) labels → AllByRecursion (LabelIsInside files) labels
+labels_inside : (files : List File) (labels : List Label) → AllByRecursion (LabelPointsInFile files) labels → AllByRecursion (LabelIsInside files) labels
 labels_inside files [] points = tt
 labels_inside files (label ∷ labels) points = (point_inside files label points.0, labels_inside files labels points.1)
 

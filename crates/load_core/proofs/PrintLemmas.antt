@@ -10,7 +10,7 @@ use Rattle.diag_core.specs.declared.diagnostic.Diagnostic.{Diagnostic}
 use Rattle.diag_core.specs.declared.severity.LevelFilter.TheVariants.{Off}
 use Rattle.diag_core.specs.Pack.{PackOf}
 use Rattle.diag_core.specs.declared.pack.Diag.{Diag}
-use Rattle.print_core.specs.Printed.{all_printed_at, is_heard, printed_of}
+use Rattle.print_core.specs.Printed.{all_printed_at, is_printed, printed_of}
 use Rattle.print_core.specs.declared.context.LogContext.{LogContext}
 use Rattle.load_core.specs.Print.{IsPending, printed_findings, printed_packs}
 
@@ -101,14 +101,14 @@ pub off_is_silent : (context : LogContext) (files : List File) (findings : List 
 off_is_silent context files [] off = refl
 off_is_silent context files (finding ∷ findings) off =
     ap₂ ◌++◌
-    (ap (λ level. cond (is_heard level finding.severity) (printed_of context.format files finding) []) off)
+    (ap (λ level. cond (is_printed level finding.severity) (printed_of context.format files finding) []) off)
     (off_is_silent context files findings off)
 
 pack_is_silent : (context : LogContext) (files : List File) (findings : List Diag) → context.log_level ≡ Off → all_printed_at context files findings ≡ []
 pack_is_silent context files [] off = refl
 pack_is_silent context files (finding ∷ findings) off =
     ap₂ ◌++◌
-    (ap (λ level. cond (is_heard level finding.diag.severity) (printed_of context.format files finding.diag) []) off)
+    (ap (λ level. cond (is_printed level finding.diag.severity) (printed_of context.format files finding.diag) []) off)
     (pack_is_silent context files findings off)
 
 pub packs_are_silent : (context : LogContext) (files : List File) (packs : List PackOf) → context.log_level ≡ Off → printed_packs context files packs ≡ []

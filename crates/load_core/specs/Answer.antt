@@ -13,18 +13,18 @@ use Rattle.print_core.specs.declared.printer.PrintError.TheVariants as print
 use Rattle.tree_core.specs.Call.{Call}
 use Rattle.tree_core.specs.Faults.{Rose, Gained, GainedPrefix}
 use Rattle.tree_core.specs.Trace.{faults_after}
-use Rattle.policy_core.specs.Heard.{ExceptionsHeard, IsReadOf, MayReadOf, file_heard, read_of}
+use Rattle.policy_core.specs.Heard.{ExceptionsHeard, IsReadOf, MayReadOf, heard_file_of, exceptions_read_of}
 use Rattle.policy_core.specs.Load.{numbers_at}
 use Rattle.policy_core.specs.Policy.{PolicyFound, policy_found}
 use Rattle.policy_config.specs.declared.root.RootConfig.{RootConfig}
-use Rattle.policy_text.specs.Config.{config_told}
-use Rattle.policy_text.specs.Text.{text_told}
+use Rattle.policy_text.specs.Config.{config_of_text}
+use Rattle.policy_text.specs.Text.{config_text_of}
 use Rattle.policy_text.specs.declared.error.ConfigError.{ConfigError}
 use Rattle.policy_text.specs.declared.text.ConfigText.{ConfigText}
 use Rattle.policy_core.specs.declared.load.LoadedPolicy.{LoadedPolicy}
 use Rattle.validate_core.specs.Order.{PutsPolicyInOrder}
 use Rattle.load_core.specs.Heard.{LoadHeard, IsPolicyRead, MayReadPolicy, exceptions_heard}
-use Rattle.load_core.specs.Load.{Loaded, error_of_config, load_by_config, load_of, refusal_findings, unless_error, with_policy}
+use Rattle.load_core.specs.Load.{LoadResult, error_of_config, load_by_config, load_of, refusal_findings, unless_error, with_policy}
 use Rattle.load_core.specs.Print.{is_error, printed_findings}
 use Rattle.load_core.specs.declared.error.LoadError.{LoadError}
 use Rattle.load_core.specs.declared.error.LoadError.TheVariants.{Memory, ConfigRead, ConfigInvalid, WriteFault}
@@ -55,11 +55,11 @@ pub record IsFound (answer : Result PolicyFound LoadError) (valid : LoadedPolicy
   pub valid_of : IsPolicyOf found valid
 
 -- A call answers what comes of the load. Want of memory and a refused write may come in the place of any answer.
-abbrev pub Answers : Result PolicyFound LoadError → Result LoadedPolicy LoadError → Type 0
-Answers answer (Ok valid) = IsFound answer valid
-Answers answer (Err Memory) = ⊤
-Answers answer (Err (WriteFault before after)) = ⊤
-Answers answer (Err error) = answer ≡ Err error
+abbrev pub AnswersLoad : Result PolicyFound LoadError → Result LoadedPolicy LoadError → Type 0
+AnswersLoad answer (Ok valid) = IsFound answer valid
+AnswersLoad answer (Err Memory) = ⊤
+AnswersLoad answer (Err (WriteFault before after)) = ⊤
+AnswersLoad answer (Err error) = answer ≡ Err error
 
 -- the sink gained the text, or a front of it where memory or a write was refused
 abbrev pub Prints : Option (List ℕ) → Option (List ℕ) → List ℕ → Result LoadedPolicy LoadError → Type 0
@@ -73,9 +73,9 @@ GainsFiles old new more (Err Memory) = ⊤
 GainsFiles old new more result = new ≡ old ++ more
 
 -- what came of a load was answered, added to the files and printed
-pub record Comes (it : Loaded) (context : LogContext) (old new : List File) (before behind : Option (List ℕ))
+pub record Comes (it : LoadResult) (context : LogContext) (old new : List File) (before behind : Option (List ℕ))
     (result : Result LoadedPolicy LoadError) : Type 0 where
-  pub answers : Answers it.answer result
+  pub answers : AnswersLoad it.answer result
   pub files : GainsFiles old new it.files result
   pub prints : Prints before behind (printed_findings context (old ++ it.files) it.findings) result
 
@@ -87,23 +87,23 @@ pub record IsUnprinted (before behind : Option (List ℕ)) (result : Result Load
   pub same : behind ≡ before
 
 -- a refusal of something else than the policy's read
-abbrev pub IsOfText : LoadError → Type 0
-IsOfText (ConfigRead fault) = ⊥
-IsOfText _ = ⊤
+abbrev pub IsBehindRead : LoadError → Type 0
+IsBehindRead (ConfigRead fault) = ⊥
+IsBehindRead _ = ⊤
 
 -- what comes of a refusal of the policy's text, and of a policy that has its shape, where its file is known
-abbrev pub refused_by : ℕ → ConfigError → Loaded
+abbrev pub refused_by : ℕ → ConfigError → LoadResult
 refused_by file refused = record { files = []; findings = refusal_findings file refused; answer = Err (error_of_config refused) }
 
-abbrev pub rooted_by : ExceptionsHeard → PolicyFound → Loaded
-rooted_by exceptions found = record { files = file_heard exceptions; findings = found.findings; answer = unless_error found }
+abbrev pub rooted_by : ExceptionsHeard → PolicyFound → LoadResult
+rooted_by exceptions found = record { files = heard_file_of exceptions; findings = found.findings; answer = unless_error found }
 
 -- the findings were printed, and then the policy was answered, or refused for an error
-abbrev pub Ends : LoadedPolicy → List Diagnostic → Result LoadedPolicy LoadError → Type 0
-Ends policy found (Ok answered) = (answered ≡ policy) × (list_any is_error found ≡ false)
-Ends policy found (Err Memory) = ⊤
-Ends policy found (Err (WriteFault before after)) = ⊤
-Ends policy found (Err error) = (error ≡ ConfigInvalid found) × (list_any is_error found ≡ true)
+abbrev pub EndsLoad : LoadedPolicy → List Diagnostic → Result LoadedPolicy LoadError → Type 0
+EndsLoad policy found (Ok answered) = (answered ≡ policy) × (list_any is_error found ≡ false)
+EndsLoad policy found (Err Memory) = ⊤
+EndsLoad policy found (Err (WriteFault before after)) = ⊤
+EndsLoad policy found (Err error) = (error ≡ ConfigInvalid found) × (list_any is_error found ≡ true)
 
 abbrev pub error_of_print : PrintError → LoadError
 error_of_print (print.WriteFault before after) = WriteFault before after
@@ -122,7 +122,7 @@ abbrev pub ReadsBehind : CatalogLists → List File → PolicyPaths → ℕ → 
 ReadsBehind lists old paths mid after calls more exceptions (Err refused) = more ≡ calls
 ReadsBehind lists old paths mid after calls more exceptions (Ok text) =
     ReadsFurther mid after calls more (with_policy old paths text) paths.exceptions
-    (exceptions_heard (with_policy old paths text) paths.exceptions exceptions) (config_told lists text.text)
+    (exceptions_heard (with_policy old paths text) paths.exceptions exceptions) (config_of_text lists text.text)
 
 -- where memory was wanting, that call was made, whatever was answered, or none
 abbrev pub MayReadFurther : List Call → List Call → List File → Option (List ℕ) → Result RootConfig ConfigError → Type 0
@@ -139,22 +139,22 @@ pub record LoadsBy (lists : CatalogLists) (context : LogContext) (paths : Policy
   pub between : List Call
   pub policy : IsPolicyRead begun mid calls between paths.policy heard.policy
   pub counts : (read : List Call) → between ≡ calls ++ read → mid ≡ faults_after first read
-  pub reads : ReadsBehind lists old paths mid after between more heard.exceptions (text_told heard.policy)
+  pub reads : ReadsBehind lists old paths mid after between more heard.exceptions (config_text_of heard.policy)
   pub comes : Comes (load_of lists old paths heard) context old new before behind result
 
 -- the same where the policy's text was heard
 pub record LoadsTextBy (lists : CatalogLists) (context : LogContext) (paths : PolicyPaths) (text : ConfigText)
     (mid after : ℕ) (calls more : List Call) (old new : List File) (before behind : Option (List ℕ)) (result : Result LoadedPolicy LoadError) : Type 0 where
   pub exceptions : ExceptionsHeard
-  pub reads : ReadsFurther mid after calls more (with_policy old paths text) paths.exceptions exceptions (config_told lists text.text)
-  pub comes : Comes (load_by_config lists old paths exceptions text (config_told lists text.text)) context old new before behind result
+  pub reads : ReadsFurther mid after calls more (with_policy old paths text) paths.exceptions exceptions (config_of_text lists text.text)
+  pub comes : Comes (load_by_config lists old paths exceptions text (config_of_text lists text.text)) context old new before behind result
 
 -- the same where it has its shape, and its file is the one of that number
 pub record LoadsRootBy (lists : CatalogLists) (context : LogContext) (file : ℕ) (absence : List Diagnostic) (root : RootConfig) (path : Option (List ℕ))
     (mid after : ℕ) (calls more : List Call) (old new : List File) (before behind : Option (List ℕ)) (result : Result LoadedPolicy LoadError) : Type 0 where
   pub exceptions : ExceptionsHeard
   pub reads : IsReadOf mid after calls more old path exceptions
-  pub comes : Comes (rooted_by exceptions (policy_found lists (numbers_at file old) absence (read_of exceptions) root)) context old new before behind result
+  pub comes : Comes (rooted_by exceptions (policy_found lists (numbers_at file old) absence (exceptions_read_of exceptions) root)) context old new before behind result
 
 -- memory was wanting behind the policy's text, which was heard: the exceptions file may have been read where that was due
 pub record MayReadBoth (lists : CatalogLists) (begun : ℕ) (calls more : List Call) (old : List File) (paths : PolicyPaths) : Type 0 where
@@ -163,8 +163,8 @@ pub record MayReadBoth (lists : CatalogLists) (begun : ℕ) (calls more : List C
   pub between : List Call
   pub policy : IsPolicyRead begun mid calls between paths.policy heard
   pub text : ConfigText
-  pub is : text_told heard ≡ Ok text
-  pub further : MayReadFurther between more (with_policy old paths text) paths.exceptions (config_told lists text.text)
+  pub is : config_text_of heard ≡ Ok text
+  pub further : MayReadFurther between more (with_policy old paths text) paths.exceptions (config_of_text lists text.text)
 
 -- memory was wanting, nothing was printed, and the calls are a front of those of a load
 pub record IsCutLoad (lists : CatalogLists) (begun : ℕ) (calls more : List Call) (old : List File) (paths : PolicyPaths)

@@ -1,8 +1,8 @@
 -- What is heard of the files of a policy.
 use Rattle.std.specs.Prelude.{◌≡◌, ◌⊎◌, ℕ, List, [], ◌∷◌, ◌++◌, Option, Some, None, Result, Err}
-use Rattle.tree_core.specs.Call.{Answered, Call}
-use Rattle.diag_core.specs.File.{File, id_at}
-use Rattle.heard_core.specs.Heard.{IsRead, read_of}
+use Rattle.tree_core.specs.Call.{CallAnswer, Call}
+use Rattle.diag_core.specs.File.{File, file_id_at}
+use Rattle.heard_core.specs.Heard.{IsTextRead, read_of}
 use Rattle.heard_core.specs.declared.fault.ReadFault.{ReadFault}
 use Rattle.heard_core.specs.declared.fault.ReadFault.TheVariants.{Absent}
 use Rattle.policy_core.specs.Heard.{ExceptionsHeard, no_path, the_policy, heard}
@@ -22,7 +22,7 @@ exceptions_at None path text = heard path text
 -- what is heard of the exceptions file, where the policy's file is the last of these
 abbrev pub exceptions_heard : List File → Option (List ℕ) → Result (List ℕ) ReadFault → ExceptionsHeard
 exceptions_heard files None text = no_path
-exceptions_heard files (Some path) text = exceptions_at (id_at files path) path text
+exceptions_heard files (Some path) text = exceptions_at (file_id_at files path) path text
 
 -- ---- the policy's file, by what a tree answered
 
@@ -30,9 +30,9 @@ exceptions_heard files (Some path) text = exceptions_at (id_at files path) path 
 -- is absent.
 abbrev pub IsPolicyRead : ℕ → ℕ → List Call → List Call → Option (List ℕ) → Result (List ℕ) ReadFault → Type 0
 IsPolicyRead begun after old new None told = (told ≡ Err Absent) × (new ≡ old)
-IsPolicyRead begun after old new (Some path) told = IsRead begun after old new path told
+IsPolicyRead begun after old new (Some path) told = IsTextRead begun after old new path told
 
 -- where memory was wanting, that call was made, whatever was answered, or none
 abbrev pub MayReadPolicy : List Call → List Call → Option (List ℕ) → Type 0
 MayReadPolicy old new None = new ≡ old
-MayReadPolicy old new (Some path) = (new ≡ old) ⊎ ((answer : Answered) × (new ≡ old ++ read_of path answer ∷ []))
+MayReadPolicy old new (Some path) = (new ≡ old) ⊎ ((answer : CallAnswer) × (new ≡ old ++ read_of path answer ∷ []))

@@ -6,12 +6,12 @@ use Rattle.diag_core.specs.File.{File}
 use Rattle.diag_core.specs.declared.diagnostic.Diagnostic.{Diagnostic}
 use Rattle.heard_core.specs.declared.fault.ReadFault.{ReadFault}
 use Rattle.policy_config.specs.declared.root.RootConfig.{RootConfig}
-use Rattle.policy_core.specs.Exceptions.{shape_told}
-use Rattle.policy_core.specs.Heard.{ExceptionsHeard, file_heard, read_of}
+use Rattle.policy_core.specs.Exceptions.{shape_diagnostic}
+use Rattle.policy_core.specs.Heard.{ExceptionsHeard, heard_file_of, exceptions_read_of}
 use Rattle.policy_core.specs.Load.{numbers_at}
-use Rattle.policy_core.specs.Policy.{PolicyFound, absence_told, policy_found}
-use Rattle.policy_text.specs.Config.{config_told}
-use Rattle.policy_text.specs.Text.{text_told}
+use Rattle.policy_core.specs.Policy.{PolicyFound, absence_findings, policy_found}
+use Rattle.policy_text.specs.Config.{config_of_text}
+use Rattle.policy_text.specs.Text.{config_text_of}
 use Rattle.policy_text.specs.declared.error.ConfigError.{ConfigError}
 use Rattle.policy_text.specs.declared.error.ConfigError.TheVariants as config
 use Rattle.policy_text.specs.declared.text.ConfigText.{ConfigText}
@@ -22,7 +22,7 @@ use Rattle.load_core.specs.declared.error.LoadError.TheVariants.{Memory, ConfigR
 use Rattle.load_core.specs.declared.loading.PolicyPaths.{PolicyPaths}
 
 -- what comes of a load: the files that are added, the findings that are printed, and the policy or why there is none
-pub record Loaded : Type 0 where
+pub record LoadResult : Type 0 where
   pub files : List File
   pub findings : List Diagnostic
   pub answer : Result PolicyFound LoadError
@@ -38,7 +38,7 @@ error_of_config config.NotCarried = NotCarried
 
 -- what is printed of a refusal: all that is wrong with the shape
 abbrev pub refusal_findings : ℕ → ConfigError → List Diagnostic
-refusal_findings file (config.ConfigShape faults) = map (shape_told file) faults
+refusal_findings file (config.ConfigShape faults) = map (shape_diagnostic file) faults
 refusal_findings file _ = []
 
 -- ---- the policy
@@ -58,15 +58,15 @@ unless_error found = if list_any is_error found.findings then Err (ConfigInvalid
 -- the policy whose file was added last, and what is told of it
 abbrev pub found_by : CatalogLists → List File → ℕ → PolicyPaths → Bool → ExceptionsHeard → RootConfig → PolicyFound
 found_by lists files number paths is_there exceptions root =
-    policy_found lists (numbers_at number files) (absence_told is_there paths.policy) (read_of exceptions) root
+    policy_found lists (numbers_at number files) (absence_findings is_there paths.policy) (exceptions_read_of exceptions) root
 
 -- the policy's file and the exceptions file, where one was heard as a text, are added
-abbrev pub loaded_by : File → ExceptionsHeard → PolicyFound → Loaded
+abbrev pub loaded_by : File → ExceptionsHeard → PolicyFound → LoadResult
 loaded_by file exceptions found =
-    record { files = file ∷ file_heard exceptions; findings = found.findings; answer = unless_error found }
+    record { files = file ∷ heard_file_of exceptions; findings = found.findings; answer = unless_error found }
 
 -- by the policy as it is written, or its refusal, and what is heard of the exceptions file
-abbrev pub load_by_config : CatalogLists → List File → PolicyPaths → ExceptionsHeard → ConfigText → Result RootConfig ConfigError → Loaded
+abbrev pub load_by_config : CatalogLists → List File → PolicyPaths → ExceptionsHeard → ConfigText → Result RootConfig ConfigError → LoadResult
 load_by_config lists old paths exceptions text (Err error) = record {
   files = policy_file paths.policy text.text ∷ [];
   findings = refusal_findings (length old) error;
@@ -81,12 +81,12 @@ abbrev pub with_policy : List File → PolicyPaths → ConfigText → List File
 with_policy old paths text = old ++ policy_file paths.policy text.text ∷ []
 
 -- by the policy's text, or its refusal
-abbrev pub load_by_text : CatalogLists → List File → PolicyPaths → Result (List ℕ) ReadFault → Result ConfigText ConfigError → Loaded
+abbrev pub load_by_text : CatalogLists → List File → PolicyPaths → Result (List ℕ) ReadFault → Result ConfigText ConfigError → LoadResult
 load_by_text lists old paths exceptions (Err error) = record { files = []; findings = []; answer = Err (error_of_config error) }
 load_by_text lists old paths exceptions (Ok text) =
-    load_by_config lists old paths (exceptions_heard (with_policy old paths text) paths.exceptions exceptions) text (config_told lists text.text)
+    load_by_config lists old paths (exceptions_heard (with_policy old paths text) paths.exceptions exceptions) text (config_of_text lists text.text)
 
 -- What comes of what is heard, where these files are known: of the policy's text, its value, its shape, its specs of crates
 -- to be left out, and then of all findings, the first refusal; else the policy.
-abbrev pub load_of : CatalogLists → List File → PolicyPaths → LoadHeard → Loaded
-load_of lists old paths heard = load_by_text lists old paths heard.exceptions (text_told heard.policy)
+abbrev pub load_of : CatalogLists → List File → PolicyPaths → LoadHeard → LoadResult
+load_of lists old paths heard = load_by_text lists old paths heard.exceptions (config_text_of heard.policy)

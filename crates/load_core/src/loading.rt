@@ -6,13 +6,13 @@ ghost use Rattle.tree_core.specs.Faults.{Gained, GainedPrefix};
 ghost use Rattle.tree_core.specs.Hearing.{MadeSome};
 ghost use Rattle.heard_core.specs.Cause.{ReadCounts, heard_cause};
 ghost use Rattle.heard_core.specs.declared.fault.ReadFault.{ReadFault};
-ghost use Rattle.diag_core.specs.File.{Grows, id_at};
+ghost use Rattle.diag_core.specs.File.{Grows, file_id_at};
 ghost use Rattle.policy_text.specs.Config as config;
-ghost use Rattle.policy_core.specs.Exceptions.{shape_told};
+ghost use Rattle.policy_core.specs.Exceptions.{shape_diagnostic};
 ghost use Rattle.policy_core.specs.Heard.{IsFileText, MayReadOf};
-ghost use Rattle.policy_core.specs.Places.{IsPlacedIn, PolicyStands};
-ghost use Rattle.policy_core.specs.Policy.{absence_told};
-ghost use Rattle.load_core.specs.Answer.{Comes, Ends, IsOfText, IsUnprinted};
+ghost use Rattle.policy_core.specs.Places.{IsConfigPlaced, PolicyStands};
+ghost use Rattle.policy_core.specs.Policy.{absence_findings};
+ghost use Rattle.load_core.specs.Answer.{Comes, EndsLoad, IsBehindRead, IsUnprinted};
 ghost use Rattle.load_core.specs.Answer.{Prints, WriteCounts, load_cause, refused_by};
 ghost use Rattle.load_core.specs.Answer.{IsCutLoad, LoadsBy, LoadsRootBy, LoadsTextBy, MayReadFurther};
 ghost use Rattle.load_core.specs.Heard.{IsPolicyRead, MayReadPolicy};
@@ -25,7 +25,7 @@ use deny_text::{PathBuf, Text};
 use diag_core::{FileId, Files};
 use policy_core::{Diagnostics, LoadedPolicy, PolicySource, load_policy, tell_shape};
 use policy_text::{
-    ConfigError, ConfigText, Heard, ReadFault, RootConfig, ShapeErrors, read_config,
+    ConfigError, ConfigText, TextHeard, ReadFault, RootConfig, ShapeErrors, read_config,
 };
 use print_core::{LogContext, PrintError};
 use spdx_core::Catalog;
@@ -45,7 +45,7 @@ fn hear<T: Tree>(
     tree: &mut T,
     path: &Option<PathBuf>,
     begun: u64,
-) -> Result<Heard, AllocError>
+) -> Result<TextHeard, AllocError>
     requires { begun ≤ T.fault_count tree.old }
     ensures read { IfOk result (IsPolicyRead begun (T.fault_count tree.new)
         (T.trace tree.old) (T.trace tree.new) path.now) }
@@ -56,7 +56,7 @@ fn hear<T: Tree>(
         ReadCounts begun (T.fault_count tree.old) (T.fault_count tree.new) (heard_cause heard)) }
 {
     match path {
-        Some(path) => heard_core::load(alloc, tree, path.as_path(), begun),
+        Some(path) => heard_core::read_file_text(alloc, tree, path.as_path(), begun),
         None => Ok(Err(ReadFault::Absent)),
     }
 }
@@ -78,7 +78,7 @@ fn add_policy(
     text: Text,
     files: &mut Files,
 ) -> Result<FileId, AllocError>
-    requires { id_at files.old (policy_name path.now) ≡ None }
+    requires { file_id_at files.old (policy_name path.now) ≡ None }
     ensures number { IfOk result (λ id. id ≡ length files.old) }
     ensures ok { OnOk result (files.new ≡ files.old ++ policy_file path.now text ∷ []) }
     ensures err { OnErr result (files.new ≡ files.old) }
@@ -108,11 +108,11 @@ fn print_faults<S: Sink>(
     context: LogContext,
     sink: &mut S,
 ) -> Result<(), PrintError>
-    requires { AreInside files.now (map (shape_told file) faults.now) }
+    requires { AreInside files.now (map (shape_diagnostic file) faults.now) }
     ensures ok { OnOk result (Gained (S.written sink.old) (S.written sink.new)
-        (printed_findings context files.now (map (shape_told file) faults.now))) }
+        (printed_findings context files.now (map (shape_diagnostic file) faults.now))) }
     ensures err { OnErr result (GainedPrefix (S.written sink.old) (S.written sink.new)
-        (printed_findings context files.now (map (shape_told file) faults.now))) }
+        (printed_findings context files.now (map (shape_diagnostic file) faults.now))) }
     ensures reason { IfErr result (HasReasonSince (S.fault_count sink.old) (S.fault_count sink.new)) }
     ensures later { S.fault_count sink.old ≤ S.fault_count sink.new }
 {
@@ -135,7 +135,7 @@ fn refuse<S: Sink>(
         (S.written sink.old) (S.written sink.new) (Err result) }
     ensures quiet { refused ≡ ConfigError.Memory
         → IsUnprinted (S.written sink.old) (S.written sink.new) (Err result) }
-    ensures of_text { config.IsOfText refused → IsOfText result }
+    ensures of_text { config.IsOfText refused → IsBehindRead result }
     ensures writes { WriteCounts (S.fault_count sink.old) (S.fault_count sink.new) (load_cause result) }
     ensures later { S.fault_count sink.old ≤ S.fault_count sink.new }
 {
@@ -163,10 +163,10 @@ fn finish<S: Sink>(
     sink: &mut S,
 ) -> Result<LoadedPolicy, LoadError>
     requires { AreInside files.now found }
-    ensures ends { Ends policy found result }
+    ensures ends { EndsLoad policy found result }
     ensures prints { Prints (S.written sink.old) (S.written sink.new)
         (printed_findings context files.now found) result }
-    ensures of_text { IfErr result IsOfText }
+    ensures of_text { IfErr result IsBehindRead }
     ensures writes { IfErr result (λ error.
         WriteCounts (S.fault_count sink.old) (S.fault_count sink.new) (load_cause error)) }
     ensures later { S.fault_count sink.old ≤ S.fault_count sink.new }
@@ -192,18 +192,18 @@ fn load_root<T: Tree, S: Sink, C: Catalog>(
     sink: &mut S,
     catalog: &C,
 ) -> Result<LoadedPolicy, LoadError>
-    requires exceptions { ForSome (option_and_then (id_at files.old) paths.exceptions) (λ id. id ≡ file_id) }
-    requires placed { IsPlacedIn files.old file_id root }
+    requires exceptions { ForSome (option_and_then (file_id_at files.old) paths.exceptions) (λ id. id ≡ file_id) }
+    requires placed { IsConfigPlaced files.old file_id root }
     ensures places { IfOk result (λ loaded. PolicyStands files.new loaded.licenses) }
     ensures reads { (IsUnprinted (S.written sink.old) (S.written sink.new) result
         × MayReadOf (T.trace tree.old) (T.trace tree.new) files.old paths.exceptions)
-        ⊎ LoadsRootBy (C.lists catalog.now) context file_id (absence_told is_there paths.policy) root
+        ⊎ LoadsRootBy (C.lists catalog.now) context file_id (absence_findings is_there paths.policy) root
         paths.exceptions (T.fault_count tree.old) (T.fault_count tree.new) (T.trace tree.old) (T.trace tree.new)
         files.old files.new (S.written sink.old) (S.written sink.new) result }
     ensures made { MadeSome (T.content tree.old) (T.content tree.new) (T.fault_count tree.old)
         (T.fault_count tree.new) (T.trace tree.old) (T.trace tree.new) }
     ensures grows { Grows files.old files.new }
-    ensures of_text { IfErr result IsOfText }
+    ensures of_text { IfErr result IsBehindRead }
     ensures writes { IfErr result (λ error.
         WriteCounts (S.fault_count sink.old) (S.fault_count sink.new) (load_cause error)) }
     ensures later { S.fault_count sink.old ≤ S.fault_count sink.new }
@@ -223,7 +223,7 @@ fn load_root<T: Tree, S: Sink, C: Catalog>(
 
 /// The policy that a text is, as it is written.
 fn read_text<C: Catalog>(alloc: Global, text: &str, catalog: &C) -> Result<RootConfig, ConfigError>
-    ensures told { config.IsTold (config.config_told (C.lists catalog.now) text.now) result }
+    ensures told { config.AnswersConfig (config.config_of_text (C.lists catalog.now) text.now) result }
     ensures of_text { IfErr result config.IsOfText }
     ensures text { IsFileText text.now }
 {
@@ -243,19 +243,19 @@ fn load_text<T: Tree, S: Sink, C: Catalog>(
     sink: &mut S,
     catalog: &C,
 ) -> Result<LoadedPolicy, LoadError>
-    requires policy { id_at files.old (policy_name paths.policy) ≡ None }
-    requires exceptions { option_and_then (id_at files.old) paths.exceptions ≡ None }
+    requires policy { file_id_at files.old (policy_name paths.policy) ≡ None }
+    requires exceptions { option_and_then (file_id_at files.old) paths.exceptions ≡ None }
     ensures places { IfOk result (λ loaded. PolicyStands files.new loaded.licenses) }
     ensures reads { (IsUnprinted (S.written sink.old) (S.written sink.new) result
         × MayReadFurther (T.trace tree.old) (T.trace tree.new) (with_policy files.old paths found)
-        paths.exceptions (config.config_told (C.lists catalog.now) found.text))
+        paths.exceptions (config.config_of_text (C.lists catalog.now) found.text))
         ⊎ LoadsTextBy (C.lists catalog.now) context paths found (T.fault_count tree.old)
         (T.fault_count tree.new) (T.trace tree.old) (T.trace tree.new)
         files.old files.new (S.written sink.old) (S.written sink.new) result }
     ensures made { MadeSome (T.content tree.old) (T.content tree.new) (T.fault_count tree.old)
         (T.fault_count tree.new) (T.trace tree.old) (T.trace tree.new) }
     ensures grows { Grows files.old files.new }
-    ensures of_text { IfErr result IsOfText }
+    ensures of_text { IfErr result IsBehindRead }
     ensures writes { IfErr result (λ error.
         WriteCounts (S.fault_count sink.old) (S.fault_count sink.new) (load_cause error)) }
     ensures later { S.fault_count sink.old ≤ S.fault_count sink.new }
@@ -289,8 +289,8 @@ pub fn load<T: Tree, S: Sink, C: Catalog>(
     begun: u64,
 ) -> Result<LoadedPolicy, LoadError>
     requires begun { begun ≤ T.fault_count tree.old }
-    requires policy { id_at files.old (policy_name paths.policy) ≡ None }
-    requires exceptions { option_and_then (id_at files.old) paths.exceptions ≡ None }
+    requires policy { file_id_at files.old (policy_name paths.policy) ≡ None }
+    requires exceptions { option_and_then (file_id_at files.old) paths.exceptions ≡ None }
     ensures there { result ≢ Err (LoadError.ConfigRead ReadFault.Absent) }
     // Each place that the policy keeps lies in its file.
     ensures places { IfOk result (λ loaded. PolicyStands files.new loaded.licenses) }

@@ -10,14 +10,14 @@ use Rattle.tree_core.specs.Content.{Content}
 use Rattle.tree_core.specs.Hearing.{MadeSome}
 use Rattle.tree_core.proofs.MadeLemmas.{made_these}
 use Rattle.tree_core.specs.declared.reads.ReadKind.TheVariants.{Manifest}
-use Rattle.reads_core.specs.Answered.{IsRead, call_of}
-use Rattle.reads_core.specs.Heard.{Heard, absent}
-use Rattle.reads_core.specs.Read.{Read}
+use Rattle.reads_core.specs.Answered.{IsFileRead, call_of}
+use Rattle.reads_core.specs.Heard.{ReadResult, absent}
+use Rattle.reads_core.specs.Read.{AnsweredRead}
 use Rattle.reads_core.proofs.ReadLemmas.{heard_recorded, lacked_behind, no_reads, one_read, read_with}
-use Rattle.diag_core.specs.File.{File, id_at}
-use Rattle.location_core.specs.declared.location.Located.{Located}
+use Rattle.diag_core.specs.File.{File, file_id_at}
+use Rattle.location_core.specs.declared.location.LocatedField.{LocatedField}
 use Rattle.location_core.specs.Calls.{IsLocatedBy, StarvesLocating, manifest_by}
-use Rattle.location_core.specs.Location.{IsLocated, files_heard, in_heard, in_table, located_by, manifest_record}
+use Rattle.location_core.specs.Location.{IsLocated, files_with_manifest, in_heard, field_in_table, located_by, manifest_record}
 use Rattle.location_core.proofs.HeardLemmas.{located_heard, located_there}
 
 pub on_err : {A E : Type 0} (result : Result A E) (P : Type 0) → P → OnErr result P
@@ -29,33 +29,33 @@ pub join_nothing : (path : List ℕ) → join_of [] path ≡ path
 unfolding path_join
 join_nothing path = elim (slice_index path 0 == slash) as (λ b. cond b path path ≡ path) [ true ↦ refl | false ↦ refl ]
 
-abbrev read_by : List ℕ → Heard → call.Answered → Read
+abbrev read_by : List ℕ → ReadResult → call.CallAnswer → AnsweredRead
 read_by path heard answer = read_with Manifest path heard answer
 
 -- a file of the table has the path, and nothing is read
-pub located_in_table : (told : Option Content) (count : ℕ) (calls : List Call) (path field : List ℕ) (files : List File) (id : ℕ) (located : Located) → Some id ≡ id_at files path
-    → located ≡ in_table field files id → IsLocatedBy told told count count calls calls path field files located files
+pub located_in_table : (told : Option Content) (count : ℕ) (calls : List Call) (path field : List ℕ) (files : List File) (id : ℕ) (located : LocatedField) → Some id ≡ file_id_at files path
+    → located ≡ field_in_table field files id → IsLocatedBy told told count count calls calls path field files located files
 located_in_table told count calls path field files id located found is = record {
   reads = [];
-  records = sym (ap (λ (l : Located). option_to_list l.read) is);
+  records = sym (ap (λ (l : LocatedField). option_to_list l.read) is);
   made = λ folder. no_reads told count calls folder;
   is = located_there path field files (manifest_by []) id located found is;
 }
 
 module _ {told tells : Option Content} {before after : ℕ} {old new : List Call} (path field : List ℕ) (files : List File) where
   -- it was read
-  pub located_read : (heard : Heard) (located : Located) (joined : List File) → None ≡ id_at files path → located ≡ in_heard path field files heard → joined ≡ files_heard path field files heard
-      → IsRead before after old new path heard → MadeSome told tells before after old new → IsLocatedBy told tells before after old new path field files located joined
+  pub located_read : (heard : ReadResult) (located : LocatedField) (joined : List File) → None ≡ file_id_at files path → located ≡ in_heard path field files heard → joined ≡ files_with_manifest path field files heard
+      → IsFileRead before after old new path heard → MadeSome told tells before after old new → IsLocatedBy told tells before after old new path field files located joined
   located_read heard located joined none is are read some = record {
     reads = read_by path heard read.answer ∷ [];
-    records = sym (ap (λ (l : Located). option_to_list l.read) is);
+    records = sym (ap (λ (l : LocatedField). option_to_list l.read) is);
     made = λ folder. one_read folder Manifest path heard read.answer (made_these some read.made) read.hears;
-    is = subst (λ (manifest : Heard). IsLocated path field files manifest located joined) (sym (heard_recorded Manifest path before after read.answer heard read.hears))
+    is = subst (λ (manifest : ReadResult). IsLocated path field files manifest located joined) (sym (heard_recorded Manifest path before after read.answer heard read.hears))
         (located_heard path field files heard located joined none is are);
   }
 
   -- memory was wanting behind the read
-  pub starves_read : (heard : Heard) → None ≡ id_at files path → IsRead before after old new path heard → MadeSome told tells before after old new
+  pub starves_read : (heard : ReadResult) → None ≡ file_id_at files path → IsFileRead before after old new path heard → MadeSome told tells before after old new
       → StarvesLocating told tells before after old new path field files
   starves_read heard none read some = record {
     reads = read_by path heard read.answer ∷ [];
@@ -64,11 +64,11 @@ module _ {told tells : Option Content} {before after : ℕ} {old new : List Call
     rest = [];
     front =
         ap (λ (o : Option ℕ). option_to_list (located_by path field files (manifest_by (read_by path heard read.answer ∷ [])) o).read) (sym none)
-        ∙ ap (λ (one : Heard). manifest_record path one ∷ []) (heard_recorded Manifest path before after read.answer heard read.hears);
+        ∙ ap (λ (one : ReadResult). manifest_record path one ∷ []) (heard_recorded Manifest path before after read.answer heard read.hears);
   }
 
   -- memory was wanting before it, or in it
-  pub starves_unread : None ≡ id_at files path → (new ≡ old) ⊎ (new ≡ old ++ call_of call.read path call.no_memory ∷ []) → MadeSome told tells before after old new
+  pub starves_unread : None ≡ file_id_at files path → (new ≡ old) ⊎ (new ≡ old ++ call_of call.read path call.no_memory ∷ []) → MadeSome told tells before after old new
       → StarvesLocating told tells before after old new path field files
   starves_unread none (inl same) some = record {
     reads = [];

@@ -14,7 +14,7 @@ use Rattle.std.proofs.lemmas.Slice.Eq.{bytes_eq-Decides}
 use Rattle.std.proofs.lemmas.Str.{IsCharBoundary-after_ascii, IsCharBoundary-before_ascii, IsUtf8-drop, chars-encodes}
 use Rattle.deny_text.specs.declared.span.Span.{Span}
 use Rattle.deny_text.specs.Spans.{moved}
-use Rattle.manifest_core.specs.SpanSearch.{behind, behind_quote, is_quote, license_key, license_span_of, quote_place, value_at_end, value_behind}
+use Rattle.manifest_core.specs.SpanSearch.{rest_behind, behind_quote, is_quote, license_key, license_span_of, quote_place, value_at_end, value_behind}
 use Rattle.manifest_core.specs.Synthetic.{cut}
 use Rattle.location_core.specs.Location.{CutsOut, counted_in, span_in}
 
@@ -74,11 +74,11 @@ no_some x e = cc
 some_same : {A : Type 0} (x y : A) → Some x ≡ Some y → x ≡ y
 some_same x y e = cc
 
-behind_is : (front text rest : List ℕ) → behind front text ≡ Some rest → text ≡ front ++ rest
+behind_is : (front text rest : List ℕ) → rest_behind front text ≡ Some rest → text ≡ front ++ rest
 behind_is [] text rest e = some_same text rest e
 behind_is (byte ∷ front) [] rest e = no_some rest e
 behind_is (byte ∷ front) (first ∷ text) rest e =
-    elim (eqb first byte) as (λ same. eqb first byte ≡ same → cond same (behind front text) None ≡ Some rest → first ∷ text ≡ byte ∷ (front ++ rest)) [
+    elim (eqb first byte) as (λ same. eqb first byte ≡ same → cond same (rest_behind front text) None ≡ Some rest → first ∷ text ≡ byte ∷ (front ++ rest)) [
       | true ↦ λ is there.
           let head : first ≡ byte = eqb-true first byte is in
           let tail : text ≡ front ++ rest = behind_is front text rest there in cc
@@ -155,7 +155,7 @@ value_quoted : (text : List ℕ) → IsUtf8 text → (span : Span) → value_beh
 unfolding value_behind
 value_quoted text utf8 span found =
     let blanks = trimmed text utf8 in
-    elim (behind (codes "=") (trim_start text)) as (λ o. behind (codes "=") (trim_start text) ≡ o
+    elim (rest_behind (codes "=") (trim_start text)) as (λ o. rest_behind (codes "=") (trim_start text) ≡ o
     → option_and_then (λ after. option_and_then (value_at_end text) (behind_quote (trim_start after))) o ≡ Some span → Quoted text span.start span.end) [
       | None ↦ λ _ there. no_some span there
       | Some after ↦ λ sign there.
@@ -225,7 +225,7 @@ found_in text utf8 front (byte ∷ tail) split span e =
           subst (λ (s : Span). Quoted text (length front + s.start) (length front + s.end)) (some_same (moved 1 inner) span here)
           (subst (λ n. Quoted text n (length front + (1 + inner.end))) start (subst (λ n. Quoted text (length (front ++ byte ∷ []) + inner.start) n) end rest))
     ] refl there in
-    elim (behind license_key (byte ∷ tail)) as (λ o. behind license_key (byte ∷ tail) ≡ o
+    elim (rest_behind license_key (byte ∷ tail)) as (λ o. rest_behind license_key (byte ∷ tail) ≡ o
     → option_or (option_and_then (λ rest. option_map (moved 7) (value_behind rest)) o) (option_map (moved 1) (license_span_of tail)) ≡ Some span
     → Quoted text (length front + span.start) (length front + span.end)) [
       | None ↦ λ _ there. further there

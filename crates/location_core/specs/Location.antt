@@ -5,12 +5,12 @@ use Rattle.std.specs.Str.{IsCharBoundary, bytes_eq}
 use Rattle.deny_text.specs.declared.span.Span.{Span}
 use Rattle.tree_core.specs.declared.reads.ReadKind.TheVariants.{Manifest}
 use Rattle.tree_core.specs.declared.reads.ReadRecord.{ReadRecord}
-use Rattle.reads_core.specs.Heard.{Heard, failed, absent, wrong_kind, not_utf8, text, entries, record_of}
+use Rattle.reads_core.specs.Heard.{ReadResult, failed, absent, wrong_kind, not_utf8, text, entries, read_record_of}
 use Rattle.diag_core.specs.declared.label.Coord.{Coord}
-use Rattle.diag_core.specs.File.{File, id_at, source_of}
+use Rattle.diag_core.specs.File.{File, file_id_at, source_of_file}
 use Rattle.manifest_core.specs.SpanSearch.{license_span_of}
 use Rattle.manifest_core.specs.Synthetic.{cut}
-use Rattle.location_core.specs.declared.location.Located.{Located}
+use Rattle.location_core.specs.declared.location.LocatedField.{LocatedField}
 
 -- ---- in a text
 
@@ -23,7 +23,7 @@ abbrev pub span_in : List ℕ → List ℕ → Option Span
 span_in field source = option_and_then (counted_in field source) (license_span_of source)
 
 -- in what is heard of a manifest: a text alone has one
-abbrev pub span_heard : List ℕ → Heard → Option Span
+abbrev pub span_heard : List ℕ → ReadResult → Option Span
 span_heard field (failed before after) = None
 span_heard field absent = None
 span_heard field wrong_kind = None
@@ -37,31 +37,31 @@ abbrev pub coord_at : ℕ → Span → Coord
 coord_at id span = record { file = id; span = span }
 
 -- in a file of the table: nothing is read
-abbrev pub in_table : List ℕ → List File → ℕ → Located
-in_table field files id = record {
-  location = option_map (coord_at id) (option_and_then (span_in field) (source_of files id));
+abbrev pub field_in_table : List ℕ → List File → ℕ → LocatedField
+field_in_table field files id = record {
+  location = option_map (coord_at id) (option_and_then (span_in field) (source_of_file files id));
   read = None;
 }
 
 -- the record of the read of a manifest
-abbrev pub manifest_record : List ℕ → Heard → ReadRecord
-manifest_record path manifest = record_of Manifest path manifest
+abbrev pub manifest_record : List ℕ → ReadResult → ReadRecord
+manifest_record path manifest = read_record_of Manifest path manifest
 
 -- in what is heard of the manifest, which is then the next file of the table
-abbrev pub in_heard : List ℕ → List ℕ → List File → Heard → Located
+abbrev pub in_heard : List ℕ → List ℕ → List File → ReadResult → LocatedField
 in_heard path field files manifest = record {
   location = option_map (coord_at (length files)) (span_heard field manifest);
   read = Some (manifest_record path manifest);
 }
 
-abbrev pub located_by : List ℕ → List ℕ → List File → Heard → Option ℕ → Located
+abbrev pub located_by : List ℕ → List ℕ → List File → ReadResult → Option ℕ → LocatedField
 located_by path field files manifest None = in_heard path field files manifest
-located_by path field files manifest (Some id) = in_table field files id
+located_by path field files manifest (Some id) = field_in_table field files id
 
 -- The location of a field: in the file of the table that has the manifest's path by parts, also where that is the policy,
 -- else in what is heard of the manifest.
-abbrev pub located_of : List ℕ → List ℕ → List File → Heard → Located
-located_of path field files manifest = located_by path field files manifest (id_at files path)
+abbrev pub located_of : List ℕ → List ℕ → List File → ReadResult → LocatedField
+located_of path field files manifest = located_by path field files manifest (file_id_at files path)
 
 -- ---- the table afterwards
 
@@ -73,25 +73,25 @@ abbrev pub joined_by : List ℕ → List File → List ℕ → Option Span → L
 joined_by path files bytes None = files
 joined_by path files bytes (Some span) = files ++ manifest_file path bytes ∷ []
 
-abbrev pub files_heard : List ℕ → List ℕ → List File → Heard → List File
-files_heard path field files (failed before after) = files
-files_heard path field files absent = files
-files_heard path field files wrong_kind = files
-files_heard path field files not_utf8 = files
-files_heard path field files (text bytes) = joined_by path files bytes (span_in field bytes)
-files_heard path field files (entries listed) = files
+abbrev pub files_with_manifest : List ℕ → List ℕ → List File → ReadResult → List File
+files_with_manifest path field files (failed before after) = files
+files_with_manifest path field files absent = files
+files_with_manifest path field files wrong_kind = files
+files_with_manifest path field files not_utf8 = files
+files_with_manifest path field files (text bytes) = joined_by path files bytes (span_in field bytes)
+files_with_manifest path field files (entries listed) = files
 
-abbrev pub files_by : List ℕ → List ℕ → List File → Heard → Option ℕ → List File
-files_by path field files manifest None = files_heard path field files manifest
+abbrev pub files_by : List ℕ → List ℕ → List File → ReadResult → Option ℕ → List File
+files_by path field files manifest None = files_with_manifest path field files manifest
 files_by path field files manifest (Some id) = files
 
-abbrev pub files_after : List ℕ → List ℕ → List File → Heard → List File
-files_after path field files manifest = files_by path field files manifest (id_at files path)
+abbrev pub files_after : List ℕ → List ℕ → List File → ReadResult → List File
+files_after path field files manifest = files_by path field files manifest (file_id_at files path)
 
 -- ---- what locating answers
 
 -- the field was located, and the table is what it is then, by what is heard of the manifest
-pub record IsLocated (path field : List ℕ) (old : List File) (manifest : Heard) (located : Located) (new : List File) : Type 0 where
+pub record IsLocated (path field : List ℕ) (old : List File) (manifest : ReadResult) (located : LocatedField) (new : List File) : Type 0 where
   pub located_is : located ≡ located_of path field old manifest
   pub files_are : new ≡ files_after path field old manifest
 
@@ -105,5 +105,5 @@ pub record CutsOut (source : List ℕ) (span : Span) (bytes : List ℕ) : Type 0
 -- a place in a file of the table cuts these bytes out of its text
 pub record PointsAt (files : List File) (at : Coord) (bytes : List ℕ) : Type 0 where
   pub source : List ℕ
-  pub is_source : source_of files at.file ≡ Some source
+  pub is_source : source_of_file files at.file ≡ Some source
   pub cuts : CutsOut source at.span bytes

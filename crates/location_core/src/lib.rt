@@ -4,4 +4,4 @@
 pub mod location;
 mod search;
 
-pub use location::{Located, locate};
+pub use location::{LocatedField, locate};

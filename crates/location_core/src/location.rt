@@ -3,13 +3,13 @@ ghost use Rattle.std.specs.Prelude.{◌≡◌, ◌⊎◌, ◌++◌, ℕ, List, [
 ghost use Rattle.std.specs.Option.{option_and_then, option_map};
 ghost use Rattle.tree_core.specs.Call as call;
 ghost use Rattle.tree_core.specs.Hearing.{MadeSome};
-ghost use Rattle.reads_core.specs.Answered.{IsRead, call_of};
+ghost use Rattle.reads_core.specs.Answered.{IsFileRead, call_of};
 ghost use Rattle.reads_core.specs.Views.{heard_file};
-ghost use Rattle.diag_core.specs.File.{source_of};
+ghost use Rattle.diag_core.specs.File.{source_of_file};
 ghost use Rattle.location_core.specs.Calls.{IsLocatedBy, StarvesLocating};
 ghost use Rattle.location_core.specs.Location as spec;
-ghost use Rattle.location_core.specs.Location.{CutsOut, PointsAt, coord_at, files_heard};
-ghost use Rattle.location_core.specs.Location.{in_heard, in_table, joined_by};
+ghost use Rattle.location_core.specs.Location.{CutsOut, PointsAt, coord_at, files_with_manifest};
+ghost use Rattle.location_core.specs.Location.{in_heard, field_in_table, joined_by};
 
 use crate::search::{counted_at, span_in};
 use deny_text::{PathBuf, Span, Text};
@@ -20,7 +20,7 @@ use tree_core::{ReadKind, ReadRecord, Tree};
 
 /// Where a field stands, and the record of the read of its manifest, where that was read.
 #[derive(Drop)]
-pub struct Located {
+pub struct LocatedField {
     /// None where the manifest does not write the field.
     pub location: Option<Coord>,
     pub read: Option<ReadRecord>,
@@ -28,7 +28,7 @@ pub struct Located {
 
 /// The place of a field in a file of the table.
 fn span_of(files: &mut Files, id: FileId, field: &str) -> Option<Span>
-    ensures value { result ≡ option_and_then (spec.span_in field.now) (source_of files.old id) }
+    ensures value { result ≡ option_and_then (spec.span_in field.now) (source_of_file files.old id) }
     ensures points { IfSome result (λ span. PointsAt files.new (coord_at id span) field.now) }
     ensures same { files.new ≡ files.old }
 {
@@ -40,17 +40,17 @@ fn span_of(files: &mut Files, id: FileId, field: &str) -> Option<Span>
 }
 
 /// By a file of the table: nothing is read.
-fn locate_in(files: &mut Files, id: FileId, field: &str) -> Located
-    ensures located { result ≡ in_table field.now files.old id }
+fn locate_in(files: &mut Files, id: FileId, field: &str) -> LocatedField
+    ensures located { result ≡ field_in_table field.now files.old id }
     ensures points { IfSome result.location (λ at. PointsAt files.new at field.now) }
     ensures same { files.new ≡ files.old }
 {
     match span_of(files, id, field) {
-        Some(span) => Located {
+        Some(span) => LocatedField {
             location: Some(Coord { file: id, span }),
             read: None,
         },
-        None => Located {
+        None => LocatedField {
             location: None,
             read: None,
         },
@@ -63,7 +63,7 @@ fn read_manifest<T: Tree>(
     tree: &mut T,
     path: &PathBuf,
 ) -> Result<FileHeard, AllocError>
-    ensures read { IfOk result (λ heard. IsRead (T.fault_count tree.old) (T.fault_count tree.new)
+    ensures read { IfOk result (λ heard. IsFileRead (T.fault_count tree.old) (T.fault_count tree.new)
         (T.trace tree.old) (T.trace tree.new) path.now (heard_file heard)) }
     ensures no_memory { OnErr result ((T.trace tree.new ≡ T.trace tree.old)
         ⊎ (T.trace tree.new ≡ T.trace tree.old ++ call_of call.read path.now call.no_memory ∷ [])) }
@@ -103,11 +103,11 @@ fn locate_heard(
     path: &PathBuf,
     field: &str,
     heard: FileHeard,
-) -> Result<Located, AllocError>
+) -> Result<LocatedField, AllocError>
     ensures located { IfOk result (λ located.
         located ≡ in_heard path.now field.now files.old (heard_file heard)) }
     ensures files { OnOk result (
-        files.new ≡ files_heard path.now field.now files.old (heard_file heard)) }
+        files.new ≡ files_with_manifest path.now field.now files.old (heard_file heard)) }
     ensures points { IfOk result (λ located. IfSome located.location (λ at.
         PointsAt files.new at field.now)) }
     ensures err { OnErr result (files.new ≡ files.old) }
@@ -118,12 +118,12 @@ fn locate_heard(
             let span = span_in(text.as_str(), field);
             let name = PathBuf::copy(alloc, path.as_path())?;
             let location = join_where_counted(files, name, text, span)?;
-            Ok(Located {
+            Ok(LocatedField {
                 location,
                 read: Some(record),
             })
         }
-        Err(_) => Ok(Located {
+        Err(_) => Ok(LocatedField {
             location: None,
             read: Some(record),
         }),
@@ -139,7 +139,7 @@ pub fn locate<T: Tree>(
     files: &mut Files,
     path: &PathBuf,
     field: &str,
-) -> Result<Located, AllocError>
+) -> Result<LocatedField, AllocError>
     // over any tree, by what the manifest's read was answered, which is its one call
     ensures answered { IfOk result (λ located. IsLocatedBy (T.content tree.old) (T.content tree.new) (T.fault_count tree.old)
         (T.fault_count tree.new) (T.trace tree.old) (T.trace tree.new)

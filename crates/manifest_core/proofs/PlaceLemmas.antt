@@ -8,7 +8,7 @@ use Rattle.std.proofs.lemmas.Str.{IsUtf8-append, IsUtf8-nil}
 use Rattle.std.proofs.Math.Seq.{drop-append_seam, take-append_seam}
 use Rattle.deny_text.specs.declared.span.Span.{Span}
 use Rattle.deny_text.specs.Spans.{LiesIn}
-use Rattle.manifest_core.specs.Synthetic.{Bit, plain, marked, Kept, nothing_kept, place_behind, written, written_all, bytes_of, marked_of, cut, IsBetweenCharacters, PlacesCutOut}
+use Rattle.manifest_core.specs.Synthetic.{Bit, plain, marked, PlacedText, nothing_kept, place_behind, with_piece, written_all, bytes_of, marked_of, cut, IsBetweenCharacters, PlacesCutOut}
 
 LiesIn-grown : (text more : List ℕ) (span : Span) → LiesIn text span → LiesIn (text ++ more) span
 LiesIn-grown text more span lies = (lies.0, omega (arith, lies.1, length-append text more))
@@ -33,25 +33,25 @@ LiesIn-behind : (text bytes : List ℕ) → LiesIn (text ++ bytes) (place_behind
 LiesIn-behind text bytes = (omega arith, omega (arith, length-append text bytes))
 
 -- with one more piece
-lie_written : (kept : Kept) (piece : Bit) → All (LiesIn kept.text) kept.spans → All (LiesIn (written kept piece).text) (written kept piece).spans
+lie_written : (kept : PlacedText) (piece : Bit) → All (LiesIn kept.text) kept.spans → All (LiesIn (with_piece kept piece).text) (with_piece kept piece).spans
 lie_written kept (plain bytes) lie = All-weaker (LiesIn kept.text) (LiesIn (kept.text ++ bytes)) (LiesIn-grown kept.text bytes) kept.spans lie
 lie_written kept (marked bytes) lie =
     All-push (LiesIn (kept.text ++ bytes)) kept.spans (place_behind kept.text bytes)
     (All-weaker (LiesIn kept.text) (LiesIn (kept.text ++ bytes)) (LiesIn-grown kept.text bytes) kept.spans lie) (LiesIn-behind kept.text bytes)
 
-lie_all : (kept : Kept) (pieces : List Bit) → All (LiesIn kept.text) kept.spans → All (LiesIn (written_all kept pieces).text) (written_all kept pieces).spans
+lie_all : (kept : PlacedText) (pieces : List Bit) → All (LiesIn kept.text) kept.spans → All (LiesIn (written_all kept pieces).text) (written_all kept pieces).spans
 lie_all kept [] lie = lie
-lie_all kept (piece ∷ pieces) lie = lie_all (written kept piece) pieces (lie_written kept piece lie)
+lie_all kept (piece ∷ pieces) lie = lie_all (with_piece kept piece) pieces (lie_written kept piece lie)
 
-cuts_all : (kept : Kept) (pieces : List Bit) → All (LiesIn kept.text) kept.spans → map (cut (written_all kept pieces).text) (written_all kept pieces).spans ≡ map (cut kept.text) kept.spans ++ marked_of pieces
+cuts_all : (kept : PlacedText) (pieces : List Bit) → All (LiesIn kept.text) kept.spans → map (cut (written_all kept pieces).text) (written_all kept pieces).spans ≡ map (cut kept.text) kept.spans ++ marked_of pieces
 cuts_all kept [] lie = sym (append-nil (map (cut kept.text) kept.spans))
 cuts_all kept (plain bytes ∷ pieces) lie =
-    cuts_all (written kept (plain bytes)) pieces (lie_written kept (plain bytes) lie)
+    cuts_all (with_piece kept (plain bytes)) pieces (lie_written kept (plain bytes) lie)
     ∙ ap (λ front. front ++ marked_of pieces) (cuts-grown kept.text bytes kept.spans lie)
 cuts_all kept (marked bytes ∷ pieces) lie =
     let grown = cuts-grown kept.text bytes kept.spans lie in
     let own = cut-behind kept.text bytes in
-    cuts_all (written kept (marked bytes)) pieces (lie_written kept (marked bytes) lie)
+    cuts_all (with_piece kept (marked bytes)) pieces (lie_written kept (marked bytes) lie)
     ∙ ap (λ front. front ++ marked_of pieces) (map-append (cut (kept.text ++ bytes)) kept.spans (place_behind kept.text bytes ∷ []))
     ∙ rw (grown, own) (append_assoc (map (cut kept.text) kept.spans) (bytes ∷ []) (marked_of pieces))
 
@@ -70,21 +70,21 @@ StandsIn-behind text bytes is_text is_piece =
     let whole : take (length text + length bytes) (text ++ bytes) ≡ text ++ bytes = take_all (length text + length bytes) (text ++ bytes) (omega (arith, length-append text bytes)) in
     (LiesIn-behind text bytes, (rw (take-append_seam text bytes) is_text, rw whole (IsUtf8-append text bytes is_text is_piece)))
 
-stand_written : (kept : Kept) (piece : Bit) → IsUtf8 kept.text → IsUtf8 (bytes_of piece) → All (StandsIn kept.text) kept.spans → All (StandsIn (written kept piece).text) (written kept piece).spans
+stand_written : (kept : PlacedText) (piece : Bit) → IsUtf8 kept.text → IsUtf8 (bytes_of piece) → All (StandsIn kept.text) kept.spans → All (StandsIn (with_piece kept piece).text) (with_piece kept piece).spans
 stand_written kept (plain bytes) is_text is_piece stand = All-weaker (StandsIn kept.text) (StandsIn (kept.text ++ bytes)) (StandsIn-grown kept.text bytes) kept.spans stand
 stand_written kept (marked bytes) is_text is_piece stand =
     All-push (StandsIn (kept.text ++ bytes)) kept.spans (place_behind kept.text bytes)
     (All-weaker (StandsIn kept.text) (StandsIn (kept.text ++ bytes)) (StandsIn-grown kept.text bytes) kept.spans stand) (StandsIn-behind kept.text bytes is_text is_piece)
 
-text_written : (kept : Kept) (piece : Bit) → IsUtf8 kept.text → IsUtf8 (bytes_of piece) → IsUtf8 (written kept piece).text
+text_written : (kept : PlacedText) (piece : Bit) → IsUtf8 kept.text → IsUtf8 (bytes_of piece) → IsUtf8 (with_piece kept piece).text
 text_written kept (plain bytes) is_text is_piece = IsUtf8-append kept.text bytes is_text is_piece
 text_written kept (marked bytes) is_text is_piece = IsUtf8-append kept.text bytes is_text is_piece
 
-stand_all : (kept : Kept) (pieces : List Bit) → IsUtf8 kept.text → All (λ piece. IsUtf8 (bytes_of piece)) pieces → All (StandsIn kept.text) kept.spans → All (StandsIn (written_all kept pieces).text) (written_all kept pieces).spans
+stand_all : (kept : PlacedText) (pieces : List Bit) → IsUtf8 kept.text → All (λ piece. IsUtf8 (bytes_of piece)) pieces → All (StandsIn kept.text) kept.spans → All (StandsIn (written_all kept pieces).text) (written_all kept pieces).spans
 stand_all kept [] is_text are_pieces stand = stand
 stand_all kept (piece ∷ pieces) is_text are_pieces stand =
     let here = All-head (λ (p : Bit). IsUtf8 (bytes_of p)) piece pieces are_pieces in
-    stand_all (written kept piece) pieces (text_written kept piece is_text here) (All-tail (λ (p : Bit). IsUtf8 (bytes_of p)) piece pieces are_pieces)
+    stand_all (with_piece kept piece) pieces (text_written kept piece is_text here) (All-tail (λ (p : Bit). IsUtf8 (bytes_of p)) piece pieces are_pieces)
     (stand_written kept piece is_text here stand)
 
 pub places_cut_out : (pieces : List Bit) → PlacesCutOut pieces

@@ -6,22 +6,22 @@ use Rattle.std.specs.Str.Pattern.{FindsText, LacksTextAt}
 use Rattle.std.proofs.lemmas.Bool.{eqb-true}
 use Rattle.deny_text.specs.declared.span.Span.{Span}
 use Rattle.deny_text.specs.Spans.{moved}
-use Rattle.manifest_core.specs.SpanSearch.{behind, behind_quote, quote_place, license_key, value_behind, license_span_of}
+use Rattle.manifest_core.specs.SpanSearch.{rest_behind, behind_quote, quote_place, license_key, value_behind, license_span_of}
 
-behind-is : (front text rest : List ℕ) → behind front text ≡ Some rest → text ≡ front ++ rest
+behind-is : (front text rest : List ℕ) → rest_behind front text ≡ Some rest → text ≡ front ++ rest
 behind-is [] text rest e = cc
 behind-is (byte ∷ front) [] rest e = cc
 behind-is (byte ∷ front) (first ∷ text) rest e =
-    elim (eqb first byte) as (λ same. eqb first byte ≡ same → cond same (behind front text) None ≡ Some rest → first ∷ text ≡ byte ∷ (front ++ rest)) [
+    elim (eqb first byte) as (λ same. eqb first byte ≡ same → cond same (rest_behind front text) None ≡ Some rest → first ∷ text ≡ byte ∷ (front ++ rest)) [
       | true ↦ λ is there.
           let head : first ≡ byte = eqb-true first byte is in
           let tail : text ≡ front ++ rest = behind-is front text rest there in cc
       | false ↦ λ _ there. cc
     ] refl e
 
-behind-none : (front text : List ℕ) → ((rest : List ℕ) → text ≢ front ++ rest) → behind front text ≡ None
+behind-none : (front text : List ℕ) → ((rest : List ℕ) → text ≢ front ++ rest) → rest_behind front text ≡ None
 behind-none front text lacks =
-    elim (behind front text) as (λ (o : Option (List ℕ)). behind front text ≡ o → o ≡ None) [
+    elim (rest_behind front text) as (λ (o : Option (List ℕ)). rest_behind front text ≡ o → o ≡ None) [
       | None ↦ λ _. refl
       | Some rest ↦ λ e. absurd (lacks rest (behind-is front text rest e))
     ] refl
@@ -94,7 +94,7 @@ value_found text rest after i j span found is fits within leads some =
     found_key text rest after i j found is fits within leads ∙ ap (λ (o : Option Span). option_map (moved (length text - length after)) (option_or o (license_span_of after))) some
 
 -- the sign and the quote that a text begins with
-pub sign_behind : (text : List ℕ) (r : Option (Bor (List ℕ))) → MatchOption r ((rest : List ℕ) → text ≢ 61 ∷ rest) (λ x. text ≡ 61 ∷ x.now) → option_copied r ≡ behind (codes "=") text
+pub sign_behind : (text : List ℕ) (r : Option (Bor (List ℕ))) → MatchOption r ((rest : List ℕ) → text ≢ 61 ∷ rest) (λ x. text ≡ 61 ∷ x.now) → option_copied r ≡ rest_behind (codes "=") text
 sign_behind text None lacks = sym (behind-none (codes "=") text lacks)
 sign_behind text (Some x) is = rw is refl
 
@@ -117,19 +117,19 @@ second_quote_behind text None first second = sym (neither_quote text first secon
 second_quote_behind text (Some x) first second = rw second refl
 
 -- a value behind a key, part by part
-pub no_sign : (text : List ℕ) → None ≡ behind (codes "=") (trim_start text) → None ≡ value_behind text
+pub no_sign : (text : List ℕ) → None ≡ rest_behind (codes "=") (trim_start text) → None ≡ value_behind text
 unfolding value_behind
 no_sign text none = rw (← none) refl
 
-pub no_quote : (text after : List ℕ) → Some after ≡ behind (codes "=") (trim_start text) → None ≡ behind_quote (trim_start after) → None ≡ value_behind text
+pub no_quote : (text after : List ℕ) → Some after ≡ rest_behind (codes "=") (trim_start text) → None ≡ behind_quote (trim_start after) → None ≡ value_behind text
 unfolding value_behind
 no_quote text after some none = rw (← some) (rw (← none) refl)
 
-pub no_end : (text after value : List ℕ) → Some after ≡ behind (codes "=") (trim_start text) → Some value ≡ behind_quote (trim_start after) → None ≡ quote_place value → None ≡ value_behind text
+pub no_end : (text after value : List ℕ) → Some after ≡ rest_behind (codes "=") (trim_start text) → Some value ≡ behind_quote (trim_start after) → None ≡ quote_place value → None ≡ value_behind text
 unfolding value_behind
 no_end text after value some quote none = rw (← some) (rw (← quote) (rw (← none) refl))
 
-pub ended : (text after value : List ℕ) (len : ℕ) → Some after ≡ behind (codes "=") (trim_start text) → Some value ≡ behind_quote (trim_start after) → Some len ≡ quote_place value → Some (record { start = length text - length value; end = length text - length value + len }) ≡ value_behind text
+pub ended : (text after value : List ℕ) (len : ℕ) → Some after ≡ rest_behind (codes "=") (trim_start text) → Some value ≡ behind_quote (trim_start after) → Some len ≡ quote_place value → Some (record { start = length text - length value; end = length text - length value + len }) ≡ value_behind text
 unfolding value_behind
 ended text after value len some quote end =
     let start : length text - length value + 0 ≡ length text - length value = omega arith in

@@ -2,8 +2,8 @@
 use Rattle.std.specs.Prelude.{ℕ, ◌-◌, ◌^◌, ◌/◌, ◌%◌, false, List, [], ◌∷◌, ◌++◌, codes}
 use Rattle.std.specs.Fmt.{decimal, digits, format_spec, padded_integral}
 use Rattle.manifest_core.specs.Synthetic.{Bit, plain, marked}
-use Rattle.manifest_core.specs.declared.manifest.Told.{Told}
-use Rattle.manifest_core.specs.declared.manifest.Told.TheVariants.{Joined, Unknown, Low, Unnamed, Bad}
+use Rattle.manifest_core.specs.declared.manifest.FileNote.{FileNote}
+use Rattle.manifest_core.specs.declared.manifest.FileNote.TheVariants.{Joined, Unknown, Low, Unnamed, Bad}
 
 -- the head, with the name and the field marked
 abbrev pub manifest_pieces : List ℕ → List ℕ → List ℕ → List Bit
@@ -45,7 +45,7 @@ abbrev pub named_pieces : Bit → Bit → List Bit
 named_pieces score name = plain (codes "score = ") ∷ score ∷ plain (codes ", license = \"") ∷ name ∷ plain (codes "\"") ∷ []
 
 -- what is told of a file; marked is why it gives no name
-abbrev pub told_pieces : Told → List Bit
+abbrev pub told_pieces : FileNote → List Bit
 told_pieces (Joined hash) = hash_pieces hash
 told_pieces (Unknown hash score name) = hash_pieces hash ++ named_pieces (plain (score_text score)) (marked name.now)
 told_pieces (Low hash score name) = hash_pieces hash ++ named_pieces (marked (score_text score)) (plain name.now)
@@ -53,5 +53,5 @@ told_pieces (Unnamed hash score) = hash_pieces hash ++ plain (codes "score = ") 
 told_pieces (Bad words) = plain (codes "err = \"") ∷ marked words.now ∷ plain (codes "\"") ∷ []
 
 -- the line of a file
-abbrev pub line_pieces : List ℕ → Told → List Bit
+abbrev pub line_pieces : List ℕ → FileNote → List Bit
 line_pieces path told = plain (codes "    { path = \"") ∷ plain path ∷ plain (codes "\", ") ∷ (told_pieces told ++ plain (codes " },\n") ∷ [])

@@ -7,10 +7,10 @@ use Rattle.deny_text.specs.Spans.{moved}
 use Rattle.deny_text.specs.declared.span.Span.{Span}
 
 -- what follows the front, where the text begins with it
-abbrev pub behind : List ℕ → List ℕ → Option (List ℕ)
-behind [] text = Some text
-behind (byte ∷ front) [] = None
-behind (byte ∷ front) (first ∷ rest) = if first == byte then behind front rest else None
+abbrev pub rest_behind : List ℕ → List ℕ → Option (List ℕ)
+rest_behind [] text = Some text
+rest_behind (byte ∷ front) [] = None
+rest_behind (byte ∷ front) (first ∷ rest) = if first == byte then rest_behind front rest else None
 
 -- `"` or `'`
 abbrev pub is_quote : ℕ → Bool
@@ -35,11 +35,11 @@ value_at_end text value = option_map (λ len. moved (length text - length value)
 -- behind a key: white space, `=`, white space, a quote, the value, a quote; the place of the value
 unfoldable pub value_behind : List ℕ → Option Span
 value_behind text =
-    option_and_then (λ after. option_and_then (value_at_end text) (behind_quote (trim_start after))) (behind (codes "=") (trim_start text))
+    option_and_then (λ after. option_and_then (value_at_end text) (behind_quote (trim_start after))) (rest_behind (codes "=") (trim_start text))
 
 -- the same of a key that the text begins with
 abbrev pub value_here : List ℕ → Option Span
-value_here text = option_and_then (λ rest. option_map (moved (length license_key)) (value_behind rest)) (behind license_key text)
+value_here text = option_and_then (λ rest. option_map (moved (length license_key)) (value_behind rest)) (rest_behind license_key text)
 
 -- the place of the value of the first key that has one
 abbrev pub license_span_of : List ℕ → Option Span

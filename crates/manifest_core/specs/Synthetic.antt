@@ -11,11 +11,11 @@ pub data Bit : Type 0 where
   marked : List ℕ → Bit
 
 -- a text, and the places that were kept
-pub record Kept : Type 0 where
+pub record PlacedText : Type 0 where
   pub text : List ℕ
   pub spans : List Span
 
-abbrev pub nothing_kept : Kept
+abbrev pub nothing_kept : PlacedText
 nothing_kept = record { text = []; spans = [] }
 
 -- the place of what comes after this text
@@ -23,12 +23,12 @@ abbrev pub place_behind : List ℕ → List ℕ → Span
 place_behind text bytes = record { start = length text; end = length text + length bytes }
 
 -- the text with one more piece
-abbrev pub written : Kept → Bit → Kept
-written kept (plain bytes) = record { text = kept.text ++ bytes; spans = kept.spans }
-written kept (marked bytes) = record { text = kept.text ++ bytes; spans = kept.spans ++ place_behind kept.text bytes ∷ [] }
+abbrev pub with_piece : PlacedText → Bit → PlacedText
+with_piece kept (plain bytes) = record { text = kept.text ++ bytes; spans = kept.spans }
+with_piece kept (marked bytes) = record { text = kept.text ++ bytes; spans = kept.spans ++ place_behind kept.text bytes ∷ [] }
 
-abbrev pub written_all : Kept → List Bit → Kept
-written_all = fold written
+abbrev pub written_all : PlacedText → List Bit → PlacedText
+written_all = fold with_piece
 
 -- what is written of a piece, and what is marked of it
 abbrev pub bytes_of : Bit → List ℕ

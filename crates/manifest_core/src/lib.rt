@@ -7,7 +7,7 @@ pub mod slashes;
 pub mod span_search;
 pub mod synthetic;
 
-pub use manifest::Told;
+pub use manifest::FileNote;
 pub use slashes::correct_span;
 pub use span_search::license_span;
-pub use synthetic::{Piece, Synthetic};
+pub use synthetic::{TextPiece, Synthetic};

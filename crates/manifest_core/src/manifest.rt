@@ -4,16 +4,16 @@ ghost use Rattle.manifest_core.specs.Manifest.{closing_pieces, expression_pieces
 ghost use Rattle.manifest_core.specs.Manifest.{listing_pieces, manifest_pieces, opening_pieces, score_text};
 ghost use Rattle.manifest_core.specs.Manifest.{named_pieces, told_pieces};
 ghost use Rattle.manifest_core.specs.Pieces.{bit_of};
-ghost use Rattle.manifest_core.specs.declared.manifest.Told.TheVariants.{Unknown, Low, Unnamed, Bad};
+ghost use Rattle.manifest_core.specs.declared.manifest.FileNote.TheVariants.{Unknown, Low, Unnamed, Bad};
 ghost use Rattle.manifest_core.specs.Synthetic.{written_all};
 
-use crate::synthetic::{Piece, Synthetic};
+use crate::synthetic::{TextPiece, Synthetic};
 use std::alloc::{AllocError, Global};
 
 /// What a line of the list tells of a file: its hash, and its score in hundredths with the name that was
 /// found. Marked is why it gives no name.
 #[derive(Clone, Copy)]
-pub enum Told<'a> {
+pub enum FileNote<'a> {
     /// Its name was joined.
     Joined {
         hash: u32,
@@ -52,45 +52,45 @@ impl Synthetic {
         ensures { OnOk result (self.new
             ≡ written_all self.old (manifest_pieces name.now version.now field.now)) }
     {
-        self.write(Piece::Plain("[package]\nname = \""))?;
-        self.write(Piece::Marked(name))?;
-        self.write(Piece::Plain("\"\nversion = \""))?;
-        self.write(Piece::Plain(version))?;
-        self.write(Piece::Plain("\"\nlicense = \""))?;
-        self.write(Piece::Marked(field))?;
-        self.write(Piece::Plain("\"\n"))
+        self.write(TextPiece::Plain("[package]\nname = \""))?;
+        self.write(TextPiece::Marked(name))?;
+        self.write(TextPiece::Plain("\"\nversion = \""))?;
+        self.write(TextPiece::Plain(version))?;
+        self.write(TextPiece::Plain("\"\nlicense = \""))?;
+        self.write(TextPiece::Marked(field))?;
+        self.write(TextPiece::Plain("\"\n"))
     }
 
     /// The expression of the joined names, marked.
     pub fn write_expression(&mut self, expression: &str) -> Result<(), AllocError>
         ensures { OnOk result (self.new ≡ written_all self.old (expression_pieces expression.now)) }
     {
-        self.write(Piece::Plain("files-expr = \""))?;
-        self.write(Piece::Marked(expression))?;
-        self.write(Piece::Plain("\"\n"))
+        self.write(TextPiece::Plain("files-expr = \""))?;
+        self.write(TextPiece::Marked(expression))?;
+        self.write(TextPiece::Plain("\"\n"))
     }
 
     /// The words of a listing that did not come, marked.
     pub fn write_listing(&mut self, words: &str) -> Result<(), AllocError>
         ensures { OnOk result (self.new ≡ written_all self.old (listing_pieces words.now)) }
     {
-        self.write(Piece::Plain("license-files = \""))?;
-        self.write(Piece::Marked(words))?;
-        self.write(Piece::Plain("\"\n"))
+        self.write(TextPiece::Plain("license-files = \""))?;
+        self.write(TextPiece::Marked(words))?;
+        self.write(TextPiece::Plain("\"\n"))
     }
 
     /// What stands before the lines of the list.
     pub fn open_list(&mut self) -> Result<(), AllocError>
         ensures { OnOk result (self.new ≡ written_all self.old opening_pieces) }
     {
-        self.write(Piece::Plain("license-files = [\n"))
+        self.write(TextPiece::Plain("license-files = [\n"))
     }
 
     /// What stands behind the lines of the list.
     pub fn close_list(&mut self) -> Result<(), AllocError>
         ensures { OnOk result (self.new ≡ written_all self.old closing_pieces) }
     {
-        self.write(Piece::Plain("]\n"))
+        self.write(TextPiece::Plain("]\n"))
     }
 
     /// The line of a file.
@@ -98,28 +98,28 @@ impl Synthetic {
         &mut self,
         alloc: Global,
         path: &str,
-        told: Told<'_>,
+        told: FileNote<'_>,
     ) -> Result<(), AllocError>
         ensures { OnOk result (self.new ≡ written_all self.old (line_pieces path.now told.entry)) }
     {
-        self.write(Piece::Plain("    { path = \""))?;
-        self.write(Piece::Plain(path))?;
-        self.write(Piece::Plain("\", "))?;
+        self.write(TextPiece::Plain("    { path = \""))?;
+        self.write(TextPiece::Plain(path))?;
+        self.write(TextPiece::Plain("\", "))?;
         self.write_told(alloc, told)?;
-        self.write(Piece::Plain(" },\n"))
+        self.write(TextPiece::Plain(" },\n"))
     }
 }
 
 impl Synthetic {
-    fn write_told(&mut self, alloc: Global, told: Told<'_>) -> Result<(), AllocError>
+    fn write_told(&mut self, alloc: Global, told: FileNote<'_>) -> Result<(), AllocError>
         ensures { OnOk result (self.new ≡ written_all self.old (told_pieces told.entry)) }
     {
         match told {
-            Told::Joined { hash } => { self.write_hash(alloc, hash) }
-            Told::Unknown { hash, score, name } => self.write_unknown(alloc, hash, score, name),
-            Told::Low { hash, score, name } => self.write_low(alloc, hash, score, name),
-            Told::Unnamed { hash, score } => self.write_unnamed(alloc, hash, score),
-            Told::Bad { words } => self.write_bad(words),
+            FileNote::Joined { hash } => { self.write_hash(alloc, hash) }
+            FileNote::Unknown { hash, score, name } => self.write_unknown(alloc, hash, score, name),
+            FileNote::Low { hash, score, name } => self.write_low(alloc, hash, score, name),
+            FileNote::Unnamed { hash, score } => self.write_unnamed(alloc, hash, score),
+            FileNote::Bad { words } => self.write_bad(words),
         }
     }
 
@@ -134,7 +134,7 @@ impl Synthetic {
     {
         self.write_hash(alloc, hash)?;
         let score = score_of(alloc, score)?;
-        self.write_named(Piece::Plain(score.as_str()), Piece::Marked(name))
+        self.write_named(TextPiece::Plain(score.as_str()), TextPiece::Marked(name))
     }
 
     fn write_low(
@@ -148,7 +148,7 @@ impl Synthetic {
     {
         self.write_hash(alloc, hash)?;
         let score = score_of(alloc, score)?;
-        self.write_named(Piece::Marked(score.as_str()), Piece::Plain(name))
+        self.write_named(TextPiece::Marked(score.as_str()), TextPiece::Plain(name))
     }
 
     fn write_unnamed(&mut self, alloc: Global, hash: u32, score: u32) -> Result<(), AllocError>
@@ -156,36 +156,36 @@ impl Synthetic {
     {
         self.write_hash(alloc, hash)?;
         let score = score_of(alloc, score)?;
-        self.write(Piece::Plain("score = "))?;
-        self.write(Piece::Marked(score.as_str()))
+        self.write(TextPiece::Plain("score = "))?;
+        self.write(TextPiece::Marked(score.as_str()))
     }
 
     fn write_bad(&mut self, words: &str) -> Result<(), AllocError>
         ensures { OnOk result (self.new ≡ written_all self.old (told_pieces (Bad words.entry))) }
     {
-        self.write(Piece::Plain("err = \""))?;
-        self.write(Piece::Marked(words))?;
-        self.write(Piece::Plain("\""))
+        self.write(TextPiece::Plain("err = \""))?;
+        self.write(TextPiece::Marked(words))?;
+        self.write(TextPiece::Plain("\""))
     }
 
     /// The score and the name of a file.
-    fn write_named(&mut self, score: Piece<'_>, name: Piece<'_>) -> Result<(), AllocError>
+    fn write_named(&mut self, score: TextPiece<'_>, name: TextPiece<'_>) -> Result<(), AllocError>
         ensures { OnOk result (self.new ≡ written_all self.old (named_pieces (bit_of score.entry) (bit_of name.entry))) }
     {
-        self.write(Piece::Plain("score = "))?;
+        self.write(TextPiece::Plain("score = "))?;
         self.write(score)?;
-        self.write(Piece::Plain(", license = \""))?;
+        self.write(TextPiece::Plain(", license = \""))?;
         self.write(name)?;
-        self.write(Piece::Plain("\""))
+        self.write(TextPiece::Plain("\""))
     }
 
     fn write_hash(&mut self, alloc: Global, hash: u32) -> Result<(), AllocError>
         ensures { OnOk result (self.new ≡ written_all self.old (hash_pieces hash)) }
     {
         let digits = format!(in alloc; "{hash:08x}")?;
-        self.write(Piece::Plain("hash = 0x"))?;
-        self.write(Piece::Plain(&digits))?;
-        self.write(Piece::Plain(", "))
+        self.write(TextPiece::Plain("hash = 0x"))?;
+        self.write(TextPiece::Plain(&digits))?;
+        self.write(TextPiece::Plain(", "))
     }
 }
 

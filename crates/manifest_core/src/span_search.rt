@@ -1,6 +1,6 @@
 //! The search for a licence field in the text of a manifest.
 ghost use Rattle.std.specs.Prelude.{◌≡◌, ◌≤◌, ◌<◌, IfSome, codes, length, option_copied};
-ghost use Rattle.manifest_core.specs.SpanSearch.{behind, behind_quote, license_span_of};
+ghost use Rattle.manifest_core.specs.SpanSearch.{rest_behind, behind_quote, license_span_of};
 ghost use Rattle.manifest_core.specs.SpanSearch.{quote_place, value_behind};
 
 use deny_text::Span;
@@ -52,7 +52,7 @@ fn value_span(text: &str) -> Option<Span>
 
 /// What follows the sign `=` that the text begins with.
 fn after_sign(text: &str) -> Option<&str>
-    ensures value { option_copied result ≡ behind (codes "=") text.now }
+    ensures value { option_copied result ≡ rest_behind (codes "=") text.now }
     ensures shorter { IfSome result (λ rest. length rest.now < length text.now) }
 {
     text.strip_prefix('=')

@@ -2,7 +2,7 @@
 ghost use Rattle.std.specs.Prelude.{◌≡◌, All, OnOk, OnErr};
 ghost use Rattle.manifest_core.specs.Pieces.{bit_of};
 ghost use Rattle.deny_text.specs.Spans.{LiesBetween};
-ghost use Rattle.manifest_core.specs.Synthetic.{PlacesAlwaysCutOut, nothing_kept, written};
+ghost use Rattle.manifest_core.specs.Synthetic.{PlacesAlwaysCutOut, nothing_kept, with_piece};
 
 use deny_text::{Span, Text};
 use std::alloc::{AllocError, Global};
@@ -10,7 +10,7 @@ use std::marker::Model;
 
 /// A piece of a text: written as it is, or with its place kept.
 #[derive(Clone, Copy)]
-pub enum Piece<'a> {
+pub enum TextPiece<'a> {
     Plain(&'a str),
     Marked(&'a str),
 }
@@ -25,9 +25,9 @@ pub struct Synthetic {
 impl Model for Synthetic {
     ghost use Rattle.std.specs.Prelude.{All, string_bytes};
     ghost use Rattle.deny_text.specs.Spans.{LiesBetween};
-    ghost use Rattle.manifest_core.specs.Synthetic.{Kept};
+    ghost use Rattle.manifest_core.specs.Synthetic.{PlacedText};
 
-    ghost Value = { Kept };
+    ghost Value = { PlacedText };
 
     ghost view = { λ s. record { text = string_bytes s.text; spans = s.spans.items } };
 
@@ -46,16 +46,16 @@ impl Synthetic {
     }
 
     /// Appends a piece. Where memory is wanted nothing is appended.
-    pub fn write(&mut self, piece: Piece<'_>) -> Result<(), AllocError>
-        ensures ok { OnOk result (self.new ≡ written self.old (bit_of piece.entry)) }
+    pub fn write(&mut self, piece: TextPiece<'_>) -> Result<(), AllocError>
+        ensures ok { OnOk result (self.new ≡ with_piece self.old (bit_of piece.entry)) }
         ensures err { OnErr result (self.new ≡ self.old) }
     {
         match piece {
-            Piece::Plain(text) => {
+            TextPiece::Plain(text) => {
                 self.text.push_str(text)?;
                 Ok(())
             }
-            Piece::Marked(text) => {
+            TextPiece::Marked(text) => {
                 let start = self.text.len();
                 self.spans.try_reserve(1)?;
                 self.text.push_str(text)?;

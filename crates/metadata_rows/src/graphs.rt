@@ -4,7 +4,7 @@
 //! where its publish list is empty and `~` where a registry stands in it. Behind an arrow stand the crates that it depends on, each
 //! with its kinds, or with `none` for an empty list of kinds, or alone, where there is no such list.
 use crate::given;
-use case_files::{Case, Shown};
+use case_files::{Case, AnswerText};
 use records_core::{Krate, MetaError, records};
 use selection_core::{
     BuildError, DepKind, ExcludeSpec, ExcludeSpecs, Include, KrateRefs, Krates, Metadata, Selection,
@@ -23,7 +23,7 @@ fn parts_of(line: &str) -> (&str, &'static str, &str) {
     }
 }
 
-fn put_package(out: &mut Shown, line: &str) {
+fn put_package(out: &mut AnswerText, line: &str) {
     let (plain, publish, _) = parts_of(line);
     let (id, named) = plain.split_once('=').unwrap_or((plain, plain));
     let (name, version) = named.split_once('@').unwrap_or((named, "1.0.0"));
@@ -33,13 +33,13 @@ fn put_package(out: &mut Shown, line: &str) {
 }
 
 /// Puts the comma before each item but the first.
-fn put_comma(out: &mut Shown, is_first: bool) {
+fn put_comma(out: &mut AnswerText, is_first: bool) {
     if !is_first {
         out.put(",");
     }
 }
 
-fn put_kinds(out: &mut Shown, kinds: &str) {
+fn put_kinds(out: &mut AnswerText, kinds: &str) {
     let mut is_first = true;
     for kind in kinds.split_whitespace() {
         out.put(if is_first { r#","dep_kinds":["# } else { "," });
@@ -54,7 +54,7 @@ fn put_kinds(out: &mut Shown, kinds: &str) {
     out.put(if kinds.is_empty() { "}" } else { "]}" });
 }
 
-fn put_node(out: &mut Shown, line: &str) {
+fn put_node(out: &mut AnswerText, line: &str) {
     let (plain, _, edges) = parts_of(line);
     let (id, _) = plain.split_once('=').unwrap_or((plain, ""));
     write!(out, r#"{{"id":"{id}","deps":["#);
@@ -70,7 +70,7 @@ fn put_node(out: &mut Shown, line: &str) {
 }
 
 /// Puts the graph as `cargo metadata` would print it, with its members and its root crate.
-fn put_metadata(out: &mut Shown, graph: &str, members: &str, root: &str) {
+fn put_metadata(out: &mut AnswerText, graph: &str, members: &str, root: &str) {
     let mut is_first = true;
     out.put(r#"{"packages":["#);
     for line in graph.lines() {
@@ -101,7 +101,7 @@ fn put_metadata(out: &mut Shown, graph: &str, members: &str, root: &str) {
 }
 
 /// Puts the name of a spec and its version, if it has one.
-pub fn put_spec(alloc: Global, out: &mut Shown, text: &str) {
+pub fn put_spec(alloc: Global, out: &mut AnswerText, text: &str) {
     let read = ExcludeSpec::read(alloc, text);
     match &read {
         Ok(Some(spec)) => {
@@ -126,7 +126,7 @@ fn specs_of(alloc: Global, words: &str) -> Result<ExcludeSpecs, AllocError> {
 }
 
 fn graph_of(alloc: Global, case: &Case<'_>) -> Result<Metadata, MetaError> {
-    let mut text = Shown::new(alloc);
+    let mut text = AnswerText::new(alloc);
     let (members, root) = (case.word("members"), case.word("root"));
     put_metadata(&mut text, given(case, "graph"), members, root);
     let text = text.into_text()?;
@@ -149,13 +149,13 @@ fn reached(
     Krates::build(alloc, metadata, &selection)
 }
 
-pub fn put_ids(out: &mut Shown, crates: &[Krate]) {
+pub fn put_ids(out: &mut AnswerText, crates: &[Krate]) {
     for krate in crates {
         out.put(krate.id.as_str());
     }
 }
 
-fn put_refs(out: &mut Shown, crates: &Result<KrateRefs<'_>, AllocError>) {
+fn put_refs(out: &mut AnswerText, crates: &Result<KrateRefs<'_>, AllocError>) {
     match crates {
         Ok(crates) => {
             for krate in crates.items() {
@@ -167,7 +167,7 @@ fn put_refs(out: &mut Shown, crates: &Result<KrateRefs<'_>, AllocError>) {
 }
 
 /// Puts the crates that are reached, and those that are reached without normal, without dev and without build dependencies.
-fn put_reached(alloc: Global, out: &mut Shown, krates: &Krates) {
+fn put_reached(alloc: Global, out: &mut AnswerText, krates: &Krates) {
     put_ids(out, krates.krates());
     for kind in [DepKind::Normal, DepKind::Dev, DepKind::Build] {
         out.put(" | ");
@@ -176,7 +176,7 @@ fn put_reached(alloc: Global, out: &mut Shown, krates: &Krates) {
 }
 
 /// Puts the crates that are selected without dev and build dependencies, with build, with dev, and with both.
-fn put_selected(alloc: Global, out: &mut Shown, krates: &Krates) {
+fn put_selected(alloc: Global, out: &mut AnswerText, krates: &Krates) {
     let mut front = "";
     for (dev, build) in [(false, false), (false, true), (true, false), (true, true)] {
         out.put(front);
@@ -186,7 +186,7 @@ fn put_selected(alloc: Global, out: &mut Shown, krates: &Krates) {
 }
 
 /// Puts what a key tells of the graph of a case.
-pub fn put_graph(alloc: Global, out: &mut Shown, case: &Case<'_>, key: &str) {
+pub fn put_graph(alloc: Global, out: &mut AnswerText, case: &Case<'_>, key: &str) {
     match graph_of(alloc, case) {
         Ok(metadata) => match &reached(alloc, metadata, case.word("exclude"), key) {
             Ok(krates) if key == "selected" => put_selected(alloc, out, krates),

@@ -8,7 +8,7 @@ mod sources;
 mod trees;
 
 use case_files::cases::{is_among, wanted};
-use case_files::{Answered, Case, Cases, Rows, Shown, compare_cases, compare_rows, exit_code};
+use case_files::{KeyAnswer, Case, Cases, Rows, AnswerText, compare_cases, compare_rows, exit_code};
 use std::alloc::Global;
 use std::process::ExitCode;
 
@@ -17,12 +17,12 @@ const SPARSE_DIR: &str = "index.crates.io-1949cf8c6b5b557f";
 
 /// The rows or cases of a file.
 #[derive(Clone, Copy)]
-struct Texts {
+struct RowFile {
     file: &'static str,
 }
 
-impl Rows for Texts {
-    fn answer(&self, alloc: Global, group: &str, text: &str, out: &mut Shown) -> bool {
+impl Rows for RowFile {
+    fn answer(&self, alloc: Global, group: &str, text: &str, out: &mut AnswerText) -> bool {
         match self.file {
             "faults.txt" => records::put_fault(alloc, out, text),
             "specs.txt" => graphs::put_spec(alloc, out, text),
@@ -41,7 +41,7 @@ fn given<'c>(case: &Case<'c>, key: &str) -> &'c str {
     }
 }
 
-impl Cases for Texts {
+impl Cases for RowFile {
     fn is_given(&self, key: &str) -> bool {
         match self.file {
             "records.txt" => is_among(key, &["metadata", "sources"]),
@@ -60,7 +60,7 @@ impl Cases for Texts {
         }
     }
 
-    fn told(&self, alloc: Global, case: &Case<'_>, key: &str, out: &mut Shown) -> Answered {
+    fn told(&self, alloc: Global, case: &Case<'_>, key: &str, out: &mut AnswerText) -> KeyAnswer {
         match key {
             "records" => records::put_records(alloc, out, given(case, "metadata"), true),
             "order" => sources::put_order(alloc, out, given(case, "sources")),
@@ -68,20 +68,20 @@ impl Cases for Texts {
             "no-setting" | "exclude-dev" | "workspace" | "exclude-unpublished" | "selected" => {
                 graphs::put_graph(alloc, out, case, key)
             }
-            _ => return Answered::NoSuchKey,
+            _ => return KeyAnswer::NoSuchKey,
         }
-        Answered::Yes
+        KeyAnswer::Yes
     }
 }
 
 fn main(rt: HostRuntime) -> ExitCode {
     let mut is_as_wanted = true;
     for file in ["faults.txt", "sources.txt", "specs.txt", "searches.txt"] {
-        let is_one = compare_rows(&rt, file, &Texts { file });
+        let is_one = compare_rows(&rt, file, &RowFile { file });
         is_as_wanted = is_as_wanted & is_one;
     }
     for file in ["records.txt", "graphs.txt", "requests.txt"] {
-        let is_one = compare_cases(&rt, file, &Texts { file });
+        let is_one = compare_cases(&rt, file, &RowFile { file });
         is_as_wanted = is_as_wanted & is_one;
     }
     exit_code(is_as_wanted)

@@ -1,6 +1,6 @@
 //! The records that metadata tells, or what its fault is.
 use crate::SPARSE_DIR;
-use case_files::Shown;
+use case_files::AnswerText;
 use deny_text::Texts;
 use records_core::{Edge, Krate, MetaError, Metadata, records};
 use std::alloc::Global;
@@ -13,14 +13,14 @@ const ONE_CRATE: &str = r#"
 "resolve":{"nodes":[{"id":"a 1.0.0","deps":[]}],"root":"a 1.0.0"}}"#;
 
 /// Reads the metadata of one crate with the text before the arrow replaced by the one behind it, or a text without an arrow as it is.
-pub fn put_fault(alloc: Global, out: &mut Shown, text: &str) {
+pub fn put_fault(alloc: Global, out: &mut AnswerText, text: &str) {
     let Some((part, other)) = text.split_once(" ->") else {
         return put_records(alloc, out, text, false);
     };
     let Some((front, back)) = ONE_CRATE.split_once(part) else {
         return out.put("no such part");
     };
-    let mut changed = Shown::new(alloc);
+    let mut changed = AnswerText::new(alloc);
     changed.put(front);
     changed.put(other.strip_prefix(' ').unwrap_or(other));
     changed.put(back);
@@ -30,7 +30,7 @@ pub fn put_fault(alloc: Global, out: &mut Shown, text: &str) {
     }
 }
 
-fn put_field<D: Display>(out: &mut Shown, field: &Option<D>) {
+fn put_field<D: Display>(out: &mut AnswerText, field: &Option<D>) {
     match field {
         Some(value) => write!(out, " | {value}"),
         None => out.put(" | -"),
@@ -38,13 +38,13 @@ fn put_field<D: Display>(out: &mut Shown, field: &Option<D>) {
 }
 
 /// Puts each text with a semicolon.
-fn put_texts(out: &mut Shown, texts: &Texts) {
+fn put_texts(out: &mut AnswerText, texts: &Texts) {
     for text in texts.items() {
         write!(out, "{text};");
     }
 }
 
-fn put_krate(out: &mut Shown, krate: &Krate) {
+fn put_krate(out: &mut AnswerText, krate: &Krate) {
     write!(out, "{krate} | {}", krate.id);
     put_field(out, &krate.source);
     out.put(" | ");
@@ -69,7 +69,7 @@ fn put_krate(out: &mut Shown, krate: &Krate) {
     out.put("\n");
 }
 
-fn put_edge(out: &mut Shown, crates: &[Krate], edge: &Edge) {
+fn put_edge(out: &mut AnswerText, crates: &[Krate], edge: &Edge) {
     match crates.get(edge.to) {
         Some(krate) => write!(out, " {}", krate.id),
         None => out.put(" ?"),
@@ -81,7 +81,7 @@ fn put_edge(out: &mut Shown, crates: &[Krate], edge: &Edge) {
 }
 
 /// Puts a line for each crate with all its fields, and below it one for each edge with its kinds.
-fn put_metadata(out: &mut Shown, metadata: &Metadata) {
+fn put_metadata(out: &mut AnswerText, metadata: &Metadata) {
     for (place, krate) in metadata.crates().iter().enumerate() {
         put_krate(out, krate);
         if place < metadata.len() {
@@ -93,7 +93,7 @@ fn put_metadata(out: &mut Shown, metadata: &Metadata) {
 }
 
 /// Puts the whole records of a text, or only that they are read; or its fault.
-pub fn put_records(alloc: Global, out: &mut Shown, text: &str, is_whole: bool) {
+pub fn put_records(alloc: Global, out: &mut AnswerText, text: &str, is_whole: bool) {
     let read = records(alloc, text, SPARSE_DIR);
     match &read {
         Ok(metadata) if is_whole => put_metadata(out, metadata),

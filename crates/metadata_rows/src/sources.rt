@@ -1,6 +1,6 @@
 //! Sources, how they compare, the addresses that they match, and the normal form of git addresses.
 use crate::SPARSE_DIR;
-use case_files::Shown;
+use case_files::AnswerText;
 use source_core::{Source, SourceError, matches_address, normalize_git_url};
 use std::alloc::Global;
 use std::cmp::Ordering;
@@ -21,7 +21,7 @@ fn source_of(alloc: Global, text: &str) -> Result<Source, SourceError> {
 }
 
 /// Puts all that a source holds.
-fn put_whole(out: &mut Shown, source: &Source) {
+fn put_whole(out: &mut AnswerText, source: &Source) {
     match source {
         Source::CratesIo(is_sparse) => write!(out, "CratesIo({is_sparse})"),
         Source::Git {
@@ -35,7 +35,7 @@ fn put_whole(out: &mut Shown, source: &Source) {
 }
 
 /// Puts which kinds a source is of, and what it names in a git repository.
-fn put_kinds(out: &mut Shown, source: &Source) {
+fn put_kinds(out: &mut AnswerText, source: &Source) {
     for (is_so, kind) in [
         (source.is_crates_io(), "crates.io "),
         (source.is_registry(), "registry "),
@@ -46,7 +46,7 @@ fn put_kinds(out: &mut Shown, source: &Source) {
     write!(out, "{:?}", source.git_spec());
 }
 
-fn put_match(alloc: Global, out: &mut Shown, source: &Source, address: &str, exact: bool) {
+fn put_match(alloc: Global, out: &mut AnswerText, source: &Source, address: &str, exact: bool) {
     let address = Url::parse(alloc, address);
     match &address {
         Ok(address) => write!(out, "{}", matches_address(source, address, exact)),
@@ -55,7 +55,7 @@ fn put_match(alloc: Global, out: &mut Shown, source: &Source, address: &str, exa
 }
 
 /// Puts the normal form of a git repository's address, and what its query names.
-fn put_normal(alloc: Global, out: &mut Shown, text: &str) {
+fn put_normal(alloc: Global, out: &mut AnswerText, text: &str) {
     match Url::parse(alloc, text) {
         Ok(mut url) => match normalize_git_url(alloc, &mut url) {
             Ok((spec, value)) => write!(out, "{spec:?} {value:?} {}", url.as_str()),
@@ -65,7 +65,7 @@ fn put_normal(alloc: Global, out: &mut Shown, text: &str) {
     }
 }
 
-fn put_source(alloc: Global, out: &mut Shown, group: &str, source: &Source, other: &str) {
+fn put_source(alloc: Global, out: &mut AnswerText, group: &str, source: &Source, other: &str) {
     match group {
         "printed sources" => write!(out, "{source}"),
         "kinds of sources" => put_kinds(out, source),
@@ -81,7 +81,7 @@ fn put_source(alloc: Global, out: &mut Shown, group: &str, source: &Source, othe
 }
 
 /// Puts what a group tells of a source and of what stands behind the bar, or why there is no source.
-pub fn put(alloc: Global, out: &mut Shown, group: &str, text: &str) {
+pub fn put(alloc: Global, out: &mut AnswerText, group: &str, text: &str) {
     if group == "normal addresses" {
         return put_normal(alloc, out, text);
     }
@@ -94,7 +94,7 @@ pub fn put(alloc: Global, out: &mut Shown, group: &str, text: &str) {
 }
 
 /// Puts the sign between two sources; a question mark where the order and equality differ.
-fn put_sign(alloc: Global, out: &mut Shown, one: &str, other: &str) {
+fn put_sign(alloc: Global, out: &mut AnswerText, one: &str, other: &str) {
     let one = source_of(alloc, one);
     let other = source_of(alloc, other);
     match (&one, &other) {
@@ -109,7 +109,7 @@ fn put_sign(alloc: Global, out: &mut Shown, one: &str, other: &str) {
 }
 
 /// Puts for the source of each line a line with the signs between it and each of them.
-pub fn put_order(alloc: Global, out: &mut Shown, text: &str) {
+pub fn put_order(alloc: Global, out: &mut AnswerText, text: &str) {
     for one in text.lines() {
         for other in text.lines() {
             put_sign(alloc, out, one, other);

@@ -1,15 +1,15 @@
 //! The crates that are gathered for a request, and the policy and the exceptions file that are found in a tree.
 use crate::graphs::put_ids;
 use case_files::tree::{number, tree_of};
-use case_files::{Answered, Case, Shown};
+use case_files::{KeyAnswer, Case, AnswerText};
 use context_core::{KrateContext, Krates, KratesError, gather_krates};
 use deny_text::{PathBuf, Text, Texts};
-use search_core::{SearchError, Sought, find_upwards};
+use search_core::{SearchError, SoughtFile, find_upwards};
 use std::alloc::{AllocError, Global};
 use tree_core::{MemTree, PutError, Tree};
 
 /// Makes the call with this number fail, or none where it is 0.
-fn fail_call(out: &mut Shown, tree: &mut MemTree, word: &str) {
+fn fail_call(out: &mut AnswerText, tree: &mut MemTree, word: &str) {
     match number(word) {
         Some(0) | None => {}
         Some(call) => {
@@ -62,9 +62,9 @@ fn gathered(alloc: Global, tree: &mut MemTree, case: &Case<'_>) -> Result<Krates
 }
 
 /// Puts the ids that are gathered, or the refusal: once for each number of a call that fails, over one tree, or once where none does.
-pub fn put_gathered(alloc: Global, out: &mut Shown, case: &Case<'_>) -> Answered {
+pub fn put_gathered(alloc: Global, out: &mut AnswerText, case: &Case<'_>) -> KeyAnswer {
     let Ok(mut tree) = tree_of(alloc, case) else {
-        return Answered::CantBeTried;
+        return KeyAnswer::CantBeTried;
     };
     let mut is_first = true;
     for word in case.word_or("fail", "0").split_whitespace() {
@@ -78,20 +78,20 @@ pub fn put_gathered(alloc: Global, out: &mut Shown, case: &Case<'_>) -> Answered
             Err(error) => write!(out, "{error:?}"),
         }
     }
-    Answered::Yes
+    KeyAnswer::Yes
 }
 
 /// The search from a manifest upwards, of which nothing is said: whoever calls this owes nothing of its contract.
 fn found(
     alloc: Global,
     tree: &mut MemTree,
-    sought: Sought,
+    sought: SoughtFile,
 ) -> Result<Option<PathBuf>, SearchError> {
     let begun = tree.faults();
     find_upwards(alloc, tree, "/w/a/Cargo.toml", sought, begun)
 }
 
-fn put_found(alloc: Global, out: &mut Shown, tree: &mut MemTree, sought: Sought) {
+fn put_found(alloc: Global, out: &mut AnswerText, tree: &mut MemTree, sought: SoughtFile) {
     let found = found(alloc, tree, sought);
     match &found {
         Ok(Some(path)) => out.put(path.as_path()),
@@ -111,7 +111,7 @@ fn tree_with(alloc: Global, files: &str) -> Result<MemTree, PutError> {
 
 /// Puts what is found for a policy and for an exceptions file; or, where numbers stand behind a bar, what is found for a policy where
 /// one call after another fails.
-pub fn put_searches(alloc: Global, out: &mut Shown, text: &str) {
+pub fn put_searches(alloc: Global, out: &mut AnswerText, text: &str) {
     let (files, calls) = text.split_once(" | ").unwrap_or((text, ""));
     let Ok(mut tree) = tree_with(alloc, files) else {
         return out.put("no tree");
@@ -122,12 +122,12 @@ pub fn put_searches(alloc: Global, out: &mut Shown, text: &str) {
         if !is_first {
             out.put("; ");
         }
-        put_found(alloc, out, &mut tree, Sought::Policy);
+        put_found(alloc, out, &mut tree, SoughtFile::Policy);
         is_first = false;
     }
     if calls.is_empty() {
-        put_found(alloc, out, &mut tree, Sought::Policy);
+        put_found(alloc, out, &mut tree, SoughtFile::Policy);
         out.put(" ");
-        put_found(alloc, out, &mut tree, Sought::Exceptions);
+        put_found(alloc, out, &mut tree, SoughtFile::Exceptions);
     }
 }

@@ -6,21 +6,21 @@ use Rattle.std.proofs.lemmas.List.{map-append}
 use Rattle.std.proofs.lemmas.List.Sums.{fold-append}
 use Rattle.deny_text.specs.Path.{components_of, join_of}
 use Rattle.tree_core.specs.Call as call
-use Rattle.tree_core.specs.Call.{Answered, Call}
+use Rattle.tree_core.specs.Call.{CallAnswer, Call}
 use Rattle.tree_core.specs.Content.{Content}
 use Rattle.tree_core.specs.Hearing.{Made, MadeSome}
 use Rattle.tree_core.proofs.MadeLemmas.{made_as, made_these}
 use Rattle.tree_core.specs.declared.reads.ReadKind.TheVariants.{Listing, LicenseFile}
 use Rattle.tree_core.specs.declared.reads.ReadRecord.{ReadRecord}
-use Rattle.reads_core.specs.Answered.{IsListed, IsRead, call_of}
-use Rattle.reads_core.specs.Heard.{Heard, absent, is_kind, is_read, record_of, same_parts}
-use Rattle.reads_core.specs.Read.{LackedMemory, MadeReads, Read, call_for, call_lost, calls_in, first_heard, kind_answered, read_heard, records_in}
+use Rattle.reads_core.specs.Answered.{IsListed, IsFileRead, call_of}
+use Rattle.reads_core.specs.Heard.{ReadResult, absent, is_kind, is_read, read_record_of, same_parts}
+use Rattle.reads_core.specs.Read.{LackedMemory, MadeReads, AnsweredRead, call_for, call_lost, calls_in, first_heard, kind_answered, read_heard, records_of_reads}
 use Rattle.reads_core.proofs.ReadLemmas.{first_heard-skip, heard_recorded, lacked_behind, no_reads, one_read, read_with, reads_joined, reads_lacking, records_in-append}
 use Rattle.pack_core.specs.Calls.{IsMadeBy, GoesBy, IsFront, IsMadeOf, Starves, StarvesAmong, TakesIn, first_records, unread_file}
-use Rattle.pack_core.specs.Ears.{Ears, ears_by}
-use Rattle.pack_core.specs.Pack.{found_of, same_path}
-use Rattle.pack_core.specs.Steps.{Agrees, Begins, file_record, records_by, with_file, with_path}
-use Rattle.pack_core.specs.Told.{told_of}
+use Rattle.pack_core.specs.Ears.{FolderReads, ears_by}
+use Rattle.pack_core.specs.Pack.{license_files_in, same_path}
+use Rattle.pack_core.specs.Steps.{Agrees, BeginsPack, file_record, records_by, with_file, with_path}
+use Rattle.pack_core.specs.Told.{file_state}
 use Rattle.pack_core.specs.View.{PackView, file_at, normal_heard, paths_read}
 use Rattle.pack_core.proofs.PackLemmas.{file_at-insert, from_cond, none_told, paths_read-push, records-with_file, stays-with_file}
 use Rattle.pack_core.proofs.PathLemmas.{parts_of_same}
@@ -57,17 +57,17 @@ second_false false b e = e
 -- ---- the first read that is asked for
 
 -- no file of these parts is among the records
-none_read : (at : List ℕ) (reads : List Read) → list_any (same_path at) (paths_read (records_in reads)) ≡ false → (last : Read) → is_read LicenseFile (components_of at) last.recorded ≡ true
+none_read : (at : List ℕ) (reads : List AnsweredRead) → list_any (same_path at) (paths_read (records_of_reads reads)) ≡ false → (last : AnsweredRead) → is_read LicenseFile (components_of at) last.recorded ≡ true
     → first_heard (is_read LicenseFile (components_of at)) (reads ++ last ∷ []) ≡ read_heard last
 none_read at [] none last is = ap (λ b. cond b (read_heard last) (first_heard (is_read LicenseFile (components_of at)) [])) is
 none_read at (read ∷ reads) none last is =
     let rest = first_heard (is_read LicenseFile (components_of at)) (reads ++ last ∷ []) in
     let same = same_path at read.recorded.path in
-    elim (is_kind LicenseFile read.recorded.kind) as (λ b. list_any (same_path at) (cons_option (cond b (Some read.recorded.path) None) (paths_read (records_in reads))) ≡ false
+    elim (is_kind LicenseFile read.recorded.kind) as (λ b. list_any (same_path at) (cons_option (cond b (Some read.recorded.path) None) (paths_read (records_of_reads reads))) ≡ false
     → cond (b && same) (read_heard read) rest ≡ read_heard last) [
       | true ↦ λ e.
-          ap (λ b. cond b (read_heard read) rest) (first_false same (list_any (same_path at) (paths_read (records_in reads))) e)
-          ∙ none_read at reads (second_false same (list_any (same_path at) (paths_read (records_in reads))) e) last is
+          ap (λ b. cond b (read_heard read) rest) (first_false same (list_any (same_path at) (paths_read (records_of_reads reads))) e)
+          ∙ none_read at reads (second_false same (list_any (same_path at) (paths_read (records_of_reads reads))) e) last is
       | false ↦ λ e. none_read at reads e last is
     ] none
 
@@ -84,26 +84,26 @@ takes_none pack = record {
 }
 
 -- ears that agree with a pack agree with what it had before
-pub agrees_before : (reads : List Read) (old new : PackView) (ears : Ears) → TakesIn reads old new → Agrees ears new → Agrees ears old
+pub agrees_before : (reads : List AnsweredRead) (old new : PackView) (ears : FolderReads) → TakesIn reads old new → Agrees ears new → Agrees ears old
 agrees_before reads old new ears takes agrees = record {
   listing = agrees.listing ∙ takes.listing;
   files = λ path heard is. agrees.files path heard (takes.stays path heard is);
 }
 
-pub takes_then : (reads more : List Read) (old mid new : PackView) → TakesIn reads old mid → TakesIn more mid new → TakesIn (reads ++ more) old new
+pub takes_then : (reads more : List AnsweredRead) (old mid new : PackView) → TakesIn reads old mid → TakesIn more mid new → TakesIn (reads ++ more) old new
 takes_then reads more old mid new first then = record {
   folder = then.folder ∙ first.folder;
   listing = then.listing ∙ first.listing;
   stays = λ path heard is. then.stays path heard (first.stays path heard is);
   adds =
-      then.adds ∙ ap (λ those. those ++ records_in more) first.adds ∙ append_assoc old.reads (records_in reads) (records_in more)
+      then.adds ∙ ap (λ those. those ++ records_of_reads more) first.adds ∙ append_assoc old.reads (records_of_reads reads) (records_of_reads more)
       ∙ ap (λ those. old.reads ++ those) (sym (records_in-append reads more));
   records = λ ears agrees is. then.records ears agrees (first.records ears (agrees_before more mid new ears then agrees) is);
   made_of = λ earlier is. subst (λ those. IsMadeOf those new) (append_assoc earlier reads more) (then.made_of (earlier ++ reads) (first.made_of earlier is));
 }
 
 -- a file that was read goes into a pack that had none of the same parts
-pub takes_file : (pack : PackView) (path : List ℕ) (heard : Heard) (answer : Answered) (before after : ℕ) → file_at pack.files path ≡ None
+pub takes_file : (pack : PackView) (path : List ℕ) (heard : ReadResult) (answer : CallAnswer) (before after : ℕ) → file_at pack.files path ≡ None
     → list_any (same_path path) (paths_read pack.reads) ≡ false → kind_answered LicenseFile before after answer ≡ Some heard
     → TakesIn (read_with LicenseFile path heard answer ∷ []) pack (with_file pack path heard)
 takes_file pack path heard answer before after none unread hears = record {
@@ -113,16 +113,16 @@ takes_file pack path heard answer before after none unread hears = record {
   adds = refl;
   records = records-with_file pack path heard none;
   made_of = λ earlier is.
-      let last : Read = read_with LicenseFile path heard answer in
+      let last : AnsweredRead = read_with LicenseFile path heard answer in
       record {
-        records = ap (λ reads. reads ++ record_of LicenseFile path heard ∷ []) is.records ∙ sym (records_in-append earlier (last ∷ []));
+        records = ap (λ reads. reads ++ read_record_of LicenseFile path heard ∷ []) is.records ∙ sym (records_in-append earlier (last ∷ []));
         agrees = record {
           listing = first_heard-skip (λ read. is_kind Listing read.kind) earlier last refl ∙ is.agrees.listing;
           files = λ at found there.
               from_cond (λ found. normal_heard (first_heard (is_read LicenseFile (components_of at)) (earlier ++ last ∷ [])) ≡ found)
               (same_path at path) (normal_heard heard) (file_at pack.files at) found
               (λ same. ap normal_heard (none_read at earlier
-              (ap (λ parts. list_any (λ other. same_parts parts (components_of other)) (paths_read (records_in earlier))) (parts_of_same at path same)
+              (ap (λ parts. list_any (λ other. same_parts parts (components_of other)) (paths_read (records_of_reads earlier))) (parts_of_same at path same)
               ∙ ap (λ reads. list_any (same_path path) (paths_read reads)) (sym is.records) ∙ unread) last same
               ∙ heard_recorded LicenseFile path before after answer heard hears))
               (λ differs was. ap normal_heard (first_heard-skip (is_read LicenseFile (components_of at)) earlier last differs) ∙ is.agrees.files at found was)
@@ -136,9 +136,9 @@ takes_file pack path heard answer before after none unread hears = record {
 pub goes_itself : (told : Option Content) (count : ℕ) (calls : List Call) (pack : PackView) → GoesBy told told count count calls calls pack pack
 goes_itself told count calls pack = record { reads = []; takes = takes_none pack; made = no_reads told count calls pack.folder }
 
-pub goes_file : {told tells : Option Content} {before after : ℕ} {old new : List Call} (pack : PackView) (path : List ℕ) (heard : Heard) (answer : Answered)
+pub goes_file : {told tells : Option Content} {before after : ℕ} {old new : List Call} (pack : PackView) (path : List ℕ) (heard : ReadResult) (answer : CallAnswer)
     → file_at pack.files path ≡ None → list_any (same_path path) (paths_read pack.reads) ≡ false → kind_answered LicenseFile before after answer ≡ Some heard
-    → Made told tells before after old new (call_for pack.folder (record_of LicenseFile path heard) answer ∷ []) → GoesBy told tells before after old new pack (with_file pack path heard)
+    → Made told tells before after old new (call_for pack.folder (read_record_of LicenseFile path heard) answer ∷ []) → GoesBy told tells before after old new pack (with_file pack path heard)
 goes_file {told} {tells} {before} {after} {old} {new} pack path heard answer none unread hears made = record {
   reads = read_with LicenseFile path heard answer ∷ [];
   takes = takes_file pack path heard answer before after none unread hears;
@@ -155,8 +155,8 @@ module _ {told mid tells : Option Content} {before middle after : ℕ} {old betw
   }
 
   -- memory was wanting in a later step, which wanted first ones of these
-  pub starves_then : (wanted wider : Ears → List (List ℕ)) → GoesBy told mid before middle old between pack next → Starves mid tells middle after between new next wanted
-      → ((ears : Ears) → Agrees ears next → IsFront (wanted ears) (wider ears)) → Starves told tells before after old new pack wider
+  pub starves_then : (wanted wider : FolderReads → List (List ℕ)) → GoesBy told mid before middle old between pack next → Starves mid tells middle after between new next wanted
+      → ((ears : FolderReads) → Agrees ears next → IsFront (wanted ears) (wider ears)) → Starves told tells before after old new pack wider
   starves_then wanted wider first then wide = record {
     reads = first.reads ++ then.reads;
     lost = then.lost;
@@ -170,8 +170,8 @@ module _ {told mid tells : Option Content} {before middle after : ℕ} {old betw
   }
 
 -- memory was wanting behind a step
-pub starves_behind : {told tells : Option Content} {before after : ℕ} {old new : List Call} (pack next : PackView) (wanted : Ears → List (List ℕ))
-    → GoesBy told tells before after old new pack next → ((ears : Ears) → Agrees ears next → IsFront (paths_read next.reads) (wanted ears))
+pub starves_behind : {told tells : Option Content} {before after : ℕ} {old new : List Call} (pack next : PackView) (wanted : FolderReads → List (List ℕ))
+    → GoesBy told tells before after old new pack next → ((ears : FolderReads) → Agrees ears next → IsFront (paths_read next.reads) (wanted ears))
     → Starves told tells before after old new pack wanted
 starves_behind pack next wanted goes front = record {
   reads = goes.reads;
@@ -183,8 +183,8 @@ starves_behind pack next wanted goes front = record {
 }
 
 -- memory was wanting in the call for a file
-pub starves_in_call : {told tells : Option Content} {before after : ℕ} {old new : List Call} (pack : PackView) (path : List ℕ) (wanted : Ears → List (List ℕ))
-    → Made told tells before after old new (call_lost pack.folder (Some (unread_file path))) → ((ears : Ears) → IsFront (paths_read pack.reads ++ path ∷ []) (wanted ears))
+pub starves_in_call : {told tells : Option Content} {before after : ℕ} {old new : List Call} (pack : PackView) (path : List ℕ) (wanted : FolderReads → List (List ℕ))
+    → Made told tells before after old new (call_lost pack.folder (Some (unread_file path))) → ((ears : FolderReads) → IsFront (paths_read pack.reads ++ path ∷ []) (wanted ears))
     → Starves told tells before after old new pack wanted
 starves_in_call pack path wanted made front = record {
   reads = [];
@@ -196,8 +196,8 @@ starves_in_call pack path wanted made front = record {
 }
 
 -- what was wanted is wanted by another name
-pub starves_as : {told tells : Option Content} {before after : ℕ} {old new : List Call} (pack : PackView) (wanted wider : Ears → List (List ℕ))
-    → Starves told tells before after old new pack wanted → ((ears : Ears) → IsFront (wanted ears) (wider ears)) → Starves told tells before after old new pack wider
+pub starves_as : {told tells : Option Content} {before after : ℕ} {old new : List Call} (pack : PackView) (wanted wider : FolderReads → List (List ℕ))
+    → Starves told tells before after old new pack wanted → ((ears : FolderReads) → IsFront (wanted ears) (wider ears)) → Starves told tells before after old new pack wider
 starves_as {told} {tells} {before} {after} {old} {new} pack wanted wider starves wide =
     starves_then pack pack wanted wider (goes_itself told before old pack) starves (λ ears agrees. wide ears)
 
@@ -224,17 +224,17 @@ starves_in_file pack path unread (inr called) =
     (λ ears. ([], ap (λ b. cond b (paths_read pack.reads) (paths_read pack.reads ++ path ∷ [])) unread ∙ sym (append-nil (paths_read pack.reads ++ path ∷ []))))
 
 -- a file that was read goes into the pack
-pub goes_read : {told tells : Option Content} {before after : ℕ} {old new : List Call} (pack : PackView) (path : List ℕ) (heard : Heard) (folder at : List ℕ)
-    → None ≡ option_map told_of (file_at pack.files path) → false ≡ list_any (same_path path) (paths_read pack.reads) → folder ≡ pack.folder → at ≡ path
-    → IsRead before after old new (join_of folder at) heard → MadeSome told tells before after old new → GoesBy told tells before after old new pack (with_file pack path heard)
+pub goes_read : {told tells : Option Content} {before after : ℕ} {old new : List Call} (pack : PackView) (path : List ℕ) (heard : ReadResult) (folder at : List ℕ)
+    → None ≡ option_map file_state (file_at pack.files path) → false ≡ list_any (same_path path) (paths_read pack.reads) → folder ≡ pack.folder → at ≡ path
+    → IsFileRead before after old new (join_of folder at) heard → MadeSome told tells before after old new → GoesBy told tells before after old new pack (with_file pack path heard)
 goes_read {old = old} pack path heard folder at untold unread folder_is at_is read some =
     goes_file pack path heard read.answer (none_told (file_at pack.files path) untold) (sym unread) read.hears
     (made_these some (read.made ∙ ap (λ path. old ++ call_of call.read path read.answer ∷ []) (ap₂ join_of folder_is at_is)))
 
 -- and memory was wanting then
-pub starves_read : {told tells : Option Content} {before after : ℕ} {old new : List Call} (pack : PackView) (path : List ℕ) (heard : Heard) (folder at : List ℕ)
-    → None ≡ option_map told_of (file_at pack.files path) → false ≡ list_any (same_path path) (paths_read pack.reads) → folder ≡ pack.folder → at ≡ path
-    → IsRead before after old new (join_of folder at) heard → MadeSome told tells before after old new → Starves told tells before after old new pack (λ ears. with_path (paths_read pack.reads) path)
+pub starves_read : {told tells : Option Content} {before after : ℕ} {old new : List Call} (pack : PackView) (path : List ℕ) (heard : ReadResult) (folder at : List ℕ)
+    → None ≡ option_map file_state (file_at pack.files path) → false ≡ list_any (same_path path) (paths_read pack.reads) → folder ≡ pack.folder → at ≡ path
+    → IsFileRead before after old new (join_of folder at) heard → MadeSome told tells before after old new → Starves told tells before after old new pack (λ ears. with_path (paths_read pack.reads) path)
 starves_read pack path heard folder at untold unread folder_is at_is read some =
     starves_behind pack (with_file pack path heard) (λ ears. with_path (paths_read pack.reads) path) (goes_read pack path heard folder at untold unread folder_is at_is read some)
     (λ ears agrees. subst (λ paths. IsFront paths (with_path (paths_read pack.reads) path)) (sym (paths_read-push pack.reads path heard))
@@ -272,10 +272,10 @@ front_taken start paths n =
 
 -- ---- a pack that begins
 
-abbrev pub listing_pack : List ℕ → Heard → PackView
-listing_pack folder heard = record { folder = folder; listing = heard; files = []; reads = record_of Listing folder heard ∷ [] }
+abbrev pub listing_pack : List ℕ → ReadResult → PackView
+listing_pack folder heard = record { folder = folder; listing = heard; files = []; reads = read_record_of Listing folder heard ∷ [] }
 
-listing_made_of : (folder : List ℕ) (heard : Heard) (answer : Answered) (before after : ℕ) → kind_answered Listing before after answer ≡ Some heard
+listing_made_of : (folder : List ℕ) (heard : ReadResult) (answer : CallAnswer) (before after : ℕ) → kind_answered Listing before after answer ≡ Some heard
     → IsMadeOf (read_with Listing folder heard answer ∷ []) (listing_pack folder heard)
 listing_made_of folder heard answer before after hears = record {
   records = refl;
@@ -285,7 +285,7 @@ listing_made_of folder heard answer before after hears = record {
   };
 }
 
-pub listing_made : {told tells : Option Content} {before after : ℕ} {old new : List Call} (folder : List ℕ) (heard : Heard) → IsListed before after old new folder heard → MadeSome told tells before after old new
+pub listing_made : {told tells : Option Content} {before after : ℕ} {old new : List Call} (folder : List ℕ) (heard : ReadResult) → IsListed before after old new folder heard → MadeSome told tells before after old new
     → IsMadeBy told tells before after old new folder (listing_pack folder heard)
 listing_made {before = before} {after = after} folder heard listed some = record {
   reads = read_with Listing folder heard listed.answer ∷ [];
@@ -308,7 +308,7 @@ pub starves_listing : {told tells : Option Content} {before after : ℕ} {old ne
     → StarvesAmong told tells before after old new folder (λ ears. first_records ears folder license_file)
 starves_listing folder license_file called some = record {
   reads = [];
-  next = Some (record_of Listing folder absent);
+  next = Some (read_record_of Listing folder absent);
   made = record { made = made_these some called; are = tt };
   front = ([], refl);
 }
@@ -319,34 +319,34 @@ map_option : {A B : Type 0} (f : A → B) (o : Option A) → map f (option_to_li
 map_option f None = refl
 map_option f (Some x) = refl
 
-front_records : (ears : Ears) (folder : List ℕ) (paths : List (List ℕ)) (next : Option (List ℕ)) (all : List (List ℕ)) → IsFront (paths ++ option_to_list next) all
+front_records : (ears : FolderReads) (folder : List ℕ) (paths : List (List ℕ)) (next : Option (List ℕ)) (all : List (List ℕ)) → IsFront (paths ++ option_to_list next) all
     → IsFront (records_by ears folder paths ++ option_to_list (option_map (file_record ears) next)) (records_by ears folder all)
 front_records ears folder paths next all front = (
   map (file_record ears) front.0,
   ap (records_by ears folder) front.1
-      ∙ ap (λ (reads : List ReadRecord). record_of Listing folder ears.listing ∷ reads)
+      ∙ ap (λ (reads : List ReadRecord). read_record_of Listing folder ears.listing ∷ reads)
       (map-append (file_record ears) (paths ++ option_to_list next) front.0
       ∙ ap (λ (reads : List ReadRecord). reads ++ map (file_record ears) front.0)
       (map-append (file_record ears) paths (option_to_list next) ∙ ap (λ (reads : List ReadRecord). map (file_record ears) paths ++ reads) (map_option (file_record ears) next))),
 )
 
 -- the call that found no memory is that of its path, whatever its record tells
-same_lost : (folder : List ℕ) (ears : Ears) (next : Option (List ℕ)) → call_lost folder (option_map unread_file next) ≡ call_lost folder (option_map (file_record ears) next)
+same_lost : (folder : List ℕ) (ears : FolderReads) (next : Option (List ℕ)) → call_lost folder (option_map unread_file next) ≡ call_lost folder (option_map (file_record ears) next)
 same_lost folder ears None = refl
 same_lost folder ears (Some path) = refl
 
-pub starves_among : {told mid tells : Option Content} {before middle after : ℕ} {old between new : List Call} (folder : List ℕ) (earlier : List Read) (pack : PackView) (wanted wider : Ears → List (List ℕ))
+pub starves_among : {told mid tells : Option Content} {before middle after : ℕ} {old between new : List Call} (folder : List ℕ) (earlier : List AnsweredRead) (pack : PackView) (wanted wider : FolderReads → List (List ℕ))
     → pack.folder ≡ folder → IsMadeOf earlier pack → MadeReads told mid before middle old between folder earlier → Starves mid tells middle after between new pack wanted
-    → ((ears : Ears) → Agrees ears pack → pack.reads ≡ records_by ears pack.folder (paths_read pack.reads))
-    → ((ears : Ears) → Agrees ears pack → IsFront (wanted ears) (wider ears))
+    → ((ears : FolderReads) → Agrees ears pack → pack.reads ≡ records_by ears pack.folder (paths_read pack.reads))
+    → ((ears : FolderReads) → Agrees ears pack → IsFront (wanted ears) (wider ears))
     → StarvesAmong told tells before after old new folder (λ ears. records_by ears folder (wider ears))
 starves_among {told} {mid} {tells} {before} {middle} {after} {old} {between} {new} folder earlier pack wanted wider is made_of made starves records wide =
-    let reads : List Read = earlier ++ starves.reads in
+    let reads : List AnsweredRead = earlier ++ starves.reads in
     let ears = ears_by reads in
     let all = starves.takes.made_of earlier made_of in
     let at_first = agrees_before starves.reads pack starves.lost ears starves.takes all.agrees in
     let paths = paths_read starves.lost.reads in
-    let recorded : records_in reads ≡ records_by ears folder paths =
+    let recorded : records_of_reads reads ≡ records_by ears folder paths =
     sym all.records ∙ starves.takes.records ears all.agrees (records ears at_first) ∙ ap (λ at. records_by ears at paths) (starves.takes.folder ∙ is) in
     record {
       reads = reads;
@@ -364,51 +364,51 @@ starves_among {told} {mid} {tells} {before} {middle} {after} {old} {between} {ne
 
 -- ---- memory was wanting behind a pack
 
-pub starves_with : {told tells : Option Content} {before after : ℕ} {old new : List Call} (folder : List ℕ) (pack : PackView) (wanted : Ears → List (List ℕ)) → pack.folder ≡ folder
-    → IsMadeBy told tells before after old new folder pack → ((ears : Ears) → Agrees ears pack → pack.reads ≡ records_by ears pack.folder (paths_read pack.reads))
-    → ((ears : Ears) → Agrees ears pack → IsFront (paths_read pack.reads) (wanted ears))
+pub starves_with : {told tells : Option Content} {before after : ℕ} {old new : List Call} (folder : List ℕ) (pack : PackView) (wanted : FolderReads → List (List ℕ)) → pack.folder ≡ folder
+    → IsMadeBy told tells before after old new folder pack → ((ears : FolderReads) → Agrees ears pack → pack.reads ≡ records_by ears pack.folder (paths_read pack.reads))
+    → ((ears : FolderReads) → Agrees ears pack → IsFront (paths_read pack.reads) (wanted ears))
     → StarvesAmong told tells before after old new folder (λ ears. records_by ears folder (wanted ears))
 starves_with {told} {tells} {before} {after} {old} {new} folder pack wanted is made records front =
     starves_among folder made.reads pack wanted wanted is made.is made.made
     (starves_behind pack pack wanted (goes_itself tells after new pack) front) records (λ ears agrees. front_itself (wanted ears))
 
 -- the records of a listing are by any ears that agree with its pack
-pub listing_records : (folder : List ℕ) (heard : Heard) (ears : Ears) → Agrees ears (listing_pack folder heard) → (listing_pack folder heard).reads ≡ records_by ears folder []
-listing_records folder heard ears agrees = sym (ap (λ (one : Heard). record_of Listing folder one ∷ []) agrees.listing)
+pub listing_records : (folder : List ℕ) (heard : ReadResult) (ears : FolderReads) → Agrees ears (listing_pack folder heard) → (listing_pack folder heard).reads ≡ records_by ears folder []
+listing_records folder heard ears agrees = sym (ap (λ (one : ReadResult). read_record_of Listing folder one ∷ []) agrees.listing)
 
 -- a pack begins, where it goes on from its listing by what is found
-pub begins_with : (folder : List ℕ) (license_file : Option (List ℕ)) (heard : Heard) (reads : List Read) (new : PackView) → TakesIn reads (listing_pack folder heard) new
-    → paths_read new.reads ≡ fold with_path [] (found_of heard license_file) → Begins folder license_file new
+pub begins_with : (folder : List ℕ) (license_file : Option (List ℕ)) (heard : ReadResult) (reads : List AnsweredRead) (new : PackView) → TakesIn reads (listing_pack folder heard) new
+    → paths_read new.reads ≡ fold with_path [] (license_files_in heard license_file) → BeginsPack folder license_file new
 begins_with folder license_file heard reads new takes paths = record {
   folder_is = takes.folder;
   records = λ ears agrees. takes.records ears agrees (listing_records folder heard ears (agrees_before reads (listing_pack folder heard) new ears takes agrees));
-  paths = paths ∙ ap (λ (one : Heard). fold with_path [] (found_of one license_file)) (sym takes.listing);
+  paths = paths ∙ ap (λ (one : ReadResult). fold with_path [] (license_files_in one license_file)) (sym takes.listing);
 }
 
 -- the files that are found, where these are by what is heard of the listing
-front_found : (folder : List ℕ) (heard : Heard) (license_file : Option (List ℕ)) (ears : Ears) → Agrees ears (listing_pack folder heard)
-    → fold with_path [] (found_of heard license_file) ≡ fold with_path [] (found_of ears.listing license_file)
-front_found folder heard license_file ears agrees = ap (λ (one : Heard). fold with_path [] (found_of one license_file)) (sym agrees.listing)
+front_found : (folder : List ℕ) (heard : ReadResult) (license_file : Option (List ℕ)) (ears : FolderReads) → Agrees ears (listing_pack folder heard)
+    → fold with_path [] (license_files_in heard license_file) ≡ fold with_path [] (license_files_in ears.listing license_file)
+front_found folder heard license_file ears agrees = ap (λ (one : ReadResult). fold with_path [] (license_files_in one license_file)) (sym agrees.listing)
 
-pub starves_listed : {told tells : Option Content} {before after : ℕ} {old new : List Call} (folder : List ℕ) (license_file : Option (List ℕ)) (heard : Heard)
+pub starves_listed : {told tells : Option Content} {before after : ℕ} {old new : List Call} (folder : List ℕ) (license_file : Option (List ℕ)) (heard : ReadResult)
     → IsListed before after old new folder heard → MadeSome told tells before after old new
     → StarvesAmong told tells before after old new folder (λ ears. first_records ears folder license_file)
 starves_listed folder license_file heard listed some =
-    starves_with folder (listing_pack folder heard) (λ ears. fold with_path [] (found_of ears.listing license_file)) refl
-    (listing_made folder heard listed some) (listing_records folder heard) (λ ears agrees. front_looks [] (found_of ears.listing license_file))
+    starves_with folder (listing_pack folder heard) (λ ears. fold with_path [] (license_files_in ears.listing license_file)) refl
+    (listing_made folder heard listed some) (listing_records folder heard) (λ ears agrees. front_looks [] (license_files_in ears.listing license_file))
 
-pub starves_found : {told mid tells : Option Content} {before middle after : ℕ} {old between new : List Call} (folder : List ℕ) (license_file : Option (List ℕ)) (heard : Heard) (first : PackView) (names : List (List ℕ))
-    → first ≡ listing_pack folder heard → names ≡ found_of heard license_file → IsListed before middle old between folder heard → MadeSome told mid before middle old between
+pub starves_found : {told mid tells : Option Content} {before middle after : ℕ} {old between new : List Call} (folder : List ℕ) (license_file : Option (List ℕ)) (heard : ReadResult) (first : PackView) (names : List (List ℕ))
+    → first ≡ listing_pack folder heard → names ≡ license_files_in heard license_file → IsListed before middle old between folder heard → MadeSome told mid before middle old between
     → Starves mid tells middle after between new first (λ ears. fold with_path (paths_read first.reads) names)
     → StarvesAmong told tells before after old new folder (λ ears. first_records ears folder license_file)
 starves_found {told} {mid} {tells} {before} {middle} {after} {old} {between} {new} folder license_file heard first names is are listed some starves =
     let made = listing_made folder heard listed some in
-    starves_among folder made.reads (listing_pack folder heard) (λ ears. fold with_path [] names) (λ ears. fold with_path [] (found_of ears.listing license_file)) refl made.is made.made
+    starves_among folder made.reads (listing_pack folder heard) (λ ears. fold with_path [] names) (λ ears. fold with_path [] (license_files_in ears.listing license_file)) refl made.is made.made
     (subst (λ (pack : PackView). Starves mid tells middle after between new pack (λ ears. fold with_path (paths_read pack.reads) names)) is starves)
     (listing_records folder heard)
     (λ ears agrees. subst (IsFront (fold with_path [] names)) (ap (fold with_path []) are ∙ front_found folder heard license_file ears agrees) (front_itself (fold with_path [] names)))
 
-pub made_found : {told mid tells : Option Content} {before middle after : ℕ} {old between new : List Call} (folder : List ℕ) (heard : Heard) (first next : PackView) → first ≡ listing_pack folder heard
+pub made_found : {told mid tells : Option Content} {before middle after : ℕ} {old between new : List Call} (folder : List ℕ) (heard : ReadResult) (first next : PackView) → first ≡ listing_pack folder heard
     → IsListed before middle old between folder heard → MadeSome told mid before middle old between → GoesBy mid tells middle after between new first next → IsMadeBy told tells before after old new folder next
 made_found {told} {mid} {tells} {before} {middle} {after} {old} {between} {new} folder heard first next is listed some goes =
     made_then folder (listing_pack folder heard) next refl (listing_made folder heard listed some)
@@ -416,9 +416,9 @@ made_found {told} {mid} {tells} {before} {middle} {after} {old} {between} {new} 
 
 -- ---- looks for the files of a clarification
 
-pub starves_looks : {told mid tells : Option Content} {before middle after : ℕ} {old between new : List Call} (pack mid_pack : PackView) (path : List ℕ) (wider : Ears → List (List ℕ))
+pub starves_looks : {told mid tells : Option Content} {before middle after : ℕ} {old between new : List Call} (pack mid_pack : PackView) (path : List ℕ) (wider : FolderReads → List (List ℕ))
     → GoesBy told mid before middle old between pack mid_pack → Starves mid tells middle after between new mid_pack (λ ears. with_path (paths_read mid_pack.reads) path)
-    → (rest : Ears → List (List ℕ)) → ((ears : Ears) → Agrees ears mid_pack → wider ears ≡ fold with_path (paths_read mid_pack.reads) (path ∷ rest ears))
+    → (rest : FolderReads → List (List ℕ)) → ((ears : FolderReads) → Agrees ears mid_pack → wider ears ≡ fold with_path (paths_read mid_pack.reads) (path ∷ rest ears))
     → Starves told tells before after old new pack wider
 starves_looks pack mid_pack path wider goes starves rest are =
     starves_then pack mid_pack (λ ears. with_path (paths_read mid_pack.reads) path) wider goes starves

@@ -8,31 +8,31 @@ use Rattle.deny_text.specs.Hash.{xxh32_of, mixed, of_groups, with_word, with_byt
 use Rattle.deny_text.specs.Normal.{normal_of}
 use Rattle.deny_text.specs.Path.{components_of}
 use Rattle.tree_core.specs.Call as call
-use Rattle.tree_core.specs.Call.{Answered}
-use Rattle.tree_core.specs.Content.{Listed}
+use Rattle.tree_core.specs.Call.{CallAnswer}
+use Rattle.tree_core.specs.Content.{ListedEntry}
 use Rattle.tree_core.specs.declared.reads.ReadAnswer.{ReadAnswer}
 use Rattle.tree_core.specs.declared.reads.ReadAnswer.TheVariants as answer
 use Rattle.tree_core.specs.declared.reads.ReadKind.{ReadKind}
 use Rattle.tree_core.specs.declared.reads.ReadKind.TheVariants.{Listing, LicenseFile}
-use Rattle.reads_core.specs.Heard.{Heard, failed, absent, text, entries, file_heard}
-use Rattle.reads_core.specs.Read.{Read}
-use Rattle.pack_core.specs.NamedFile.{Named}
-use Rattle.pack_core.specs.Ears.{Ears, ears_by, has_hash, holds, tried_of}
-use Rattle.pack_core.specs.Pack.{found_of, reads_of, pack_of}
+use Rattle.reads_core.specs.Heard.{ReadResult, failed, absent, text, entries, file_heard}
+use Rattle.reads_core.specs.Read.{AnsweredRead}
+use Rattle.pack_core.specs.NamedFile.{NamedFileView}
+use Rattle.pack_core.specs.Ears.{FolderReads, ears_by, has_hash, holds, tried_of}
+use Rattle.pack_core.specs.Pack.{license_files_in, reads_of, pack_paths}
 
 -- ---- what is heard of some files, by their paths; of any other, nothing is there
 
-abbrev files : List (List ℕ × Heard) → List (List ℕ) → Heard
+abbrev files : List (List ℕ × ReadResult) → List (List ℕ) → ReadResult
 files [] parts = absent
 files (one ∷ more) parts = cond (pointwise bytes_eq (components_of one.0) parts) one.1 (files more parts)
 
-abbrev ears : Heard → List (List ℕ × Heard) → Ears
+abbrev ears : ReadResult → List (List ℕ × ReadResult) → FolderReads
 ears listing told = record { listing = listing; file = files told }
 
-abbrev named : List ℕ → ℕ → Named
+abbrev named : List ℕ → ℕ → NamedFileView
 named path hash = record { path = path; hash = hash }
 
-abbrev file : List ℕ → Listed
+abbrev file : List ℕ → ListedEntry
 file name = (name, true)
 
 -- the hash of one LF, as `xxhsum -H0` has it
@@ -58,12 +58,12 @@ nothing_there = refl
 -- ---- what is found
 
 -- names in the order of the listing; `license`, `MYLICENSE` and a folder `LICENSES` are none
-by_name : found_of (entries (file (codes "COPYING.md") ∷ file (codes "LICENSE") ∷ (codes "LICENSES", false) ∷ file (codes "MYLICENSE") ∷ file (codes "license") ∷ [])) None
+by_name : license_files_in (entries (file (codes "COPYING.md") ∷ file (codes "LICENSE") ∷ (codes "LICENSES", false) ∷ file (codes "MYLICENSE") ∷ file (codes "license") ∷ [])) None
     ≡ codes "COPYING.md" ∷ codes "LICENSE" ∷ []
 by_name = refl
 
 abbrev beside : List ℕ → List (List ℕ)
-beside license_file = found_of (entries (file (codes "LICENSE") ∷ [])) (Some license_file)
+beside license_file = license_files_in (entries (file (codes "LICENSE") ∷ [])) (Some license_file)
 
 -- `LICENSE` ends with itself and with nothing at all, but neither with `./LICENSE` nor with `x/LICENSE`
 itself : beside (codes "LICENSE") ≡ codes "LICENSE" ∷ []
@@ -83,28 +83,28 @@ unfolding path_components path_names
 empty_beside_a_name = refl
 
 -- an empty `license_file` is a file to be read where no name is found
-empty_alone : found_of (entries []) (Some []) ≡ [] ∷ []
+empty_alone : license_files_in (entries []) (Some []) ≡ [] ∷ []
 unfolding path_components path_names
 empty_alone = refl
 
 -- without a listing nothing is found
-not_listed : found_of (failed 0 1) (Some (codes "LICENSE")) ≡ []
+not_listed : license_files_in (failed 0 1) (Some (codes "LICENSE")) ≡ []
 not_listed = refl
 
 -- ---- clarifications
 
 -- `A-TERMS` has another hash than the clarification's, so `LICENSE-B` is not looked up; the found `LICENSE-Z` is read first
-abbrev terms_differ : Ears
+abbrev terms_differ : FolderReads
 terms_differ = ears (entries (file (codes "A-TERMS") ∷ file (codes "LICENSE-Z") ∷ [])) ((codes "A-TERMS", text (codes "MIT")) ∷ (codes "LICENSE-Z", text (codes "z")) ∷ [])
 
-abbrev of_terms : List Named
+abbrev of_terms : List NamedFileView
 of_terms = named (codes "A-TERMS") of_feed ∷ named (codes "LICENSE-B") of_feed ∷ []
 
 ends_at_the_mismatch : reads_of terms_differ None (of_terms ∷ []) ≡ codes "LICENSE-Z" ∷ codes "A-TERMS" ∷ []
 unfolding path_components path_names xxh32_of mixed of_groups with_word with_byte normal_of
 ends_at_the_mismatch = refl
 
-in_path_order : pack_of terms_differ None (of_terms ∷ []) ≡ codes "A-TERMS" ∷ codes "LICENSE-Z" ∷ []
+in_path_order : pack_paths terms_differ None (of_terms ∷ []) ≡ codes "A-TERMS" ∷ codes "LICENSE-Z" ∷ []
 unfolding path_components path_names xxh32_of mixed of_groups with_word with_byte normal_of
 in_path_order = refl
 
@@ -117,7 +117,7 @@ unfolding path_components path_names
 reads_without_files = refl
 
 -- where the listing failed, a clarification may hold by its own files
-abbrev unlisted : Ears
+abbrev unlisted : FolderReads
 unlisted = ears (failed 0 1) ((codes "LICENSE", text (10 ∷ [])) ∷ [])
 
 holds_unlisted : holds unlisted (named (codes "LICENSE") of_feed ∷ []) ≡ true
@@ -134,24 +134,24 @@ unfolding path_components path_names
 failed_file = refl
 
 -- `s/.//T` is the path `s/T`, of which the first spelling stays
-abbrev both_spellings : List Named
+abbrev both_spellings : List NamedFileView
 both_spellings = named (codes "s/T") of_feed ∷ named (codes "s/.//T") of_feed ∷ named (codes "a") of_feed ∷ []
 
 first_spelling : reads_of (ears (entries []) ((codes "s/T", text (10 ∷ [])) ∷ [])) None (both_spellings ∷ []) ≡ codes "s/T" ∷ codes "a" ∷ []
 unfolding path_components path_names xxh32_of mixed of_groups with_word with_byte normal_of
 first_spelling = refl
 
-first_spelling_in_order : pack_of (ears (entries []) ((codes "s/T", text (10 ∷ [])) ∷ [])) None (both_spellings ∷ []) ≡ codes "a" ∷ codes "s/T" ∷ []
+first_spelling_in_order : pack_paths (ears (entries []) ((codes "s/T", text (10 ∷ [])) ∷ [])) None (both_spellings ∷ []) ≡ codes "a" ∷ codes "s/T" ∷ []
 unfolding path_components path_names xxh32_of mixed of_groups with_word with_byte normal_of
 first_spelling_in_order = refl
 
 -- ---- by the answers to reads
 
-abbrev read_so : ReadKind → List ℕ → ReadAnswer → Answered → Read
+abbrev read_so : ReadKind → List ℕ → ReadAnswer → CallAnswer → AnsweredRead
 read_so kind path came answered = record { recorded = record { path = path; kind = kind; answer = came }; answer = answered }
 
 -- two names were listed; one file was read, and the read of the other failed
-abbrev were_read : List Read
+abbrev were_read : List AnsweredRead
 were_read =
     read_so Listing (codes "/w") answer.Got (call.entries (file (codes "COPYING") ∷ file (codes "LICENSE") ∷ []))
     ∷ read_so LicenseFile (codes "COPYING") (answer.Failed 0 1) call.failed

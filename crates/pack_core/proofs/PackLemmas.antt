@@ -17,15 +17,15 @@ use Rattle.tree_core.specs.declared.reads.ReadKind.TheVariants.{Listing, License
 use Rattle.tree_core.specs.declared.reads.ReadRecord.{ReadRecord}
 use Rattle.reads_core.specs.declared.bad_read.BadRead.{BadRead}
 use Rattle.reads_core.specs.declared.bad_read.BadRead.TheVariants as bad
-use Rattle.reads_core.specs.Heard.{Heard, failed, absent, wrong_kind, not_utf8, text, entries, answer_of, record_of}
+use Rattle.reads_core.specs.Heard.{ReadResult, failed, absent, wrong_kind, not_utf8, text, entries, read_answer_of, read_record_of}
 use Rattle.reads_core.specs.Views.{heard_bad, heard_file}
-use Rattle.pack_core.specs.Ears.{Ears, has_hash, is_absent, matches, missing_from, holds, looked_of}
-use Rattle.pack_core.specs.NamedFile.{Named}
+use Rattle.pack_core.specs.Ears.{FolderReads, has_hash, is_absent, matches, missing_from, holds, looked_of}
+use Rattle.pack_core.specs.NamedFile.{NamedFileView}
 use Rattle.pack_core.specs.Pack.{same_path, placed, in_path_order}
 use Rattle.pack_core.specs.Steps.{Agrees, file_record, records_by, with_file, with_path}
-use Rattle.pack_core.specs.Told.{tells_absent, tells_hash, told_of}
-use Rattle.pack_core.specs.declared.told.Told.{Told}
-use Rattle.pack_core.specs.View.{PackView, IsKept, file_at, files_of, normal_heard, path_read, paths_of, paths_read, unlisted_of}
+use Rattle.pack_core.specs.Told.{tells_absent, tells_hash, file_state}
+use Rattle.pack_core.specs.declared.told.FileState.{FileState}
+use Rattle.pack_core.specs.View.{PackView, KeepsReadFiles, file_at, kept_files, normal_heard, path_read, paths_of, paths_read, unlisted_of}
 use Rattle.pack_core.proofs.PathLemmas.{parts_of_same, same_itself, list_any-in_path_order, in_path_order-push}
 
 pub by_test : {G : Type 0} (b : Bool) → (b ≡ true → G) → (b ≡ false → G) → G
@@ -35,18 +35,18 @@ by_test false holds differs = differs refl
 -- ---- insertions
 
 pub files_of-insert : (held : List (List ℕ × Result (List ℕ) BadRead)) (path : List ℕ) (kept : Result (List ℕ) BadRead)
-    → files_of (insert_entry path_order held path kept) ≡ insert_entry path_order (files_of held) path (heard_file kept)
+    → kept_files (insert_entry path_order held path kept) ≡ insert_entry path_order (kept_files held) path (heard_file kept)
 files_of-insert [] path kept = refl
 files_of-insert (one ∷ held) path kept =
-    elim (path_order path one.0) as (λ r. files_of (match_ordering r ((path, kept) ∷ one ∷ held) ((one.0, kept) ∷ held) (one ∷ insert_entry path_order held path kept))
-    ≡ match_ordering r ((path, heard_file kept) ∷ (one.0, heard_file one.1) ∷ files_of held) ((one.0, heard_file kept) ∷ files_of held) ((one.0, heard_file one.1) ∷ insert_entry path_order (files_of held) path (heard_file kept))) [
+    elim (path_order path one.0) as (λ r. kept_files (match_ordering r ((path, kept) ∷ one ∷ held) ((one.0, kept) ∷ held) (one ∷ insert_entry path_order held path kept))
+    ≡ match_ordering r ((path, heard_file kept) ∷ (one.0, heard_file one.1) ∷ kept_files held) ((one.0, heard_file kept) ∷ kept_files held) ((one.0, heard_file one.1) ∷ insert_entry path_order (kept_files held) path (heard_file kept))) [
       | Less ↦ refl
       | Equal ↦ refl
       | Greater ↦ ap (λ rest. (one.0, heard_file one.1) ∷ rest) (files_of-insert held path kept)
     ]
 
 -- where none of the same parts is there, the path is placed among the others
-pub paths_of-insert : (files : List (List ℕ × Heard)) (path : List ℕ) (heard : Heard) → file_at files path ≡ None → paths_of (insert_entry path_order files path heard) ≡ placed path (paths_of files)
+pub paths_of-insert : (files : List (List ℕ × ReadResult)) (path : List ℕ) (heard : ReadResult) → file_at files path ≡ None → paths_of (insert_entry path_order files path heard) ≡ placed path (paths_of files)
 paths_of-insert [] path heard none = refl
 paths_of-insert (file ∷ files) path heard none =
     elim (path_order path file.0) as (λ r. cond (is_eq r) (Some file.1) (file_at files path) ≡ None
@@ -58,7 +58,7 @@ paths_of-insert (file ∷ files) path heard none =
     ] none
 
 -- a look-up asks for the parts alone
-pub file_at-parts : (files : List (List ℕ × Heard)) (x y : List ℕ) → components_of x ≡ components_of y → file_at files x ≡ file_at files y
+pub file_at-parts : (files : List (List ℕ × ReadResult)) (x y : List ℕ) → components_of x ≡ components_of y → file_at files x ≡ file_at files y
 file_at-parts files x y same = ap (λ parts. lookup (λ path. is_eq (slice_cmp part_cmp parts (components_of path))) files) same
 
 same_of_parts : (x y : List ℕ) → components_of x ≡ components_of y → same_path x y ≡ true
@@ -68,7 +68,7 @@ is_some-cond : {A : Type 0} (b : Bool) (x : A) (o : Option A) → is_some (cond 
 is_some-cond true x o = refl
 is_some-cond false x o = refl
 
-pub has_path : (files : List (List ℕ × Heard)) (path : List ℕ) → is_some (file_at files path) ≡ list_any (same_path path) (paths_of files)
+pub has_path : (files : List (List ℕ × ReadResult)) (path : List ℕ) → is_some (file_at files path) ≡ list_any (same_path path) (paths_of files)
 has_path [] path = refl
 has_path (file ∷ files) path =
     is_some-cond (same_path path file.0) file.1 (file_at files path) ∙ ap (λ more. same_path path file.0 || more) (has_path files path)
@@ -80,7 +80,7 @@ apart false true x y o both = refl
 apart false false x y o both = refl
 
 -- what a look-up finds behind an insertion
-pub file_at-insert : (files : List (List ℕ × Heard)) (path : List ℕ) (heard : Heard) (at : List ℕ) → file_at files path ≡ None
+pub file_at-insert : (files : List (List ℕ × ReadResult)) (path : List ℕ) (heard : ReadResult) (at : List ℕ) → file_at files path ≡ None
     → file_at (insert_entry path_order files path heard) at ≡ cond (same_path at path) (Some heard) (file_at files at)
 file_at-insert [] path heard at none = refl
 file_at-insert (file ∷ files) path heard at none =
@@ -101,12 +101,12 @@ file_at-insert (file ∷ files) path heard at none =
 -- ---- records
 
 -- one more file
-pub paths_read-push : (reads : List ReadRecord) (path : List ℕ) (heard : Heard) → paths_read (reads ++ record_of LicenseFile path heard ∷ []) ≡ paths_read reads ++ path ∷ []
-paths_read-push reads path heard = filter_map-append path_read reads (record_of LicenseFile path heard ∷ [])
+pub paths_read-push : (reads : List ReadRecord) (path : List ℕ) (heard : ReadResult) → paths_read (reads ++ read_record_of LicenseFile path heard ∷ []) ≡ paths_read reads ++ path ∷ []
+paths_read-push reads path heard = filter_map-append path_read reads (read_record_of LicenseFile path heard ∷ [])
 
 -- ---- what was heard, and its normal form
 
-pub answer_of-normal : (heard : Heard) → answer_of (normal_heard heard) ≡ answer_of heard
+pub answer_of-normal : (heard : ReadResult) → read_answer_of (normal_heard heard) ≡ read_answer_of heard
 answer_of-normal (failed before after) = refl
 answer_of-normal absent = refl
 answer_of-normal wrong_kind = refl
@@ -116,7 +116,7 @@ answer_of-normal (entries listed) = refl
 
 -- ---- the further file keeps the pack's form
 
-pub kept-with_file : (pack : PackView) (path : List ℕ) (heard : Heard) → IsKept pack → file_at pack.files path ≡ None → IsKept (with_file pack path heard)
+pub kept-with_file : (pack : PackView) (path : List ℕ) (heard : ReadResult) → KeepsReadFiles pack → file_at pack.files path ≡ None → KeepsReadFiles (with_file pack path heard)
 kept-with_file pack path heard kept none = record {
   paths =
       paths_of-insert pack.files path (normal_heard heard) none
@@ -131,44 +131,44 @@ map-push : {A B : Type 0} (f : A → B) (xs : List A) (y : A) → map f (xs ++ y
 map-push f [] y = refl
 map-push f (x ∷ xs) y = ap (λ l. f x ∷ l) (map-push f xs y)
 
-pub from_cond : (P : Heard → Type 0) (b : Bool) (x : Heard) (o : Option Heard) (heard : Heard) → (b ≡ true → P x) → (b ≡ false → o ≡ Some heard → P heard) → cond b (Some x) o ≡ Some heard → P heard
+pub from_cond : (P : ReadResult → Type 0) (b : Bool) (x : ReadResult) (o : Option ReadResult) (heard : ReadResult) → (b ≡ true → P x) → (b ≡ false → o ≡ Some heard → P heard) → cond b (Some x) o ≡ Some heard → P heard
 from_cond P true x o heard here else e = let same : x ≡ heard = cc in subst P same (here refl)
 from_cond P false x o heard here else e = else refl e
 
-pub stays-with_file : (pack : PackView) (path : List ℕ) (heard : Heard) → file_at pack.files path ≡ None
-    → (at : List ℕ) (found : Heard) → file_at pack.files at ≡ Some found → file_at (with_file pack path heard).files at ≡ Some found
+pub stays-with_file : (pack : PackView) (path : List ℕ) (heard : ReadResult) → file_at pack.files path ≡ None
+    → (at : List ℕ) (found : ReadResult) → file_at pack.files at ≡ Some found → file_at (with_file pack path heard).files at ≡ Some found
 stays-with_file pack path heard none at found is =
     file_at-insert pack.files path (normal_heard heard) at none
     ∙ by_test (same_path at path)
     (λ same. let gone : file_at pack.files at ≡ None = file_at-parts pack.files at path (parts_of_same at path same) ∙ none in cc)
     (λ differs. ap (λ b. cond b (Some (normal_heard heard)) (file_at pack.files at)) differs ∙ is)
 
-pub records-with_file : (pack : PackView) (path : List ℕ) (heard : Heard) → file_at pack.files path ≡ None
-    → (ears : Ears) → Agrees ears (with_file pack path heard) → pack.reads ≡ records_by ears pack.folder (paths_read pack.reads)
+pub records-with_file : (pack : PackView) (path : List ℕ) (heard : ReadResult) → file_at pack.files path ≡ None
+    → (ears : FolderReads) → Agrees ears (with_file pack path heard) → pack.reads ≡ records_by ears pack.folder (paths_read pack.reads)
     → (with_file pack path heard).reads ≡ records_by ears pack.folder (paths_read (with_file pack path heard).reads)
 records-with_file pack path heard none ears agrees old =
     let here : file_at (with_file pack path heard).files path ≡ Some (normal_heard heard) =
     file_at-insert pack.files path (normal_heard heard) path none ∙ ap (λ b. cond b (Some (normal_heard heard)) (file_at pack.files path)) (same_itself path) in
-    let answer : answer_of heard ≡ answer_of (ears.file (components_of path)) =
-    sym (sym (answer_of-normal (ears.file (components_of path))) ∙ ap answer_of (agrees.files path (normal_heard heard) here) ∙ answer_of-normal heard) in
-    let one : record_of LicenseFile path heard ≡ file_record ears path =
+    let answer : read_answer_of heard ≡ read_answer_of (ears.file (components_of path)) =
+    sym (sym (answer_of-normal (ears.file (components_of path))) ∙ ap read_answer_of (agrees.files path (normal_heard heard) here) ∙ answer_of-normal heard) in
+    let one : read_record_of LicenseFile path heard ≡ file_record ears path =
     ap (λ (a : ReadAnswer). let r : ReadRecord = record { path = path; kind = LicenseFile; answer = a } in r) answer in
-    ap (λ reads. reads ++ record_of LicenseFile path heard ∷ []) old
+    ap (λ reads. reads ++ read_record_of LicenseFile path heard ∷ []) old
     ∙ ap (λ read. records_by ears pack.folder (paths_read pack.reads) ++ read ∷ []) one
-    ∙ ap (λ rest. record_of Listing pack.folder ears.listing ∷ rest) (sym (map-push (file_record ears) (paths_read pack.reads) path))
+    ∙ ap (λ rest. read_record_of Listing pack.folder ears.listing ∷ rest) (sym (map-push (file_record ears) (paths_read pack.reads) path))
     ∙ ap (records_by ears pack.folder) (sym (paths_read-push pack.reads path heard))
 
 -- ---- packs of equal parts
 
-pub same_pack : {f g : List ℕ} {l m : Heard} {xs ys : List (List ℕ × Heard)} {rs qs : List ReadRecord} → f ≡ g → l ≡ m → xs ≡ ys → rs ≡ qs
+pub same_pack : {f g : List ℕ} {l m : ReadResult} {xs ys : List (List ℕ × ReadResult)} {rs qs : List ReadRecord} → f ≡ g → l ≡ m → xs ≡ ys → rs ≡ qs
     → ◌≡◌ {A = PackView} (record { folder = f; listing = l; files = xs; reads = rs }) (record { folder = g; listing = m; files = ys; reads = qs })
 same_pack {f} {g} {l} {m} {xs} {ys} {rs} {qs} folder listing files reads =
     ap (λ (a : List ℕ). let p : PackView = record { folder = a; listing = l; files = xs; reads = rs } in p) folder
-    ∙ ap (λ (a : Heard). let p : PackView = record { folder = g; listing = a; files = xs; reads = rs } in p) listing
-    ∙ ap (λ (a : List (List ℕ × Heard)). let p : PackView = record { folder = g; listing = m; files = a; reads = rs } in p) files
+    ∙ ap (λ (a : ReadResult). let p : PackView = record { folder = g; listing = a; files = xs; reads = rs } in p) listing
+    ∙ ap (λ (a : List (List ℕ × ReadResult)). let p : PackView = record { folder = g; listing = m; files = a; reads = rs } in p) files
     ∙ ap (λ (a : List ReadRecord). let p : PackView = record { folder = g; listing = m; files = ys; reads = a } in p) reads
 
-pub kept_of_listing : (folder : List ℕ) (heard : Heard) → IsKept (record { folder = folder; listing = heard; files = []; reads = record_of Listing folder heard ∷ [] })
+pub kept_of_listing : (folder : List ℕ) (heard : ReadResult) → KeepsReadFiles (record { folder = folder; listing = heard; files = []; reads = read_record_of Listing folder heard ∷ [] })
 kept_of_listing folder heard = record { paths = refl }
 
 -- ---- look-ups in what is kept
@@ -183,27 +183,27 @@ map_twice g f (Some x) = refl
 
 -- what is told of what is kept at a path
 pub told_found : (held : List (List ℕ × Result (List ℕ) BadRead)) (path : List ℕ) (found : Option (Result (List ℕ) BadRead)) → found ≡ lookup (is_at (path_order path)) held
-    → option_map told_of (file_at (files_of held) path) ≡ option_map (λ kept. told_of (heard_file kept)) found
+    → option_map file_state (file_at (kept_files held) path) ≡ option_map (λ kept. file_state (heard_file kept)) found
 told_found held path found is =
-    ap (option_map told_of) (lookup-map_values heard_file (is_at (path_order path)) held)
-    ∙ map_twice told_of heard_file (lookup (is_at (path_order path)) held)
-    ∙ ap (option_map (λ kept. told_of (heard_file kept))) (sym is)
+    ap (option_map file_state) (lookup-map_values heard_file (is_at (path_order path)) held)
+    ∙ map_twice file_state heard_file (lookup (is_at (path_order path)) held)
+    ∙ ap (option_map (λ kept. file_state (heard_file kept))) (sym is)
 
 -- what is in the pack was read
-read_before : (pack : PackView) (path : List ℕ) → IsKept pack → is_some (file_at pack.files path) ≡ list_any (same_path path) (paths_read pack.reads)
+read_before : (pack : PackView) (path : List ℕ) → KeepsReadFiles pack → is_some (file_at pack.files path) ≡ list_any (same_path path) (paths_read pack.reads)
 read_before pack path kept =
     has_path pack.files path ∙ ap (list_any (same_path path)) kept.paths ∙ list_any-in_path_order (same_path path) (paths_read pack.reads)
 
 -- what is told of a file tells whether that was read
-pub told_read : (pack : PackView) (path : List ℕ) (found : Option (Result (List ℕ) BadRead)) → IsKept pack
-    → option_map told_of (file_at pack.files path) ≡ option_map (λ kept. told_of (heard_file kept)) found
+pub told_read : (pack : PackView) (path : List ℕ) (found : Option (Result (List ℕ) BadRead)) → KeepsReadFiles pack
+    → option_map file_state (file_at pack.files path) ≡ option_map (λ kept. file_state (heard_file kept)) found
     → is_some found ≡ list_any (same_path path) (paths_read pack.reads)
 told_read pack path found kept is =
-    sym (is_some-map (λ kept. told_of (heard_file kept)) found)
+    sym (is_some-map (λ kept. file_state (heard_file kept)) found)
     ∙ ap is_some (sym is)
-    ∙ is_some-map told_of (file_at pack.files path) ∙ read_before pack path kept
+    ∙ is_some-map file_state (file_at pack.files path) ∙ read_before pack path kept
 
-pub none_told : (there : Option Heard) → None ≡ option_map told_of there → there ≡ None
+pub none_told : (there : Option ReadResult) → None ≡ option_map file_state there → there ≡ None
 none_told None e = refl
 none_told (Some heard) e = cc
 
@@ -211,13 +211,13 @@ pub both_ok : {A E : Type 0} (result : Result A E) (P Q R : A → Type 0) → ((
 both_ok (Ok x) P Q R holds first second = holds x first second
 both_ok (Err e) P Q R holds first second = tt
 
-pub there-with_file : (pack : PackView) (path : List ℕ) (heard : Heard) → file_at pack.files path ≡ None → file_at (with_file pack path heard).files path ≡ Some (normal_heard heard)
+pub there-with_file : (pack : PackView) (path : List ℕ) (heard : ReadResult) → file_at pack.files path ≡ None → file_at (with_file pack path heard).files path ≡ Some (normal_heard heard)
 there-with_file pack path heard none =
     file_at-insert pack.files path (normal_heard heard) path none ∙ ap (λ b. cond b (Some (normal_heard heard)) (file_at pack.files path)) (same_itself path)
 
 -- ---- what is told of a file
 
-tells_hash-told : (hash : ℕ) (heard : Heard) → tells_hash hash (told_of (normal_heard heard)) ≡ has_hash hash heard
+tells_hash-told : (hash : ℕ) (heard : ReadResult) → tells_hash hash (file_state (normal_heard heard)) ≡ has_hash hash heard
 tells_hash-told hash (failed before after) = refl
 tells_hash-told hash absent = refl
 tells_hash-told hash wrong_kind = refl
@@ -225,7 +225,7 @@ tells_hash-told hash not_utf8 = refl
 tells_hash-told hash (text bytes) = refl
 tells_hash-told hash (entries listed) = refl
 
-tells_absent-told : (heard : Heard) → tells_absent (told_of (normal_heard heard)) ≡ is_absent heard
+tells_absent-told : (heard : ReadResult) → tells_absent (file_state (normal_heard heard)) ≡ is_absent heard
 tells_absent-told (failed before after) = refl
 tells_absent-told absent = refl
 tells_absent-told wrong_kind = refl
@@ -233,22 +233,22 @@ tells_absent-told not_utf8 = refl
 tells_absent-told (text bytes) = refl
 tells_absent-told (entries listed) = refl
 
-told_by : (there : Option Heard) (heard : Heard) (is : Told) → ((found : Heard) → there ≡ Some found → normal_heard heard ≡ found) → option_map told_of there ≡ Some is
-    → is ≡ told_of (normal_heard heard)
+told_by : (there : Option ReadResult) (heard : ReadResult) (is : FileState) → ((found : ReadResult) → there ≡ Some found → normal_heard heard ≡ found) → option_map file_state there ≡ Some is
+    → is ≡ file_state (normal_heard heard)
 told_by None heard is agrees told = cc
-told_by (Some found) heard is agrees told = let same : told_of found ≡ is = cc in sym same ∙ ap told_of (sym (agrees found refl))
+told_by (Some found) heard is agrees told = let same : file_state found ≡ is = cc in sym same ∙ ap file_state (sym (agrees found refl))
 
 -- what is told of a file of the pack is told of it by ears that agree with the pack
-told_heard : (ears : Ears) (pack : PackView) (path : List ℕ) (is : Told) → Agrees ears pack → option_map told_of (file_at pack.files path) ≡ Some is
-    → is ≡ told_of (normal_heard (ears.file (components_of path)))
+told_heard : (ears : FolderReads) (pack : PackView) (path : List ℕ) (is : FileState) → Agrees ears pack → option_map file_state (file_at pack.files path) ≡ Some is
+    → is ≡ file_state (normal_heard (ears.file (components_of path)))
 told_heard ears pack path is agrees told = told_by (file_at pack.files path) (ears.file (components_of path)) is (agrees.files path) told
 
-pub matched : (ears : Ears) (pack : PackView) (path : List ℕ) (is : Told) (hash : ℕ) → Agrees ears pack → option_map told_of (file_at pack.files path) ≡ Some is
+pub matched : (ears : FolderReads) (pack : PackView) (path : List ℕ) (is : FileState) (hash : ℕ) → Agrees ears pack → option_map file_state (file_at pack.files path) ≡ Some is
     → tells_hash hash is ≡ has_hash hash (ears.file (components_of path))
 matched ears pack path is hash agrees told =
     ap (tells_hash hash) (told_heard ears pack path is agrees told) ∙ tells_hash-told hash (ears.file (components_of path))
 
-pub lacked : (ears : Ears) (pack : PackView) (path : List ℕ) (is : Told) → Agrees ears pack → option_map told_of (file_at pack.files path) ≡ Some is
+pub lacked : (ears : FolderReads) (pack : PackView) (path : List ℕ) (is : FileState) → Agrees ears pack → option_map file_state (file_at pack.files path) ≡ Some is
     → tells_absent is ≡ is_absent (ears.file (components_of path))
 lacked ears pack path is agrees told = ap tells_absent (told_heard ears pack path is agrees told) ∙ tells_absent-told (ears.file (components_of path))
 
@@ -260,26 +260,26 @@ unlisted_by (bad.Failed before after) = refl
 
 -- ---- a clarification, file by file
 
-pub holds_on : (ears : Ears) (named : Named) (rest : List Named) (here : Bool) → here ≡ matches ears named → here ≡ true → holds ears (named ∷ rest) ≡ holds ears rest
+pub holds_on : (ears : FolderReads) (named : NamedFileView) (rest : List NamedFileView) (here : Bool) → here ≡ matches ears named → here ≡ true → holds ears (named ∷ rest) ≡ holds ears rest
 holds_on ears named rest here is passed = ap (λ b. b && holds ears rest) (sym is ∙ passed)
 
-pub holds_not : (ears : Ears) (named : Named) (rest : List Named) (here : Bool) → here ≡ matches ears named → here ≡ false → holds ears (named ∷ rest) ≡ false
+pub holds_not : (ears : FolderReads) (named : NamedFileView) (rest : List NamedFileView) (here : Bool) → here ≡ matches ears named → here ≡ false → holds ears (named ∷ rest) ≡ false
 holds_not ears named rest here is differs = ap (λ b. b && holds ears rest) (sym is ∙ differs)
 
-pub looks_on : (ears : Ears) (paths : List (List ℕ)) (named : Named) (rest : List Named) (here : Bool) → here ≡ matches ears named → here ≡ true
+pub looks_on : (ears : FolderReads) (paths : List (List ℕ)) (named : NamedFileView) (rest : List NamedFileView) (here : Bool) → here ≡ matches ears named → here ≡ true
     → fold with_path paths (looked_of ears (named ∷ rest)) ≡ fold with_path (with_path paths named.path) (looked_of ears rest)
 looks_on ears paths named rest here is passed = ap (λ b. fold with_path paths (named.path ∷ cond b (looked_of ears rest) [])) (sym is ∙ passed)
 
-pub looks_not : (ears : Ears) (paths : List (List ℕ)) (named : Named) (rest : List Named) (here : Bool) → here ≡ matches ears named → here ≡ false
+pub looks_not : (ears : FolderReads) (paths : List (List ℕ)) (named : NamedFileView) (rest : List NamedFileView) (here : Bool) → here ≡ matches ears named → here ≡ false
     → fold with_path paths (looked_of ears (named ∷ rest)) ≡ with_path paths named.path
 looks_not ears paths named rest here is differs = ap (λ b. fold with_path paths (named.path ∷ cond b (looked_of ears rest) [])) (sym is ∙ differs)
 
-pub missing_on : (ears : Ears) (number : ℕ) (named : Named) (rest : List Named) (here : Bool) → here ≡ matches ears named → here ≡ true
+pub missing_on : (ears : FolderReads) (number : ℕ) (named : NamedFileView) (rest : List NamedFileView) (here : Bool) → here ≡ matches ears named → here ≡ true
     → missing_from ears number (named ∷ rest) ≡ missing_from ears (number + 1) rest
 missing_on ears number named rest here is passed =
     ap (λ b. cond b (missing_from ears (number + 1) rest) (cond (is_absent (ears.file (components_of named.path))) (Some number) None)) (sym is ∙ passed)
 
-pub missing_here : (ears : Ears) (number : ℕ) (named : Named) (rest : List Named) (here : Bool) → here ≡ matches ears named → here ≡ false
+pub missing_here : (ears : FolderReads) (number : ℕ) (named : NamedFileView) (rest : List NamedFileView) (here : Bool) → here ≡ matches ears named → here ≡ false
     → missing_from ears number (named ∷ rest) ≡ cond (is_absent (ears.file (components_of named.path))) (Some number) None
 missing_here ears number named rest here is differs =
     ap (λ b. cond b (missing_from ears (number + 1) rest) (cond (is_absent (ears.file (components_of named.path))) (Some number) None)) (sym is ∙ differs)

@@ -2,6 +2,6 @@
 use Rattle.std.specs.Prelude.{ℕ, List}
 
 -- a file that a clarification names: its path, from the crate's folder, and the hash of its normal form
-pub record Named : Type 0 where
+pub record NamedFileView : Type 0 where
   pub path : List ℕ
   pub hash : ℕ

@@ -4,10 +4,10 @@ use Rattle.std.specs.List.{flat_map, fold, list_any, starts_with, ends_with}
 use Rattle.std.specs.Ordering.{is_lt}
 use Rattle.std.specs.Str.{bytes_eq}
 use Rattle.deny_text.specs.Path.{components_of, path_order}
-use Rattle.tree_core.specs.Content.{Listed}
-use Rattle.reads_core.specs.Heard.{Heard, failed, absent, wrong_kind, not_utf8, text, entries, same_parts}
-use Rattle.pack_core.specs.Ears.{Ears, looked_of, tried_of}
-use Rattle.pack_core.specs.NamedFile.{Named}
+use Rattle.tree_core.specs.Content.{ListedEntry}
+use Rattle.reads_core.specs.Heard.{ReadResult, failed, absent, wrong_kind, not_utf8, text, entries, same_parts}
+use Rattle.pack_core.specs.Ears.{FolderReads, looked_of, tried_of}
+use Rattle.pack_core.specs.NamedFile.{NamedFileView}
 
 -- ---- what is found
 
@@ -16,10 +16,10 @@ abbrev pub is_licence_name : List ℕ → Bool
 is_licence_name name = starts_with nat_eq name (codes "LICENSE") || starts_with nat_eq name (codes "COPYING")
 
 -- a file of such a name
-abbrev pub is_licence_file : Listed → Bool
+abbrev pub is_licence_file : ListedEntry → Bool
 is_licence_file entry = entry.1 && is_licence_name entry.0
 
-abbrev pub names_found : List Listed → List (List ℕ)
+abbrev pub names_found : List ListedEntry → List (List ℕ)
 names_found listed = map (λ entry. entry.0) (filter is_licence_file listed)
 
 -- whether the parts of the first path end with those of the second
@@ -33,20 +33,20 @@ with_license_file (Some file) names = if list_any (λ name. ends_with_parts name
 
 -- Of a listing that is heard as entries: the file names that begin `LICENSE` or `COPYING`, and the crate's `license_file`. Of any
 -- other listing nothing is found.
-abbrev pub found_of : Heard → Option (List ℕ) → List (List ℕ)
-found_of (failed before after) license_file = []
-found_of absent license_file = []
-found_of wrong_kind license_file = []
-found_of not_utf8 license_file = []
-found_of (text bytes) license_file = []
-found_of (entries listed) license_file = with_license_file license_file (names_found listed)
+abbrev pub license_files_in : ReadResult → Option (List ℕ) → List (List ℕ)
+license_files_in (failed before after) license_file = []
+license_files_in absent license_file = []
+license_files_in wrong_kind license_file = []
+license_files_in not_utf8 license_file = []
+license_files_in (text bytes) license_file = []
+license_files_in (entries listed) license_file = with_license_file license_file (names_found listed)
 
 -- ---- what is read
 
 -- what is found, and what is looked up of the clarifications, in order
-abbrev pub wanted_of : Ears → Option (List ℕ) → List (List Named) → List (List ℕ)
+abbrev pub wanted_of : FolderReads → Option (List ℕ) → List (List NamedFileView) → List (List ℕ)
 wanted_of ears license_file clarifications =
-    found_of ears.listing license_file ++ flat_map (looked_of ears) (tried_of ears clarifications)
+    license_files_in ears.listing license_file ++ flat_map (looked_of ears) (tried_of ears clarifications)
 
 -- whether two paths have the same parts
 abbrev pub same_path : List ℕ → List ℕ → Bool
@@ -62,7 +62,7 @@ first_spellings [] = []
 first_spellings (path ∷ paths) = path ∷ without_path path (first_spellings paths)
 
 -- the files that are read for a crate, in the order of the reads
-abbrev pub reads_of : Ears → Option (List ℕ) → List (List Named) → List (List ℕ)
+abbrev pub reads_of : FolderReads → Option (List ℕ) → List (List NamedFileView) → List (List ℕ)
 reads_of ears license_file clarifications = first_spellings (wanted_of ears license_file clarifications)
 
 -- ---- in path order
@@ -77,5 +77,5 @@ abbrev pub in_path_order : List (List ℕ) → List (List ℕ)
 in_path_order paths = fold (λ sorted path. placed path sorted) [] paths
 
 -- the same files, sorted by the parts of their paths
-abbrev pub pack_of : Ears → Option (List ℕ) → List (List Named) → List (List ℕ)
-pack_of ears license_file clarifications = in_path_order (reads_of ears license_file clarifications)
+abbrev pub pack_paths : FolderReads → Option (List ℕ) → List (List NamedFileView) → List (List ℕ)
+pack_paths ears license_file clarifications = in_path_order (reads_of ears license_file clarifications)

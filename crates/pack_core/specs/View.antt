@@ -9,7 +9,7 @@ use Rattle.tree_core.specs.declared.reads.ReadKind.TheVariants.{LicenseFile}
 use Rattle.tree_core.specs.declared.reads.ReadRecord.{ReadRecord}
 use Rattle.reads_core.specs.declared.bad_read.BadRead.{BadRead}
 use Rattle.reads_core.specs.declared.bad_read.BadRead.TheVariants as bad
-use Rattle.reads_core.specs.Heard.{Heard, failed, absent, wrong_kind, not_utf8, text, entries, is_kind}
+use Rattle.reads_core.specs.Heard.{ReadResult, failed, absent, wrong_kind, not_utf8, text, entries, is_kind}
 use Rattle.reads_core.specs.Views.{heard_file}
 use Rattle.pack_core.specs.Pack.{in_path_order}
 
@@ -17,12 +17,12 @@ use Rattle.pack_core.specs.Pack.{in_path_order}
 -- normal form; and the records of the reads.
 pub record PackView : Type 0 where
   pub folder : List ℕ
-  pub listing : Heard
-  pub files : List (List ℕ × Heard)
+  pub listing : ReadResult
+  pub files : List (List ℕ × ReadResult)
   pub reads : List ReadRecord
 
 -- a text in its normal form; anything else as it was heard
-abbrev pub normal_heard : Heard → Heard
+abbrev pub normal_heard : ReadResult → ReadResult
 normal_heard (failed before after) = failed before after
 normal_heard absent = absent
 normal_heard wrong_kind = wrong_kind
@@ -31,14 +31,14 @@ normal_heard (text bytes) = text (normal_of bytes)
 normal_heard (entries listed) = entries listed
 
 -- files as they are kept
-abbrev pub files_of : List (List ℕ × Result (List ℕ) BadRead) → List (List ℕ × Heard)
-files_of held = map (λ file. (file.0, heard_file file.1)) held
+abbrev pub kept_files : List (List ℕ × Result (List ℕ) BadRead) → List (List ℕ × ReadResult)
+kept_files held = map (λ file. (file.0, heard_file file.1)) held
 
-abbrev pub paths_of : List (List ℕ × Heard) → List (List ℕ)
+abbrev pub paths_of : List (List ℕ × ReadResult) → List (List ℕ)
 paths_of files = map (λ file. file.0) files
 
 -- what was heard of the file at a path
-abbrev pub file_at : List (List ℕ × Heard) → List ℕ → Option Heard
+abbrev pub file_at : List (List ℕ × ReadResult) → List ℕ → Option ReadResult
 file_at files path = lookup (is_at (path_order path)) files
 
 -- the licence files that were read, in order
@@ -49,7 +49,7 @@ abbrev pub paths_read : List ReadRecord → List (List ℕ)
 paths_read reads = filter_map path_read reads
 
 -- why a listing is not heard as entries; a listing is never heard as a text
-abbrev pub unlisted_of : Heard → Option BadRead
+abbrev pub unlisted_of : ReadResult → Option BadRead
 unlisted_of (failed before after) = Some (bad.Failed before after)
 unlisted_of absent = Some bad.Absent
 unlisted_of wrong_kind = Some bad.WrongKind
@@ -58,5 +58,5 @@ unlisted_of (text bytes) = Some bad.WrongKind
 unlisted_of (entries listed) = None
 
 -- the files are those that were read, in path order
-pub record IsKept (pack : PackView) : Type 0 where
+pub record KeepsReadFiles (pack : PackView) : Type 0 where
   pub paths : paths_of pack.files ≡ in_path_order (paths_read pack.reads)

@@ -3,7 +3,7 @@ ghost use Rattle.std.specs.Prelude.{◌≡◌, ◌++◌, ◌∷◌, [], IfOk, On
 ghost use Rattle.std.specs.List.{list_any};
 ghost use Rattle.tree_core.specs.Answer.{listed};
 ghost use Rattle.reads_core.specs.Views.{heard_folder};
-ghost use Rattle.pack_core.specs.Pack.{ends_with_parts, found_of, is_licence_file, is_licence_name};
+ghost use Rattle.pack_core.specs.Pack.{ends_with_parts, license_files_in, is_licence_file, is_licence_name};
 ghost use Rattle.pack_core.specs.Pack.{names_found, with_license_file};
 
 use deny_text::path::ends_with;
@@ -89,7 +89,7 @@ pub(crate) fn found(
     license_file: Option<&PathBuf>,
 ) -> Result<ListOf<PathBuf>, AllocError>
     ensures { IfOk result (λ names.
-        names ≡ found_of (heard_folder listing.now) (option_copied license_file.entry)) }
+        names ≡ license_files_in (heard_folder listing.now) (option_copied license_file.entry)) }
 {
     match listing {
         Ok(entries) => {

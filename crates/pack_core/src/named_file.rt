@@ -1,13 +1,13 @@
 //! Files that clarifications name.
 ghost use Rattle.std.specs.Prelude.{◌≡◌};
-ghost use Rattle.pack_core.specs.NamedFile.{Named};
+ghost use Rattle.pack_core.specs.NamedFile.{NamedFileView};
 
 use deny_text::PathBuf;
 
 /// A file with the hash that its normal form is to have.
 pub trait NamedFile {
     /// The path and the hash, as contracts see them.
-    ghost named: { Self → Named };
+    ghost named: { Self → NamedFileView };
 
     /// The path from the crate's folder.
     fn path(&self) -> &PathBuf

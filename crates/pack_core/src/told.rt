@@ -1,14 +1,14 @@
 //! What a look-up tells of a file.
 ghost use Rattle.std.specs.Prelude.{◌≡◌};
 ghost use Rattle.reads_core.specs.Views.{heard_bad, heard_file};
-ghost use Rattle.pack_core.specs.Told.{tells_absent, tells_hash, told_of};
+ghost use Rattle.pack_core.specs.Told.{tells_absent, tells_hash, file_state};
 
-use crate::pack::PackData;
+use crate::pack::PackFileData;
 use reads_core::BadRead;
 
 /// What a look-up tells of a file.
 #[derive(Clone, Copy)]
-pub(crate) enum Told {
+pub(crate) enum FileState {
     /// It is a text, with this hash of its normal form.
     Hash(u32),
     /// Nothing is there.
@@ -17,24 +17,24 @@ pub(crate) enum Told {
     Other,
 }
 
-fn told_bad(error: BadRead) -> Told
-    ensures { result ≡ told_of (heard_bad error) }
+fn told_bad(error: BadRead) -> FileState
+    ensures { result ≡ file_state (heard_bad error) }
 {
     match error {
-        BadRead::Absent => Told::Absent,
-        BadRead::WrongKind => Told::Other,
-        BadRead::NotUtf8 => Told::Other,
-        BadRead::Failed { .. } => Told::Other,
+        BadRead::Absent => FileState::Absent,
+        BadRead::WrongKind => FileState::Other,
+        BadRead::NotUtf8 => FileState::Other,
+        BadRead::Failed { .. } => FileState::Other,
     }
 }
 
-impl Told {
+impl FileState {
     /// By what is kept of a file.
-    pub(crate) fn of(kept: &PackData) -> Told
-        ensures { result ≡ told_of (heard_file kept.now) }
+    pub(crate) fn of(kept: &PackFileData) -> FileState
+        ensures { result ≡ file_state (heard_file kept.now) }
     {
         match kept {
-            Ok(text) => Told::Hash(text.hash()),
+            Ok(text) => FileState::Hash(text.hash()),
             Err(error) => told_bad(*error),
         }
     }
@@ -43,9 +43,9 @@ impl Told {
         ensures { result ≡ tells_hash hash self }
     {
         match self {
-            Told::Hash(found) => found == hash,
-            Told::Absent => false,
-            Told::Other => false,
+            FileState::Hash(found) => found == hash,
+            FileState::Absent => false,
+            FileState::Other => false,
         }
     }
 
@@ -53,9 +53,9 @@ impl Told {
         ensures { result ≡ tells_absent self }
     {
         match self {
-            Told::Hash(_) => false,
-            Told::Absent => true,
-            Told::Other => false,
+            FileState::Hash(_) => false,
+            FileState::Absent => true,
+            FileState::Other => false,
         }
     }
 }

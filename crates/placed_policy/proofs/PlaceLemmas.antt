@@ -13,8 +13,8 @@ use Rattle.policy_core.specs.Places.{ClarificationStands, ExceptionStands, Expre
 use Rattle.priority_core.specs.Clarification.{PlacedFile}
 use Rattle.finding_core.specs.License.{PlaceLies, StandsIn}
 use Rattle.finding_core.proofs.LicenseLemmas.{place_grown}
-use Rattle.gather_core.specs.Entries.{Entry, clarification_of, entries_of, entry_of, placed_of}
-use Rattle.gather_core.specs.Premises.{ArePlacedIn, IsPlacedIn}
+use Rattle.gather_core.specs.Entries.{ClarificationEntry, clarification_view, entries_of, clarification_entry, placed_of}
+use Rattle.gather_core.specs.Premises.{ArePlacedIn, IsClarificationPlaced}
 use Rattle.unused_core.specs.Laws.{EntriesLie}
 
 -- ---- as gathering asks
@@ -36,7 +36,7 @@ paths_lie : (files : List File) (file : ℕ) (sources : List FileSource) → All
 paths_lie files file [] all = tt
 paths_lie files file (source ∷ sources) all = (place_lies files file source.path.span all.0, paths_lie files file sources all.1)
 
-is_placed : (files : List File) (file : ℕ) (one : ValidClarification) → ClarificationStands files file one → IsPlacedIn files file (clarification_of one)
+is_placed : (files : List File) (file : ℕ) (one : ValidClarification) → ClarificationStands files file one → IsClarificationPlaced files file (clarification_view one)
 is_placed files file one stands = record {
   expression = stands_in files file one.expr_offset one.whole one.expression.text stands.expression;
   paths =
@@ -45,14 +45,14 @@ is_placed files file one stands = record {
 }
 
 each_placed : (files : List File) (file : ℕ) (ones : List ValidClarification) → AllByRecursion (ClarificationStands files file) ones
-    → AllByRecursion (λ (entry : Entry). IsPlacedIn files file entry.clarification) (map entry_of ones)
+    → AllByRecursion (λ (entry : ClarificationEntry). IsClarificationPlaced files file entry.clarification) (map clarification_entry ones)
 each_placed files file [] all = tt
 each_placed files file (one ∷ ones) all = (is_placed files file one all.0, each_placed files file ones all.1)
 
 -- what gathering asks of a policy follows from what its load ensures
 pub are_placed : (files : List File) (policy : ValidConfig) → PolicyStands files policy → ArePlacedIn files policy.file_id (entries_of policy)
 are_placed files policy stands =
-    All-from_recursion (λ (entry : Entry). IsPlacedIn files policy.file_id entry.clarification) (entries_of policy)
+    All-from_recursion (λ (entry : ClarificationEntry). IsClarificationPlaced files policy.file_id entry.clarification) (entries_of policy)
     (each_placed files policy.file_id policy.clarifications stands.clarifications)
 
 -- ---- as the check asks

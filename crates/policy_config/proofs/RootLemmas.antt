@@ -4,7 +4,7 @@ use Rattle.std.specs.Prelude.{codes, option_map, option_to_list}
 use Rattle.deny_text.specs.declared.span.Span.{Span}
 use Rattle.toml_subset.specs.Data.{Entries, Toml}
 use Rattle.toml_subset.specs.declared.string.Key.{Key}
-use Rattle.toml_shapes.specs.Shaped.{Shaped}
+use Rattle.toml_shapes.specs.Shaped.{ShapeReading}
 use Rattle.policy_toml.specs.HelperState.{given_value}
 use Rattle.policy_toml.specs.Readings.{boolean_of, text_of, list_of}
 use Rattle.key_rows.specs.Rows.{given, key_span, entries_besides}
@@ -48,7 +48,7 @@ same_moved {t} {t'} {x} {x'} {y} {y'} {a} {a'} {b} {b'} {d} {d'} targets exclude
     ∙ ap (λ v. moved_of t' x' y' a' v d) none
     ∙ ap (λ v. moved_of t' x' y' a' b' v) dev
 
-given_behind : {A : Type 0} (name : List ℕ) (reads : Toml → Shaped A) (passed : List (List ℕ)) (entries : Entries) → none_is name passed ≡ true
+given_behind : {A : Type 0} (name : List ℕ) (reads : Toml → ShapeReading A) (passed : List (List ℕ)) (entries : Entries) → none_is name passed ≡ true
     → given name reads (entries_besides passed entries) ≡ given name reads entries
 given_behind name reads passed entries apart = ap (λ value. given_value (option_map reads value)) (found_behind name passed entries apart)
 

@@ -3,10 +3,10 @@ use Rattle.std.specs.Prelude.{ℕ, pos, true, false, List, [], ◌∷◌, codes,
 use Rattle.catalog_core.specs.Catalog.{CatalogLists}
 use Rattle.deny_text.specs.declared.span.Span.{Span}
 use Rattle.toml_subset.specs.Data.{Entries, Toml}
-use Rattle.toml_shapes.specs.Shaped.{Shaped}
+use Rattle.toml_shapes.specs.Shaped.{ShapeReading}
 use Rattle.policy_toml.specs.Readings.{boolean_of, hundredths_of, i32_of, list_of}
 use Rattle.policy_toml.specs.declared.hundredths.Hundredths.{Hundredths}
-use Rattle.key_rows.specs.Rows.{Row, key, passed_key, given, shaped_by, in_table}
+use Rattle.key_rows.specs.Rows.{KeyRow, key, passed_key, given, shaped_by, in_table}
 use Rattle.policy_parts.specs.Names.{lint_of}
 use Rattle.policy_parts.specs.Tables.{private_of}
 use Rattle.policy_parts.specs.declared.names.LintLevel.TheVariants.{Warn}
@@ -18,7 +18,7 @@ use Rattle.policy_config.specs.Places.{places_of_keys}
 use Rattle.policy_config.specs.declared.config.Config.{Config}
 
 -- A removed key is passed over: its value may be anything.
-abbrev pub config_rows : CatalogLists → List Row
+abbrev pub config_rows : CatalogLists → List KeyRow
 config_rows lists =
     key (codes "version") i32_of
     ∷ key (codes "private") private_of
@@ -78,8 +78,8 @@ config_in lists entries = record {
   deprecated_spans = places_of_keys removed_keys entries;
 }
 
-abbrev pub config_at : CatalogLists → Entries → Span → Shaped Config
+abbrev pub config_at : CatalogLists → Entries → Span → ShapeReading Config
 config_at lists = shaped_by [] (config_rows lists) (config_in lists)
 
-abbrev pub config_of : CatalogLists → Toml → Shaped Config
+abbrev pub config_of : CatalogLists → Toml → ShapeReading Config
 config_of lists = in_table (config_at lists)

@@ -4,10 +4,10 @@ use Rattle.std.specs.Option.{option_or}
 use Rattle.catalog_core.specs.Catalog.{CatalogLists}
 use Rattle.deny_text.specs.declared.span.Span.{Span}
 use Rattle.toml_subset.specs.Data.{Entries, Toml}
-use Rattle.toml_shapes.specs.Shaped.{Shaped}
+use Rattle.toml_shapes.specs.Shaped.{ShapeReading}
 use Rattle.policy_toml.specs.Readings.{boolean_of, text_of, u32_of, list_of}
-use Rattle.key_rows.specs.Rows.{Row, key, passed_key, given, key_span, shaped_by, in_table}
-use Rattle.policy_parts.specs.Tables.{graph_of, output_of}
+use Rattle.key_rows.specs.Rows.{KeyRow, key, passed_key, given, key_span, shaped_by, in_table}
+use Rattle.policy_parts.specs.Tables.{graph_config_of, output_of}
 use Rattle.policy_parts.specs.Values.{target_of}
 use Rattle.policy_parts.specs.declared.graph.GraphConfig.{GraphConfig}
 use Rattle.policy_parts.specs.declared.output.OutputConfig.{OutputConfig}
@@ -17,13 +17,13 @@ use Rattle.policy_config.specs.declared.root.MovedKeys.{MovedKeys}
 use Rattle.policy_config.specs.declared.root.RootConfig.{RootConfig}
 
 -- The first three are of other checks than that of licences: their values may be anything.
-abbrev pub root_rows : CatalogLists → List Row
+abbrev pub root_rows : CatalogLists → List KeyRow
 root_rows lists =
     passed_key (codes "advisories")
     ∷ passed_key (codes "bans")
     ∷ passed_key (codes "sources")
     ∷ key (codes "licenses") (config_of lists)
-    ∷ key (codes "graph") graph_of
+    ∷ key (codes "graph") graph_config_of
     ∷ key (codes "targets") (list_of target_of)
     ∷ key (codes "exclude") (list_of text_of)
     ∷ key (codes "features") (list_of text_of)
@@ -39,7 +39,7 @@ abbrev pub moved_keys : List (List ℕ)
 moved_keys =
     codes "targets" ∷ codes "exclude" ∷ codes "features" ∷ codes "all-features" ∷ codes "no-default-features" ∷ codes "exclude-dev" ∷ []
 
-abbrev pub moved_rows : List Row
+abbrev pub moved_rows : List KeyRow
 moved_rows =
     key (codes "targets") (list_of target_of)
     ∷ key (codes "exclude") (list_of text_of)
@@ -93,14 +93,14 @@ with_depth depth output = record { feature_depth = option_or depth output.featur
 abbrev pub root_in : CatalogLists → Entries → RootConfig
 root_in lists entries = record {
   licenses = given (codes "licenses") (config_of lists) entries;
-  graph = with_moved (moved_in entries) (unwrap_or (given (codes "graph") graph_of entries) no_graph);
+  graph = with_moved (moved_in entries) (unwrap_or (given (codes "graph") graph_config_of entries) no_graph);
   output = with_depth (given (codes "feature-depth") u32_of entries) (unwrap_or (given (codes "output") output_of entries) no_output);
   graph_deprecated = places_of_keys moved_keys entries;
   output_deprecated = key_span (codes "feature-depth") entries;
 }
 
-abbrev pub root_at : CatalogLists → Entries → Span → Shaped RootConfig
+abbrev pub root_at : CatalogLists → Entries → Span → ShapeReading RootConfig
 root_at lists = shaped_by [] (root_rows lists) (root_in lists)
 
-abbrev pub root_of : CatalogLists → Toml → Shaped RootConfig
+abbrev pub root_of : CatalogLists → Toml → ShapeReading RootConfig
 root_of lists = in_table (root_at lists)

@@ -5,7 +5,7 @@ ghost use Rattle.policy_config.specs.Config.{config_at, config_of, no_config, no
 
 use crate::placed::{places_of, take_removed};
 use catalog_core::Catalog;
-use key_rows::{Keyed, Spans, finish, or_empty, read_table};
+use key_rows::{FromKeys, Spans, finish, or_empty, read_table};
 use policy_entries::{Clarifications, Exceptions, Licensees};
 use policy_parts::{LintLevel, Private};
 use policy_toml::{DeserError, Deserialize, Hundredths, TableHelper, Value};
@@ -63,7 +63,7 @@ fn or_no_private(alloc: Global, private: Option<Private>) -> Private
     }
 }
 
-impl<C: Catalog> Keyed<C> for Config {
+impl<C: Catalog> FromKeys<C> for Config {
     ghost shape = { λ catalog. config_at (C.lists catalog) };
 
     fn read_keys(

@@ -4,7 +4,7 @@ ghost use Rattle.key_rows.specs.Rows.{key_span};
 ghost use Rattle.policy_config.specs.OpenTable.{open_state};
 ghost use Rattle.policy_toml.specs.HelperState.{optional_of, after_optional, without_key, faults_at_end};
 ghost use Rattle.policy_toml.specs.HelperState.{given_value, faults_of};
-ghost use Rattle.toml_shapes.specs.Shaped.{Gives, answer_of};
+ghost use Rattle.toml_shapes.specs.Shaped.{AnswersShape, shaped_of};
 ghost use Rattle.toml_value.specs.Lookup.{value_at};
 ghost use Rattle.toml_value.specs.Removal.{entries_without};
 ghost use Rattle.toml_value.specs.Views.{value_view, entries_view};
@@ -18,7 +18,7 @@ use toml_shapes::answer;
 
 /// A key's place, and what its value was read as. Where the key is not there it has neither.
 #[derive(Drop)]
-pub(crate) struct Placed<T> {
+pub(crate) struct PlacedValue<T> {
     pub(crate) place: Option<Span>,
     pub(crate) value: Option<T>,
 }
@@ -94,7 +94,7 @@ impl<'de> OpenTable<'de> {
         alloc: Global,
         name: &str,
         context: &X,
-    ) -> Result<Placed<T>, AllocError>
+    ) -> Result<PlacedValue<T>, AllocError>
         ensures value { let state = open_state self.old in
             IfOk result (λ read. read.value ≡ optional_of name.now (T.reads context.now) state) }
         ensures place { let left = (open_state self.old).left in
@@ -104,7 +104,7 @@ impl<'de> OpenTable<'de> {
     {
         let (place, value) = take_placed(&mut self.left, name);
         let value = read_found(alloc, value, context, &mut self.faults)?;
-        Ok(Placed { place, value })
+        Ok(PlacedValue { place, value })
     }
 
     /// A key that may be there. What is wrong with its value is collected.
@@ -145,7 +145,7 @@ impl<'de> OpenTable<'de> {
 
     /// Ends the reading with what the table stands for. A key that is left is a fault.
     pub(crate) fn finish<T: Drop>(self, alloc: Global, thing: T) -> Result<T, DeserError>
-        ensures { Gives (answer_of (faults_at_end false (open_state self.entry)) thing) result }
+        ensures { AnswersShape (shaped_of (faults_at_end false (open_state self.entry)) thing) result }
     {
         let OpenTable {
             left,

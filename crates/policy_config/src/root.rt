@@ -1,14 +1,14 @@
 //! The whole policy, as it is written.
 ghost use Rattle.std.specs.Prelude.{◌≡◌, [], ◌++◌, IfOk, OnOk, unwrap_or, codes};
 ghost use Rattle.key_rows.specs.Rows.{left_of_table};
-ghost use Rattle.policy_parts.specs.Tables.{graph_of};
+ghost use Rattle.policy_parts.specs.Tables.{graph_config_of};
 ghost use Rattle.policy_toml.specs.HelperState.{optional_of, after_optional};
 ghost use Rattle.policy_config.specs.OpenTable.{open_state, behind_rows};
 ghost use Rattle.policy_config.specs.Places.{places_of_keys};
 ghost use Rattle.policy_config.specs.Root as spec;
 ghost use Rattle.policy_config.specs.Root.{no_graph, no_output, root_at, root_of};
 ghost use Rattle.policy_config.specs.Root.{moved_in, moved_keys, moved_rows};
-ghost use Rattle.toml_shapes.specs.Shaped.{Gives};
+ghost use Rattle.toml_shapes.specs.Shaped.{AnswersShape};
 
 use crate::config::Config;
 use crate::open_table::OpenTable;
@@ -129,12 +129,12 @@ struct RootGraph {
 /// Reads the table `graph`, and behind it the keys that were moved there.
 fn read_graph(alloc: Global, table: &mut OpenTable<'_>) -> Result<RootGraph, AllocError>
     ensures graph { let state = open_state table.old in
-        let own = unwrap_or (optional_of (codes "graph") graph_of state) no_graph in
-        let moved = moved_in (after_optional (codes "graph") graph_of state).left in
+        let own = unwrap_or (optional_of (codes "graph") graph_config_of state) no_graph in
+        let moved = moved_in (after_optional (codes "graph") graph_config_of state).left in
         IfOk result (λ read. read.graph ≡ spec.with_moved moved own) }
-    ensures places { let behind = after_optional (codes "graph") graph_of (open_state table.old) in
+    ensures places { let behind = after_optional (codes "graph") graph_config_of (open_state table.old) in
         IfOk result (λ read. read.places ≡ places_of_keys moved_keys behind.left) }
-    ensures after { let behind = after_optional (codes "graph") graph_of (open_state table.old) in
+    ensures after { let behind = after_optional (codes "graph") graph_config_of (open_state table.old) in
         OnOk result (open_state table.new ≡ behind_rows moved_rows behind) }
 {
     let graph = table.optional(alloc, "graph", &())?;
@@ -154,7 +154,7 @@ fn read_root<C: Catalog>(
 ) -> Result<RootConfig, DeserError>
     requires { (open_state table).faults ≡ [] }
     ensures { let state = open_state table.entry in
-        Gives (root_at (C.lists catalog.now) state.left state.span) result }
+        AnswersShape (root_at (C.lists catalog.now) state.left state.span) result }
 {
     table.pass_over("advisories");
     table.pass_over("bans");

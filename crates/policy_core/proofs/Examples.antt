@@ -7,9 +7,9 @@ use Rattle.toml_subset.specs.Reading.{read_text}
 use Rattle.toml_shapes.specs.Shapes.{fault_alone, wanted}
 use Rattle.toml_shapes.specs.Shaped.{shaped_map}
 use Rattle.validate_core.specs.Valid.{error_at, removed_key}
-use Rattle.policy_core.specs.Exceptions.{exceptions_told, itself_told, no_file, no_text, no_value, policy_itself, unread_told, value}
-use Rattle.policy_core.specs.Findings.{absent_told, moved_told, target_told}
-use Rattle.policy_core.specs.Policy.{FileNumbers, empty_table, policy_of}
+use Rattle.policy_core.specs.Exceptions.{exceptions_findings, itself_finding, no_file, no_text, no_value, policy_itself, unread_finding, value}
+use Rattle.policy_core.specs.Findings.{absence_finding, moved_key_finding, target_finding}
+use Rattle.policy_core.specs.Policy.{FileNumbers, empty_table, policy_of_files}
 
 abbrev lists : CatalogLists
 lists = record { licences = []; exceptions = []; imprecise = [] }
@@ -40,31 +40,31 @@ policy =
     (row (codes "licenses") (at 4 5) (at 6 20) (table (row (codes "copyleft") (at 7 15) (at 16 20) (text (codes "warn")) no_entry))
     (row (codes "targets") (at 21 28) (at 30 40) (array (item (at 31 32) (text (codes "t")) (item (at 33 34) (text (codes "u")) no_item))) no_entry)))
 
-all_in_order : shaped_map (λ found. found.findings) (policy_of lists numbers (record { path = Some (codes "p"); value = Some policy }) (no_text (codes "e") (codes "not found")))
+all_in_order : shaped_map (λ found. found.findings) (policy_of_files lists numbers (record { path = Some (codes "p"); value = Some policy }) (no_text (codes "e") (codes "not found")))
     ≡ Ok (removed_key 0 (at 7 15)
-    ∷ unread_told (codes "e") (codes "not found")
-    ∷ target_told 0 (record { filter = record { value = codes "t"; span = at 31 32 }; features = [] })
-    ∷ target_told 0 (record { filter = record { value = codes "u"; span = at 33 34 }; features = [] })
-    ∷ moved_told (codes "graph") 0 (at 21 28)
-    ∷ moved_told (codes "output") 0 (at 0 1) ∷ [])
+    ∷ unread_finding (codes "e") (codes "not found")
+    ∷ target_finding 0 (record { filter = record { value = codes "t"; span = at 31 32 }; features = [] })
+    ∷ target_finding 0 (record { filter = record { value = codes "u"; span = at 33 34 }; features = [] })
+    ∷ moved_key_finding (codes "graph") 0 (at 21 28)
+    ∷ moved_key_finding (codes "output") 0 (at 0 1) ∷ [])
 all_in_order = refl
 
 -- an absent policy is told first, by its path if there is one
-absent : shaped_map (λ found. found.findings) (policy_of lists numbers (record { path = Some (codes "p"); value = None }) (policy_itself (codes "p")))
-    ≡ Ok (absent_told (Some (codes "p")) ∷ itself_told (codes "p") ∷ [])
+absent : shaped_map (λ found. found.findings) (policy_of_files lists numbers (record { path = Some (codes "p"); value = None }) (policy_itself (codes "p")))
+    ≡ Ok (absence_finding (Some (codes "p")) ∷ itself_finding (codes "p") ∷ [])
 absent = refl
 
-nowhere : shaped_map (λ found. found.findings) (policy_of lists numbers (record { path = None; value = None }) no_file) ≡ Ok (absent_told None ∷ [])
+nowhere : shaped_map (λ found. found.findings) (policy_of_files lists numbers (record { path = None; value = None }) no_file) ≡ Ok (absence_finding None ∷ [])
 nowhere = refl
 
 -- what is wrong with an exceptions file has its number
-faulty : (exceptions_told lists 1 (no_value (at 15 15)) ≡ error_at 1 (codes "syntax error") (at 15 15) [] ∷ [])
-    × (exceptions_told lists 1 (value empty_table) ≡ error_at 1 (codes "missing field 'exceptions'") (at 0 0) [] ∷ [])
-    × (exceptions_told lists 1 (value (root (row (codes "exceptions") (at 0 1) (at 2 3) (array no_item) (row (codes "b") (at 4 5) (at 6 7) (integer (pos 1)) no_entry))))
+faulty : (exceptions_findings lists 1 (no_value (at 15 15)) ≡ error_at 1 (codes "syntax error") (at 15 15) [] ∷ [])
+    × (exceptions_findings lists 1 (value empty_table) ≡ error_at 1 (codes "missing field 'exceptions'") (at 0 0) [] ∷ [])
+    × (exceptions_findings lists 1 (value (root (row (codes "exceptions") (at 0 1) (at 2 3) (array no_item) (row (codes "b") (at 4 5) (at 6 7) (integer (pos 1)) no_entry))))
     ≡ error_at 1 (codes "unexpected keys: b") (at 0 99) [] ∷ [])
 faulty = (refl, refl, refl)
 
 -- a policy of another shape is none
-no_policy : policy_of lists numbers (record { path = None; value = Some (record { content = integer (pos 1); span = at 0 1 }) }) no_file
+no_policy : policy_of_files lists numbers (record { path = None; value = Some (record { content = integer (pos 1); span = at 0 1 }) }) no_file
     ≡ Err (fault_alone (wanted (codes "a table") (codes "an integer")) (at 0 1))
 no_policy = refl

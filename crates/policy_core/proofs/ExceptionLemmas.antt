@@ -3,28 +3,28 @@ use Rattle.std.proofs.Common.{◌≡◌, ◌∙◌, refl, sym, ap, subst, ℕ, t
 use Rattle.std.specs.Prelude.{is_some}
 use Rattle.catalog_core.specs.Catalog.{CatalogLists}
 use Rattle.deny_text.specs.declared.span.Span.{Span}
-use Rattle.diag_core.specs.File.{File, Grows, id_at}
+use Rattle.diag_core.specs.File.{File, Grows, file_id_at}
 use Rattle.diag_core.specs.declared.diagnostic.Diagnostic.{Diagnostic}
-use Rattle.heard_core.specs.Heard.{IsRead, read_of as call_of}
+use Rattle.heard_core.specs.Heard.{IsTextRead, read_of as call_of}
 use Rattle.heard_core.specs.declared.fault.ReadFault.{ReadFault}
-use Rattle.toml_subset.specs.Answer.{Read}
+use Rattle.toml_subset.specs.Answer.{TomlReading}
 use Rattle.toml_subset.specs.Data.{Toml}
 use Rattle.toml_subset.specs.Reading.{read_text}
 use Rattle.toml_shapes.specs.Shaped.{faults_in}
-use Rattle.tree_core.specs.Call.{Answered, Call}
+use Rattle.tree_core.specs.Call.{CallAnswer, Call}
 use Rattle.valid_policy.specs.declared.policy.ValidConfig.{ValidConfig}
 use Rattle.valid_policy.specs.declared.policy.ValidException.{ValidException}
-use Rattle.policy_core.specs.Exceptions.{exceptions_in, exceptions_kept, exceptions_told, with_exceptions, shape_told, syntax_told, itself_told, unread_told}
-use Rattle.policy_core.specs.ExceptionsText.{Answer, IsAnswered, ReadsBy, kept_of, told_of}
+use Rattle.policy_core.specs.Exceptions.{valid_exceptions_in, exceptions_kept, exceptions_findings, with_exceptions, shape_diagnostic, syntax_finding, itself_finding, unread_finding}
+use Rattle.policy_core.specs.ExceptionsText.{Answer, HadMemory, ReadsBy, answer_exceptions, diagnostics_of}
 use Rattle.policy_core.specs.Heard.{ExceptionsHeard, IsFileText, IsReadAt, IsReadOf, LoadState, LoadsExceptionsBy, MayReadAt, MayReadOf, after_exceptions, fault_words, heard, the_policy, value_or_fault}
 use Rattle.policy_core.specs.declared.exceptions_text.NoExceptions.TheVariants.{Syntax, Shape, Memory}
 
 -- what is kept of a text is what is kept of the answer
-pub kept_is : (lists : CatalogLists) (file : ℕ) (read : Read Toml) (answer : Answer) → ReadsBy lists read answer → IsAnswered answer
-    → exceptions_kept lists file (value_or_fault read) ≡ kept_of file answer
-kept_is lists file (Ok toml) (Ok held) reads is = ap (exceptions_in file) reads
+pub kept_is : (lists : CatalogLists) (file : ℕ) (read : TomlReading Toml) (answer : Answer) → ReadsBy lists read answer → HadMemory answer
+    → exceptions_kept lists file (value_or_fault read) ≡ answer_exceptions file answer
+kept_is lists file (Ok toml) (Ok held) reads is = ap (valid_exceptions_in file) reads
 kept_is lists file (Ok toml) (Err (Syntax place)) reads is = absurd reads
-kept_is lists file (Ok toml) (Err (Shape faults)) reads is = ap (exceptions_in file) reads
+kept_is lists file (Ok toml) (Err (Shape faults)) reads is = ap (valid_exceptions_in file) reads
 kept_is lists file (Ok toml) (Err Memory) reads is = absurd is
 kept_is lists file (Err fault) (Ok held) reads is = absurd reads
 kept_is lists file (Err fault) (Err (Syntax place)) reads is = refl
@@ -32,14 +32,14 @@ kept_is lists file (Err fault) (Err (Shape faults)) reads is = absurd reads
 kept_is lists file (Err fault) (Err Memory) reads is = absurd is
 
 -- and so is what is told
-pub told_is : (lists : CatalogLists) (file : ℕ) (read : Read Toml) (answer : Answer) → ReadsBy lists read answer → IsAnswered answer
-    → exceptions_told lists file (value_or_fault read) ≡ told_of file answer
-told_is lists file (Ok toml) (Ok held) reads is = ap (λ shaped. map (shape_told file) (faults_in shaped)) reads
+pub told_is : (lists : CatalogLists) (file : ℕ) (read : TomlReading Toml) (answer : Answer) → ReadsBy lists read answer → HadMemory answer
+    → exceptions_findings lists file (value_or_fault read) ≡ diagnostics_of file answer
+told_is lists file (Ok toml) (Ok held) reads is = ap (λ shaped. map (shape_diagnostic file) (faults_in shaped)) reads
 told_is lists file (Ok toml) (Err (Syntax place)) reads is = absurd reads
-told_is lists file (Ok toml) (Err (Shape faults)) reads is = ap (λ shaped. map (shape_told file) (faults_in shaped)) reads
+told_is lists file (Ok toml) (Err (Shape faults)) reads is = ap (λ shaped. map (shape_diagnostic file) (faults_in shaped)) reads
 told_is lists file (Ok toml) (Err Memory) reads is = absurd is
 told_is lists file (Err fault) (Ok held) reads is = absurd reads
-told_is lists file (Err fault) (Err (Syntax place)) reads is = ap (λ (at : Span). syntax_told file at ∷ []) (sym reads)
+told_is lists file (Err fault) (Err (Syntax place)) reads is = ap (λ (at : Span). syntax_finding file at ∷ []) (sym reads)
 told_is lists file (Err fault) (Err (Shape faults)) reads is = absurd reads
 told_is lists file (Err fault) (Err Memory) reads is = absurd is
 
@@ -51,36 +51,36 @@ state_is policy other files more found further p f d = λ i. record { policy = p
 -- the state behind a text that was heard and read
 pub text_taken : (lists : CatalogLists) (path text : List ℕ) (file : ℕ) (answer : Answer) (policy : ValidConfig) (files : List File) (found : List Diagnostic)
     (exceptions : List ValidException) (more : List File) (further : List Diagnostic)
-    → ReadsBy lists (read_text text) answer → IsAnswered answer → file ≡ length files
-    → exceptions ≡ policy.exceptions ++ kept_of file answer
+    → ReadsBy lists (read_text text) answer → HadMemory answer → file ≡ length files
+    → exceptions ≡ policy.exceptions ++ answer_exceptions file answer
     → more ≡ files ++ record { name = path; source = text; has_path = true } ∷ []
-    → further ≡ found ++ told_of file answer
+    → further ≡ found ++ diagnostics_of file answer
     → (let new : LoadState = record { policy = record policy { exceptions = exceptions }; files = more; found = further } in new)
     ≡ after_exceptions lists (heard path (Ok text)) (record { policy = policy; files = files; found = found })
 text_taken lists path text file answer policy files found exceptions more further reads is number kept added told =
     let read = read_text text in
-    let keeps : kept_of file answer ≡ exceptions_kept lists (length files) (value_or_fault read) =
+    let keeps : answer_exceptions file answer ≡ exceptions_kept lists (length files) (value_or_fault read) =
     sym (kept_is lists file read answer reads is) ∙ ap (λ n. exceptions_kept lists n (value_or_fault read)) number in
-    let tells : told_of file answer ≡ exceptions_told lists (length files) (value_or_fault read) =
-    sym (told_is lists file read answer reads is) ∙ ap (λ n. exceptions_told lists n (value_or_fault read)) number in
+    let tells : diagnostics_of file answer ≡ exceptions_findings lists (length files) (value_or_fault read) =
+    sym (told_is lists file read answer reads is) ∙ ap (λ n. exceptions_findings lists n (value_or_fault read)) number in
     state_is (record policy { exceptions = exceptions }) (with_exceptions (exceptions_kept lists (length files) (value_or_fault read)) policy)
     more (files ++ record { name = path; source = text; has_path = true } ∷ [])
-    further (found ++ exceptions_told lists (length files) (value_or_fault read))
+    further (found ++ exceptions_findings lists (length files) (value_or_fault read))
     (ap (λ es. record policy { exceptions = es }) (kept ∙ ap (λ k. policy.exceptions ++ k) keeps)) added (told ∙ ap (λ t. found ++ t) tells)
 
 same_policy : (policy : ValidConfig) → policy ≡ with_exceptions [] policy
 same_policy policy = ap (λ es. record policy { exceptions = es }) (sym (append-nil policy.exceptions))
 
 -- the state behind a file that is the policy, and behind one of which no text was heard
-itself_state : (lists : CatalogLists) (path : List ℕ) (policy : ValidConfig) (files : List File) (found further : List Diagnostic) → further ≡ found ++ itself_told path ∷ []
+itself_state : (lists : CatalogLists) (path : List ℕ) (policy : ValidConfig) (files : List File) (found further : List Diagnostic) → further ≡ found ++ itself_finding path ∷ []
     → (let new : LoadState = record { policy = policy; files = files; found = further } in new) ≡ after_exceptions lists (the_policy path) (record { policy = policy; files = files; found = found })
 itself_state lists path policy files found further tells =
-    state_is policy (with_exceptions [] policy) files (files ++ []) further (found ++ itself_told path ∷ []) (same_policy policy) (sym (append-nil files)) tells
+    state_is policy (with_exceptions [] policy) files (files ++ []) further (found ++ itself_finding path ∷ []) (same_policy policy) (sym (append-nil files)) tells
 
-fault_state : (lists : CatalogLists) (path : List ℕ) (fault : ReadFault) (policy : ValidConfig) (files : List File) (found further : List Diagnostic) → further ≡ found ++ unread_told path (fault_words fault) ∷ []
+fault_state : (lists : CatalogLists) (path : List ℕ) (fault : ReadFault) (policy : ValidConfig) (files : List File) (found further : List Diagnostic) → further ≡ found ++ unread_finding path (fault_words fault) ∷ []
     → (let new : LoadState = record { policy = policy; files = files; found = further } in new) ≡ after_exceptions lists (heard path (Err fault)) (record { policy = policy; files = files; found = found })
 fault_state lists path fault policy files found further tells =
-    state_is policy (with_exceptions [] policy) files (files ++ []) further (found ++ unread_told path (fault_words fault) ∷ []) (same_policy policy) (sym (append-nil files)) tells
+    state_is policy (with_exceptions [] policy) files (files ++ []) further (found ++ unread_finding path (fault_words fault) ∷ []) (same_policy policy) (sym (append-nil files)) tells
 
 -- the file is the policy
 itself_unread : (before after : ℕ) (calls : List Call) (at : Option ℕ) (path : List ℕ) → is_some at ≡ true → IsReadAt before after calls calls at path (the_policy path)
@@ -88,40 +88,40 @@ itself_unread before after calls None path is = cc
 itself_unread before after calls (Some file) path is = (refl, refl)
 
 pub reads_itself : (lists : CatalogLists) (count : ℕ) (calls : List Call) (path : List ℕ) (policy : ValidConfig) (files : List File) (found further : List Diagnostic)
-    → is_some (id_at files path) ≡ true → further ≡ found ++ itself_told path ∷ []
+    → is_some (file_id_at files path) ≡ true → further ≡ found ++ itself_finding path ∷ []
     → LoadsExceptionsBy lists count count calls calls (Some path) (record { policy = policy; files = files; found = found }) (record { policy = policy; files = files; found = further })
 reads_itself lists count calls path policy files found further is tells = record {
   hearing = the_policy path;
-  is = itself_unread count count calls (id_at files path) path is;
+  is = itself_unread count count calls (file_id_at files path) path is;
   text = tt;
   loads = itself_state lists path policy files found further tells;
 }
 
 other_read : (before after begun : ℕ) (calls more : List Call) (at : Option ℕ) (path : List ℕ) (text : Result (List ℕ) ReadFault) → is_some at ≡ false → begun ≡ before
-    → IsRead begun after calls more path text → IsReadAt before after calls more at path (heard path text)
-other_read before after begun calls more None path text is same read = (text, refl, subst (λ n. IsRead n after calls more path text) same read)
+    → IsTextRead begun after calls more path text → IsReadAt before after calls more at path (heard path text)
+other_read before after begun calls more None path text is same read = (text, refl, subst (λ n. IsTextRead n after calls more path text) same read)
 other_read before after begun calls more (Some file) path text is same read = cc
 
 -- a text was heard
 pub reads_text : (lists : CatalogLists) (before after begun : ℕ) (calls more : List Call) (path text : List ℕ) (old new : LoadState)
-    → IsFileText text → is_some (id_at old.files path) ≡ false → begun ≡ before → IsRead begun after calls more path (Ok text)
+    → IsFileText text → is_some (file_id_at old.files path) ≡ false → begun ≡ before → IsTextRead begun after calls more path (Ok text)
     → new ≡ after_exceptions lists (heard path (Ok text)) old
     → LoadsExceptionsBy lists before after calls more (Some path) old new
 reads_text lists before after begun calls more path text old new is_text is same read loads = record {
   hearing = heard path (Ok text);
-  is = other_read before after begun calls more (id_at old.files path) path (Ok text) is same read;
+  is = other_read before after begun calls more (file_id_at old.files path) path (Ok text) is same read;
   text = is_text;
   loads = loads;
 }
 
 -- no text was heard
 pub reads_fault : (lists : CatalogLists) (before after begun : ℕ) (calls more : List Call) (path : List ℕ) (fault : ReadFault) (policy : ValidConfig) (files : List File) (found further : List Diagnostic)
-    → is_some (id_at files path) ≡ false → begun ≡ before → IsRead begun after calls more path (Err fault)
-    → further ≡ found ++ unread_told path (fault_words fault) ∷ []
+    → is_some (file_id_at files path) ≡ false → begun ≡ before → IsTextRead begun after calls more path (Err fault)
+    → further ≡ found ++ unread_finding path (fault_words fault) ∷ []
     → LoadsExceptionsBy lists before after calls more (Some path) (record { policy = policy; files = files; found = found }) (record { policy = policy; files = files; found = further })
 reads_fault lists before after begun calls more path fault policy files found further is same read tells = record {
   hearing = heard path (Err fault);
-  is = other_read before after begun calls more (id_at files path) path (Err fault) is same read;
+  is = other_read before after begun calls more (file_id_at files path) path (Err fault) is same read;
   text = tt;
   loads = fault_state lists path fault policy files found further tells;
 }
@@ -135,15 +135,15 @@ unread_at calls None path = inl refl
 -- no call was made
 pub unread_of : (calls : List Call) (files : List File) (path : Option (List ℕ)) → MayReadOf calls calls files path
 unread_of calls files None = refl
-unread_of calls files (Some path) = unread_at calls (id_at files path) path
+unread_of calls files (Some path) = unread_at calls (file_id_at files path) path
 
-one_read_at : (calls more : List Call) (at : Option ℕ) (path : List ℕ) (answer : Answered) → is_some at ≡ false → more ≡ calls ++ call_of path answer ∷ [] → MayReadAt calls more at path
+one_read_at : (calls more : List Call) (at : Option ℕ) (path : List ℕ) (answer : CallAnswer) → is_some at ≡ false → more ≡ calls ++ call_of path answer ∷ [] → MayReadAt calls more at path
 one_read_at calls more (Some file) path answer is made = cc
 one_read_at calls more None path answer is made = inr (answer, made)
 
 -- the call was made
-pub one_read_of : (calls more : List Call) (files : List File) (path : List ℕ) (answer : Answered) → is_some (id_at files path) ≡ false → more ≡ calls ++ call_of path answer ∷ [] → MayReadOf calls more files (Some path)
-one_read_of calls more files path answer is made = one_read_at calls more (id_at files path) path answer is made
+pub one_read_of : (calls more : List Call) (files : List File) (path : List ℕ) (answer : CallAnswer) → is_some (file_id_at files path) ≡ false → more ≡ calls ++ call_of path answer ∷ [] → MayReadOf calls more files (Some path)
+one_read_of calls more files path answer is made = one_read_at calls more (file_id_at files path) path answer is made
 
 may_at : (before after : ℕ) (calls more : List Call) (at : Option ℕ) (path : List ℕ) (hearing : ExceptionsHeard) → IsReadAt before after calls more at path hearing → MayReadAt calls more at path
 may_at before after calls more (Some file) path hearing is = is.1
@@ -152,7 +152,7 @@ may_at before after calls more None path hearing is = inr (is.2.answer, is.2.mad
 -- what was read may have been
 pub may_of : (before after : ℕ) (calls more : List Call) (files : List File) (path : Option (List ℕ)) (hearing : ExceptionsHeard) → IsReadOf before after calls more files path hearing → MayReadOf calls more files path
 may_of before after calls more files None hearing is = is.1
-may_of before after calls more files (Some path) hearing is = may_at before after calls more (id_at files path) path hearing is
+may_of before after calls more files (Some path) hearing is = may_at before after calls more (file_id_at files path) path hearing is
 
 -- ---- files that are known
 

@@ -9,7 +9,7 @@ use Rattle.std.proofs.lemmas.List.Elements.{All-from_recursion, recursion_from_A
 use Rattle.std.proofs.lemmas.List.Sorted.{All-permutation}
 use Rattle.catalog_core.specs.Catalog.{CatalogLists, IsCatalog}
 use Rattle.deny_text.specs.declared.span.Span.{Span}
-use Rattle.diag_core.specs.File.{File, source_of}
+use Rattle.diag_core.specs.File.{File, source_of_file}
 use Rattle.diag_core.specs.declared.diagnostic.Diagnostic.{Diagnostic}
 use Rattle.entry_places.proofs.EntryPlaces.{exceptions_file_stays}
 use Rattle.entry_places.specs.Entries.{ClarificationKeeps, ExceptionKeeps, exceptions_file_keeps, licensee_keeps}
@@ -24,26 +24,26 @@ use Rattle.policy_entries.specs.declared.licensee.Licensee.{Licensee}
 use Rattle.policy_places.specs.Parts.{file_source_keeps}
 use Rattle.policy_places.specs.Places.{StaysIn, keeps_its_span}
 use Rattle.spdx_core.proofs.SpellingLemmas.{is_spelled}
-use Rattle.spdx_core.specs.Reading.{ExpressionView, expression_of}
+use Rattle.spdx_core.specs.Reading.{ExpressionView, expression_of_text}
 use Rattle.term_core.specs.Faults.{first_fault}
 use Rattle.term_core.specs.declared.error.ParseError.{ParseError}
 use Rattle.toml_places.proofs.Texts.{text_placed}
 use Rattle.deny_text.specs.Spans.{LiesBetween}
-use Rattle.toml_shapes.specs.Shaped.{Shaped}
+use Rattle.toml_shapes.specs.Shaped.{ShapeReading}
 use Rattle.toml_subset.proofs.Law.Whole.{text_sound}
-use Rattle.toml_subset.specs.Answer.{Read}
+use Rattle.toml_subset.specs.Answer.{TomlReading}
 use Rattle.toml_subset.specs.Data.{Toml}
 use Rattle.toml_subset.specs.Reading.{read_text}
 use Rattle.tree_core.specs.Call.{Call}
 use Rattle.validate_core.specs.Order.{PutsFilesInOrder, PutsPolicyInOrder}
-use Rattle.validate_core.specs.Valid.{Judged, clarification_judged, clarification_judged_by, exception_in, kept_by, strict, valid_part}
+use Rattle.validate_core.specs.Valid.{ItemOrFinding, clarification_judged, clarification_judged_by, exception_in, kept_by, strict, valid_part}
 use Rattle.valid_policy.specs.declared.policy.ValidClarification.{ValidClarification}
 use Rattle.valid_policy.specs.declared.policy.ValidConfig.{ValidConfig}
 use Rattle.valid_policy.specs.declared.policy.ValidException.{ValidException}
-use Rattle.policy_core.specs.Exceptions.{exceptions_in, exceptions_kept, with_exceptions}
-use Rattle.policy_core.specs.Heard.{ExceptionsHeard, IsFileText, IsTextHeard, LoadState, LoadsExceptionsBy, file_heard, heard, no_path, read_of, the_policy, value_or_fault}
+use Rattle.policy_core.specs.Exceptions.{valid_exceptions_in, exceptions_kept, with_exceptions}
+use Rattle.policy_core.specs.Heard.{ExceptionsHeard, IsFileText, IsTextHeard, LoadState, LoadsExceptionsBy, heard_file_of, heard, no_path, exceptions_read_of, the_policy, value_or_fault}
 use Rattle.policy_core.specs.Load.{LoadsPolicyBy, Surroundings}
-use Rattle.policy_core.specs.Places.{ClarificationStands, ExceptionStands, ExpressionStands, FileStands, IsPlacedIn, IsSpelledAt, LicenseeStands, LiesInFile, PolicyStands}
+use Rattle.policy_core.specs.Places.{ClarificationStands, ExceptionStands, ExpressionStands, FileStands, IsConfigPlaced, IsSpelledAt, LicenseeStands, LiesInFile, PolicyStands}
 use Rattle.policy_core.specs.Policy.{licences_in}
 use Rattle.policy_core.specs.declared.load.LoadedPolicy.{LoadedPolicy}
 use Rattle.policy_core.proofs.PlaceLemmas.{map_all, both, source_more, source_last, lies_more, in_file, no_config_keeps}
@@ -57,15 +57,15 @@ weaker P Q law (x ∷ xs) all = (law x all.0, weaker P Q law xs all.1)
 shuffled : {A : Type 0} (P : A → Type 0) (xs ys : List A) → IsPermutation xs ys → AllByRecursion P xs → AllByRecursion P ys
 shuffled P xs ys same all = recursion_from_All P ys (All-permutation P xs ys same (All-from_recursion P xs all))
 
-abbrev IsKept : {B : Type 0} → (B → Type 0) → Judged B → Type 0
+abbrev IsKept : {B : Type 0} → (B → Type 0) → ItemOrFinding B → Type 0
 IsKept Q (Ok item) = Q item
 IsKept Q (Err told) = ⊤
 
-one_kept : {B : Type 0} (Q : B → Type 0) (judged : Judged B) (more : List B) → IsKept Q judged → AllByRecursion Q more → AllByRecursion Q (cons_option (result_ok judged) more)
+one_kept : {B : Type 0} (Q : B → Type 0) (judged : ItemOrFinding B) (more : List B) → IsKept Q judged → AllByRecursion Q more → AllByRecursion Q (cons_option (result_ok judged) more)
 one_kept Q (Ok item) more kept all = (kept, all)
 one_kept Q (Err told) more kept all = all
 
-kept_all : {A B : Type 0} (P : A → Type 0) (Q : B → Type 0) (judge : A → Judged B) → ((x : A) → P x → IsKept Q (judge x)) → (xs : List A)
+kept_all : {A B : Type 0} (P : A → Type 0) (Q : B → Type 0) (judge : A → ItemOrFinding B) → ((x : A) → P x → IsKept Q (judge x)) → (xs : List A)
     → AllByRecursion P xs → AllByRecursion Q (kept_by judge xs)
 kept_all P Q judge law [] all = tt
 kept_all P Q judge law (x ∷ xs) all = one_kept Q (judge x) (kept_by judge xs) (law x all.0) (kept_all P Q judge law xs all.1)
@@ -150,7 +150,7 @@ policy_in_order files written sorted puts stands =
 
 -- ---- what is valid of a policy
 
-module _ (files : List File) (file : ℕ) (text : List ℕ) (source : source_of files file ≡ Some text) where
+module _ (files : List File) (file : ℕ) (text : List ℕ) (source : source_of_file files file ≡ Some text) where
   licensees_stand : (licensees : List Licensee) → AllByRecursion (licensee_keeps text) licensees → AllByRecursion (LicenseeStands files file) licensees
   licensees_stand = weaker (licensee_keeps text) (LicenseeStands files file) (λ licensee lies. in_file files file text source licensee.0.span lies)
 
@@ -183,7 +183,7 @@ module _ (files : List File) (file : ℕ) (text : List ℕ) (source : source_of 
       ] refl
 
   clarification_stands : (lists : CatalogLists) (one : Clarification) (fault : Option ParseError) (expression : Option ExpressionView) → ClarificationKeeps text one
-      → expression_of strict lists one.expression.value ≡ expression → IsKept (ClarificationStands files file) (clarification_judged_by file one fault expression)
+      → expression_of_text strict lists one.expression.value ≡ expression → IsKept (ClarificationStands files file) (clarification_judged_by file one fault expression)
   clarification_stands lists one (Some fault) expression keeps is = tt
   clarification_stands lists one None None keeps is = tt
   clarification_stands lists one None (Some view) keeps is = record {
@@ -202,24 +202,24 @@ module _ (files : List File) (file : ℕ) (text : List ℕ) (source : source_of 
     allowed = licensees_stand config.allow keeps.allow;
     clarifications =
         kept_all (ClarificationKeeps text) (ClarificationStands files file) (clarification_judged lists file)
-        (λ one kept. clarification_stands lists one (first_fault strict lists one.expression.value) (expression_of strict lists one.expression.value) kept refl)
+        (λ one kept. clarification_stands lists one (first_fault strict lists one.expression.value) (expression_of_text strict lists one.expression.value) kept refl)
         config.clarify keeps.clarify;
     exceptions = map_all (ExceptionKeeps text) (ExceptionStands files) (exception_in file) exception_stands config.exceptions keeps.exceptions;
   }
 
-  held_stand : (shaped : Shaped ExceptionsFile) → StaysIn exceptions_file_keeps text shaped → AllByRecursion (ExceptionStands files) (exceptions_in file shaped)
+  held_stand : (shaped : ShapeReading ExceptionsFile) → StaysIn exceptions_file_keeps text shaped → AllByRecursion (ExceptionStands files) (valid_exceptions_in file shaped)
   held_stand (Ok held) stays = map_all (ExceptionKeeps text) (ExceptionStands files) (exception_in file) exception_stands held.exceptions stays
   held_stand (Err faults) stays = tt
 
 -- what is valid of a policy whose places lie in the text of a file, in order
-pub validated_stands : (lists : CatalogLists) (files : List File) (file : ℕ) (text : List ℕ) (config : Config) (valid : ValidConfig) → source_of files file ≡ Some text
+pub validated_stands : (lists : CatalogLists) (files : List File) (file : ℕ) (text : List ℕ) (config : Config) (valid : ValidConfig) → source_of_file files file ≡ Some text
     → ConfigKeeps text config → PutsPolicyInOrder (valid_part lists file config) valid → PolicyStands files valid
 validated_stands lists files file text config valid source keeps puts =
     policy_in_order files (valid_part lists file config) valid puts (valid_stands files file text source lists config keeps)
 
 -- ---- an exceptions file, whose text goes behind the other files
 
-text_stands : (lists : CatalogLists) → IsCatalog lists → (files : List File) (path text : List ℕ) → IsFileText text → (read : Read Toml) → read_text text ≡ read
+text_stands : (lists : CatalogLists) → IsCatalog lists → (files : List File) (path text : List ℕ) → IsFileText text → (read : TomlReading Toml) → read_text text ≡ read
     → AllByRecursion (ExceptionStands (files ++ record { name = path; source = text; has_path = true } ∷ [])) (exceptions_kept lists (length files) (value_or_fault read))
 text_stands lists laws files path text is_text (Ok toml) is =
     let file : File = record { name = path; source = text; has_path = true } in
@@ -228,7 +228,7 @@ text_stands lists laws files path text is_text (Ok toml) is =
 text_stands lists laws files path text is_text (Err fault) is = tt
 
 exceptions_stand : (lists : CatalogLists) → IsCatalog lists → (files : List File) (hearing : ExceptionsHeard) → IsTextHeard hearing
-    → AllByRecursion (ExceptionStands (files ++ file_heard hearing)) (exceptions_kept lists (length files) (read_of hearing))
+    → AllByRecursion (ExceptionStands (files ++ heard_file_of hearing)) (exceptions_kept lists (length files) (exceptions_read_of hearing))
 exceptions_stand lists laws files no_path text = tt
 exceptions_stand lists laws files (the_policy path) text = tt
 exceptions_stand lists laws files (heard path (Ok content)) text = text_stands lists laws files path content text (read_text content) refl
@@ -249,20 +249,20 @@ pub exceptions_places : (lists : CatalogLists) → IsCatalog lists → (before a
     → LoadsExceptionsBy lists before after calls more path old new → PolicyStands old.files old.policy → PolicyStands new.files new.policy
 exceptions_places lists laws before after calls more path old new loads stands =
     let hearing = loads.hearing in
-    let all = old.files ++ file_heard hearing in
+    let all = old.files ++ heard_file_of hearing in
     subst (λ (state : LoadState). PolicyStands state.files state.policy) (sym loads.loads)
-    (more_stand all (exceptions_kept lists (length old.files) (read_of hearing)) old.policy (policy_more old.files (file_heard hearing) old.policy stands)
+    (more_stand all (exceptions_kept lists (length old.files) (exceptions_read_of hearing)) old.policy (policy_more old.files (heard_file_of hearing) old.policy stands)
     (exceptions_stand lists laws old.files hearing loads.text))
 
 pub load_places : (lists : CatalogLists) → IsCatalog lists → (before after : ℕ) (calls others : List Call) (file : ℕ) (absence : List Diagnostic) (root : RootConfig)
     (path : Option (List ℕ)) (old new : Surroundings) (loaded : LoadedPolicy) → LoadsPolicyBy lists before after calls others file absence root path old new loaded
-    → IsPlacedIn old.files file root → PolicyStands new.files loaded.licenses
+    → IsConfigPlaced old.files file root → PolicyStands new.files loaded.licenses
 load_places lists laws before after calls others file absence root path old new loaded loads placed =
     let hearing = loads.hearing in
-    let all = old.files ++ file_heard hearing in
-    let source = source_more old.files (file_heard hearing) file placed.text placed.source in
+    let all = old.files ++ heard_file_of hearing in
+    let source = source_more old.files (heard_file_of hearing) file placed.text placed.source in
     let config = licences_in root in
-    let more = exceptions_kept lists (length old.files) (read_of hearing) in
+    let more = exceptions_kept lists (length old.files) (exceptions_read_of hearing) in
     let written = valid_part lists file config in
     subst (λ (files : List File). PolicyStands files loaded.licenses) (sym loads.keeps.files)
     (policy_in_order all (with_exceptions more written) loaded.licenses loads.keeps.licenses

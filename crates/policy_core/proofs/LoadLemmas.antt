@@ -10,9 +10,9 @@ use Rattle.validate_core.specs.Order.{PutsPolicyInOrder}
 use Rattle.validate_core.specs.Valid.{valid_part, validation_findings, address_findings, clarification_findings, removed_findings}
 use Rattle.valid_policy.specs.declared.policy.ValidConfig.{ValidConfig}
 use Rattle.valid_policy.specs.declared.policy.ValidException.{ValidException}
-use Rattle.policy_core.specs.Exceptions.{exceptions_kept, exceptions_told, with_exceptions}
-use Rattle.policy_core.specs.Findings.{targets_told, graph_keys_told, output_key_told}
-use Rattle.policy_core.specs.Heard.{ExceptionsHeard, LoadState, LoadsExceptionsBy, MayReadOf, after_exceptions, read_of}
+use Rattle.policy_core.specs.Exceptions.{exceptions_kept, exceptions_findings, with_exceptions}
+use Rattle.policy_core.specs.Findings.{target_findings, graph_key_findings, output_key_findings}
+use Rattle.policy_core.specs.Heard.{ExceptionsHeard, LoadState, LoadsExceptionsBy, MayReadOf, after_exceptions, exceptions_read_of}
 use Rattle.policy_core.specs.Load.{Keeps, LoadsPolicyBy, numbers_at}
 use Rattle.policy_core.specs.Policy.{licences_in, policy_found}
 
@@ -38,16 +38,16 @@ keeps_policy : (lists : CatalogLists) (hearing : ExceptionsHeard) (file : ℕ) (
     → with_absence ≡ found ++ absence
     → PutsPolicyInOrder (valid_part lists file config) valid → checked ≡ with_absence ++ validation_findings lists file config
     → (let behind : LoadState = record { policy = licenses; files = more; found = heard } in behind) ≡ after_exceptions lists hearing (record { policy = valid; files = files; found = checked })
-    → all ≡ heard ++ targets_told file root ++ graph_keys_told file root ++ output_key_told file root
-    → Keeps (policy_found lists (numbers_at file files) absence (read_of hearing) root) hearing (record { files = files; found = found }) (record { files = more; found = all })
+    → all ≡ heard ++ target_findings file root ++ graph_key_findings file root ++ output_key_findings file root
+    → Keeps (policy_found lists (numbers_at file files) absence (exceptions_read_of hearing) root) hearing (record { files = files; found = found }) (record { files = more; found = all })
     (record { licenses = licenses; graph = root.graph; output = root.output })
 keeps_policy lists hearing file absence root config valid licenses files more found with_absence checked heard all is_config absent puts checks loads settles =
     let n = length files in
-    let kept = exceptions_kept lists n (read_of hearing) in
-    let tells = exceptions_told lists n (read_of hearing) in
-    let targets = targets_told file root in
-    let keys = graph_keys_told file root in
-    let key = output_key_told file root in
+    let kept = exceptions_kept lists n (exceptions_read_of hearing) in
+    let tells = exceptions_findings lists n (exceptions_read_of hearing) in
+    let targets = target_findings file root in
+    let keys = graph_key_findings file root in
+    let key = output_key_findings file root in
     record {
       licenses =
           subst (λ (one : ValidConfig). PutsPolicyInOrder (with_exceptions kept (valid_part lists file (licences_in root))) one) (sym (ap (λ (s : LoadState). s.policy) loads))
@@ -72,7 +72,7 @@ pub reads_policy : (lists : CatalogLists) (before after : ℕ) (calls others : L
     → with_absence ≡ found ++ absence
     → PutsPolicyInOrder (valid_part lists file config) valid → checked ≡ with_absence ++ validation_findings lists file config
     → LoadsExceptionsBy lists before after calls others path (record { policy = valid; files = files; found = checked }) (record { policy = licenses; files = more; found = heard })
-    → all ≡ heard ++ targets_told file root ++ graph_keys_told file root ++ output_key_told file root
+    → all ≡ heard ++ target_findings file root ++ graph_key_findings file root ++ output_key_findings file root
     → LoadsPolicyBy lists before after calls others file absence root path (record { files = files; found = found }) (record { files = more; found = all })
     (record { licenses = licenses; graph = root.graph; output = root.output })
 reads_policy lists before after calls others file absence root path config valid licenses files more found with_absence checked heard all is_config absent puts checks loads settles = record {

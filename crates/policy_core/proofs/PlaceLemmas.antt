@@ -8,7 +8,7 @@ use Rattle.std.specs.Str.{IsUtf8}
 use Rattle.catalog_core.specs.Catalog.{CatalogLists, IsCatalog}
 use Rattle.deny_text.specs.declared.span.Span.{Span}
 use Rattle.deny_text.specs.declared.span.Spanned.{Spanned}
-use Rattle.diag_core.specs.File.{File, source_of}
+use Rattle.diag_core.specs.File.{File, source_of_file}
 use Rattle.diag_core.specs.declared.diagnostic.Diagnostic.{Diagnostic}
 use Rattle.diag_core.specs.declared.label.Label.{Label}
 use Rattle.entry_places.proofs.Borders.{part_is_text, moved_lies}
@@ -24,28 +24,28 @@ use Rattle.policy_entries.specs.declared.clarification.Clarification.{Clarificat
 use Rattle.policy_entries.specs.declared.exception.ExceptionsFile.{ExceptionsFile}
 use Rattle.policy_places.specs.Parts.{target_keeps}
 use Rattle.policy_places.specs.Places.{IsToldIn, StaysIn, keeps_its_span, keeps_where}
-use Rattle.source_core.specs.Reading.{Read as AddressRead, address_of}
+use Rattle.source_core.specs.Reading.{SourceReading as AddressRead, address_of}
 use Rattle.spdx_core.proofs.FaultSpans.{fault_lies}
-use Rattle.spdx_core.specs.Reading.{ExpressionView, expression_of}
+use Rattle.spdx_core.specs.Reading.{ExpressionView, expression_of_text}
 use Rattle.term_core.specs.Faults.{first_fault}
 use Rattle.term_core.specs.declared.error.ParseError.{ParseError}
 use Rattle.tree_core.specs.Call.{Call}
 use Rattle.toml_faults.proofs.FirstFault.{first_fault as syntax_fault}
 use Rattle.toml_places.proofs.Texts.{text_placed}
 use Rattle.deny_text.specs.Spans.{LiesBetween}
-use Rattle.toml_shapes.specs.Shaped.{Shaped, faults_in}
+use Rattle.toml_shapes.specs.Shaped.{ShapeReading, faults_in}
 use Rattle.toml_subset.proofs.Law.Whole.{text_sound}
-use Rattle.toml_subset.specs.Answer.{Read}
+use Rattle.toml_subset.specs.Answer.{TomlReading}
 use Rattle.toml_subset.specs.Data.{Toml}
 use Rattle.toml_subset.specs.Reading.{read_text}
 use Rattle.url.specs.Parts.{Parts}
-use Rattle.validate_core.specs.Valid.{Judged, address_findings, address_judged, address_judged_by, clarification_findings, clarification_judged, clarification_judged_by, place_in, removed_findings, removed_key, strict, told_by, validation_findings}
-use Rattle.policy_core.specs.Exceptions.{exceptions_told, shape_told}
-use Rattle.policy_core.specs.Findings.{graph_keys_told, moved_told, output_key_told, target_told, targets_told}
-use Rattle.policy_core.specs.Heard.{ExceptionsHeard, IsFileText, IsTextHeard, LoadState, LoadsExceptionsBy, file_heard, heard, no_path, read_of, the_policy, value_or_fault}
+use Rattle.validate_core.specs.Valid.{ItemOrFinding, address_findings, address_judged, address_judged_by, clarification_findings, clarification_judged, clarification_judged_by, place_in, removed_findings, removed_key, strict, findings_by_each, validation_findings}
+use Rattle.policy_core.specs.Exceptions.{exceptions_findings, shape_diagnostic}
+use Rattle.policy_core.specs.Findings.{graph_key_findings, moved_key_finding, output_key_findings, target_finding, target_findings}
+use Rattle.policy_core.specs.Heard.{ExceptionsHeard, IsFileText, IsTextHeard, LoadState, LoadsExceptionsBy, heard_file_of, heard, no_path, exceptions_read_of, the_policy, value_or_fault}
 use Rattle.policy_core.specs.Load.{LoadsPolicyBy, Surroundings}
-use Rattle.policy_core.specs.Places.{IsPlacedIn, LabelPoints, LiesInFile, PointInto, PointsInto}
-use Rattle.policy_core.specs.Policy.{absence_told, licences_in}
+use Rattle.policy_core.specs.Places.{IsConfigPlaced, LabelPointsInFile, LiesInFile, PointInto, PointsInto}
+use Rattle.policy_core.specs.Policy.{absence_findings, licences_in}
 use Rattle.policy_core.specs.declared.load.LoadedPolicy.{LoadedPolicy}
 
 -- ---- lists
@@ -58,35 +58,35 @@ pub both : {A : Type 0} (P : A → Type 0) (xs ys : List A) → AllByRecursion P
 both P [] ys all more = more
 both P (x ∷ xs) ys all more = (all.0, both P xs ys all.1 more)
 
-abbrev IsTold : {B : Type 0} → (Diagnostic → Type 0) → Judged B → Type 0
+abbrev IsTold : {B : Type 0} → (Diagnostic → Type 0) → ItemOrFinding B → Type 0
 IsTold Q (Ok item) = ⊤
 IsTold Q (Err told) = Q told
 
-one_told : {B : Type 0} (Q : Diagnostic → Type 0) (judged : Judged B) (more : List Diagnostic) → IsTold Q judged → AllByRecursion Q more
+one_told : {B : Type 0} (Q : Diagnostic → Type 0) (judged : ItemOrFinding B) (more : List Diagnostic) → IsTold Q judged → AllByRecursion Q more
     → AllByRecursion Q (cons_option (result_err judged) more)
 one_told Q (Ok item) more told all = all
 one_told Q (Err diag) more told all = (told, all)
 
-told_all : {A B : Type 0} (P : A → Type 0) (Q : Diagnostic → Type 0) (judge : A → Judged B) → ((x : A) → P x → IsTold Q (judge x)) → (xs : List A)
-    → AllByRecursion P xs → AllByRecursion Q (told_by judge xs)
+told_all : {A B : Type 0} (P : A → Type 0) (Q : Diagnostic → Type 0) (judge : A → ItemOrFinding B) → ((x : A) → P x → IsTold Q (judge x)) → (xs : List A)
+    → AllByRecursion P xs → AllByRecursion Q (findings_by_each judge xs)
 told_all P Q judge law [] all = tt
-told_all P Q judge law (x ∷ xs) all = one_told Q (judge x) (told_by judge xs) (law x all.0) (told_all P Q judge law xs all.1)
+told_all P Q judge law (x ∷ xs) all = one_told Q (judge x) (findings_by_each judge xs) (law x all.0) (told_all P Q judge law xs all.1)
 
 -- ---- files
 
-pub source_more : (files more : List File) (id : ℕ) (text : List ℕ) → source_of files id ≡ Some text → source_of (files ++ more) id ≡ Some text
+pub source_more : (files more : List File) (id : ℕ) (text : List ℕ) → source_of_file files id ≡ Some text → source_of_file (files ++ more) id ≡ Some text
 source_more [] more id text is = cc
 source_more (file ∷ files) more zero text is = is
 source_more (file ∷ files) more (suc id) text is = source_more files more id text is
 
-pub source_last : (files : List File) (file : File) → source_of (files ++ file ∷ []) (length files) ≡ Some file.source
+pub source_last : (files : List File) (file : File) → source_of_file (files ++ file ∷ []) (length files) ≡ Some file.source
 source_last [] file = refl
 source_last (first ∷ files) file = source_last files file
 
 pub lies_more : (files more : List File) (file : ℕ) (place : Span) → LiesInFile files file place → LiesInFile (files ++ more) file place
 lies_more files more file place at = record { text = at.text; source = source_more files more file at.text at.source; lies = at.lies }
 
-labels_more : (files more : List File) (labels : List Label) → AllByRecursion (LabelPoints files) labels → AllByRecursion (LabelPoints (files ++ more)) labels
+labels_more : (files more : List File) (labels : List Label) → AllByRecursion (LabelPointsInFile files) labels → AllByRecursion (LabelPointsInFile (files ++ more)) labels
 labels_more files more [] all = tt
 labels_more files more (label ∷ labels) all = (lies_more files more label.file_id label.range all.0, labels_more files more labels all.1)
 
@@ -101,7 +101,7 @@ pub no_config_keeps : (text : List ℕ) (licenses : Option Config) → keeps_whe
 no_config_keeps text (Some config) keeps = keeps
 no_config_keeps text None keeps = record { private = tt; allow = tt; clarify = tt; exceptions = tt; deprecated = tt }
 
-module _ (files : List File) (file : ℕ) (text : List ℕ) (source : source_of files file ≡ Some text) where
+module _ (files : List File) (file : ℕ) (text : List ℕ) (source : source_of_file files file ≡ Some text) where
   pub in_file : (place : Span) → LiesBetween text place → LiesInFile files file place
   in_file place lies = record { text = text; source = source; lies = lies }
 
@@ -118,16 +118,16 @@ module _ (files : List File) (file : ℕ) (text : List ℕ) (source : source_of 
   removed_point config keeps =
       map_all (LiesBetween text) (PointsInto files) (removed_key file) (λ key lies. (in_file key lies, tt)) config.deprecated_spans keeps.deprecated
 
-  moved_point : (table : List ℕ) (keys : List Span) → AllByRecursion (LiesBetween text) keys → PointInto files (map (moved_told table file) keys)
-  moved_point table keys lie = map_all (LiesBetween text) (PointsInto files) (moved_told table file) (λ key lies. (in_file key lies, tt)) keys lie
+  moved_point : (table : List ℕ) (keys : List Span) → AllByRecursion (LiesBetween text) keys → PointInto files (map (moved_key_finding table file) keys)
+  moved_point table keys lie = map_all (LiesBetween text) (PointsInto files) (moved_key_finding table file) (λ key lies. (in_file key lies, tt)) keys lie
 
-  output_points : (key : Option Span) → keeps_where LiesBetween text key → PointInto files (map (moved_told (codes "output") file) (option_to_list key))
+  output_points : (key : Option Span) → keeps_where LiesBetween text key → PointInto files (map (moved_key_finding (codes "output") file) (option_to_list key))
   output_points None lies = tt
   output_points (Some key) lies = ((in_file key lies, tt), tt)
 
-  targets_point : (root : RootConfig) → RootKeeps text root → PointInto files (targets_told file root)
+  targets_point : (root : RootConfig) → RootKeeps text root → PointInto files (target_findings file root)
   targets_point root keeps =
-      map_all (target_keeps text) (PointsInto files) (target_told file) (λ target lies. (in_file target.filter.span lies, tt)) root.graph.targets keeps.graph
+      map_all (target_keeps text) (PointsInto files) (target_finding file) (λ target lies. (in_file target.filter.span lies, tt)) root.graph.targets keeps.graph
 
   module _ (is_text : IsFileText text) (lists : CatalogLists) (laws : IsCatalog lists) where
     plain_place : (one : Clarification) (fault : ParseError) → ClarificationKeeps text one → one.escapes ≡ false
@@ -155,11 +155,11 @@ module _ (files : List File) (file : ℕ) (text : List ℕ) (source : source_of 
     clarifications_point : (config : Config) → ConfigKeeps text config → PointInto files (clarification_findings lists file config)
     clarifications_point config keeps =
         told_all (ClarificationKeeps text) (PointsInto files) (clarification_judged lists file)
-        (λ one kept. clarification_points one (first_fault strict lists one.expression.value) (expression_of strict lists one.expression.value) kept refl)
+        (λ one kept. clarification_points one (first_fault strict lists one.expression.value) (expression_of_text strict lists one.expression.value) kept refl)
         config.clarify keeps.clarify
 
 -- what is told of a policy whose places lie in the text of a file
-pub validation_points : (lists : CatalogLists) → IsCatalog lists → (files : List File) (file : ℕ) (text : List ℕ) (config : Config) → source_of files file ≡ Some text
+pub validation_points : (lists : CatalogLists) → IsCatalog lists → (files : List File) (file : ℕ) (text : List ℕ) (config : Config) → source_of_file files file ≡ Some text
     → IsFileText text → ConfigKeeps text config → PointInto files (validation_findings lists file config)
 validation_points lists laws files file text config source is_text keeps =
     let addresses = address_findings file config in
@@ -170,16 +170,16 @@ validation_points lists laws files file text config source is_text keeps =
 
 -- ---- an exceptions file, whose text goes behind the other files
 
-told_in : (text : List ℕ) (shaped : Shaped ExceptionsFile) → StaysIn exceptions_file_keeps text shaped → AllByRecursion (IsToldIn text) (faults_in shaped)
+told_in : (text : List ℕ) (shaped : ShapeReading ExceptionsFile) → StaysIn exceptions_file_keeps text shaped → AllByRecursion (IsToldIn text) (faults_in shaped)
 told_in text (Ok held) stays = tt
 told_in text (Err faults) stays = stays
 
-text_points : (lists : CatalogLists) → IsCatalog lists → (files : List File) (path text : List ℕ) → IsFileText text → (read : Read Toml) → read_text text ≡ read
-    → PointInto (files ++ record { name = path; source = text; has_path = true } ∷ []) (exceptions_told lists (length files) (value_or_fault read))
+text_points : (lists : CatalogLists) → IsCatalog lists → (files : List File) (path text : List ℕ) → IsFileText text → (read : TomlReading Toml) → read_text text ≡ read
+    → PointInto (files ++ record { name = path; source = text; has_path = true } ∷ []) (exceptions_findings lists (length files) (value_or_fault read))
 text_points lists laws files path text is_text (Ok toml) is =
     let all = files ++ record { name = path; source = text; has_path = true } ∷ [] in
     let stays = exceptions_file_stays text is_text.utf8 is_text.fits lists laws toml (text_placed text is_text.utf8 toml (text_sound text toml is)) in
-    map_all (IsToldIn text) (PointsInto all) (shape_told (length files))
+    map_all (IsToldIn text) (PointsInto all) (shape_diagnostic (length files))
     (λ fault lies. (in_file all (length files) text (source_last files (record { name = path; source = text; has_path = true })) fault.span lies, tt))
     (faults_in (exceptions_file_of lists toml)) (told_in text (exceptions_file_of lists toml) stays)
 text_points lists laws files path text is_text (Err fault) is =
@@ -194,7 +194,7 @@ text_points lists laws files path text is_text (Err fault) is =
     )
 
 exceptions_point : (lists : CatalogLists) → IsCatalog lists → (files : List File) (hearing : ExceptionsHeard) → IsTextHeard hearing
-    → PointInto (files ++ file_heard hearing) (exceptions_told lists (length files) (read_of hearing))
+    → PointInto (files ++ heard_file_of hearing) (exceptions_findings lists (length files) (exceptions_read_of hearing))
 exceptions_point lists laws files no_path text = tt
 exceptions_point lists laws files (the_policy path) text = (tt, tt)
 exceptions_point lists laws files (heard path (Ok content)) text = text_points lists laws files path content text (read_text content) refl
@@ -207,33 +207,33 @@ pub exceptions_labels : (lists : CatalogLists) → IsCatalog lists → (before a
 exceptions_labels lists laws before after calls more path old new loads points =
     let hearing = loads.hearing in
     subst (λ (state : LoadState). PointInto state.files state.found) (sym loads.loads)
-    (both (PointsInto (old.files ++ file_heard hearing)) old.found (exceptions_told lists (length old.files) (read_of hearing))
-    (point_into_more old.files (file_heard hearing) old.found points) (exceptions_point lists laws old.files hearing loads.text))
+    (both (PointsInto (old.files ++ heard_file_of hearing)) old.found (exceptions_findings lists (length old.files) (exceptions_read_of hearing))
+    (point_into_more old.files (heard_file_of hearing) old.found points) (exceptions_point lists laws old.files hearing loads.text))
 
-absence_points : (files : List File) (is_there : Bool) (path : Option (List ℕ)) → PointInto files (absence_told is_there path)
+absence_points : (files : List File) (is_there : Bool) (path : Option (List ℕ)) → PointInto files (absence_findings is_there path)
 absence_points files true path = tt
 absence_points files false (Some path) = (tt, tt)
 absence_points files false None = (tt, tt)
 
 pub load_labels : (lists : CatalogLists) → IsCatalog lists → (before after : ℕ) (calls others : List Call) (file : ℕ) (is_there : Bool) (at : Option (List ℕ)) (root : RootConfig)
     (path : Option (List ℕ)) (old new : Surroundings) (loaded : LoadedPolicy)
-    → LoadsPolicyBy lists before after calls others file (absence_told is_there at) root path old new loaded
-    → IsPlacedIn old.files file root → PointInto old.files old.found → PointInto new.files new.found
+    → LoadsPolicyBy lists before after calls others file (absence_findings is_there at) root path old new loaded
+    → IsConfigPlaced old.files file root → PointInto old.files old.found → PointInto new.files new.found
 load_labels lists laws before after calls others file is_there at root path old new loaded loads placed points =
     let hearing = loads.hearing in
-    let all = old.files ++ file_heard hearing in
+    let all = old.files ++ heard_file_of hearing in
     let text = placed.text in
-    let source = source_more old.files (file_heard hearing) file text placed.source in
+    let source = source_more old.files (heard_file_of hearing) file text placed.source in
     let config = licences_in root in
     let keeps = no_config_keeps text root.licenses placed.keeps.licenses in
-    let absence = absence_told is_there at in
+    let absence = absence_findings is_there at in
     let addresses = address_findings file config in
     let clarifications = clarification_findings lists file config in
     let removed = removed_findings file config in
-    let exceptions = exceptions_told lists (length old.files) (read_of hearing) in
-    let targets = targets_told file root in
-    let keys = graph_keys_told file root in
-    let key = output_key_told file root in
+    let exceptions = exceptions_findings lists (length old.files) (exceptions_read_of hearing) in
+    let targets = target_findings file root in
+    let keys = graph_key_findings file root in
+    let key = output_key_findings file root in
     let joined = both (PointsInto all) in
     let first = joined absence addresses (absence_points all is_there at) (addresses_point all file text source config keeps) in
     let second = joined (absence ++ addresses) clarifications first (clarifications_point all file text source placed.is_text lists laws config keeps) in
@@ -251,4 +251,4 @@ load_labels lists laws before after calls others file is_there at root path old 
     let findings = absence ++ addresses ++ clarifications ++ removed ++ exceptions ++ targets ++ keys ++ key in
     subst (λ (files : List File). PointInto files new.found) (sym loads.keeps.files)
     (subst (λ (found : List Diagnostic). PointInto all found) (sym loads.keeps.found)
-    (joined old.found findings (point_into_more old.files (file_heard hearing) old.found points) seventh))
+    (joined old.found findings (point_into_more old.files (heard_file_of hearing) old.found points) seventh))

@@ -6,7 +6,7 @@ use Rattle.diag_core.specs.Diagnostic.{plain}
 use Rattle.diag_core.specs.declared.diagnostic.Diagnostic.{Diagnostic}
 use Rattle.diag_core.specs.declared.severity.Severity.TheVariants.{Error}
 use Rattle.toml_subset.specs.Data.{Toml}
-use Rattle.toml_shapes.specs.Shaped.{Shaped, faults_in}
+use Rattle.toml_shapes.specs.Shaped.{ShapeReading, faults_in}
 use Rattle.toml_shapes.specs.Shapes.{Fault, reason_text}
 use Rattle.policy_entries.specs.Exceptions.{exceptions_file_of}
 use Rattle.policy_entries.specs.declared.exception.ExceptionsFile.{ExceptionsFile}
@@ -28,9 +28,9 @@ pub data ExceptionsRead : Type 0 where
 
 -- ---- what is kept
 
-abbrev pub exceptions_in : ℕ → Shaped ExceptionsFile → List ValidException
-exceptions_in file (Ok held) = map (exception_in file) held.exceptions
-exceptions_in file (Err faults) = []
+abbrev pub valid_exceptions_in : ℕ → ShapeReading ExceptionsFile → List ValidException
+valid_exceptions_in file (Ok held) = map (exception_in file) held.exceptions
+valid_exceptions_in file (Err faults) = []
 
 -- the exceptions of a file, as they stand there
 abbrev pub exceptions_kept : CatalogLists → ℕ → ExceptionsRead → List ValidException
@@ -38,7 +38,7 @@ exceptions_kept lists file no_file = []
 exceptions_kept lists file (policy_itself path) = []
 exceptions_kept lists file (no_text path words) = []
 exceptions_kept lists file (no_value place) = []
-exceptions_kept lists file (value toml) = exceptions_in file (exceptions_file_of lists toml)
+exceptions_kept lists file (value toml) = valid_exceptions_in file (exceptions_file_of lists toml)
 
 -- a policy with further exceptions behind its own
 abbrev pub with_exceptions : List ValidException → ValidConfig → ValidConfig
@@ -49,27 +49,27 @@ with_exceptions more policy = record policy { exceptions = policy.exceptions ++ 
 abbrev pub path_note : List ℕ → List ℕ
 path_note path = codes "path = '" ++ path ++ codes "'"
 
-abbrev pub itself_told : List ℕ → Diagnostic
-itself_told path =
+abbrev pub itself_finding : List ℕ → Diagnostic
+itself_finding path =
     record (plain Error) { message = codes "exceptions file is the policy itself"; notes = path_note path ∷ [] }
 
-abbrev pub unread_told : List ℕ → List ℕ → Diagnostic
-unread_told path words =
+abbrev pub unread_finding : List ℕ → List ℕ → Diagnostic
+unread_finding path words =
     record (plain Error) {
       message = codes "failed to read exceptions override";
       notes = path_note path ∷ (codes "error = " ++ words) ∷ [];
     }
 
-abbrev pub syntax_told : ℕ → Span → Diagnostic
-syntax_told file place = error_at file (codes "syntax error") place []
+abbrev pub syntax_finding : ℕ → Span → Diagnostic
+syntax_finding file place = error_at file (codes "syntax error") place []
 
-abbrev pub shape_told : ℕ → Fault → Diagnostic
-shape_told file fault = error_at file (reason_text fault.reason) fault.span []
+abbrev pub shape_diagnostic : ℕ → Fault → Diagnostic
+shape_diagnostic file fault = error_at file (reason_text fault.reason) fault.span []
 
 -- what is wrong with an exceptions file of this number
-abbrev pub exceptions_told : CatalogLists → ℕ → ExceptionsRead → List Diagnostic
-exceptions_told lists file no_file = []
-exceptions_told lists file (policy_itself path) = itself_told path ∷ []
-exceptions_told lists file (no_text path words) = unread_told path words ∷ []
-exceptions_told lists file (no_value place) = syntax_told file place ∷ []
-exceptions_told lists file (value toml) = map (shape_told file) (faults_in (exceptions_file_of lists toml))
+abbrev pub exceptions_findings : CatalogLists → ℕ → ExceptionsRead → List Diagnostic
+exceptions_findings lists file no_file = []
+exceptions_findings lists file (policy_itself path) = itself_finding path ∷ []
+exceptions_findings lists file (no_text path words) = unread_finding path words ∷ []
+exceptions_findings lists file (no_value place) = syntax_finding file place ∷ []
+exceptions_findings lists file (value toml) = map (shape_diagnostic file) (faults_in (exceptions_file_of lists toml))

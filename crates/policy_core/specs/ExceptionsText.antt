@@ -2,15 +2,15 @@
 use Rattle.std.specs.Prelude.{◌≡◌, ℕ, List, [], ◌∷◌, map, Result, Ok, Err, ⊤}
 use Rattle.catalog_core.specs.Catalog.{CatalogLists}
 use Rattle.diag_core.specs.declared.diagnostic.Diagnostic.{Diagnostic}
-use Rattle.toml_subset.specs.Answer.{Read}
+use Rattle.toml_subset.specs.Answer.{TomlReading}
 use Rattle.toml_subset.specs.Data.{Toml}
 use Rattle.toml_subset.specs.Reading.{read_text}
-use Rattle.toml_shapes.specs.Shaped.{Shaped}
+use Rattle.toml_shapes.specs.Shaped.{ShapeReading}
 use Rattle.policy_entries.specs.Exceptions.{exceptions_file_of}
 use Rattle.policy_entries.specs.declared.exception.ExceptionsFile.{ExceptionsFile}
 use Rattle.validate_core.specs.Valid.{exception_in}
 use Rattle.valid_policy.specs.declared.policy.ValidException.{ValidException}
-use Rattle.policy_core.specs.Exceptions.{shape_told, syntax_told}
+use Rattle.policy_core.specs.Exceptions.{shape_diagnostic, syntax_finding}
 use Rattle.policy_core.specs.declared.exceptions_text.NoExceptions.{NoExceptions}
 use Rattle.policy_core.specs.declared.exceptions_text.NoExceptions.TheVariants.{Syntax, Shape, Memory}
 
@@ -18,14 +18,14 @@ abbrev pub Answer : Type 0
 Answer = Result ExceptionsFile NoExceptions
 
 -- the answer is what a shape is read as; a syntax fault is none
-abbrev pub GivesExceptions : Shaped ExceptionsFile → Answer → Type 0
+abbrev pub GivesExceptions : ShapeReading ExceptionsFile → Answer → Type 0
 GivesExceptions read (Ok held) = read ≡ Ok held
 GivesExceptions read (Err (Syntax place)) = ⊥
 GivesExceptions read (Err (Shape faults)) = read ≡ Err faults
 GivesExceptions read (Err Memory) = ⊤
 
 -- a text has a value, and the answer is its shape's; or it has a syntax fault, whose place is told
-abbrev pub ReadsBy : CatalogLists → Read Toml → Answer → Type 0
+abbrev pub ReadsBy : CatalogLists → TomlReading Toml → Answer → Type 0
 ReadsBy lists (Ok toml) answer = GivesExceptions (exceptions_file_of lists toml) answer
 ReadsBy lists (Err fault) (Ok held) = ⊥
 ReadsBy lists (Err fault) (Err (Syntax place)) = place ≡ fault.span
@@ -36,20 +36,20 @@ abbrev pub ReadsExceptions : CatalogLists → List ℕ → Answer → Type 0
 ReadsExceptions lists text answer = ReadsBy lists (read_text text) answer
 
 -- there was memory to answer
-abbrev pub IsAnswered : Answer → Type 0
-IsAnswered (Ok held) = ⊤
-IsAnswered (Err (Syntax place)) = ⊤
-IsAnswered (Err (Shape faults)) = ⊤
-IsAnswered (Err Memory) = ⊥
+abbrev pub HadMemory : Answer → Type 0
+HadMemory (Ok held) = ⊤
+HadMemory (Err (Syntax place)) = ⊤
+HadMemory (Err (Shape faults)) = ⊤
+HadMemory (Err Memory) = ⊥
 
 -- the exceptions of an answer, in the file of this number
-abbrev pub kept_of : ℕ → Answer → List ValidException
-kept_of file (Ok held) = map (exception_in file) held.exceptions
-kept_of file (Err reason) = []
+abbrev pub answer_exceptions : ℕ → Answer → List ValidException
+answer_exceptions file (Ok held) = map (exception_in file) held.exceptions
+answer_exceptions file (Err reason) = []
 
 -- and what is told of it
-abbrev pub told_of : ℕ → Answer → List Diagnostic
-told_of file (Ok held) = []
-told_of file (Err (Syntax place)) = syntax_told file place ∷ []
-told_of file (Err (Shape faults)) = map (shape_told file) faults
-told_of file (Err Memory) = []
+abbrev pub diagnostics_of : ℕ → Answer → List Diagnostic
+diagnostics_of file (Ok held) = []
+diagnostics_of file (Err (Syntax place)) = syntax_finding file place ∷ []
+diagnostics_of file (Err (Shape faults)) = map (shape_diagnostic file) faults
+diagnostics_of file (Err Memory) = []

@@ -13,22 +13,22 @@ use Rattle.policy_parts.specs.declared.target.Target.{Target}
 use Rattle.policy_config.specs.declared.root.RootConfig.{RootConfig}
 
 -- a policy that is absent, by the path where it was to be
-abbrev pub absent_told : Option (List ℕ) → Diagnostic
-absent_told (Some path) =
+abbrev pub absence_finding : Option (List ℕ) → Diagnostic
+absence_finding (Some path) =
     record (plain Warning) { message = codes "config path '" ++ path ++ codes "' doesn't exist, falling back to default config" }
-absent_told None = record (plain Warning) { message = codes "unable to find a config path, falling back to default config" }
+absence_finding None = record (plain Warning) { message = codes "unable to find a config path, falling back to default config" }
 
 -- a target, which has no effect
-abbrev pub target_told : ℕ → Target → Diagnostic
-target_told file target =
+abbrev pub target_finding : ℕ → Target → Diagnostic
+target_finding file target =
     record (plain Warning) {
       message = codes "no platform filter is applied";
       labels = label_at Primary file target.filter.span [] ∷ [];
     }
 
 -- a key that stands in a table now
-abbrev pub moved_told : List ℕ → ℕ → Span → Diagnostic
-moved_told table file key =
+abbrev pub moved_key_finding : List ℕ → ℕ → Span → Diagnostic
+moved_key_finding table file key =
     record (plain Warning) {
       code = Some (general_code_name Deprecated);
       message = codes "this key has been moved to [" ++ table ++ codes "]";
@@ -36,12 +36,12 @@ moved_told table file key =
     }
 
 -- one for each target, in order
-abbrev pub targets_told : ℕ → RootConfig → List Diagnostic
-targets_told file root = map (target_told file) root.graph.targets
+abbrev pub target_findings : ℕ → RootConfig → List Diagnostic
+target_findings file root = map (target_finding file) root.graph.targets
 
 -- one for each key, in the order of the table of keys
-abbrev pub graph_keys_told : ℕ → RootConfig → List Diagnostic
-graph_keys_told file root = map (moved_told (codes "graph") file) root.graph_deprecated
+abbrev pub graph_key_findings : ℕ → RootConfig → List Diagnostic
+graph_key_findings file root = map (moved_key_finding (codes "graph") file) root.graph_deprecated
 
-abbrev pub output_key_told : ℕ → RootConfig → List Diagnostic
-output_key_told file root = map (moved_told (codes "output") file) (option_to_list root.output_deprecated)
+abbrev pub output_key_findings : ℕ → RootConfig → List Diagnostic
+output_key_findings file root = map (moved_key_finding (codes "output") file) (option_to_list root.output_deprecated)

@@ -1,7 +1,7 @@
 -- What holds of every validation of a policy whose places lie in the text of its file.
 use Rattle.std.specs.Prelude.{◌≡◌, ℕ, List, Some}
 use Rattle.catalog_core.specs.Catalog.{CatalogLists, IsCatalog}
-use Rattle.diag_core.specs.File.{File, source_of}
+use Rattle.diag_core.specs.File.{File, source_of_file}
 use Rattle.entry_places.specs.Policies.{ConfigKeeps}
 use Rattle.policy_config.specs.declared.config.Config.{Config}
 use Rattle.valid_policy.specs.declared.policy.ValidConfig.{ValidConfig}
@@ -13,7 +13,7 @@ use Rattle.policy_core.specs.Places.{PointInto, PolicyStands}
 -- a configuration that was read from the text of the file of that number
 pub record IsConfigIn (files : List File) (file : ℕ) (config : Config) : Type 0 where
   pub text : List ℕ
-  pub source : source_of files file ≡ Some text
+  pub source : source_of_file files file ≡ Some text
   pub is_text : IsFileText text
   pub keeps : ConfigKeeps text config
 

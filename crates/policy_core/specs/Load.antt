@@ -6,7 +6,7 @@ use Rattle.diag_core.specs.declared.diagnostic.Diagnostic.{Diagnostic}
 use Rattle.tree_core.specs.Call.{Call}
 use Rattle.policy_config.specs.declared.root.RootConfig.{RootConfig}
 use Rattle.validate_core.specs.Order.{PutsPolicyInOrder}
-use Rattle.policy_core.specs.Heard.{ExceptionsHeard, IsReadOf, IsTextHeard, file_heard, read_of}
+use Rattle.policy_core.specs.Heard.{ExceptionsHeard, IsReadOf, IsTextHeard, heard_file_of, exceptions_read_of}
 use Rattle.policy_core.specs.Policy.{FileNumbers, PolicyFound, policy_found}
 use Rattle.policy_core.specs.declared.load.LoadedPolicy.{LoadedPolicy}
 
@@ -21,7 +21,7 @@ pub record Keeps (it : PolicyFound) (hearing : ExceptionsHeard) (old new : Surro
   pub licenses : PutsPolicyInOrder it.licenses loaded.licenses
   pub graph : loaded.graph ≡ it.graph
   pub output : loaded.output ≡ it.output
-  pub files : new.files ≡ old.files ++ file_heard hearing
+  pub files : new.files ≡ old.files ++ heard_file_of hearing
   pub found : new.found ≡ old.found ++ it.findings
 
 -- the exceptions file has the next number
@@ -34,4 +34,4 @@ pub record LoadsPolicyBy (lists : CatalogLists) (before after : ℕ) (calls more
   pub hearing : ExceptionsHeard
   pub is : IsReadOf before after calls more old.files exceptions_path hearing
   pub text : IsTextHeard hearing
-  pub keeps : Keeps (policy_found lists (numbers_at file old.files) absence (read_of hearing) root) hearing old new loaded
+  pub keeps : Keeps (policy_found lists (numbers_at file old.files) absence (exceptions_read_of hearing) root) hearing old new loaded

@@ -2,7 +2,7 @@
 use Rattle.std.specs.Prelude.{◌≡◌, ℕ, ◌+◌, List, length, slice_range, Option, Some, None}
 use Rattle.std.specs.List.{AllByRecursion}
 use Rattle.deny_text.specs.declared.span.Span.{Span}
-use Rattle.diag_core.specs.File.{File, source_of}
+use Rattle.diag_core.specs.File.{File, source_of_file}
 use Rattle.diag_core.specs.declared.diagnostic.Diagnostic.{Diagnostic}
 use Rattle.diag_core.specs.declared.label.Label.{Label}
 use Rattle.deny_text.specs.Spans.{LiesBetween}
@@ -18,17 +18,17 @@ use Rattle.policy_core.specs.Heard.{IsFileText}
 -- a place lies in the text of the file of that number, between characters
 pub record LiesInFile (files : List File) (file : ℕ) (place : Span) : Type 0 where
   pub text : List ℕ
-  pub source : source_of files file ≡ Some text
+  pub source : source_of_file files file ≡ Some text
   pub lies : LiesBetween text place
 
 -- ---- findings
 
-abbrev pub LabelPoints : List File → Label → Type 0
-LabelPoints files label = LiesInFile files label.file_id label.range
+abbrev pub LabelPointsInFile : List File → Label → Type 0
+LabelPointsInFile files label = LiesInFile files label.file_id label.range
 
 -- each label of the finding points into its file
 abbrev pub PointsInto : List File → Diagnostic → Type 0
-PointsInto files finding = AllByRecursion (LabelPoints files) finding.labels
+PointsInto files finding = AllByRecursion (LabelPointsInFile files) finding.labels
 
 -- and so does each label of each finding
 abbrev pub PointInto : List File → List Diagnostic → Type 0
@@ -37,16 +37,16 @@ PointInto files findings = AllByRecursion (PointsInto files) findings
 -- ---- policies
 
 -- Each place of the policy lies in the text of the file of that number, as it does where it was read from that text
-pub record IsPlacedIn (files : List File) (file : ℕ) (root : RootConfig) : Type 0 where
+pub record IsConfigPlaced (files : List File) (file : ℕ) (root : RootConfig) : Type 0 where
   pub text : List ℕ
-  pub source : source_of files file ≡ Some text
+  pub source : source_of_file files file ≡ Some text
   pub is_text : IsFileText text
   pub keeps : RootKeeps text root
 
 -- the text stands in the file from that place on, between characters
 pub record IsSpelledAt (files : List File) (file start : ℕ) (words : List ℕ) : Type 0 where
   pub text : List ℕ
-  pub source : source_of files file ≡ Some text
+  pub source : source_of_file files file ≡ Some text
   pub lies : LiesBetween text (record { start = start; end = start + length words })
   pub is : slice_range text start (start + length words) ≡ words
 

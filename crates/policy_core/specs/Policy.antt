@@ -3,7 +3,7 @@ use Rattle.std.specs.Prelude.{ℕ, Bool, if◌then◌else◌, List, [], ◌∷�
 use Rattle.catalog_core.specs.Catalog.{CatalogLists}
 use Rattle.diag_core.specs.declared.diagnostic.Diagnostic.{Diagnostic}
 use Rattle.toml_subset.specs.Data.{Toml, table, no_entry}
-use Rattle.toml_shapes.specs.Shaped.{Shaped, shaped_map}
+use Rattle.toml_shapes.specs.Shaped.{ShapeReading, shaped_map}
 use Rattle.policy_parts.specs.declared.graph.GraphConfig.{GraphConfig}
 use Rattle.policy_parts.specs.declared.output.OutputConfig.{OutputConfig}
 use Rattle.policy_config.specs.Config.{no_config}
@@ -12,8 +12,8 @@ use Rattle.policy_config.specs.declared.config.Config.{Config}
 use Rattle.policy_config.specs.declared.root.RootConfig.{RootConfig}
 use Rattle.validate_core.specs.Valid.{valid_part, address_findings, clarification_findings, removed_findings}
 use Rattle.valid_policy.specs.declared.policy.ValidConfig.{ValidConfig}
-use Rattle.policy_core.specs.Exceptions.{ExceptionsRead, exceptions_kept, exceptions_told, with_exceptions}
-use Rattle.policy_core.specs.Findings.{absent_told, targets_told, graph_keys_told, output_key_told}
+use Rattle.policy_core.specs.Exceptions.{ExceptionsRead, exceptions_kept, exceptions_findings, with_exceptions}
+use Rattle.policy_core.specs.Findings.{absence_finding, target_findings, graph_key_findings, output_key_findings}
 
 -- ---- what was read
 
@@ -49,8 +49,8 @@ abbrev pub licences_in : RootConfig → Config
 licences_in root = unwrap_or root.licenses no_config
 
 -- what is told where a policy is absent, by whether it is there
-abbrev pub absence_told : Bool → Option (List ℕ) → List Diagnostic
-absence_told is_there path = if is_there then [] else absent_told path ∷ []
+abbrev pub absence_findings : Bool → Option (List ℕ) → List Diagnostic
+absence_findings is_there path = if is_there then [] else absence_finding path ∷ []
 
 -- All that is told of a policy, in order: that it is absent; addresses that can't be read; clarifications whose expressions
 -- can't; keys that were removed; what is wrong with the exceptions file; targets, which have no effect; keys that were moved
@@ -61,10 +61,10 @@ load_findings lists numbers absence root exceptions =
     ++ address_findings numbers.policy (licences_in root)
     ++ clarification_findings lists numbers.policy (licences_in root)
     ++ removed_findings numbers.policy (licences_in root)
-    ++ exceptions_told lists numbers.exceptions exceptions
-    ++ targets_told numbers.policy root
-    ++ graph_keys_told numbers.policy root
-    ++ output_key_told numbers.policy root
+    ++ exceptions_findings lists numbers.exceptions exceptions
+    ++ target_findings numbers.policy root
+    ++ graph_key_findings numbers.policy root
+    ++ output_key_findings numbers.policy root
 
 -- what is valid of the policy, with the exceptions of its exceptions file behind its own
 abbrev pub licences_valid : CatalogLists → FileNumbers → RootConfig → ExceptionsRead → ValidConfig
@@ -81,6 +81,6 @@ policy_found lists numbers absence exceptions root = record {
 }
 
 -- The policy of what was read, or what is wrong with its shape.
-abbrev pub policy_of : CatalogLists → FileNumbers → PolicyRead → ExceptionsRead → Shaped PolicyFound
-policy_of lists numbers read exceptions =
-    shaped_map (policy_found lists numbers (absence_told (is_some read.value) read.path) exceptions) (root_of lists (value_read read))
+abbrev pub policy_of_files : CatalogLists → FileNumbers → PolicyRead → ExceptionsRead → ShapeReading PolicyFound
+policy_of_files lists numbers read exceptions =
+    shaped_map (policy_found lists numbers (absence_findings (is_some read.value) read.path) exceptions) (root_of lists (value_read read))

@@ -1,9 +1,9 @@
 //! The exceptions file.
 ghost use Rattle.std.specs.Prelude.{◌≡◌, ◌++◌, is_some, false, Ok, Some, OnErr, OnOk};
 ghost use Rattle.std.specs.Option.{ForSome};
-ghost use Rattle.diag_core.specs.File.{Grows, id_at};
+ghost use Rattle.diag_core.specs.File.{Grows, file_id_at};
 ghost use Rattle.tree_core.specs.Hearing.{MadeSome};
-ghost use Rattle.policy_core.specs.ExceptionsText.{IsAnswered, kept_of, told_of};
+ghost use Rattle.policy_core.specs.ExceptionsText.{HadMemory, answer_exceptions, diagnostics_of};
 ghost use Rattle.policy_core.specs.Heard.{LoadState, after_exceptions, heard as heard_at};
 ghost use Rattle.policy_core.specs.Heard.{IsFileText, LoadsExceptionsBy, MayReadOf};
 ghost use Rattle.policy_core.specs.Places.{PointInto, PolicyStands};
@@ -12,7 +12,7 @@ use crate::exceptions_text::{NoExceptions, read_exceptions};
 use crate::findings::{syntax, tell_itself, tell_shape, tell_unread};
 use deny_text::{PathBuf, Text};
 use diag_core::{FileId, Files};
-use heard_core::load;
+use heard_core::read_file_text;
 use policy_entries::ExceptionsFile;
 use spdx_core::Catalog;
 use std::alloc::{AllocError, Global};
@@ -30,9 +30,9 @@ fn keep_or_tell(
     exceptions: &mut ValidExceptions,
     diags: &mut Diagnostics,
 ) -> Result<(), AllocError>
-    ensures answered { OnOk result (IsAnswered read) }
-    ensures kept { OnOk result (exceptions.new ≡ exceptions.old ++ kept_of file read) }
-    ensures told { OnOk result (diags.new ≡ diags.old ++ told_of file read) }
+    ensures answered { OnOk result (HadMemory read) }
+    ensures kept { OnOk result (exceptions.new ≡ exceptions.old ++ answer_exceptions file read) }
+    ensures told { OnOk result (diags.new ≡ diags.old ++ diagnostics_of file read) }
 {
     match read {
         Ok(held) => add_exceptions(file, held.exceptions, exceptions),
@@ -78,7 +78,7 @@ fn load_other<T: Tree, C: Catalog>(
     diags: &mut Diagnostics,
     catalog: &C,
 ) -> Result<(), AllocError>
-    requires { is_some (id_at files.old path) ≡ false }
+    requires { is_some (file_id_at files.old path) ≡ false }
     ensures read { OnOk result (LoadsExceptionsBy (C.lists catalog.now) (T.fault_count tree.old)
         (T.fault_count tree.new) (T.trace tree.old) (T.trace tree.new) (Some path)
         (record { policy = cfg.old; files = files.old; found = diags.old })
@@ -90,7 +90,7 @@ fn load_other<T: Tree, C: Catalog>(
         (T.fault_count tree.new) (T.trace tree.old) (T.trace tree.new) }
 {
     let begun = tree.faults();
-    match load(alloc, tree, path.as_path(), begun)? {
+    match read_file_text(alloc, tree, path.as_path(), begun)? {
         Ok(text) => take_text(alloc, cfg, path, text, files, diags, catalog),
         Err(fault) => tell_unread(alloc, path.as_path(), fault, diags),
     }
@@ -112,7 +112,7 @@ pub fn load_exceptions<T: Tree, C: Catalog>(
     diags: &mut Diagnostics,
     catalog: &C,
 ) -> Result<(), AllocError>
-    requires { ForSome (id_at files.old path) (λ id. id ≡ cfg.old.file_id) }
+    requires { ForSome (file_id_at files.old path) (λ id. id ≡ cfg.old.file_id) }
     ensures labels { OnOk result (PointInto files.old diags.old → PointInto files.new diags.new) }
     ensures places { OnOk result (PolicyStands files.old cfg.old → PolicyStands files.new cfg.new) }
     ensures read { OnOk result (LoadsExceptionsBy (C.lists catalog.now) (T.fault_count tree.old)

@@ -17,7 +17,7 @@ use validation_core::Diagnostics;
 
 /// That an exceptions file is the policy itself.
 fn itself(alloc: Global, path: &str) -> Result<Diagnostic, AllocError>
-    ensures { IfOk result (λ diag. diag ≡ exceptions.itself_told path.now) }
+    ensures { IfOk result (λ diag. diag ≡ exceptions.itself_finding path.now) }
 {
     let note = format!(in alloc; "path = '{path}'")?;
     Diagnostic::new(alloc, Severity::Error)
@@ -31,7 +31,7 @@ pub(crate) fn tell_itself(
     path: &str,
     found: &mut Diagnostics,
 ) -> Result<(), AllocError>
-    ensures { OnOk result (found.new ≡ found.old ++ exceptions.itself_told path.now ∷ []) }
+    ensures { OnOk result (found.new ≡ found.old ++ exceptions.itself_finding path.now ∷ []) }
 {
     let diag = itself(alloc, path)?;
     found.push(diag)
@@ -51,7 +51,7 @@ fn fault_words(fault: ReadFault) -> &'static str
 
 /// That an exceptions file was not read.
 fn unread(alloc: Global, path: &str, fault: ReadFault) -> Result<Diagnostic, AllocError>
-    ensures { IfOk result (λ diag. diag ≡ exceptions.unread_told path.now (heard.fault_words fault)) }
+    ensures { IfOk result (λ diag. diag ≡ exceptions.unread_finding path.now (heard.fault_words fault)) }
 {
     let note = format!(in alloc; "path = '{path}'")?;
     let words = fault_words(fault);
@@ -70,7 +70,7 @@ pub(crate) fn tell_unread(
     found: &mut Diagnostics,
 ) -> Result<(), AllocError>
     ensures { OnOk result (found.new
-        ≡ found.old ++ exceptions.unread_told path.now (heard.fault_words fault) ∷ []) }
+        ≡ found.old ++ exceptions.unread_finding path.now (heard.fault_words fault) ∷ []) }
 {
     let diag = unread(alloc, path, fault)?;
     found.push(diag)
@@ -78,14 +78,14 @@ pub(crate) fn tell_unread(
 
 /// That an exceptions file has a syntax fault.
 pub(crate) fn syntax(alloc: Global, file: FileId, place: Span) -> Result<Diagnostic, AllocError>
-    ensures { IfOk result (λ diag. diag ≡ exceptions.syntax_told file place) }
+    ensures { IfOk result (λ diag. diag ≡ exceptions.syntax_finding file place) }
 {
     error_at(alloc, file, "syntax error", place, "")
 }
 
 /// A fault of an exceptions file's shape.
 fn shape_fault(alloc: Global, file: FileId, fault: &ShapeError) -> Result<Diagnostic, AllocError>
-    ensures { IfOk result (λ diag. diag ≡ exceptions.shape_told file (fault_of fault.now)) }
+    ensures { IfOk result (λ diag. diag ≡ exceptions.shape_diagnostic file (fault_of fault.now)) }
 {
     let message = format!(in alloc; "{fault}")?;
     error_at(alloc, file, message.as_str(), fault.span, "")
@@ -98,7 +98,7 @@ fn tell_faults(
     found: &mut Diagnostics,
 ) -> Result<(), AllocError>
     ensures { OnOk result (found.new
-        ≡ found.old ++ map (λ fault. exceptions.shape_told file (fault_of fault)) faults.now) }
+        ≡ found.old ++ map (λ fault. exceptions.shape_diagnostic file (fault_of fault)) faults.now) }
 {
     'faults: for fault in faults {
         let diag = shape_fault(alloc, file, fault)?;
@@ -114,14 +114,14 @@ pub fn tell_shape(
     faults: &ShapeErrors,
     found: &mut Diagnostics,
 ) -> Result<(), AllocError>
-    ensures { OnOk result (found.new ≡ found.old ++ map (exceptions.shape_told file) faults.now) }
+    ensures { OnOk result (found.new ≡ found.old ++ map (exceptions.shape_diagnostic file) faults.now) }
 {
     tell_faults(alloc, file, faults.items(), found)
 }
 
 /// That a policy is absent, by the path where it was to be.
 pub(crate) fn absent(alloc: Global, path: Option<&str>) -> Result<Diagnostic, AllocError>
-    ensures { IfOk result (λ diag. diag ≡ spec.absent_told (option_copied path.entry)) }
+    ensures { IfOk result (λ diag. diag ≡ spec.absence_finding (option_copied path.entry)) }
 {
     let blank = Diagnostic::new(alloc, Severity::Warning);
     match path {
@@ -138,7 +138,7 @@ pub(crate) fn absent(alloc: Global, path: Option<&str>) -> Result<Diagnostic, Al
 }
 
 fn target(alloc: Global, file: FileId, target: &Target) -> Result<Diagnostic, AllocError>
-    ensures { IfOk result (λ diag. diag ≡ spec.target_told file target.now) }
+    ensures { IfOk result (λ diag. diag ≡ spec.target_finding file target.now) }
 {
     let label = Label::primary(alloc, file, target.filter.span);
     Diagnostic::new(alloc, Severity::Warning)
@@ -153,7 +153,7 @@ pub(crate) fn tell_targets(
     targets: &[Target],
     found: &mut Diagnostics,
 ) -> Result<(), AllocError>
-    ensures { OnOk result (found.new ≡ found.old ++ map (spec.target_told file) targets.now) }
+    ensures { OnOk result (found.new ≡ found.old ++ map (spec.target_finding file) targets.now) }
 {
     'targets: for one in targets {
         let diag = target(alloc, file, one)?;
@@ -169,7 +169,7 @@ pub(crate) fn moved(
     file: FileId,
     key: Span,
 ) -> Result<Diagnostic, AllocError>
-    ensures { IfOk result (λ diag. diag ≡ spec.moved_told table.now file key) }
+    ensures { IfOk result (λ diag. diag ≡ spec.moved_key_finding table.now file key) }
 {
     let deprecated = Deprecated {
         key,
@@ -186,7 +186,7 @@ pub(crate) fn tell_moved(
     keys: &[Span],
     found: &mut Diagnostics,
 ) -> Result<(), AllocError>
-    ensures { OnOk result (found.new ≡ found.old ++ map (spec.moved_told (codes "graph") file) keys.now) }
+    ensures { OnOk result (found.new ≡ found.old ++ map (spec.moved_key_finding (codes "graph") file) keys.now) }
 {
     'keys: for key in keys {
         let diag = moved(alloc, "graph", file, *key)?;

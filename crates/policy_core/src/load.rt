@@ -1,17 +1,17 @@
 //! Policies that were read, and have their shape.
 ghost use Rattle.std.specs.Prelude.{◌≡◌, ◌++◌, map, unwrap_or, IfOk, OnErr, OnOk, codes};
 ghost use Rattle.std.specs.Option.{ForSome, option_copied, option_to_list, option_and_then};
-ghost use Rattle.diag_core.specs.File.{Grows, id_at};
+ghost use Rattle.diag_core.specs.File.{Grows, file_id_at};
 ghost use Rattle.tree_core.specs.Hearing.{MadeSome};
 ghost use Rattle.policy_config.specs.Config.{no_config};
 ghost use Rattle.validate_core.specs.Order.{PutsPolicyInOrder};
 ghost use Rattle.validate_core.specs.Valid.{valid_part, validation_findings};
-ghost use Rattle.policy_core.specs.Findings.{moved_told};
-ghost use Rattle.policy_core.specs.Findings.{targets_told, graph_keys_told, output_key_told};
+ghost use Rattle.policy_core.specs.Findings.{moved_key_finding};
+ghost use Rattle.policy_core.specs.Findings.{target_findings, graph_key_findings, output_key_findings};
 ghost use Rattle.policy_core.specs.Heard.{LoadsExceptionsBy, MayReadOf};
 ghost use Rattle.policy_core.specs.Load.{LoadsPolicyBy};
-ghost use Rattle.policy_core.specs.Places.{IsPlacedIn, PointInto, PolicyStands};
-ghost use Rattle.policy_core.specs.Policy.{absence_told};
+ghost use Rattle.policy_core.specs.Places.{IsConfigPlaced, PointInto, PolicyStands};
+ghost use Rattle.policy_core.specs.Policy.{absence_findings};
 
 use crate::exceptions::load_exceptions;
 use crate::findings::{absent, moved, tell_moved, tell_targets};
@@ -52,7 +52,7 @@ fn tell_absence(
     found: &mut Diagnostics,
 ) -> Result<(), AllocError>
     ensures { OnOk result (found.new
-        ≡ found.old ++ absence_told source.now.is_there (option_copied source.now.path)) }
+        ≡ found.old ++ absence_findings source.now.is_there (option_copied source.now.path)) }
 {
     if source.is_there {
         return Ok(());
@@ -103,7 +103,7 @@ fn load_further<T: Tree, C: Catalog>(
     diags: &mut Diagnostics,
     catalog: &C,
 ) -> Result<(), AllocError>
-    requires { ForSome (option_and_then (id_at files.old) path) (λ id. id ≡ cfg.old.file_id) }
+    requires { ForSome (option_and_then (file_id_at files.old) path) (λ id. id ≡ cfg.old.file_id) }
     ensures read { OnOk result (LoadsExceptionsBy (C.lists catalog.now) (T.fault_count tree.old)
         (T.fault_count tree.new) (T.trace tree.old) (T.trace tree.new) path
         (record { policy = cfg.old; files = files.old; found = diags.old })
@@ -128,7 +128,7 @@ fn tell_output_key(
     found: &mut Diagnostics,
 ) -> Result<(), AllocError>
     ensures { OnOk result (found.new
-        ≡ found.old ++ map (moved_told (codes "output") file) (option_to_list key)) }
+        ≡ found.old ++ map (moved_key_finding (codes "output") file) (option_to_list key)) }
 {
     match key {
         Some(key) => {
@@ -147,7 +147,7 @@ fn tell_settings(
     found: &mut Diagnostics,
 ) -> Result<(), AllocError>
     ensures { OnOk result (found.new ≡ found.old
-        ++ targets_told file root.now ++ graph_keys_told file root.now ++ output_key_told file root.now) }
+        ++ target_findings file root.now ++ graph_key_findings file root.now ++ output_key_findings file root.now) }
 {
     tell_targets(alloc, file, root.graph.targets.items(), found)?;
     tell_moved(alloc, file, root.graph_deprecated.items(), found)?;
@@ -171,14 +171,14 @@ pub fn load_policy<T: Tree, C: Catalog>(
     found: &mut Diagnostics,
     catalog: &C,
 ) -> Result<LoadedPolicy, AllocError>
-    requires { ForSome (option_and_then (id_at files.old) exceptions_path) (λ id. id ≡ source.now.file_id) }
-    ensures labels { OnOk result (IsPlacedIn files.old source.now.file_id root
+    requires { ForSome (option_and_then (file_id_at files.old) exceptions_path) (λ id. id ≡ source.now.file_id) }
+    ensures labels { OnOk result (IsConfigPlaced files.old source.now.file_id root
         → PointInto files.old found.old → PointInto files.new found.new) }
-    ensures places { IfOk result (λ loaded. IsPlacedIn files.old source.now.file_id root
+    ensures places { IfOk result (λ loaded. IsConfigPlaced files.old source.now.file_id root
         → PolicyStands files.new loaded.licenses) }
     ensures read { IfOk result (LoadsPolicyBy (C.lists catalog.now) (T.fault_count tree.old)
         (T.fault_count tree.new) (T.trace tree.old) (T.trace tree.new) source.now.file_id
-        (absence_told source.now.is_there (option_copied source.now.path)) root exceptions_path
+        (absence_findings source.now.is_there (option_copied source.now.path)) root exceptions_path
         (record { files = files.old; found = found.old }) (record { files = files.new; found = found.new })) }
     ensures no_memory { OnErr result
         (MayReadOf (T.trace tree.old) (T.trace tree.new) files.old exceptions_path) }

@@ -10,7 +10,7 @@ use Rattle.term_core.specs.declared.error.ParseError.{ParseError}
 use Rattle.term_core.specs.declared.item.Item.{Item}
 use Rattle.term_core.specs.declared.mode.ParseMode.{ParseMode}
 use Rattle.term_core.specs.declared.term.LicenseReq.{LicenseReq}
-use Rattle.toml_subset.specs.Written.{Written}
+use Rattle.toml_subset.specs.Written.{WrittenString}
 use Rattle.toml_shapes.specs.Shapes.{fault_alone, custom}
 use Rattle.policy_entries.specs.Licensees.{policy_mode, place_in, licensee_by, licensee_in, part_in}
 
@@ -18,12 +18,12 @@ part_is : {mode : ParseMode} {items : List Item} {req : LicenseReq} → IsOnePar
 part_is (alone named span ok) = refl
 part_is (with_exception named name first second third ok) = refl
 
-pub licensee_read : (lists : CatalogLists) (string : Written) (whole : Span) (req : LicenseReq) → IsLicensee policy_mode lists string.text req
+pub licensee_read : (lists : CatalogLists) (string : WrittenString) (whole : Span) (req : LicenseReq) → IsLicensee policy_mode lists string.text req
     → licensee_in lists string whole ≡ Ok (record { 0 = record { value = req; span = whole } })
 licensee_read lists string whole req one =
     ap (λ fault. licensee_by string whole fault (part_in lists string.text)) ((licensee_or_fault policy_mode lists string.text).1 (req, one))
     ∙ ap (licensee_by string whole None) (part_is one)
 
-pub licensee_refused : (lists : CatalogLists) (string : Written) (whole : Span) (fault : ParseError) → licensee_fault policy_mode lists string.text ≡ Some fault
+pub licensee_refused : (lists : CatalogLists) (string : WrittenString) (whole : Span) (fault : ParseError) → licensee_fault policy_mode lists string.text ≡ Some fault
     → licensee_in lists string whole ≡ Err (fault_alone (custom (reason_text fault.reason)) (place_in string whole fault.span))
 licensee_refused lists string whole fault is = ap (λ found. licensee_by string whole found (part_in lists string.text)) is

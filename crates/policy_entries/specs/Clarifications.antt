@@ -3,23 +3,23 @@ use Rattle.std.specs.Prelude.{List, [], ◌∷◌, codes}
 use Rattle.deny_text.specs.declared.span.Span.{Span}
 use Rattle.toml_subset.specs.Data.{Entries, Toml}
 use Rattle.toml_shapes.specs.Kinds.{kind_word}
-use Rattle.toml_shapes.specs.Shaped.{Shaped, shaped_map, shaped_then}
+use Rattle.toml_shapes.specs.Shaped.{ShapeReading, shaped_map, shaped_then}
 use Rattle.toml_value.specs.Taken.{string_of}
 use Rattle.policy_toml.specs.Readings.{list_of}
 use Rattle.key_rows.specs.Rows.{needed, shaped_by}
 use Rattle.policy_parts.specs.Values.{file_source_of}
 use Rattle.policy_entries.specs.WithSpec.{with_spec}
 use Rattle.policy_entries.specs.declared.clarification.Clarification.{Clarification}
-use Rattle.policy_entries.specs.declared.clarification.Clarified.{Clarified}
+use Rattle.policy_entries.specs.declared.clarification.ClarificationKeys.{ClarificationKeys}
 use Rattle.policy_entries.specs.declared.clarification.WrittenText.{WrittenText}
 
 -- a string with its place, and whether it has escapes
-abbrev pub written_of : Toml → Shaped WrittenText
+abbrev pub written_of : Toml → ShapeReading WrittenText
 written_of value =
     shaped_map (λ string. record { text = record { value = string.text; span = value.span }; escapes = string.escaped })
     (string_of (codes "a string") value)
 
-abbrev pub clarified_at : Entries → Span → Shaped Clarified
+abbrev pub clarified_at : Entries → Span → ShapeReading ClarificationKeys
 clarified_at entries span =
     shaped_then (λ expression. shaped_then (λ files.
     shaped_by (codes "expression" ∷ codes "license-files" ∷ []) []
@@ -27,7 +27,7 @@ clarified_at entries span =
     (needed (codes "license-files") (list_of file_source_of) entries span))
     (needed (codes "expression") written_of entries span)
 
-abbrev pub clarification_of : Toml → Shaped Clarification
+abbrev pub clarification_of : Toml → ShapeReading Clarification
 clarification_of value =
     shaped_map (λ read. record {
       spec = read.0;

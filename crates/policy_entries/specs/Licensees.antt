@@ -10,8 +10,8 @@ use Rattle.term_core.specs.declared.error.ParseError.{ParseError}
 use Rattle.term_core.specs.declared.mode.ParseMode.{ParseMode}
 use Rattle.term_core.specs.declared.term.LicenseReq.{LicenseReq}
 use Rattle.toml_subset.specs.Data.{Toml}
-use Rattle.toml_subset.specs.Written.{Written}
-use Rattle.toml_shapes.specs.Shaped.{Shaped, shaped_then}
+use Rattle.toml_subset.specs.Written.{WrittenString}
+use Rattle.toml_shapes.specs.Shaped.{ShapeReading, shaped_then}
 use Rattle.toml_shapes.specs.Shapes.{fault_alone, custom}
 use Rattle.toml_value.specs.Taken.{string_of}
 use Rattle.policy_toml.specs.Readings.{list_of}
@@ -34,11 +34,11 @@ abbrev pub moved : ℕ → Span → Span
 moved start span = record { start = place_from start span.start; end = place_from start span.end }
 
 -- A place in a string's text, in the text where the string stands. With escapes it is the whole string.
-abbrev pub place_in : Written → Span → Span → Span
+abbrev pub place_in : WrittenString → Span → Span → Span
 place_in string whole span = if string.escaped then whole else moved whole.start span
 
 -- The first fault, or else the one part that there is. A text has one of the two, so the last case never comes.
-abbrev pub licensee_by : Written → Span → Option ParseError → Option LicenseReq → Shaped Licensee
+abbrev pub licensee_by : WrittenString → Span → Option ParseError → Option LicenseReq → ShapeReading Licensee
 licensee_by string whole (Some fault) part =
     Err (fault_alone (custom (reason_text fault.reason)) (place_in string whole fault.span))
 licensee_by string whole None (Some req) = Ok (record { 0 = record { value = req; span = whole } })
@@ -49,12 +49,12 @@ abbrev pub part_in : CatalogLists → List ℕ → Option LicenseReq
 part_in lists text = part_of (items_of (licensee_mode policy_mode) lists text)
 
 -- a string at a place
-abbrev pub licensee_in : CatalogLists → Written → Span → Shaped Licensee
+abbrev pub licensee_in : CatalogLists → WrittenString → Span → ShapeReading Licensee
 licensee_in lists string whole = licensee_by string whole (licensee_fault policy_mode lists string.text) (part_in lists string.text)
 
-abbrev pub licensee_of : CatalogLists → Toml → Shaped Licensee
+abbrev pub licensee_of : CatalogLists → Toml → ShapeReading Licensee
 licensee_of lists value =
     shaped_then (λ string. licensee_in lists string value.span) (string_of (codes "an SPDX licensee string") value)
 
-abbrev pub licensees_of : CatalogLists → Toml → Shaped (List Licensee)
+abbrev pub licensees_of : CatalogLists → Toml → ShapeReading (List Licensee)
 licensees_of lists = list_of (licensee_of lists)

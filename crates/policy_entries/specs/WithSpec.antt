@@ -2,20 +2,20 @@
 use Rattle.std.specs.Prelude.{Ok, Err}
 use Rattle.deny_text.specs.declared.span.Span.{Span}
 use Rattle.toml_subset.specs.Data.{Entries, Toml}
-use Rattle.toml_shapes.specs.Shaped.{Shaped, shaped_map, shaped_then}
+use Rattle.toml_shapes.specs.Shaped.{ShapeReading, shaped_map, shaped_then}
 use Rattle.key_rows.specs.Rows.{in_table, left_of_table}
-use Rattle.policy_spec.specs.Reading.{spec_of, left_of}
+use Rattle.policy_spec.specs.Reading.{spec_of, rest_of_spec}
 use Rattle.policy_spec.specs.Spec.{Spec}
 
 -- behind a string the boolean false is left, which is no table
-abbrev pub with_spec : {A : Type 0} → (Entries → Span → Shaped A) → Toml → Shaped (Spec × A)
+abbrev pub with_spec : {A : Type 0} → (Entries → Span → ShapeReading A) → Toml → ShapeReading (Spec × A)
 with_spec shape value =
-    shaped_then (λ spec. shaped_map (λ keys. (spec, keys)) (in_table shape (left_of value))) (spec_of value)
+    shaped_then (λ spec. shaped_map (λ keys. (spec, keys)) (in_table shape (rest_of_spec value))) (spec_of value)
 
 -- what is left of the value in the end, by whether the spec was read
-abbrev pub left_behind : Shaped Spec → Toml → Toml
+abbrev pub left_behind : ShapeReading Spec → Toml → Toml
 left_behind (Ok spec) rest = left_of_table rest
 left_behind (Err faults) rest = rest
 
 abbrev pub left_of_entry : Toml → Toml
-left_of_entry value = left_behind (spec_of value) (left_of value)
+left_of_entry value = left_behind (spec_of value) (rest_of_spec value)

@@ -5,7 +5,7 @@ ghost use Rattle.policy_entries.specs.WithSpec.{left_of_entry};
 
 use crate::with_spec::read_with_spec;
 use deny_text::{ListOf, Spanned, Text};
-use key_rows::{Keyed, finish};
+use key_rows::{FromKeys, finish};
 use policy_parts::FileSources;
 use policy_spec::PackageSpec;
 use policy_toml::{DeserError, Deserialize, TableHelper, Value};
@@ -34,7 +34,7 @@ struct WrittenText {
 
 /// The keys of a clarification beside those of its spec.
 #[derive(Drop)]
-struct Clarified {
+struct ClarificationKeys {
     expression: WrittenText,
     license_files: FileSources,
 }
@@ -62,21 +62,21 @@ impl<X> Deserialize<X> for WrittenText {
     }
 }
 
-impl<X> Keyed<X> for Clarified {
+impl<X> FromKeys<X> for ClarificationKeys {
     ghost shape = { λ _. clarified_at };
 
     fn read_keys(
         alloc: Global,
         mut table: TableHelper<'_>,
         _context: &X,
-    ) -> Result<Clarified, DeserError> {
+    ) -> Result<ClarificationKeys, DeserError> {
         let expression = match table.required(alloc, "expression", &()) {
             Ok(expression) => expression,
             Err(error) => return Err(error),
         };
         match table.required(alloc, "license-files", &()) {
             Ok(license_files) => {
-                let keys = Clarified {
+                let keys = ClarificationKeys {
                     expression,
                     license_files,
                 };
@@ -98,9 +98,9 @@ impl<X> Deserialize<X> for Clarification {
         value: &mut Value<'_>,
         context: &X,
     ) -> Result<Clarification, DeserError> {
-        match read_with_spec::<Clarified, X>(alloc, value, context) {
+        match read_with_spec::<ClarificationKeys, X>(alloc, value, context) {
             Ok((spec, keys)) => {
-                let Clarified {
+                let ClarificationKeys {
                     expression,
                     license_files,
                 } = keys;

@@ -1,14 +1,14 @@
 //! Exceptions: licensees that are allowed for some crates alone.
 ghost use Rattle.key_rows.specs.Rows.{left_of_table};
 ghost use Rattle.policy_entries.specs.Exceptions.{allowed_at, exception_of};
-ghost use Rattle.policy_entries.specs.Exceptions.{exceptions_at, exceptions_file_of};
+ghost use Rattle.policy_entries.specs.Exceptions.{exceptions_file_at, exceptions_file_of};
 ghost use Rattle.policy_entries.specs.WithSpec.{left_of_entry};
 
 use crate::licensee::Licensees;
 use crate::with_spec::read_with_spec;
 use catalog_core::Catalog;
 use deny_text::ListOf;
-use key_rows::{Keyed, finish, read_table};
+use key_rows::{FromKeys, finish, read_table};
 use policy_spec::PackageSpec;
 use policy_toml::{DeserError, Deserialize, TableHelper, Value};
 use std::alloc::Global;
@@ -31,20 +31,20 @@ pub struct ExceptionsFile {
 
 /// The keys of an exception beside those of its spec.
 #[derive(Drop)]
-struct Allowed {
+struct ExceptionLicenses {
     allow: Licensees,
 }
 
-impl<C: Catalog> Keyed<C> for Allowed {
+impl<C: Catalog> FromKeys<C> for ExceptionLicenses {
     ghost shape = { λ catalog. allowed_at (C.lists catalog) };
 
     fn read_keys(
         alloc: Global,
         mut table: TableHelper<'_>,
         catalog: &C,
-    ) -> Result<Allowed, DeserError> {
+    ) -> Result<ExceptionLicenses, DeserError> {
         match table.required(alloc, "allow", catalog) {
-            Ok(allow) => finish(alloc, table, Allowed { allow }),
+            Ok(allow) => finish(alloc, table, ExceptionLicenses { allow }),
             Err(error) => Err(error),
         }
     }
@@ -61,7 +61,7 @@ impl<C: Catalog> Deserialize<C> for Exception {
         value: &mut Value<'_>,
         catalog: &C,
     ) -> Result<Exception, DeserError> {
-        match read_with_spec::<Allowed, C>(alloc, value, catalog) {
+        match read_with_spec::<ExceptionLicenses, C>(alloc, value, catalog) {
             Ok((spec, keys)) => Ok(Exception {
                 spec,
                 allow: keys.allow,
@@ -71,8 +71,8 @@ impl<C: Catalog> Deserialize<C> for Exception {
     }
 }
 
-impl<C: Catalog> Keyed<C> for ExceptionsFile {
-    ghost shape = { λ catalog. exceptions_at (C.lists catalog) };
+impl<C: Catalog> FromKeys<C> for ExceptionsFile {
+    ghost shape = { λ catalog. exceptions_file_at (C.lists catalog) };
 
     fn read_keys(
         alloc: Global,

@@ -1,7 +1,7 @@
 //! Licensees that a policy names.
 ghost use Rattle.std.specs.Prelude.{◌≡◌, codes};
 ghost use Rattle.term_core.specs.Reasons.{reason_text};
-ghost use Rattle.toml_shapes.specs.Shaped.{Gives, IsToldBy};
+ghost use Rattle.toml_shapes.specs.Shaped.{AnswersShape, IsToldBy};
 ghost use Rattle.toml_shapes.specs.Shapes.{fault_alone, custom};
 ghost use Rattle.toml_value.specs.Taken.{left_by, string_of};
 ghost use Rattle.policy_entries.specs.Licensees as spec;
@@ -56,7 +56,7 @@ fn read_licensee<C: Catalog>(
     span: Span,
     catalog: &C,
 ) -> Result<Licensee, DeserError>
-    ensures { Gives (licensee_in (C.lists catalog.now) string.now span) result }
+    ensures { AnswersShape (licensee_in (C.lists catalog.now) string.now span) result }
 {
     match term_core::Licensee::parse_mode(alloc, string.as_str(), POLICY, catalog) {
         Ok(value) => Ok(Licensee(Spanned { value, span })),

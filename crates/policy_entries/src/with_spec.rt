@@ -1,21 +1,21 @@
 //! Tables that hold the keys of a package spec beside their own.
-ghost use Rattle.toml_shapes.specs.Shaped.{Gives, OnAnswer};
+ghost use Rattle.toml_shapes.specs.Shaped.{AnswersShape, OnAnswer};
 ghost use Rattle.toml_value.specs.Views.{value_view};
 ghost use Rattle.std.specs.Prelude.{◌≡◌};
 ghost use Rattle.policy_entries.specs.WithSpec.{with_spec, left_of_entry};
 
-use key_rows::{Keyed, read_table};
+use key_rows::{FromKeys, read_table};
 use policy_spec::PackageSpec;
 use policy_toml::{DeserError, Deserialize, Value};
 use std::alloc::Global;
 
 /// Reads a spec, and then a table out of what that leaves of the value.
-pub(crate) fn read_with_spec<T: Keyed<X>, X>(
+pub(crate) fn read_with_spec<T: FromKeys<X>, X>(
     alloc: Global,
     value: &mut Value<'_>,
     context: &X,
 ) -> Result<(PackageSpec, T), DeserError>
-    ensures read { Gives (with_spec (T.shape context.now) (value_view value.old)) result }
+    ensures read { AnswersShape (with_spec (T.shape context.now) (value_view value.old)) result }
     ensures left { OnAnswer result (value_view value.new ≡ left_of_entry (value_view value.old)) }
 {
     match <PackageSpec as Deserialize<X>>::deserialize(alloc, value, context) {

@@ -4,7 +4,7 @@ use Rattle.deny_text.specs.declared.span.Span.{Span}
 use Rattle.toml_subset.specs.Data.{Content, Entries, Toml, string, integer, boolean, table, array, no_item, item, no_entry, entry}
 use Rattle.toml_shapes.specs.Shapes.{fault_alone, missing, wanted, unexpected_keys, unexpected_value, out_of_range}
 use Rattle.policy_parts.specs.Names.{scope_of, agreement_of, lint_of}
-use Rattle.policy_parts.specs.Tables.{private_of, output_of, graph_of}
+use Rattle.policy_parts.specs.Tables.{private_of, output_of, graph_config_of}
 use Rattle.policy_parts.specs.Values.{file_source_of, target_of, left_of_target, reason_of, left_of_reason}
 use Rattle.policy_parts.specs.declared.names.BlanketAgreement.TheVariants as agreement
 use Rattle.policy_parts.specs.declared.names.LintLevel.TheVariants as lint
@@ -69,7 +69,7 @@ depths = (refl, refl, refl, refl)
 
 -- ---- the graph
 
-all_of_graph : graph_of (rows (row (codes "targets") (at 10 20) (array (item (at 11 12) (text (codes "t"))
+all_of_graph : graph_config_of (rows (row (codes "targets") (at 10 20) (array (item (at 11 12) (text (codes "t"))
     (item (at 13 19) (table (row (codes "features") (at 14 15) (array (item (at 14 15) (text (codes "f")) no_item))
     (row (codes "triple") (at 16 17) (text (codes "u")) no_entry))) no_item)))
     (row (codes "exclude") (at 21 22) (array (item (at 21 22) (text (codes "e")) no_item))
@@ -88,7 +88,7 @@ all_of_graph : graph_of (rows (row (codes "targets") (at 10 20) (array (item (at
     })
 all_of_graph = refl
 
-no_graph : graph_of (rows no_entry) ≡ Ok (record {
+no_graph : graph_config_of (rows no_entry) ≡ Ok (record {
   targets = [];
   exclude = [];
   features = [];

@@ -3,7 +3,7 @@ use Rattle.std.proofs.Common.{◌≡◌, ℕ, true, List, Option, ap, ◌∙◌}
 use Rattle.std.specs.Prelude.{option_map}
 use Rattle.deny_text.specs.declared.span.Span.{Span}
 use Rattle.toml_subset.specs.Data.{Entries, Toml}
-use Rattle.toml_shapes.specs.Shaped.{Shaped, Tells, shaped_then}
+use Rattle.toml_shapes.specs.Shaped.{ShapeReading, TellsFaults, shaped_then}
 use Rattle.toml_shapes.specs.declared.shape.DeserError.{DeserError}
 use Rattle.toml_shapes.specs.declared.shape.DeserError.TheVariants.{Faults, Memory}
 use Rattle.policy_toml.specs.HelperState.{HelperState, required_of}
@@ -11,7 +11,7 @@ use Rattle.key_rows.specs.Rows.{needed, needed_at}
 use Rattle.key_rows.proofs.RowLemmas.{none_is, found_behind, begun, required_is}
 
 -- such a key is read as if it were the first
-pub needed_behind : {A : Type 0} (name : List ℕ) (reads : Toml → Shaped A) (passed : List (List ℕ)) (entries : Entries) (span : Span) (state : HelperState)
+pub needed_behind : {A : Type 0} (name : List ℕ) (reads : Toml → ShapeReading A) (passed : List (List ℕ)) (entries : Entries) (span : Span) (state : HelperState)
     → none_is name passed ≡ true → state ≡ begun passed entries span → required_of name reads state ≡ needed name reads entries span
 needed_behind name reads passed entries span state apart is =
     required_is name reads state (ap (λ (s : HelperState). s.faults) is)
@@ -19,6 +19,6 @@ needed_behind name reads passed entries span state apart is =
     ∙ ap (λ (value : Option Toml). needed_at name span (option_map reads value)) (found_behind name passed entries apart)
 
 -- what refuses a reading refuses what follows
-pub refused_then : {A B : Type 0} (f : A → Shaped B) (read : Shaped A) (error : DeserError) → Tells read error → Tells (shaped_then f read) error
+pub refused_then : {A B : Type 0} (f : A → ShapeReading B) (read : ShapeReading A) (error : DeserError) → TellsFaults read error → TellsFaults (shaped_then f read) error
 refused_then f read (Faults told) h = (ap (shaped_then f) h.0, h.1)
 refused_then f read Memory h = h

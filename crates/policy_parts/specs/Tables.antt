@@ -2,9 +2,9 @@
 use Rattle.std.specs.Prelude.{ℕ, Bool, false, List, [], ◌∷◌, codes, unwrap_or}
 use Rattle.deny_text.specs.declared.span.Spanned.{Spanned}
 use Rattle.toml_subset.specs.Data.{Entries, Toml}
-use Rattle.toml_shapes.specs.Shaped.{Shaped}
+use Rattle.toml_shapes.specs.Shaped.{ShapeReading}
 use Rattle.policy_toml.specs.Readings.{boolean_of, text_of, u32_of, list_of, spanned_of}
-use Rattle.key_rows.specs.Rows.{Row, key, given, shaped_by, in_table}
+use Rattle.key_rows.specs.Rows.{KeyRow, key, given, shaped_by, in_table}
 use Rattle.policy_parts.specs.Values.{target_of}
 use Rattle.policy_parts.specs.declared.graph.GraphConfig.{GraphConfig}
 use Rattle.policy_parts.specs.declared.output.OutputConfig.{OutputConfig}
@@ -23,7 +23,7 @@ spanned_texts name entries = unwrap_or (given name (list_of (spanned_of text_of)
 
 -- ---- private crates
 
-abbrev pub private_rows : List Row
+abbrev pub private_rows : List KeyRow
 private_rows =
     key (codes "ignore") boolean_of
     ∷ key (codes "ignore-sources") (list_of (spanned_of text_of))
@@ -37,23 +37,23 @@ private_in entries = record {
   registries = texts (codes "registries") entries;
 }
 
-abbrev pub private_of : Toml → Shaped Private
+abbrev pub private_of : Toml → ShapeReading Private
 private_of = in_table (shaped_by [] private_rows private_in)
 
 -- ---- what is printed
 
-abbrev pub output_rows : List Row
+abbrev pub output_rows : List KeyRow
 output_rows = key (codes "feature-depth") u32_of ∷ []
 
 abbrev pub output_in : Entries → OutputConfig
 output_in entries = record { feature_depth = given (codes "feature-depth") u32_of entries }
 
-abbrev pub output_of : Toml → Shaped OutputConfig
+abbrev pub output_of : Toml → ShapeReading OutputConfig
 output_of = in_table (shaped_by [] output_rows output_in)
 
 -- ---- which crates are looked at
 
-abbrev pub graph_rows : List Row
+abbrev pub graph_rows : List KeyRow
 graph_rows =
     key (codes "targets") (list_of target_of)
     ∷ key (codes "exclude") (list_of text_of)
@@ -64,8 +64,8 @@ graph_rows =
     ∷ key (codes "exclude-unpublished") boolean_of
     ∷ []
 
-abbrev pub graph_in : Entries → GraphConfig
-graph_in entries = record {
+abbrev pub graph_config_in : Entries → GraphConfig
+graph_config_in entries = record {
   targets = unwrap_or (given (codes "targets") (list_of target_of) entries) [];
   exclude = texts (codes "exclude") entries;
   features = texts (codes "features") entries;
@@ -75,5 +75,5 @@ graph_in entries = record {
   exclude_unpublished = flag (codes "exclude-unpublished") entries;
 }
 
-abbrev pub graph_of : Toml → Shaped GraphConfig
-graph_of = in_table (shaped_by [] graph_rows graph_in)
+abbrev pub graph_config_of : Toml → ShapeReading GraphConfig
+graph_config_of = in_table (shaped_by [] graph_rows graph_config_in)

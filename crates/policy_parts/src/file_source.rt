@@ -4,7 +4,7 @@ ghost use Rattle.key_rows.specs.Rows.{left_of_table};
 ghost use Rattle.policy_parts.specs.Values.{file_source_at, file_source_of};
 
 use deny_text::{ListOf, PathBuf, Spanned, Text};
-use key_rows::{Keyed, finish, read_table};
+use key_rows::{FromKeys, finish, read_table};
 use policy_toml::{DeserError, Deserialize, TableHelper, Value};
 use std::alloc::{AllocError, Global};
 
@@ -28,7 +28,7 @@ fn path_of(alloc: Global, text: &Spanned<Text>) -> Result<Spanned<PathBuf>, Allo
     Ok(Spanned { value, span })
 }
 
-impl<X> Keyed<X> for FileSource {
+impl<X> FromKeys<X> for FileSource {
     ghost shape = { λ _. file_source_at };
 
     fn read_keys(

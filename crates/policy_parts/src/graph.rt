@@ -1,11 +1,11 @@
 //! The crates that a policy has looked at.
 ghost use Rattle.std.specs.Prelude.{◌≡◌, [], false};
 ghost use Rattle.key_rows.specs.Rows.{left_of_table, shaped_by};
-ghost use Rattle.policy_parts.specs.Tables.{graph_rows, graph_in, graph_of};
+ghost use Rattle.policy_parts.specs.Tables.{graph_rows, graph_config_in, graph_config_of};
 
 use crate::target::Targets;
 use deny_text::Texts;
-use key_rows::{Keyed, finish, or_empty, read_table};
+use key_rows::{FromKeys, finish, or_empty, read_table};
 use policy_toml::{DeserError, Deserialize, TableHelper, Value};
 use std::alloc::Global;
 
@@ -43,8 +43,8 @@ impl GraphConfig {
     }
 }
 
-impl<X> Keyed<X> for GraphConfig {
-    ghost shape = { λ _. shaped_by [] graph_rows graph_in };
+impl<X> FromKeys<X> for GraphConfig {
+    ghost shape = { λ _. shaped_by [] graph_rows graph_config_in };
 
     fn read_keys(
         alloc: Global,
@@ -72,7 +72,7 @@ impl<X> Keyed<X> for GraphConfig {
 }
 
 impl<X> Deserialize<X> for GraphConfig {
-    ghost reads = { λ _ value. graph_of value };
+    ghost reads = { λ _ value. graph_config_of value };
 
     ghost leaves = { λ _ value. left_of_table value };
 

@@ -3,7 +3,7 @@ ghost use Rattle.std.specs.Prelude.{[]};
 ghost use Rattle.key_rows.specs.Rows.{left_of_table, shaped_by};
 ghost use Rattle.policy_parts.specs.Tables.{output_rows, output_in, output_of};
 
-use key_rows::{Keyed, finish, read_table};
+use key_rows::{FromKeys, finish, read_table};
 use policy_toml::{DeserError, Deserialize, TableHelper, Value};
 use std::alloc::Global;
 
@@ -14,7 +14,7 @@ pub struct OutputConfig {
     pub feature_depth: Option<u32>,
 }
 
-impl<X> Keyed<X> for OutputConfig {
+impl<X> FromKeys<X> for OutputConfig {
     ghost shape = { λ _. shaped_by [] output_rows output_in };
 
     fn read_keys(

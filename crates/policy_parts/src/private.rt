@@ -4,7 +4,7 @@ ghost use Rattle.key_rows.specs.Rows.{left_of_table, shaped_by};
 ghost use Rattle.policy_parts.specs.Tables.{private_rows, private_in, private_of};
 
 use deny_text::{ListOf, Spanned, Text, Texts};
-use key_rows::{Keyed, finish, or_empty, read_table};
+use key_rows::{FromKeys, finish, or_empty, read_table};
 use policy_toml::{DeserError, Deserialize, TableHelper, Value};
 use std::alloc::Global;
 
@@ -35,7 +35,7 @@ impl Private {
     }
 }
 
-impl<X> Keyed<X> for Private {
+impl<X> FromKeys<X> for Private {
     ghost shape = { λ _. shaped_by [] private_rows private_in };
 
     fn read_keys(

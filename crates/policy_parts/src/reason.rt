@@ -1,6 +1,6 @@
 //! Reasons that a policy gives.
 ghost use Rattle.std.specs.Prelude.{◌≡◌, option_map};
-ghost use Rattle.toml_shapes.specs.Shaped.{Gives};
+ghost use Rattle.toml_shapes.specs.Shaped.{AnswersShape};
 ghost use Rattle.toml_value.specs.Views.{value_view};
 ghost use Rattle.policy_parts.specs.Values.{reason_by, reason_of, left_of_reason};
 
@@ -8,7 +8,7 @@ use deny_text::{Span, Spanned, Text};
 use key_rows::take_value;
 use policy_toml::{DeserError, Deserialize, ErrorKind, Value};
 use std::alloc::Global;
-use toml_shapes::{Kind, refuse};
+use toml_shapes::{ValueKind, refuse};
 use toml_value::refuse_kind;
 
 /// Why an entry of a policy stands there.
@@ -41,14 +41,14 @@ impl<X> Deserialize<X> for Reason {
                 value.give_back(entries);
                 read_reason(alloc, text, span)
             }
-            None => refuse_kind(alloc, Kind::Table.word(), value),
+            None => refuse_kind(alloc, ValueKind::Table.word(), value),
         }
     }
 }
 
 /// The reason at the key `reason` of a table at a place.
 fn read_reason(alloc: Global, text: Option<Value<'_>>, span: Span) -> Result<Reason, DeserError>
-    ensures { Gives (reason_by span (option_map value_view text.entry)) result }
+    ensures { AnswersShape (reason_by span (option_map value_view text.entry)) result }
 {
     match text {
         Some(mut text) => {

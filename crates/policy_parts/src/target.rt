@@ -1,12 +1,12 @@
 //! Targets that crates are built for.
 ghost use Rattle.std.specs.Prelude.{◌≡◌, codes, is_some, None};
-ghost use Rattle.toml_shapes.specs.Shaped.{Gives, OnAnswer};
+ghost use Rattle.toml_shapes.specs.Shaped.{AnswersShape, OnAnswer};
 ghost use Rattle.toml_value.specs.Taken.{as_table, left_by, string_of};
 ghost use Rattle.toml_value.specs.Views.{value_view};
 ghost use Rattle.policy_parts.specs.Values.{target_at, target_by, target_of, left_of_target};
 
 use deny_text::{ListOf, Spanned, Text, Texts};
-use key_rows::{Keyed, finish, or_empty, read_table};
+use key_rows::{FromKeys, finish, or_empty, read_table};
 use policy_toml::{DeserError, Deserialize, TableHelper, Value, ValueInner};
 use std::alloc::Global;
 
@@ -22,7 +22,7 @@ pub struct Target {
 /// Targets in order.
 pub type Targets = ListOf<Target>;
 
-impl<X> Keyed<X> for Target {
+impl<X> FromKeys<X> for Target {
     ghost shape = { λ _. target_at };
 
     fn read_keys(
@@ -63,7 +63,7 @@ fn is_table(value: &Value<'_>) -> bool
 
 /// A target that is written as a string.
 fn read_filter(alloc: Global, value: &mut Value<'_>) -> Result<Target, DeserError>
-    ensures read { Gives (target_by (value_view value.old) None) result }
+    ensures read { AnswersShape (target_by (value_view value.old) None) result }
     ensures left { let old = value_view value.old in
         OnAnswer result (value_view value.new ≡ left_by (string_of (codes "a string or table") old) old) }
 {

@@ -10,7 +10,7 @@ use Rattle.toml_value.specs.Lookup.{value_at}
 use Rattle.policy_toml.specs.Readings.{text_of, boolean_of, u32_of, list_of, spanned_of}
 use Rattle.key_rows.specs.Rows.{key, given, needed, shaped_by}
 use Rattle.policy_parts.specs.Names.{scope_of, scope_names, agreement_of, agreement_names, lint_of, lint_names}
-use Rattle.policy_parts.specs.Tables.{private_rows, private_in, private_of, output_rows, output_in, output_of, graph_rows, graph_in, graph_of}
+use Rattle.policy_parts.specs.Tables.{private_rows, private_in, private_of, output_rows, output_in, output_of, graph_rows, graph_config_in, graph_config_of}
 use Rattle.policy_parts.specs.Values.{file_source_at, file_source_of, target_at, target_of, reason_by, reason_of}
 use Rattle.policy_places.specs.Places.{StaysIn, KeepsPlacesIn, keeps_nothing, keeps_its_span, keeps_each}
 use Rattle.policy_places.specs.Parts.{private_keeps, target_keeps, graph_keeps, file_source_keeps, reason_keeps}
@@ -91,9 +91,9 @@ module _ (text : List ℕ) where
   pub targets_stay : KeepsPlacesIn text (keeps_each target_keeps) (list_of target_of)
   targets_stay = list_stays text target_keeps target_of target_stays
 
-  pub graph_stays : KeepsPlacesIn text graph_keeps graph_of
-  graph_stays = table_stays text graph_keeps (shaped_by [] graph_rows graph_in) (λ entries span lies placed.
-      rows_stay text graph_keeps [] graph_rows graph_in (
+  pub graph_stays : KeepsPlacesIn text graph_keeps graph_config_of
+  graph_stays = table_stays text graph_keeps (shaped_by [] graph_rows graph_config_in) (λ entries span lies placed.
+      rows_stay text graph_keeps [] graph_rows graph_config_in (
         key_tells text (keeps_each target_keeps) (codes "targets") (list_of target_of) targets_stay,
         (
           texts_tell (codes "exclude"),

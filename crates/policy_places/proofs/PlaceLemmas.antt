@@ -8,17 +8,17 @@ use Rattle.deny_text.specs.declared.span.Span.{Span}
 use Rattle.deny_text.specs.Spans.{LiesBetween}
 use Rattle.toml_places.specs.Placed.{IsPlaced, IsContentPlaced, AreItemsPlaced, AreEntriesPlaced}
 use Rattle.toml_shapes.specs.Kinds.{kind_word}
-use Rattle.toml_shapes.specs.Shaped.{Shaped, shaped_map, shaped_then, faults_in, answer_of}
+use Rattle.toml_shapes.specs.Shaped.{ShapeReading, shaped_map, shaped_then, faults_in, shaped_of}
 use Rattle.toml_shapes.specs.Shapes.{Fault}
-use Rattle.toml_shapes.specs.declared.shape.Kind.TheVariants as kind
+use Rattle.toml_shapes.specs.declared.shape.ValueKind.TheVariants as kind
 use Rattle.toml_subset.specs.Data.{Content, Items, Entries, Toml, string, integer, decimal, boolean, array, table, no_item, item, no_entry, entry}
-use Rattle.toml_subset.specs.Written.{Written}
+use Rattle.toml_subset.specs.Written.{WrittenString}
 use Rattle.toml_value.specs.Lookup.{value_at}
 use Rattle.toml_value.specs.Removal.{entries_without, names_in}
 use Rattle.toml_value.specs.Taken.{or_wanted, string_of, values_of}
 use Rattle.policy_toml.specs.HelperState.{given_value, faults_of, unexpected_faults}
 use Rattle.policy_toml.specs.Readings.{text_of, boolean_of, i64_of, u32_of, in_32_bits, or_out_of_range, spanned_of, array_of, list_of, name_of, or_unexpected, thing_of_name}
-use Rattle.key_rows.specs.Rows.{Row, key, passed_key, given, rows_faults, shaped_by, in_table, needed, needed_at, entries_besides, names_of_rows}
+use Rattle.key_rows.specs.Rows.{KeyRow, key, passed_key, given, rows_faults, shaped_by, in_table, needed, needed_at, entries_besides, names_of_rows}
 use Rattle.policy_places.specs.Places.{IsToldIn, StaysIn, KeepsPlacesIn, keeps_nothing, keeps_its_span, keeps_each, keeps_where}
 
 -- what a thing keeps, by the text
@@ -35,17 +35,17 @@ module _ (text : List ℕ) where
   abbrev pub AreToldIn : List Fault → Type 0
   AreToldIn = AllByRecursion (IsToldIn text)
 
-  pub map_stays : {A B : Type 0} (keeps : Keeping A) (holds : Keeping B) (f : A → B) (read : Shaped A)
+  pub map_stays : {A B : Type 0} (keeps : Keeping A) (holds : Keeping B) (f : A → B) (read : ShapeReading A)
       → ((x : A) → keeps text x → holds text (f x)) → StaysIn keeps text read → StaysIn holds text (shaped_map f read)
   map_stays keeps holds f (Ok x) h stays = h x stays
   map_stays keeps holds f (Err faults) h stays = stays
 
-  pub then_stays : {A B : Type 0} (keeps : Keeping A) (holds : Keeping B) (f : A → Shaped B) (read : Shaped A)
+  pub then_stays : {A B : Type 0} (keeps : Keeping A) (holds : Keeping B) (f : A → ShapeReading B) (read : ShapeReading A)
       → ((x : A) → keeps text x → StaysIn holds text (f x)) → StaysIn keeps text read → StaysIn holds text (shaped_then f read)
   then_stays keeps holds f (Ok x) h stays = h x stays
   then_stays keeps holds f (Err faults) h stays = stays
 
-  pub answer_stays : {A : Type 0} (keeps : Keeping A) (faults : List Fault) (x : A) → AreToldIn faults → keeps text x → StaysIn keeps text (answer_of faults x)
+  pub answer_stays : {A : Type 0} (keeps : Keeping A) (faults : List Fault) (x : A) → AreToldIn faults → keeps text x → StaysIn keeps text (shaped_of faults x)
   answer_stays keeps [] x told kept = kept
   answer_stays keeps (fault ∷ faults) x told kept = told
 
@@ -60,7 +60,7 @@ module _ (text : List ℕ) where
   string_stays expected value placed = wanted_stays expected value _ placed
 
   pub text_stays : KeepsPlacesIn text keeps_nothing text_of
-  text_stays value placed = map_stays keeps_nothing keeps_nothing (λ (w : Written). w.text) (string_of (kind_word kind.String) value) (λ x h. tt) (string_stays (kind_word kind.String) value placed)
+  text_stays value placed = map_stays keeps_nothing keeps_nothing (λ (w : WrittenString). w.text) (string_of (kind_word kind.String) value) (λ x h. tt) (string_stays (kind_word kind.String) value placed)
 
   pub boolean_stays : KeepsPlacesIn text keeps_nothing boolean_of
   boolean_stays value placed = wanted_stays (kind_word kind.Boolean) value _ placed
@@ -85,11 +85,11 @@ module _ (text : List ℕ) where
 
   pub name_stays : {A : Type 0} (expected : List ℕ) (rows : List (List ℕ × A)) → KeepsPlacesIn text keeps_nothing (name_of expected rows)
   name_stays {A} expected rows value placed =
-      then_stays keeps_nothing keeps_nothing (λ (w : Written). or_unexpected (map (λ (row : List ℕ × A). row.0) rows) value.span (thing_of_name rows w.text)) (string_of expected value)
+      then_stays keeps_nothing keeps_nothing (λ (w : WrittenString). or_unexpected (map (λ (row : List ℕ × A). row.0) rows) value.span (thing_of_name rows w.text)) (string_of expected value)
       (λ w h. unexpected_stays (map (λ (row : List ℕ × A). row.0) rows) value.span (thing_of_name rows w.text) placed.0)
       (string_stays expected value placed)
 
-  pub spanned_stays : {A : Type 0} (keeps : Keeping A) (reads : Toml → Shaped A) → KeepsPlacesIn text keeps reads → KeepsPlacesIn text keeps_its_span (spanned_of reads)
+  pub spanned_stays : {A : Type 0} (keeps : Keeping A) (reads : Toml → ShapeReading A) → KeepsPlacesIn text keeps reads → KeepsPlacesIn text keeps_its_span (spanned_of reads)
   spanned_stays keeps reads law value placed =
       map_stays keeps keeps_its_span (λ x. record { value = x; span = value.span }) (reads value) (λ x h. placed.0) (law value placed)
 
@@ -111,32 +111,32 @@ module _ (text : List ℕ) where
   array_by span (array items) lies placed = values_placed items placed
   array_by span (table entries) lies placed = (lies, tt)
 
-  item_faults : {A : Type 0} (keeps : Keeping A) (read : Shaped A) → StaysIn keeps text read → AreToldIn (faults_in read)
+  item_faults : {A : Type 0} (keeps : Keeping A) (read : ShapeReading A) → StaysIn keeps text read → AreToldIn (faults_in read)
   item_faults keeps (Ok x) stays = tt
   item_faults keeps (Err faults) stays = stays
 
-  each_told : {A : Type 0} (keeps : Keeping A) (reads : Toml → Shaped A) → KeepsPlacesIn text keeps reads → (values : List Toml)
+  each_told : {A : Type 0} (keeps : Keeping A) (reads : Toml → ShapeReading A) → KeepsPlacesIn text keeps reads → (values : List Toml)
       → keeps_placed text values → AreToldIn (flat_map (λ value. faults_in (reads value)) values)
   each_told keeps reads law [] placed = tt
   each_told keeps reads law (value ∷ values) placed =
       each_append (IsToldIn text) (faults_in (reads value)) (flat_map (λ value. faults_in (reads value)) values)
       (item_faults keeps (reads value) (law value placed.0)) (each_told keeps reads law values placed.1)
 
-  item_kept : {A : Type 0} (keeps : Keeping A) (read : Shaped A) (more : List A) → StaysIn keeps text read
+  item_kept : {A : Type 0} (keeps : Keeping A) (read : ShapeReading A) (more : List A) → StaysIn keeps text read
       → keeps_each keeps text more → keeps_each keeps text (cons_option (result_ok read) more)
   item_kept keeps (Ok x) more stays kept = (stays, kept)
   item_kept keeps (Err faults) more stays kept = kept
 
-  each_kept : {A : Type 0} (keeps : Keeping A) (reads : Toml → Shaped A) → KeepsPlacesIn text keeps reads → (values : List Toml)
+  each_kept : {A : Type 0} (keeps : Keeping A) (reads : Toml → ShapeReading A) → KeepsPlacesIn text keeps reads → (values : List Toml)
       → keeps_placed text values → keeps_each keeps text (filter_map (λ value. result_ok (reads value)) values)
   each_kept keeps reads law [] placed = tt
   each_kept keeps reads law (value ∷ values) placed =
       item_kept keeps (reads value) (filter_map (λ value. result_ok (reads value)) values) (law value placed.0)
       (each_kept keeps reads law values placed.1)
 
-  pub list_stays : {A : Type 0} (keeps : Keeping A) (reads : Toml → Shaped A) → KeepsPlacesIn text keeps reads → KeepsPlacesIn text (keeps_each keeps) (list_of reads)
+  pub list_stays : {A : Type 0} (keeps : Keeping A) (reads : Toml → ShapeReading A) → KeepsPlacesIn text keeps reads → KeepsPlacesIn text (keeps_each keeps) (list_of reads)
   list_stays keeps reads law value placed =
-      then_stays keeps_placed (keeps_each keeps) (λ values. answer_of (flat_map (λ value. faults_in (reads value)) values) (filter_map (λ value. result_ok (reads value)) values))
+      then_stays keeps_placed (keeps_each keeps) (λ values. shaped_of (flat_map (λ value. faults_in (reads value)) values) (filter_map (λ value. result_ok (reads value)) values))
       (array_of value)
       (λ values h. answer_stays (keeps_each keeps) (flat_map (λ value. faults_in (reads value)) values) (filter_map (λ value. result_ok (reads value)) values)
       (each_told keeps reads law values h) (each_kept keeps reads law values h))
@@ -166,10 +166,10 @@ module _ (text : List ℕ) where
         | false ↦ (placed.0, placed.1, placed.2, without_placed name more placed.3)
       ]
 
-  abbrev pub KeepsInTable : {A : Type 0} → Keeping A → (Entries → Span → Shaped A) → Type 0
+  abbrev pub KeepsInTable : {A : Type 0} → Keeping A → (Entries → Span → ShapeReading A) → Type 0
   KeepsInTable keeps reads = (entries : Entries) (span : Span) → LiesBetween text span → AreEntriesPlaced text entries → StaysIn keeps text (reads entries span)
 
-  table_by : {A : Type 0} (keeps : Keeping A) (reads : Entries → Span → Shaped A) → KeepsInTable keeps reads → (span : Span) (content : Content)
+  table_by : {A : Type 0} (keeps : Keeping A) (reads : Entries → Span → ShapeReading A) → KeepsInTable keeps reads → (span : Span) (content : Content)
       → LiesBetween text span → IsContentPlaced text span content → StaysIn keeps text (in_table reads (record { content = content; span = span }))
   table_by keeps reads law span (string w) lies placed = (lies, tt)
   table_by keeps reads law span (integer z) lies placed = (lies, tt)
@@ -178,29 +178,29 @@ module _ (text : List ℕ) where
   table_by keeps reads law span (array items) lies placed = (lies, tt)
   table_by keeps reads law span (table entries) lies placed = law entries span lies placed
 
-  pub table_stays : {A : Type 0} (keeps : Keeping A) (reads : Entries → Span → Shaped A) → KeepsInTable keeps reads → KeepsPlacesIn text keeps (in_table reads)
+  pub table_stays : {A : Type 0} (keeps : Keeping A) (reads : Entries → Span → ShapeReading A) → KeepsInTable keeps reads → KeepsPlacesIn text keeps (in_table reads)
   table_stays keeps reads law value placed = table_by keeps reads law value.span value.content placed.0 placed.1
 
   -- ---- keys
 
-  pub needed_by : {A : Type 0} (keeps : Keeping A) (reads : Toml → Shaped A) → KeepsPlacesIn text keeps reads → (name : List ℕ) (span : Span) (value : Option Toml)
+  pub needed_by : {A : Type 0} (keeps : Keeping A) (reads : Toml → ShapeReading A) → KeepsPlacesIn text keeps reads → (name : List ℕ) (span : Span) (value : Option Toml)
       → LiesBetween text span → IsPlacedWhere value → StaysIn keeps text (needed_at name span (option_map reads value))
   needed_by keeps reads law name span None lies placed = (lies, tt)
   needed_by keeps reads law name span (Some value) lies placed = law value placed
 
-  pub needed_stays : {A : Type 0} (keeps : Keeping A) (name : List ℕ) (reads : Toml → Shaped A) → KeepsPlacesIn text keeps reads → KeepsInTable keeps (needed name reads)
+  pub needed_stays : {A : Type 0} (keeps : Keeping A) (name : List ℕ) (reads : Toml → ShapeReading A) → KeepsPlacesIn text keeps reads → KeepsInTable keeps (needed name reads)
   needed_stays keeps name reads law entries span lies placed = needed_by keeps reads law name span (value_at name entries) lies (found_placed name entries placed)
 
-  read_where : {A : Type 0} (keeps : Keeping A) (read : Shaped A) → StaysIn keeps text read → keeps_where keeps text (given_value (Some read))
+  read_where : {A : Type 0} (keeps : Keeping A) (read : ShapeReading A) → StaysIn keeps text read → keeps_where keeps text (given_value (Some read))
   read_where keeps (Ok x) stays = stays
   read_where keeps (Err faults) stays = tt
 
-  given_by : {A : Type 0} (keeps : Keeping A) (reads : Toml → Shaped A) → KeepsPlacesIn text keeps reads → (value : Option Toml)
+  given_by : {A : Type 0} (keeps : Keeping A) (reads : Toml → ShapeReading A) → KeepsPlacesIn text keeps reads → (value : Option Toml)
       → IsPlacedWhere value → keeps_where keeps text (given_value (option_map reads value))
   given_by keeps reads law None placed = tt
   given_by keeps reads law (Some value) placed = read_where keeps (reads value) (law value placed)
 
-  pub given_kept : {A : Type 0} (keeps : Keeping A) (name : List ℕ) (reads : Toml → Shaped A) → KeepsPlacesIn text keeps reads → (entries : Entries)
+  pub given_kept : {A : Type 0} (keeps : Keeping A) (name : List ℕ) (reads : Toml → ShapeReading A) → KeepsPlacesIn text keeps reads → (entries : Entries)
       → AreEntriesPlaced text entries → keeps_where keeps text (given name reads entries)
   given_kept keeps name reads law entries placed = given_by keeps reads law (value_at name entries) (found_placed name entries placed)
 
@@ -210,21 +210,21 @@ module _ (text : List ℕ) where
 
   -- ---- rows
 
-  abbrev pub TellsPlaces : Row → Type 0
+  abbrev pub TellsPlaces : KeyRow → Type 0
   TellsPlaces row = (value : Option Toml) → IsPlacedWhere value → AreToldIn (row.faults value)
 
-  faults_told : {A : Type 0} (keeps : Keeping A) (read : Shaped A) → StaysIn keeps text read → AreToldIn (faults_of (Some read))
+  faults_told : {A : Type 0} (keeps : Keeping A) (read : ShapeReading A) → StaysIn keeps text read → AreToldIn (faults_of (Some read))
   faults_told keeps (Ok x) stays = tt
   faults_told keeps (Err faults) stays = stays
 
-  pub key_tells : {A : Type 0} (keeps : Keeping A) (name : List ℕ) (reads : Toml → Shaped A) → KeepsPlacesIn text keeps reads → TellsPlaces (key name reads)
+  pub key_tells : {A : Type 0} (keeps : Keeping A) (name : List ℕ) (reads : Toml → ShapeReading A) → KeepsPlacesIn text keeps reads → TellsPlaces (key name reads)
   key_tells keeps name reads law None placed = tt
   key_tells keeps name reads law (Some value) placed = faults_told keeps (reads value) (law value placed)
 
   pub passed_tells : (name : List ℕ) → TellsPlaces (passed_key name)
   passed_tells name value placed = tt
 
-  rows_tell : (rows : List Row) → AllByRecursion TellsPlaces rows → (entries : Entries) → AreEntriesPlaced text entries → AreToldIn (rows_faults rows entries)
+  rows_tell : (rows : List KeyRow) → AllByRecursion TellsPlaces rows → (entries : Entries) → AreEntriesPlaced text entries → AreToldIn (rows_faults rows entries)
   rows_tell [] tell entries placed = tt
   rows_tell (row ∷ rows) tell entries placed =
       each_append (IsToldIn text) (row.faults (value_at row.name entries)) (rows_faults rows entries)
@@ -234,7 +234,7 @@ module _ (text : List ℕ) where
   left_told [] span lies = tt
   left_told (name ∷ names) span lies = (lies, tt)
 
-  pub rows_stay : {A : Type 0} (keeps : Keeping A) (front : List (List ℕ)) (rows : List Row) (stands_for : Entries → A) → AllByRecursion TellsPlaces rows
+  pub rows_stay : {A : Type 0} (keeps : Keeping A) (front : List (List ℕ)) (rows : List KeyRow) (stands_for : Entries → A) → AllByRecursion TellsPlaces rows
       → (entries : Entries) (span : Span) → LiesBetween text span → AreEntriesPlaced text entries → keeps text (stands_for entries)
       → StaysIn keeps text (shaped_by front rows stands_for entries span)
   rows_stay keeps front rows stands_for tell entries span lies placed kept =

@@ -5,7 +5,7 @@ use Rattle.std.specs.List.{AllByRecursion}
 use Rattle.deny_text.specs.declared.span.Spanned.{Spanned}
 use Rattle.deny_text.specs.Spans.{LiesBetween}
 use Rattle.toml_places.specs.Placed.{IsPlaced}
-use Rattle.toml_shapes.specs.Shaped.{Shaped}
+use Rattle.toml_shapes.specs.Shaped.{ShapeReading}
 use Rattle.toml_shapes.specs.Shapes.{Fault}
 use Rattle.toml_subset.specs.Data.{Toml}
 
@@ -13,15 +13,15 @@ abbrev pub IsToldIn : List ℕ → Fault → Type 0
 IsToldIn text fault = LiesBetween text fault.span
 
 -- the places that a thing keeps are in the text, or those at which its faults are told
-abbrev pub StaysIn : {A : Type 0} → (List ℕ → A → Type 0) → List ℕ → Shaped A → Type 0
+abbrev pub StaysIn : {A : Type 0} → (List ℕ → A → Type 0) → List ℕ → ShapeReading A → Type 0
 StaysIn keeps text (Ok x) = keeps text x
 StaysIn keeps text (Err faults) = AllByRecursion (IsToldIn text) faults
 
 -- so it is with all values of one text
-abbrev pub KeepsPlacesIn : {A : Type 0} → List ℕ → (List ℕ → A → Type 0) → (Toml → Shaped A) → Type 0
+abbrev pub KeepsPlacesIn : {A : Type 0} → List ℕ → (List ℕ → A → Type 0) → (Toml → ShapeReading A) → Type 0
 KeepsPlacesIn text keeps reads = (value : Toml) → IsPlaced text value → StaysIn keeps text (reads value)
 
-abbrev pub KeepsPlaces : {A : Type 0} → (List ℕ → A → Type 0) → (Toml → Shaped A) → Type 0
+abbrev pub KeepsPlaces : {A : Type 0} → (List ℕ → A → Type 0) → (Toml → ShapeReading A) → Type 0
 KeepsPlaces keeps reads = (text : List ℕ) → KeepsPlacesIn text keeps reads
 
 -- ---- what things keep

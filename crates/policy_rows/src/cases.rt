@@ -4,7 +4,7 @@ use crate::show::{
 };
 use case_files::cases::{is_among, wanted};
 use case_files::tree::{number, tree_of};
-use case_files::{Answered, Case, Cases, Shown};
+use case_files::{KeyAnswer, Case, Cases, AnswerText};
 use deny_text::PathBuf;
 use diag_core::{Files, LevelFilter};
 use load_core::{LoadError, LoadedPolicy, PolicyPaths, load};
@@ -22,7 +22,7 @@ pub fn read_policy(alloc: Global, text: &str) -> Result<RootConfig, ConfigError>
 }
 
 /// Puts what a key names of a policy: the fields of the whole or of its table `licenses`, or that it has no faults.
-fn put_key(out: &mut Shown, key: &str, root: &RootConfig) {
+fn put_key(out: &mut AnswerText, key: &str, root: &RootConfig) {
     match key {
         "whole" => put_root(out, root),
         "faults" | "whole-faults" => out.put("none"),
@@ -41,7 +41,7 @@ fn put_key(out: &mut Shown, key: &str, root: &RootConfig) {
 }
 
 /// Puts what a key names of the policy that a text is, or why it is refused.
-pub fn put_policy(alloc: Global, key: &str, text: &str, out: &mut Shown) {
+pub fn put_policy(alloc: Global, key: &str, text: &str, out: &mut AnswerText) {
     match read_policy(alloc, text) {
         Ok(root) => put_key(out, key, &root),
         Err(error) => put_refusal(out, &LoadError::from(error)),
@@ -50,7 +50,7 @@ pub fn put_policy(alloc: Global, key: &str, text: &str, out: &mut Shown) {
 
 /// What a load came to, the files that are known behind it, what was printed, and how often its tree had failed.
 #[derive(Drop)]
-struct Ending {
+struct LoadEnding {
     answer: Result<LoadedPolicy, LoadError>,
     files: Files,
     sink: MemSink,
@@ -89,7 +89,7 @@ fn ending_in(
     case: &Case<'_>,
     room: usize,
     tree: &mut MemTree,
-) -> Result<Ending, AllocError> {
+) -> Result<LoadEnding, AllocError> {
     let paths = paths_of(alloc, case)?;
     let context = context_of(case);
     let mut sink = MemSink::new(alloc, room, 1000)?;
@@ -97,7 +97,7 @@ fn ending_in(
     let answer = load(
         alloc, paths, &mut files, context, tree, &mut sink, &Table, 0,
     );
-    Ok(Ending {
+    Ok(LoadEnding {
         answer,
         files,
         sink,
@@ -127,7 +127,7 @@ fn failing_tree(alloc: Global, case: &Case<'_>) -> io::Result<MemTree> {
 }
 
 /// Loads the policy of a case, for a second time where the case wants that: the first read of the tree fails in both then.
-fn ending_of(alloc: Global, case: &Case<'_>, room: usize) -> io::Result<Ending> {
+fn ending_of(alloc: Global, case: &Case<'_>, room: usize) -> io::Result<LoadEnding> {
     let mut tree = failing_tree(alloc, case)?;
     if case.entry("twice").is_some() {
         load_first(alloc, case, room, &mut tree)?;
@@ -135,14 +135,14 @@ fn ending_of(alloc: Global, case: &Case<'_>, room: usize) -> io::Result<Ending> 
     Ok(ending_in(alloc, case, room, &mut tree)?)
 }
 
-fn put_printed(out: &mut Shown, licensees: &Licensees) {
+fn put_printed(out: &mut AnswerText, licensees: &Licensees) {
     for licensee in licensees.items() {
         write!(out, " {}", licensee.0.value);
     }
 }
 
 /// Puts what a policy allows, how many exceptions it has and its settings, or why it is refused.
-fn put_answer(out: &mut Shown, answer: &Result<LoadedPolicy, LoadError>) {
+fn put_answer(out: &mut AnswerText, answer: &Result<LoadedPolicy, LoadError>) {
     match answer {
         Ok(loaded) => {
             let valid = &loaded.licenses;
@@ -157,7 +157,7 @@ fn put_answer(out: &mut Shown, answer: &Result<LoadedPolicy, LoadError>) {
     }
 }
 
-fn put_excepted(out: &mut Shown, exceptions: &ValidExceptions) {
+fn put_excepted(out: &mut AnswerText, exceptions: &ValidExceptions) {
     for exception in exceptions.items() {
         write!(out, "{} in {}", exception.spec, exception.file_id);
         put_printed(out, &exception.allowed);
@@ -166,7 +166,7 @@ fn put_excepted(out: &mut Shown, exceptions: &ValidExceptions) {
 }
 
 /// Puts the names of the files that are known, and whether their texts are empty.
-fn put_files(out: &mut Shown, files: &Files) {
+fn put_files(out: &mut AnswerText, files: &Files) {
     for id in 0..3 {
         match (files.name(id), files.source(id)) {
             (Ok(name), Ok("")) => write!(out, "{name} (empty);"),
@@ -183,11 +183,11 @@ fn printed(sink: &MemSink) -> &str {
 /// Puts what a load came to whose findings found too little room, and whether it printed as much of them as there was room for.
 fn shown_cut(
     alloc: Global,
-    ending: &Ending,
+    ending: &LoadEnding,
     whole: &str,
     room: usize,
 ) -> Result<String, AllocError> {
-    let mut out = Shown::new(alloc);
+    let mut out = AnswerText::new(alloc);
     put_answer(&mut out, &ending.answer);
     out.put(", ");
     put_files(&mut out, &ending.files);
@@ -202,7 +202,7 @@ fn cut_at(alloc: Global, case: &Case<'_>, whole: &str, room: usize) -> io::Resul
     Ok(shown_cut(alloc, &ending, whole, room)?)
 }
 
-fn put_other(out: &mut Shown, room: usize, one: &str, first: &str) {
+fn put_other(out: &mut AnswerText, room: usize, one: &str, first: &str) {
     if one != first {
         write!(out, "{room}: {one}; ");
     }
@@ -210,7 +210,7 @@ fn put_other(out: &mut Shown, room: usize, one: &str, first: &str) {
 
 /// Puts what comes of a load in each room that is smaller than what is printed: how many there are and what comes of the
 /// smallest one, and before that the rooms where something else does.
-fn put_cuts(alloc: Global, case: &Case<'_>, whole: &str, out: &mut Shown) -> io::Result<()> {
+fn put_cuts(alloc: Global, case: &Case<'_>, whole: &str, out: &mut AnswerText) -> io::Result<()> {
     let first = cut_at(alloc, case, whole, 0)?;
     for room in 0..whole.len() {
         let one = cut_at(alloc, case, whole, room)?;
@@ -221,7 +221,7 @@ fn put_cuts(alloc: Global, case: &Case<'_>, whole: &str, out: &mut Shown) -> io:
 }
 
 /// Puts what a key names of a load. A policy that is refused has no lists.
-fn put_ending(key: &str, ending: &Ending, out: &mut Shown) -> Answered {
+fn put_ending(key: &str, ending: &LoadEnding, out: &mut AnswerText) -> KeyAnswer {
     match (key, &ending.answer) {
         ("answer", answer) => put_answer(out, answer),
         ("files", _) => put_files(out, &ending.files),
@@ -232,23 +232,23 @@ fn put_ending(key: &str, ending: &Ending, out: &mut Shown) -> Answered {
         ("clarified", Ok(loaded)) => put_clarified(out, &loaded.licenses.clarifications),
         ("excepted", Ok(loaded)) => put_excepted(out, &loaded.licenses.exceptions),
         ("allowed" | "clarified" | "excepted", Err(_)) => {}
-        _ => return Answered::NoSuchKey,
+        _ => return KeyAnswer::NoSuchKey,
     }
-    Answered::Yes
+    KeyAnswer::Yes
 }
 
 /// Puts what a key names of the load of a case.
-fn put_load(alloc: Global, case: &Case<'_>, key: &str, out: &mut Shown) -> io::Result<Answered> {
+fn put_load(alloc: Global, case: &Case<'_>, key: &str, out: &mut AnswerText) -> io::Result<KeyAnswer> {
     let ending = ending_of(alloc, case, 1000)?;
     if key == "cut" {
         put_cuts(alloc, case, printed(&ending.sink), out)?;
-        return Ok(Answered::Yes);
+        return Ok(KeyAnswer::Yes);
     }
     Ok(put_ending(key, &ending, out))
 }
 
 /// Puts the table `licenses` of a policy that has none.
-fn put_left_out(alloc: Global, out: &mut Shown) {
+fn put_left_out(alloc: Global, out: &mut AnswerText) {
     put_config(out, &Config::default(alloc));
 }
 
@@ -271,14 +271,14 @@ impl Cases for PolicyCases {
         is_among(key, &GIVEN)
     }
 
-    fn told(&self, alloc: Global, case: &Case<'_>, key: &str, out: &mut Shown) -> Answered {
+    fn told(&self, alloc: Global, case: &Case<'_>, key: &str, out: &mut AnswerText) -> KeyAnswer {
         match (key, case.entry("policy")) {
             ("left-out", _) => put_left_out(alloc, out),
             ("licenses" | "faults" | "whole" | "whole-faults" | "read", Some(policy)) => {
                 put_policy(alloc, key, wanted(policy), out);
             }
-            _ => return put_load(alloc, case, key, out).unwrap_or(Answered::CantBeTried),
+            _ => return put_load(alloc, case, key, out).unwrap_or(KeyAnswer::CantBeTried),
         }
-        Answered::Yes
+        KeyAnswer::Yes
     }
 }

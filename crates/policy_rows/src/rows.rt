@@ -1,7 +1,7 @@
 //! Rows of the parts and entries of a policy, each a text that is one value, and of parts that are validated.
 use crate::cases::{put_policy, read_policy};
 use crate::show::{Fields, put_at, put_clarified, put_findings, put_refusal, put_spans};
-use case_files::{Rows, Shown};
+use case_files::{Rows, AnswerText};
 use deny_text::{Span, Spanned, Text};
 use diag_core::{Diagnostic, Files, Severity};
 use key_rows::{Spans, deprecated, finish};
@@ -31,7 +31,7 @@ fn read<T: Deserialize<Table> + Drop>(alloc: Global, text: &str) -> Result<T, Co
 }
 
 /// Puts what a type reads from a text that is one value, or why it is refused.
-fn put_as<T: Deserialize<Table> + Fields + Drop>(alloc: Global, text: &str, out: &mut Shown) {
+fn put_as<T: Deserialize<Table> + Fields + Drop>(alloc: Global, text: &str, out: &mut AnswerText) {
     match read::<T>(alloc, text) {
         Ok(read) => read.put(out),
         Err(error) => put_refusal(out, &LoadError::from(error)),
@@ -50,7 +50,7 @@ fn order(one: &Licensee, other: &Licensee) -> &'static str {
 }
 
 /// Puts how the first of two licensees beside a bar compares to the second.
-fn put_order(alloc: Global, text: &str, out: &mut Shown) -> Result<(), ConfigError> {
+fn put_order(alloc: Global, text: &str, out: &mut AnswerText) -> Result<(), ConfigError> {
     let (one, other) = text.split_once(" | ").unwrap_or((text, ""));
     let one: Licensee = read(alloc, one)?;
     let other: Licensee = read(alloc, other)?;
@@ -73,14 +73,14 @@ fn heard(alloc: Global, words: &str) -> Result<ConfigText, ConfigError> {
     ConfigText::from_heard(alloc, heard)
 }
 
-fn put_heard(alloc: Global, words: &str, out: &mut Shown) -> Result<(), ConfigError> {
+fn put_heard(alloc: Global, words: &str, out: &mut AnswerText) -> Result<(), ConfigError> {
     let found = heard(alloc, words)?;
     write!(out, "{:?} {}", found.text, found.is_there);
     Ok(())
 }
 
 /// Puts a reason, and whether its table has other keys, which go back.
-fn put_reason(alloc: Global, value: &mut Value<'_>, out: &mut Shown) {
+fn put_reason(alloc: Global, value: &mut Value<'_>, out: &mut AnswerText) {
     match Reason::deserialize(alloc, value, &Table) {
         Ok(reason) => put_at(out, &reason.0),
         Err(error) => put_refusal(out, &LoadError::from(ConfigError::from(error))),
@@ -91,7 +91,7 @@ fn put_reason(alloc: Global, value: &mut Value<'_>, out: &mut Shown) {
 }
 
 /// Puts what a key `old` that holds a flag and is no longer used gives, where it stands, and what is told at the table's end.
-fn put_removed(alloc: Global, value: &mut Value<'_>, out: &mut Shown) -> Result<(), ConfigError> {
+fn put_removed(alloc: Global, value: &mut Value<'_>, out: &mut AnswerText) -> Result<(), ConfigError> {
     let mut table = TableHelper::new(alloc, value)?;
     let mut spans = Spans::new(alloc);
     let flag: Option<bool> = deprecated(alloc, &mut table, "old", &mut spans, &())?;
@@ -104,7 +104,7 @@ fn put_removed(alloc: Global, value: &mut Value<'_>, out: &mut Shown) -> Result<
 }
 
 /// Puts what a table comes to of which more is told than what its type reads.
-fn put_table(alloc: Global, group: &str, text: &str, out: &mut Shown) -> Result<(), ConfigError> {
+fn put_table(alloc: Global, group: &str, text: &str, out: &mut AnswerText) -> Result<(), ConfigError> {
     let mut value = value_of(alloc, text)?;
     if group == "reason" {
         put_reason(alloc, &mut value, out);
@@ -126,7 +126,7 @@ fn config_of(alloc: Global, group: &str, text: &str) -> Result<Option<Config>, C
     Ok(read_policy(alloc, policy.as_str())?.licenses)
 }
 
-fn put_valid_lists(out: &mut Shown, valid: &ValidConfig) {
+fn put_valid_lists(out: &mut AnswerText, valid: &ValidConfig) {
     put_clarified(out, &valid.clarifications);
     for address in valid.ignore_sources.items() {
         write!(out, "{address};");
@@ -139,7 +139,7 @@ fn put_valid(
     group: &str,
     text: &str,
     context: ValidationContext<'_>,
-    out: &mut Shown,
+    out: &mut AnswerText,
 ) -> Result<(), ConfigError> {
     match config_of(alloc, group, text)? {
         Some(config) => {
@@ -152,7 +152,7 @@ fn put_valid(
 }
 
 /// Puts what is valid of a policy, and all that is told. The policy has the number 3.
-fn put_told(alloc: Global, group: &str, text: &str, out: &mut Shown) -> Result<(), ConfigError> {
+fn put_told(alloc: Global, group: &str, text: &str, out: &mut AnswerText) -> Result<(), ConfigError> {
     let mut files = Files::new(alloc);
     let mut found = Diagnostics::new(alloc);
     let context = ValidationContext {
@@ -200,7 +200,7 @@ fn words_left<'t>(
 }
 
 /// Puts all that is told of some words, and those that are left.
-fn put_left(alloc: Global, group: &str, text: &str, out: &mut Shown) -> Result<(), ConfigError> {
+fn put_left(alloc: Global, group: &str, text: &str, out: &mut AnswerText) -> Result<(), ConfigError> {
     let mut found = Diagnostics::new(alloc);
     let words = words_left(alloc, group, text, &mut found)?;
     put_findings(out, &found);
@@ -211,7 +211,7 @@ fn put_left(alloc: Global, group: &str, text: &str, out: &mut Shown) -> Result<(
 }
 
 /// Puts what a text comes to in a group of which several calls are made.
-fn put_called(alloc: Global, group: &str, text: &str, out: &mut Shown) -> Result<(), ConfigError> {
+fn put_called(alloc: Global, group: &str, text: &str, out: &mut AnswerText) -> Result<(), ConfigError> {
     match group {
         "reason" | "removed key" => put_table(alloc, group, text, out),
         "two licensees" => put_order(alloc, text, out),
@@ -221,7 +221,7 @@ fn put_called(alloc: Global, group: &str, text: &str, out: &mut Shown) -> Result
     }
 }
 
-fn put_tried(alloc: Global, group: &str, text: &str, out: &mut Shown) {
+fn put_tried(alloc: Global, group: &str, text: &str, out: &mut AnswerText) {
     if let Err(error) = put_called(alloc, group, text, out) {
         put_refusal(out, &LoadError::from(error));
     }
@@ -231,7 +231,7 @@ fn put_tried(alloc: Global, group: &str, text: &str, out: &mut Shown) {
 pub struct PolicyRows;
 
 impl Rows for PolicyRows {
-    fn answer(&self, alloc: Global, group: &str, text: &str, out: &mut Shown) -> bool {
+    fn answer(&self, alloc: Global, group: &str, text: &str, out: &mut AnswerText) -> bool {
         match group {
             "private crates" => put_as::<Private>(alloc, text, out),
             "output" => put_as::<OutputConfig>(alloc, text, out),

@@ -1,5 +1,5 @@
 //! What was read, told or refused as one text: each field, or the faults with their places.
-use case_files::Shown;
+use case_files::AnswerText;
 use deny_text::{Span, Spanned, Texts};
 use diag_core::{Label, LabelStyle, Severity};
 use load_core::{Diagnostics, LoadError};
@@ -9,11 +9,11 @@ use policy_core::{
 };
 use std::fmt::Display;
 
-pub fn put_span(out: &mut Shown, span: Span) {
+pub fn put_span(out: &mut AnswerText, span: Span) {
     write!(out, "{}..{}", span.start, span.end);
 }
 
-pub fn put_spans(out: &mut Shown, spans: &[Span]) {
+pub fn put_spans(out: &mut AnswerText, spans: &[Span]) {
     for span in spans {
         put_span(out, *span);
         out.put(";");
@@ -21,12 +21,12 @@ pub fn put_spans(out: &mut Shown, spans: &[Span]) {
 }
 
 /// Puts a value and where it stands.
-pub fn put_at<T: Display>(out: &mut Shown, item: &Spanned<T>) {
+pub fn put_at<T: Display>(out: &mut AnswerText, item: &Spanned<T>) {
     write!(out, "{} at ", item.value);
     put_span(out, item.span);
 }
 
-pub fn put_texts(out: &mut Shown, name: &str, texts: &Texts) {
+pub fn put_texts(out: &mut AnswerText, name: &str, texts: &Texts) {
     write!(out, " {name}=");
     for text in texts.items() {
         write!(out, "{text};");
@@ -35,39 +35,39 @@ pub fn put_texts(out: &mut Shown, name: &str, texts: &Texts) {
 
 /// What is shown by its fields.
 pub trait Fields {
-    fn put(&self, out: &mut Shown);
+    fn put(&self, out: &mut AnswerText);
 }
 
 /// A level, with how grave what it finds is.
 impl Fields for LintLevel {
-    fn put(&self, out: &mut Shown) {
+    fn put(&self, out: &mut AnswerText) {
         let level = *self;
         write!(out, "{level:?} {:?}", Severity::from(level));
     }
 }
 
 impl Fields for BlanketAgreement {
-    fn put(&self, out: &mut Shown) {
+    fn put(&self, out: &mut AnswerText) {
         let agreement = *self;
         write!(out, "{agreement:?}");
     }
 }
 
 impl Fields for Scope {
-    fn put(&self, out: &mut Shown) {
+    fn put(&self, out: &mut AnswerText) {
         out.put(self.as_str());
     }
 }
 
 impl Fields for FileSource {
-    fn put(&self, out: &mut Shown) {
+    fn put(&self, out: &mut AnswerText) {
         put_at(out, &self.path);
         write!(out, " {}", self.hash);
     }
 }
 
 impl Fields for Private {
-    fn put(&self, out: &mut Shown) {
+    fn put(&self, out: &mut AnswerText) {
         write!(out, "ignore={} sources=", self.ignore);
         for source in self.ignore_sources.items() {
             put_at(out, source);
@@ -78,7 +78,7 @@ impl Fields for Private {
 }
 
 impl Fields for OutputConfig {
-    fn put(&self, out: &mut Shown) {
+    fn put(&self, out: &mut AnswerText) {
         match self.feature_depth {
             Some(depth) => write!(out, "depth {depth}"),
             None => out.put("no depth"),
@@ -87,7 +87,7 @@ impl Fields for OutputConfig {
 }
 
 impl Fields for GraphConfig {
-    fn put(&self, out: &mut Shown) {
+    fn put(&self, out: &mut AnswerText) {
         for target in self.targets.items() {
             put_at(out, &target.filter);
             put_texts(out, "with", &target.features);
@@ -103,27 +103,27 @@ impl Fields for GraphConfig {
 }
 
 impl Fields for Licensee {
-    fn put(&self, out: &mut Shown) {
+    fn put(&self, out: &mut AnswerText) {
         put_at(out, &self.0);
         out.put(";");
     }
 }
 
 impl Fields for Exception {
-    fn put(&self, out: &mut Shown) {
+    fn put(&self, out: &mut AnswerText) {
         write!(out, "{}:", self.spec);
         put_all(out, self.allow.items());
     }
 }
 
 impl Fields for ExceptionsFile {
-    fn put(&self, out: &mut Shown) {
+    fn put(&self, out: &mut AnswerText) {
         put_all(out, self.exceptions.items());
     }
 }
 
 impl Fields for Clarification {
-    fn put(&self, out: &mut Shown) {
+    fn put(&self, out: &mut AnswerText) {
         write!(out, "{}: ", self.spec);
         put_at(out, &self.expression);
         write!(out, " {};", self.escapes);
@@ -133,13 +133,13 @@ impl Fields for Clarification {
     }
 }
 
-pub fn put_all<T: Fields>(out: &mut Shown, items: &[T]) {
+pub fn put_all<T: Fields>(out: &mut AnswerText, items: &[T]) {
     for item in items {
         item.put(out);
     }
 }
 
-pub fn put_config(out: &mut Shown, config: &Config) {
+pub fn put_config(out: &mut AnswerText, config: &Config) {
     config.private.put(out);
     write!(out, "\nthreshold={}", config.confidence_threshold.0);
     write!(out, "\nunused_allowed={:?}", config.unused_allowed_license);
@@ -158,7 +158,7 @@ pub fn put_config(out: &mut Shown, config: &Config) {
 }
 
 /// Puts a policy, its table `licenses` by whether it is there.
-pub fn put_root(out: &mut Shown, root: &RootConfig) {
+pub fn put_root(out: &mut AnswerText, root: &RootConfig) {
     write!(out, "licenses={}\n", root.licenses.is_some());
     root.graph.put(out);
     out.put("\ndeprecated=");
@@ -172,7 +172,7 @@ pub fn put_root(out: &mut Shown, root: &RootConfig) {
     out.put("\n");
 }
 
-pub fn put_clarified(out: &mut Shown, clarifications: &ValidClarifications) {
+pub fn put_clarified(out: &mut AnswerText, clarifications: &ValidClarifications) {
     for clarification in clarifications.items() {
         write!(out, "{} from ", clarification.expression);
         match clarification.whole {
@@ -186,7 +186,7 @@ pub fn put_clarified(out: &mut Shown, clarifications: &ValidClarifications) {
     }
 }
 
-fn put_label(out: &mut Shown, label: &Label) {
+fn put_label(out: &mut AnswerText, label: &Label) {
     match label.style {
         LabelStyle::Primary => write!(out, " at {}:", label.file_id),
         LabelStyle::Secondary => write!(out, " and {}:", label.file_id),
@@ -198,7 +198,7 @@ fn put_label(out: &mut Shown, label: &Label) {
 }
 
 /// Puts findings in order, with the places that they are about, and their notes.
-pub fn put_findings(out: &mut Shown, found: &Diagnostics) {
+pub fn put_findings(out: &mut AnswerText, found: &Diagnostics) {
     for diag in found.items() {
         write!(out, "{:?}", diag.severity);
         if let Some(code) = &diag.code {
@@ -216,7 +216,7 @@ pub fn put_findings(out: &mut Shown, found: &Diagnostics) {
 }
 
 /// Puts why a policy or a part of it is refused.
-pub fn put_refusal(out: &mut Shown, error: &LoadError) {
+pub fn put_refusal(out: &mut AnswerText, error: &LoadError) {
     match error {
         LoadError::Memory => out.want_memory(),
         LoadError::ConfigRead(fault) => write!(out, "{fault:?}"),

@@ -5,24 +5,24 @@ use Rattle.deny_text.specs.declared.span.Span.{Span}
 use Rattle.semver.specs.Parse.{Held, digits_from, req_from, scan, strip_spaces}
 use Rattle.semver.specs.declared.Op.TheVariants as op
 use Rattle.toml_subset.specs.Data.{Content, Entries, Toml, string, integer, table, array, no_item, boolean, no_entry, entry}
-use Rattle.toml_subset.specs.Written.{Written}
-use Rattle.toml_shapes.specs.Shaped.{Shaped}
+use Rattle.toml_subset.specs.Written.{WrittenString}
+use Rattle.toml_shapes.specs.Shaped.{ShapeReading}
 use Rattle.toml_shapes.specs.Shapes.{fault_alone, missing, wanted}
 use Rattle.policy_spec.specs.Grammar.{spec_of_string, bad_requirement}
 use Rattle.policy_spec.specs.Matching.{version_matches}
 use Rattle.policy_spec.specs.Order.{spec_order}
-use Rattle.policy_spec.specs.Reading.{spec_of, left_of}
+use Rattle.policy_spec.specs.Reading.{spec_of, rest_of_spec}
 use Rattle.policy_spec.specs.Same.{same_spec}
 use Rattle.policy_spec.specs.Spec.{Spec}
 
 abbrev at : ℕ → ℕ → Span
 at from to = record { start = from; end = to }
 
-abbrev plain : List ℕ → Written
+abbrev plain : List ℕ → WrittenString
 plain text = record { text = text; escaped = false }
 
 -- what a string that begins at 10 is read as
-abbrev read : List ℕ → Shaped Spec
+abbrev read : List ℕ → ShapeReading Spec
 read text = spec_of_string (plain text) (at 10 (10 + length text))
 
 abbrev spec : List ℕ → Span → Option (List Held) → Spec
@@ -84,7 +84,7 @@ abbrev text : List ℕ → Content
 text written = string (plain written)
 
 a_string : (spec_of (value (text (codes "b")) (at 1 2)) ≡ Ok (spec (codes "b") (at 1 2) None))
-    × (left_of (value (text (codes "b")) (at 1 2)) ≡ value (boolean false) (at 1 2))
+    × (rest_of_spec (value (text (codes "b")) (at 1 2)) ≡ value (boolean false) (at 1 2))
 a_string = (refl, refl)
 
 -- `crate` is split, and `name` and `version` stay; a table of other keys keeps them in order
@@ -93,7 +93,7 @@ with_crate = key (codes "allow") (array no_item) (at 1 2) (key (codes "crate") (
     (key (codes "name") (text (codes "b")) (at 5 6) (key (codes "version") (text (codes "1")) (at 7 8) no_entry)))
 
 a_crate : (spec_of (value (table with_crate) (at 0 9)) ≡ Ok (spec (codes "b") (at 3 4) None))
-    × (left_of (value (table with_crate) (at 0 9))
+    × (rest_of_spec (value (table with_crate) (at 0 9))
     ≡ value (table (key (codes "allow") (array no_item) (at 1 2) (key (codes "name") (text (codes "b")) (at 5 6)
     (key (codes "version") (text (codes "1")) (at 7 8) no_entry)))) (at 0 9))
 a_crate = (refl, refl)
@@ -104,7 +104,7 @@ with_name = key (codes "version") (text (codes "1")) (at 1 2) (key (codes "allow
     (key (codes "name") (text (codes "b@2")) (at 5 8) no_entry))
 
 a_name_and_version : (spec_of (value (table with_name) (at 0 9)) ≡ Ok (spec (codes "b@2") (at 5 8) (Some ((op.Caret, 1, None, None, []) ∷ []))))
-    × (left_of (value (table with_name) (at 0 9)) ≡ value (table (key (codes "allow") (array no_item) (at 3 4) no_entry)) (at 0 9))
+    × (rest_of_spec (value (table with_name) (at 0 9)) ≡ value (table (key (codes "allow") (array no_item) (at 3 4) no_entry)) (at 0 9))
 unfolding digits_from req_from scan strip_spaces
 a_name_and_version = (refl, refl)
 

@@ -9,7 +9,7 @@ use Rattle.std.proofs.lemmas.Map.Text.{is_eq-slice_cmp}
 use Rattle.std.proofs.lemmas.Slice.Eq.{bytes_eq-Decides}
 use Rattle.deny_text.specs.TextMap.{TextMapTo}
 use Rattle.graph_core.specs.Krate.{Record}
-use Rattle.policy_spec.specs.Index.{places_from, first_of, matching, names_of, places_named, HasPlaces, with_place, matches_at}
+use Rattle.policy_spec.specs.Index.{places_from, first_of, matching, spec_names, places_named, HasNamePlaces, with_place, matches_at}
 use Rattle.policy_spec.specs.Matching.{spec_matches, version_matches}
 use Rattle.policy_spec.specs.Spec.{Spec}
 
@@ -46,8 +46,8 @@ either : (b : Bool) (old : Option (List ℕ)) (new places : List ℕ) (n : ℕ) 
 either true old new places n is has = is refl
 either false old new places n is has = has ∙ sym (append-nil places)
 
-pub has_places-push : (places : TextMapTo (List ℕ)) (names : List (List ℕ)) (new : List ℕ) → HasPlaces places names
-    → HasPlaces (with_place places new (length names)) (names ++ new ∷ [])
+pub has_places-push : (places : TextMapTo (List ℕ)) (names : List (List ℕ)) (new : List ℕ) → HasNamePlaces places names
+    → HasNamePlaces (with_place places new (length names)) (names ++ new ∷ [])
 has_places-push places names new has name =
     let extended = unwrap_or (get places new) [] ++ length names ∷ [] in
     ap (λ o. unwrap_or o []) (get-insert nat_list_cmp_total places new extended name
@@ -80,27 +80,27 @@ kept test true fits n places found here more =
 kept test false fits n places found here more = more
 
 walked : (krate : Record) (before rest : List Spec)
-    → filter (matches_at (before ++ rest) krate) (places_from (length before) (bytes_eq krate.name) (names_of rest))
+    → filter (matches_at (before ++ rest) krate) (places_from (length before) (bytes_eq krate.name) (spec_names rest))
     ≡ places_from (length before) (λ spec. spec_matches spec krate) rest
 walked krate before [] = refl
 walked krate before (spec ∷ rest) =
     let n = length before in
-    let more = subst (λ m. filter (matches_at ((before ++ spec ∷ []) ++ rest) krate) (places_from m (bytes_eq krate.name) (names_of rest))
+    let more = subst (λ m. filter (matches_at ((before ++ spec ∷ []) ++ rest) krate) (places_from m (bytes_eq krate.name) (spec_names rest))
     ≡ places_from m (λ spec. spec_matches spec krate) rest) (one_longer before spec) (walked krate (before ++ spec ∷ []) rest) in
-    let moved = subst (λ specs. filter (matches_at specs krate) (places_from (suc n) (bytes_eq krate.name) (names_of rest))
+    let moved = subst (λ specs. filter (matches_at specs krate) (places_from (suc n) (bytes_eq krate.name) (spec_names rest))
     ≡ places_from (suc n) (λ spec. spec_matches spec krate) rest) (behind before spec rest) more in
     kept (matches_at (before ++ spec ∷ rest) krate) (bytes_eq krate.name spec.name) (version_matches spec.requirement krate.version) n
-    (places_from (suc n) (bytes_eq krate.name) (names_of rest)) (places_from (suc n) (λ spec. spec_matches spec krate) rest)
+    (places_from (suc n) (bytes_eq krate.name) (spec_names rest)) (places_from (suc n) (λ spec. spec_matches spec krate) rest)
     (ap (λ o. option_map_or (λ spec. spec_matches spec krate) o false) (at_front before spec rest)) moved
 
 -- those places of a crate's name whose spec matches it are those of all specs that match it
-walk : (krate : Record) (specs : List Spec) → filter (matches_at specs krate) (places_named krate.name (names_of specs)) ≡ matching specs krate
+walk : (krate : Record) (specs : List Spec) → filter (matches_at specs krate) (places_named krate.name (spec_names specs)) ≡ matching specs krate
 walk krate specs = walked krate [] specs
 
 -- ---- the two ends of that walk
 
 -- what the places of a crate's name in the index are, and those of them that match
-pub all_walked : (krate : Record) (specs : List Spec) (names : List (List ℕ)) (name places : List ℕ) → names_of specs ≡ names → name ≡ krate.name
+pub all_walked : (krate : Record) (specs : List Spec) (names : List (List ℕ)) (name places : List ℕ) → spec_names specs ≡ names → name ≡ krate.name
     → places ≡ places_named name names → filter (matches_at specs krate) places ≡ matching specs krate
 all_walked krate specs names name places all same held =
     ap (filter (matches_at specs krate)) (held ∙ ap (λ n. places_named n names) same ∙ ap (places_named krate.name) (sym all)) ∙ walk krate specs

@@ -2,30 +2,30 @@
 use Rattle.std.specs.Prelude.{◌≡◌, if◌then◌else◌, Option, Some, None, Result, Ok, Err, ⊤}
 use Rattle.toml_subset.specs.Data.{Toml}
 use Rattle.toml_value.specs.Lookup.{has_entries}
-use Rattle.toml_shapes.specs.Shaped.{Shaped, shaped_map, shaped_then}
-use Rattle.policy_spec.specs.Reading.{spec_of, left_of}
+use Rattle.toml_shapes.specs.Shaped.{ShapeReading, shaped_map, shaped_then}
+use Rattle.policy_spec.specs.Reading.{spec_of, rest_of_spec}
 use Rattle.policy_spec.specs.Spec.{Spec}
 use Rattle.policy_spec.specs.declared.extended.PackageSpecOrExtended.{PackageSpecOrExtended}
 
 -- What a type makes of the rest of a value, where that is a table with a key; else there is nothing to read.
-abbrev pub with_rest : {T : Type 0} → (Toml → Shaped T) → Toml → Spec → Shaped (PackageSpecOrExtended T)
+abbrev pub with_rest : {T : Type 0} → (Toml → ShapeReading T) → Toml → Spec → ShapeReading (PackageSpecOrExtended T)
 with_rest reads rest spec =
     if has_entries rest.content then shaped_map (λ inner. record { spec = spec; inner = Some inner }) (reads rest)
     else Ok (record { spec = spec; inner = None })
 
-abbrev pub extended_of : {T : Type 0} → (Toml → Shaped T) → Toml → Shaped (PackageSpecOrExtended T)
-extended_of reads value = shaped_then (with_rest reads (left_of value)) (spec_of value)
+abbrev pub extended_of : {T : Type 0} → (Toml → ShapeReading T) → Toml → ShapeReading (PackageSpecOrExtended T)
+extended_of reads value = shaped_then (with_rest reads (rest_of_spec value)) (spec_of value)
 
 -- what is left of the rest
 abbrev pub rest_left : (Toml → Toml) → Toml → Toml
 rest_left leaves rest = if has_entries rest.content then leaves rest else rest
 
-abbrev pub rest_left_after : Shaped Spec → (Toml → Toml) → Toml → Toml
+abbrev pub rest_left_after : ShapeReading Spec → (Toml → Toml) → Toml → Toml
 rest_left_after (Ok spec) leaves rest = rest_left leaves rest
 rest_left_after (Err faults) leaves rest = rest
 
 abbrev pub left_of_extended : (Toml → Toml) → Toml → Toml
-left_of_extended leaves value = rest_left_after (spec_of value) leaves (left_of value)
+left_of_extended leaves value = rest_left_after (spec_of value) leaves (rest_of_spec value)
 
 -- ---- conversions keep the spec
 

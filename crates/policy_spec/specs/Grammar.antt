@@ -5,8 +5,8 @@ use Rattle.deny_text.specs.declared.span.Span.{Span}
 use Rattle.semver.specs.Parse.{Held, req_of}
 use Rattle.semver.specs.declared.Op.TheVariants.{Exact}
 use Rattle.semver.specs.declared.error.Error.{Error}
-use Rattle.toml_subset.specs.Written.{Written}
-use Rattle.toml_shapes.specs.Shaped.{Shaped, shaped_map}
+use Rattle.toml_subset.specs.Written.{WrittenString}
+use Rattle.toml_shapes.specs.Shaped.{ShapeReading, shaped_map}
 use Rattle.toml_shapes.specs.Shapes.{Fault, fault_alone, custom}
 use Rattle.policy_spec.specs.Spec.{Spec}
 
@@ -43,7 +43,7 @@ abbrev pub bad_requirement : Span → List Fault
 bad_requirement span = fault_alone (custom (codes "invalid version requirement")) span
 
 -- the comparators that a reading gives, or the fault at a place
-abbrev pub requirement_at : Span → Result (List Held) Error → Shaped (List Held)
+abbrev pub requirement_at : Span → Result (List Held) Error → ShapeReading (List Held)
 requirement_at span (Ok comparators) = Ok comparators
 requirement_at span (Err error) = Err (bad_requirement span)
 
@@ -54,17 +54,17 @@ abbrev pub end_of : Span → List ℕ → Span
 end_of span rest = record { start = span.end - length rest; end = span.end }
 
 -- The part behind the split; the whole string where it was written with escapes, since these hide where the part begins.
-abbrev pub rest_span : Written → Span → List ℕ → Span
+abbrev pub rest_span : WrittenString → Span → List ℕ → Span
 rest_span string span rest = if string.escaped then span else end_of span rest
 
 -- ---- the whole
 
-abbrev pub spec_of_split : Written → Span → Option Split → Shaped Spec
+abbrev pub spec_of_split : WrittenString → Span → Option Split → ShapeReading Spec
 spec_of_split string span None = Ok (record { name = string.text; span = span; requirement = None })
 spec_of_split string span (Some split) =
     shaped_map (λ comparators. record { name = split.name; span = span; requirement = Some (exact_first_where split.exact comparators) })
     (requirement_at (rest_span string span split.rest) (req_of split.rest))
 
 -- The spec that a string at a place stands for. The place of its name is that of the whole string.
-abbrev pub spec_of_string : Written → Span → Shaped Spec
+abbrev pub spec_of_string : WrittenString → Span → ShapeReading Spec
 spec_of_string string span = spec_of_split string span (split_of string.text)

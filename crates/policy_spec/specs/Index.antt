@@ -23,16 +23,16 @@ first_of (place ∷ more) = Some place
 
 -- ---- the index
 
-abbrev pub names_of : List Spec → List (List ℕ)
-names_of specs = map (λ spec. spec.name) specs
+abbrev pub spec_names : List Spec → List (List ℕ)
+spec_names specs = map (λ spec. spec.name) specs
 
 -- the places of a name
 abbrev pub places_named : List ℕ → List (List ℕ) → List ℕ
 places_named name names = places_from 0 (bytes_eq name) names
 
 -- a map from names has the places of each
-abbrev pub HasPlaces : TextMapTo (List ℕ) → List (List ℕ) → Type 0
-HasPlaces places names = (name : List ℕ) → unwrap_or (finmap.get places name) [] ≡ places_named name names
+abbrev pub HasNamePlaces : TextMapTo (List ℕ) → List (List ℕ) → Type 0
+HasNamePlaces places names = (name : List ℕ) → unwrap_or (finmap.get places name) [] ≡ places_named name names
 
 -- whether the spec at a place matches
 abbrev pub matches_at : List Spec → Record → ℕ → Bool

@@ -9,7 +9,7 @@ use Rattle.toml_value.specs.Lookup.{value_at}
 use Rattle.policy_toml.specs.Readings.{text_of, spanned_of}
 use Rattle.toml_value.specs.Taken.{as_table, string_of, left_by}
 use Rattle.toml_value.specs.Removal.{entries_without}
-use Rattle.toml_shapes.specs.Shaped.{Shaped, shaped_map, shaped_then}
+use Rattle.toml_shapes.specs.Shaped.{ShapeReading, shaped_map, shaped_then}
 use Rattle.toml_shapes.specs.Shapes.{fault_alone, missing}
 use Rattle.policy_spec.specs.Grammar.{requirement_at, spec_of_string}
 use Rattle.policy_spec.specs.Spec.{Spec}
@@ -17,32 +17,32 @@ use Rattle.policy_spec.specs.Spec.{Spec}
 -- ---- a string
 
 -- a string that is split, where a thing of that name is wanted
-abbrev pub string_spec : List ℕ → Toml → Shaped Spec
+abbrev pub string_spec : List ℕ → Toml → ShapeReading Spec
 string_spec wanted value = shaped_then (λ string. spec_of_string string value.span) (string_of wanted value)
 
 -- ---- a table with `name`, and maybe `version`
 
-abbrev pub requirement_of : Toml → Shaped (List Held)
+abbrev pub requirement_of : Toml → ShapeReading (List Held)
 requirement_of value = shaped_then (λ text. requirement_at value.span (req_of text)) (text_of value)
 
-abbrev pub with_version : Spanned (List ℕ) → Option Toml → Shaped Spec
+abbrev pub with_version : Spanned (List ℕ) → Option Toml → ShapeReading Spec
 with_version name None = Ok (record { name = name.value; span = name.span; requirement = None })
 with_version name (Some version) =
     shaped_map (λ comparators. record { name = name.value; span = name.span; requirement = Some comparators }) (requirement_of version)
 
 -- The name is never split. A table without it misses `crate`, which is the key to write.
-abbrev pub named_spec : Span → Option Toml → Option Toml → Shaped Spec
+abbrev pub named_spec : Span → Option Toml → Option Toml → ShapeReading Spec
 named_spec span None version = Err (fault_alone (missing (codes "crate")) span)
 named_spec span (Some name) version = shaped_then (λ text. with_version text version) (spanned_of text_of name)
 
 -- ---- a table
 
-abbrev pub table_spec_by : Entries → Span → Option Toml → Shaped Spec
+abbrev pub table_spec_by : Entries → Span → Option Toml → ShapeReading Spec
 table_spec_by entries span (Some string) = string_spec (codes "a crate spec") string
 table_spec_by entries span None = named_spec span (value_at (codes "name") entries) (value_at (codes "version") entries)
 
 -- where `crate` is there it is the spec, and `name` and `version` are other keys
-abbrev pub table_spec : Entries → Span → Shaped Spec
+abbrev pub table_spec : Entries → Span → ShapeReading Spec
 table_spec entries span = table_spec_by entries span (value_at (codes "crate") entries)
 
 -- the entries without the keys that a spec is read from
@@ -55,11 +55,11 @@ entries_left entries = entries_left_by (is_some (value_at (codes "crate") entrie
 
 -- ---- a value
 
-abbrev pub spec_by : Toml → Option Entries → Shaped Spec
+abbrev pub spec_by : Toml → Option Entries → ShapeReading Spec
 spec_by value (Some entries) = table_spec entries value.span
 spec_by value None = string_spec (codes "a string or table") value
 
-abbrev pub spec_of : Toml → Shaped Spec
+abbrev pub spec_of : Toml → ShapeReading Spec
 spec_of value = spec_by value (as_table value.content)
 
 abbrev pub left_of_kind : Toml → Option Entries → Toml
@@ -68,5 +68,5 @@ left_of_kind value None = left_by (string_of (codes "a string or table") value) 
 
 -- Behind a string the boolean false, behind a table its other keys in their order, each at the place of the value.
 -- A value of another kind stays as it was.
-abbrev pub left_of : Toml → Toml
-left_of value = left_of_kind value (as_table value.content)
+abbrev pub rest_of_spec : Toml → Toml
+rest_of_spec value = left_of_kind value (as_table value.content)

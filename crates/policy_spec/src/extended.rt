@@ -1,7 +1,7 @@
 //! Package specs with further keys in their table.
 ghost use Rattle.std.specs.Prelude.{◌≡◌, Some, refl};
 ghost use Rattle.std.specs.Cmp.{on_per, on_equiv, on_po, on_total, partial_equiv_from_equiv};
-ghost use Rattle.toml_shapes.specs.Shaped.{Gives, OnAnswer};
+ghost use Rattle.toml_shapes.specs.Shaped.{AnswersShape, OnAnswer};
 ghost use Rattle.toml_value.specs.Views.{value_view};
 ghost use Rattle.policy_spec.specs.Extended.{with_rest, extended_of, rest_left, left_of_extended};
 ghost use Rattle.policy_spec.specs.Extended.{BothOrNeither, Converts, spec_in};
@@ -81,7 +81,7 @@ fn read_rest<X, T: Deserialize<X>>(
     context: &X,
     spec: PackageSpec,
 ) -> Result<PackageSpecOrExtended<T>, DeserError>
-    ensures read { Gives (with_rest (T.reads context.now) (value_view value.old) spec) result }
+    ensures read { AnswersShape (with_rest (T.reads context.now) (value_view value.old) spec) result }
     ensures left { let left = rest_left (T.leaves context.now) (value_view value.old) in
         OnAnswer result (value_view value.new ≡ left) }
 {

@@ -2,7 +2,7 @@
 ghost use Rattle.std.specs.Prelude.{◌≡◌, [], ◌∷◌, ◌++◌, map, if◌then◌else◌, IfOk, OnOk};
 ghost use Rattle.graph_core.specs.Krate.{record_of};
 ghost use Rattle.policy_spec.specs.Index as spec;
-ghost use Rattle.policy_spec.specs.Index.{matching, first_of, names_of, with_place};
+ghost use Rattle.policy_spec.specs.Index.{matching, first_of, spec_names, with_place};
 ghost use Rattle.policy_spec.specs.Spec.{Spec};
 
 use crate::matching::match_krate;
@@ -43,13 +43,13 @@ pub struct SpecIndex {
 
 impl Model for SpecIndex {
     ghost use Rattle.std.specs.Prelude.{ℕ, List};
-    ghost use Rattle.policy_spec.specs.Index.{HasPlaces};
+    ghost use Rattle.policy_spec.specs.Index.{HasNamePlaces};
 
     ghost Value = { List (List ℕ) };
 
     ghost view = { λ index. index.names };
 
-    ghost invariant = { λ index. HasPlaces index.places index.names };
+    ghost invariant = { λ index. HasNamePlaces index.places index.names };
 }
 
 /// Adds a place of a name.
@@ -115,7 +115,7 @@ impl SpecIndex {
 
     /// The index of a list.
     pub fn of<S: HasSpec>(alloc: Global, items: &[S]) -> Result<SpecIndex, AllocError>
-        ensures { IfOk result (λ index. index ≡ names_of (map S.spec_of items.now)) }
+        ensures { IfOk result (λ index. index ≡ spec_names (map S.spec_of items.now)) }
     {
         let mut index = SpecIndex::new(alloc);
         'items: for item in items {
@@ -141,7 +141,7 @@ impl SpecIndex {
         items: &[S],
         krate: &Krate,
     ) -> Result<Places, AllocError>
-        requires { names_of (map S.spec_of items.now) ≡ self.now }
+        requires { spec_names (map S.spec_of items.now) ≡ self.now }
         ensures { IfOk result (λ places. places ≡ matching (map S.spec_of items.now) (record_of krate.now)) }
     {
         let mut found = Places::new(alloc);
@@ -155,7 +155,7 @@ impl SpecIndex {
 
     /// The first of the places whose spec matches a crate.
     pub fn first<S: HasSpec>(&self, items: &[S], krate: &Krate) -> Option<usize>
-        requires { names_of (map S.spec_of items.now) ≡ self.now }
+        requires { spec_names (map S.spec_of items.now) ≡ self.now }
         ensures { result ≡ first_of (matching (map S.spec_of items.now) (record_of krate.now)) }
     {
         let named = self.places_named(krate.name.as_str());

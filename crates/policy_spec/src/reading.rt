@@ -1,12 +1,12 @@
 //! Specs read from values.
 ghost use Rattle.std.specs.Prelude.{◌≡◌, codes, false, option_map};
 ghost use Rattle.policy_toml.specs.Readings.{spanned_of, text_of};
-ghost use Rattle.toml_shapes.specs.Shaped.{Gives, GivesBy, OnAnswer, shaped_then};
+ghost use Rattle.toml_shapes.specs.Shaped.{AnswersShape, GivesBy, OnAnswer, shaped_then};
 ghost use Rattle.toml_value.specs.Lookup.{value_at};
 ghost use Rattle.toml_value.specs.Taken.{given_back, left_by, string_of};
 ghost use Rattle.toml_value.specs.Views.{value_view, entries_view};
 ghost use Rattle.policy_spec.specs.Reading.{string_spec, requirement_of, with_version, named_spec};
-ghost use Rattle.policy_spec.specs.Reading.{table_spec, entries_left, entries_left_by, spec_of, left_of};
+ghost use Rattle.policy_spec.specs.Reading.{table_spec, entries_left, entries_left_by, spec_of, rest_of_spec};
 ghost use Rattle.policy_spec.specs.Spec.{comparators_of};
 
 use crate::fault::missing_crate;
@@ -21,7 +21,7 @@ use std::alloc::Global;
 impl<X> Deserialize<X> for PackageSpec {
     ghost reads = { λ _ value. spec_of value };
 
-    ghost leaves = { λ _ value. left_of value };
+    ghost leaves = { λ _ value. rest_of_spec value };
 
     fn deserialize(
         alloc: Global,
@@ -34,8 +34,8 @@ impl<X> Deserialize<X> for PackageSpec {
 
 /// Reads a spec from a string or a table. The other keys of a table go back into the value.
 pub(crate) fn read_spec(alloc: Global, value: &mut Value<'_>) -> Result<PackageSpec, DeserError>
-    ensures read { Gives (spec_of (value_view value.old)) result }
-    ensures left { OnAnswer result (value_view value.new ≡ left_of (value_view value.old)) }
+    ensures read { AnswersShape (spec_of (value_view value.old)) result }
+    ensures left { OnAnswer result (value_view value.new ≡ rest_of_spec (value_view value.old)) }
 {
     match value.take_table() {
         Some(entries) => read_table(alloc, entries, value),
@@ -49,7 +49,7 @@ fn read_taken(
     value: &mut Value<'_>,
     wanted: &'static str,
 ) -> Result<PackageSpec, DeserError>
-    ensures read { Gives (string_spec wanted.now (value_view value.old)) result }
+    ensures read { AnswersShape (string_spec wanted.now (value_view value.old)) result }
     ensures left { let old = value_view value.old in
         value_view value.new ≡ left_by (string_of wanted.now old) old }
 {
@@ -67,7 +67,7 @@ fn read_table<'de>(
     mut entries: Entries<'de>,
     value: &mut Value<'de>,
 ) -> Result<PackageSpec, DeserError>
-    ensures read { Gives (table_spec (entries_view entries.entry) (value_view value.old).span) result }
+    ensures read { AnswersShape (table_spec (entries_view entries.entry) (value_view value.old).span) result }
     ensures left { let left = entries_left (entries_view entries.entry) in
         value_view value.new ≡ given_back left (value_view value.old) }
 {
@@ -89,7 +89,7 @@ fn read_named_table<'de>(
 ) -> Result<PackageSpec, DeserError>
     ensures read { let all = entries_view entries.entry in
         let name = value_at (codes "name") all in
-        Gives (named_spec (value_view value.old).span name (value_at (codes "version") all)) result }
+        AnswersShape (named_spec (value_view value.old).span name (value_at (codes "version") all)) result }
     ensures left { let left = entries_left_by false (entries_view entries.entry) in
         value_view value.new ≡ given_back left (value_view value.old) }
 {
@@ -111,7 +111,7 @@ fn read_named(
 ) -> Result<PackageSpec, DeserError>
     ensures { let reading = spanned_of text_of (value_view name.entry) in
         let version = option_map value_view version.entry in
-        Gives (shaped_then (λ text. with_version text version) reading) result }
+        AnswersShape (shaped_then (λ text. with_version text version) reading) result }
 {
     match <Spanned<Text> as Deserialize<()>>::deserialize(alloc, &mut name, &()) {
         Ok(name) => read_version(alloc, name, version),
@@ -125,7 +125,7 @@ fn read_version(
     name: Spanned<Text>,
     version: Option<Value<'_>>,
 ) -> Result<PackageSpec, DeserError>
-    ensures { Gives (with_version name (option_map value_view version.entry)) result }
+    ensures { AnswersShape (with_version name (option_map value_view version.entry)) result }
 {
     match version {
         Some(version) => match requirement_in(alloc, version) {

@@ -1,7 +1,7 @@
 //! Specs read from strings.
 ghost use Rattle.std.specs.Prelude.{◌≡◌, option_map, Some, Ok};
 ghost use Rattle.semver.specs.Parse.{req_of};
-ghost use Rattle.toml_shapes.specs.Shaped.{Gives, GivesBy};
+ghost use Rattle.toml_shapes.specs.Shaped.{AnswersShape, GivesBy};
 ghost use Rattle.policy_spec.specs.Grammar as spec;
 ghost use Rattle.policy_spec.specs.Grammar.{exact_first, exact_first_where};
 ghost use Rattle.policy_spec.specs.Grammar.{requirement_at, spec_of_string};
@@ -104,7 +104,7 @@ fn named(
     version_req: Option<VersionReq>,
 ) -> Result<PackageSpec, DeserError>
     ensures { let requirement = option_map comparators_of version_req in
-        Gives (Ok (record { name = name.now; span = span; requirement = requirement })) result }
+        AnswersShape (Ok (record { name = name.now; span = span; requirement = requirement })) result }
 {
     match Text::copy(alloc, name) {
         Ok(value) => Ok(PackageSpec {
@@ -121,7 +121,7 @@ pub(crate) fn read_string(
     string: &Str<'_>,
     span: Span,
 ) -> Result<PackageSpec, DeserError>
-    ensures { Gives (spec_of_string string.now span) result }
+    ensures { AnswersShape (spec_of_string string.now span) result }
 {
     let text = string.as_str();
     match split_of(text) {
@@ -136,7 +136,7 @@ fn read_split(
     span: Span,
     split: Split<'_>,
 ) -> Result<PackageSpec, DeserError>
-    ensures { Gives (spec.spec_of_split string.now span (Some (split_view split.entry))) result }
+    ensures { AnswersShape (spec.spec_of_split string.now span (Some (split_view split.entry))) result }
 {
     let place = rest_span(string, span, split.rest);
     match read_requirement(alloc, split.rest, place) {

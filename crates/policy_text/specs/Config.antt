@@ -2,12 +2,12 @@
 use Rattle.std.specs.Prelude.{◌≡◌, ℕ, List, Result, Ok, Err, if◌then◌else◌, ⊤}
 use Rattle.std.specs.List.{list_any}
 use Rattle.catalog_core.specs.Catalog.{CatalogLists}
-use Rattle.toml_subset.specs.Answer.{Read}
+use Rattle.toml_subset.specs.Answer.{TomlReading}
 use Rattle.toml_subset.specs.Data.{Toml}
 use Rattle.toml_subset.specs.Reading.{read_text}
 use Rattle.toml_subset.specs.declared.error.TomlError.{TomlError}
 use Rattle.toml_subset.specs.declared.error.TomlError.TheVariants as toml
-use Rattle.toml_shapes.specs.Shaped.{Shaped, HasFaults}
+use Rattle.toml_shapes.specs.Shaped.{ShapeReading, HasFaults}
 use Rattle.toml_shapes.specs.declared.shape.DeserError.{DeserError}
 use Rattle.toml_shapes.specs.declared.shape.DeserError.TheVariants as shape
 use Rattle.policy_config.specs.Root.{root_of}
@@ -20,26 +20,26 @@ use Rattle.policy_text.specs.declared.error.ConfigError.TheVariants.{ConfigShape
 -- ---- what is told
 
 -- the next step, where the one before was not refused
-abbrev pub then_told : {X Y : Type 0} → (X → Result Y ConfigError) → Result X ConfigError
+abbrev pub then_config : {X Y : Type 0} → (X → Result Y ConfigError) → Result X ConfigError
     → Result Y ConfigError
-then_told next (Ok value) = next value
-then_told next (Err error) = Err error
+then_config next (Ok value) = next value
+then_config next (Err error) = Err error
 
 -- the value of a text, or where the text stands for none its first fault
-abbrev pub or_syntax : Read Toml → Result Toml ConfigError
+abbrev pub or_syntax : TomlReading Toml → Result Toml ConfigError
 or_syntax (Ok value) = Ok value
 or_syntax (Err fault) = Err (ConfigSyntax fault)
 
-abbrev pub value_told : List ℕ → Result Toml ConfigError
-value_told text = or_syntax (read_text text)
+abbrev pub value_of_text : List ℕ → Result Toml ConfigError
+value_of_text text = or_syntax (read_text text)
 
 -- what a value says, or all that is wrong with its shape
-abbrev pub or_shape : Shaped RootConfig → Result RootConfig ConfigError
+abbrev pub or_shape : ShapeReading RootConfig → Result RootConfig ConfigError
 or_shape (Ok config) = Ok config
 or_shape (Err faults) = Err (ConfigShape faults)
 
-abbrev pub shape_told : CatalogLists → Toml → Result RootConfig ConfigError
-shape_told lists value = or_shape (root_of lists value)
+abbrev pub config_of_value : CatalogLists → Toml → Result RootConfig ConfigError
+config_of_value lists value = or_shape (root_of lists value)
 
 -- no spec of crates to be left out holds a sign that is not carried
 abbrev pub if_carried : RootConfig → Result RootConfig ConfigError
@@ -47,19 +47,19 @@ if_carried config = if list_any is_uncarried config.graph.exclude then Err NotCa
 
 -- The policy that a text is, as it is written, or the first refusal: of the text, of the shape of its value,
 -- of the specs.
-abbrev pub config_told : CatalogLists → List ℕ → Result RootConfig ConfigError
-config_told lists text = then_told (λ value. then_told if_carried (shape_told lists value)) (value_told text)
+abbrev pub config_of_text : CatalogLists → List ℕ → Result RootConfig ConfigError
+config_of_text lists text = then_config (λ value. then_config if_carried (config_of_value lists value)) (value_of_text text)
 
 -- ---- what is answered
 
 -- a call answers what is told, or for want of memory
-abbrev pub IsToldOf : {X Y : Type 0} → (Y → X) → Result X ConfigError → Result Y ConfigError → Type 0
-IsToldOf view told (Ok value) = told ≡ Ok (view value)
-IsToldOf view told (Err Memory) = ⊤
-IsToldOf view told (Err error) = told ≡ Err error
+abbrev pub AnswersConfigBy : {X Y : Type 0} → (Y → X) → Result X ConfigError → Result Y ConfigError → Type 0
+AnswersConfigBy view told (Ok value) = told ≡ Ok (view value)
+AnswersConfigBy view told (Err Memory) = ⊤
+AnswersConfigBy view told (Err error) = told ≡ Err error
 
-abbrev pub IsTold : {X : Type 0} → Result X ConfigError → Result X ConfigError → Type 0
-IsTold told result = IsToldOf (λ value. value) told result
+abbrev pub AnswersConfig : {X : Type 0} → Result X ConfigError → Result X ConfigError → Type 0
+AnswersConfig told result = AnswersConfigBy (λ value. value) told result
 
 -- a refusal of the shape tells one fault at least
 abbrev pub HasAFault : ConfigError → Type 0

@@ -7,7 +7,7 @@ use Rattle.policy_text.specs.declared.error.ConfigError.TheVariants.{ConfigRead}
 use Rattle.policy_text.specs.declared.text.ConfigText.{ConfigText}
 
 -- The text, from what was heard of the policy's file: an absent policy is the empty text.
-abbrev pub text_told : Result (List ℕ) ReadFault → Result ConfigText ConfigError
-text_told (Ok text) = Ok (record { text = text; is_there = true })
-text_told (Err Absent) = Ok (record { text = []; is_there = false })
-text_told (Err fault) = Err (ConfigRead fault)
+abbrev pub config_text_of : Result (List ℕ) ReadFault → Result ConfigText ConfigError
+config_text_of (Ok text) = Ok (record { text = text; is_there = true })
+config_text_of (Err Absent) = Ok (record { text = []; is_there = false })
+config_text_of (Err fault) = Err (ConfigRead fault)

@@ -1,8 +1,8 @@
 //! The policy as it is written, from its text.
 ghost use Rattle.std.specs.Prelude.{◌≡◌, IfErr};
 ghost use Rattle.toml_value.specs.Views.{value_view};
-ghost use Rattle.policy_text.specs.Config.{HasAFault, IsOfText, IsTold, IsToldOf};
-ghost use Rattle.policy_text.specs.Config.{config_told, shape_told, value_told};
+ghost use Rattle.policy_text.specs.Config.{HasAFault, IsOfText, AnswersConfig, AnswersConfigBy};
+ghost use Rattle.policy_text.specs.Config.{config_of_text, config_of_value, value_of_text};
 
 use crate::error::ConfigError;
 use catalog_core::Catalog;
@@ -13,7 +13,7 @@ use std::alloc::Global;
 
 /// The value that a text stands for.
 fn value_of(alloc: Global, text: &str) -> Result<Value<'_>, ConfigError>
-    ensures told { IsToldOf (λ value. value_view value) (value_told text.now) result }
+    ensures told { AnswersConfigBy (λ value. value_view value) (value_of_text text.now) result }
     ensures fault { IfErr result HasAFault }
     ensures of_text { IfErr result IsOfText }
 {
@@ -29,7 +29,7 @@ fn config_of<C: Catalog>(
     mut value: Value<'_>,
     catalog: &C,
 ) -> Result<RootConfig, ConfigError>
-    ensures told { IsTold (shape_told (C.lists catalog.now) (value_view value.entry)) result }
+    ensures told { AnswersConfig (config_of_value (C.lists catalog.now) (value_view value.entry)) result }
     ensures fault { IfErr result HasAFault }
     ensures of_text { IfErr result IsOfText }
 {
@@ -48,7 +48,7 @@ pub fn read_config<C: Catalog>(
     text: &str,
     catalog: &C,
 ) -> Result<RootConfig, ConfigError>
-    ensures told { IsTold (config_told (C.lists catalog.now) text.now) result }
+    ensures told { AnswersConfig (config_of_text (C.lists catalog.now) text.now) result }
     ensures fault { IfErr result HasAFault }
     ensures of_text { IfErr result IsOfText }
 {

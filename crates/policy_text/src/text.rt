@@ -1,11 +1,11 @@
 //! The text of a policy.
 ghost use Rattle.std.specs.Prelude.{◌≡◌, ◌≢◌, Err};
 ghost use Rattle.heard_core.specs.declared.fault.ReadFault.{ReadFault};
-ghost use Rattle.policy_text.specs.Text.{text_told};
+ghost use Rattle.policy_text.specs.Text.{config_text_of};
 
 use crate::error::ConfigError;
 use deny_text::Text;
-use heard_core::{Heard, ReadFault};
+use heard_core::{TextHeard, ReadFault};
 use std::alloc::Global;
 
 /// The text that a policy is read from.
@@ -20,8 +20,8 @@ impl ConfigText {
     /// The text, from what was heard of the policy's file. Where nothing is there it is empty.
     ///
     /// It is refused where the file is a folder or no UTF-8, and where its read failed.
-    pub fn from_heard(alloc: Global, heard: Heard) -> Result<ConfigText, ConfigError>
-        ensures told { result ≡ text_told heard }
+    pub fn from_heard(alloc: Global, heard: TextHeard) -> Result<ConfigText, ConfigError>
+        ensures told { result ≡ config_text_of heard }
         ensures there { result ≢ Err (ConfigError.ConfigRead ReadFault.Absent) }
     {
         match heard {

@@ -8,7 +8,7 @@ use Rattle.policy_toml.specs.HelperState.{HelperState, without_key, with_faults,
 use Rattle.toml_value.specs.Lookup.{value_at}
 use Rattle.toml_value.specs.Removal.{entry_at}
 use Rattle.policy_toml.proofs.ShapedLemmas.{tells}
-use Rattle.toml_shapes.specs.Shaped.{Shaped, Tells, IsToldBy}
+use Rattle.toml_shapes.specs.Shaped.{ShapeReading, TellsFaults, IsToldBy}
 use Rattle.toml_shapes.specs.Shapes.{Fault, fault_alone, missing}
 use Rattle.toml_shapes.specs.declared.shape.DeserError.{DeserError}
 
@@ -22,12 +22,12 @@ value_at-entry_at name (entry key span content more) =
       | false ↦ value_at-entry_at name more
     ]
 
-pub read_at-taken : {A : Type 0} (name : List ℕ) (reads : Toml → Shaped A) (state : HelperState) (key : Key) (value : Toml) → Some (key, value) ≡ entry_at name state.left
+pub read_at-taken : {A : Type 0} (name : List ℕ) (reads : Toml → ShapeReading A) (state : HelperState) (key : Key) (value : Toml) → Some (key, value) ≡ entry_at name state.left
     → read_at name reads state ≡ Some (reads value)
 read_at-taken name reads state key value e =
     ap (option_map reads) (value_at-entry_at name state.left ∙ ap (option_map (λ p. p.1)) (sym e))
 
-pub read_at-missing : {A : Type 0} (name : List ℕ) (reads : Toml → Shaped A) (state : HelperState) → None ≡ entry_at name state.left → read_at name reads state ≡ None
+pub read_at-missing : {A : Type 0} (name : List ℕ) (reads : Toml → ShapeReading A) (state : HelperState) → None ≡ entry_at name state.left → read_at name reads state ≡ None
 read_at-missing name reads state e =
     ap (option_map reads) (value_at-entry_at name state.left ∙ ap (option_map (λ p. p.1)) (sym e))
 
@@ -36,25 +36,25 @@ pub with_no_faults : (state : HelperState) → with_faults [] state ≡ state
 with_no_faults state = ap (λ faults. record state { faults = faults }) (append-nil state.faults)
 
 -- after a key whose value was read, or that was not there
-pub after_nothing : {A : Type 0} (name : List ℕ) (read : Option (Shaped A)) (state : HelperState) → faults_of read ≡ [] → without_key name state ≡ with_faults (faults_of read) (without_key name state)
+pub after_nothing : {A : Type 0} (name : List ℕ) (read : Option (ShapeReading A)) (state : HelperState) → faults_of read ≡ [] → without_key name state ≡ with_faults (faults_of read) (without_key name state)
 after_nothing name read state none = sym (ap (λ faults. with_faults faults (without_key name state)) none ∙ with_no_faults (without_key name state))
 
 -- after a key whose value was refused
-pub after_faults : {A : Type 0} (name : List ℕ) (read : Option (Shaped A)) (state after : HelperState) (faults all : List Fault) → faults_of read ≡ faults
+pub after_faults : {A : Type 0} (name : List ℕ) (read : Option (ShapeReading A)) (state after : HelperState) (faults all : List Fault) → faults_of read ≡ faults
     → after ≡ without_key name state → all ≡ after.faults ++ faults → record after { faults = all } ≡ with_faults (faults_of read) (without_key name state)
 after_faults name read state after faults all told gone appended =
     ap (λ fs. record after { faults = fs }) appended ∙ ap (with_faults faults) gone ∙ sym (ap (λ fs. with_faults fs (without_key name state)) told)
 
 -- a key that has to be there and is refused
-pub needed-refused : {A : Type 0} (name : List ℕ) (read : Option (Shaped A)) (state after : HelperState) (faults : List Fault) (error : DeserError)
-    → read ≡ Some (Err faults) → after ≡ without_key name state → IsToldBy error (after.faults ++ faults) → Tells (needed_value name state read) error
+pub needed-refused : {A : Type 0} (name : List ℕ) (read : Option (ShapeReading A)) (state after : HelperState) (faults : List Fault) (error : DeserError)
+    → read ≡ Some (Err faults) → after ≡ without_key name state → IsToldBy error (after.faults ++ faults) → TellsFaults (needed_value name state read) error
 needed-refused {A} name read state after faults error refused gone told =
-    subst (λ r. Tells (needed_value name state r) error) (sym refused)
-    (subst (λ fs. Tells {A = A} (Err (fs ++ faults)) error) (ap (λ s. s.faults) gone) (tells A (after.faults ++ faults) error told))
+    subst (λ r. TellsFaults (needed_value name state r) error) (sym refused)
+    (subst (λ fs. TellsFaults {A = A} (Err (fs ++ faults)) error) (ap (λ s. s.faults) gone) (tells A (after.faults ++ faults) error told))
 
-pub needed-missing : {A : Type 0} (name : List ℕ) (read : Option (Shaped A)) (state after : HelperState) (faults : List Fault) (error : DeserError)
-    → read ≡ None → after ≡ without_key name state → faults ≡ fault_alone (missing name) after.span → IsToldBy error (after.faults ++ faults) → Tells (needed_value name state read) error
+pub needed-missing : {A : Type 0} (name : List ℕ) (read : Option (ShapeReading A)) (state after : HelperState) (faults : List Fault) (error : DeserError)
+    → read ≡ None → after ≡ without_key name state → faults ≡ fault_alone (missing name) after.span → IsToldBy error (after.faults ++ faults) → TellsFaults (needed_value name state read) error
 needed-missing {A} name read state after faults error none gone alone told =
-    subst (λ r. Tells (needed_value name state r) error) (sym none)
-    (subst (λ s. Tells {A = A} (Err (s.faults ++ fault_alone (missing name) s.span)) error) gone
-    (subst (λ fs. Tells {A = A} (Err (after.faults ++ fs)) error) alone (tells A (after.faults ++ faults) error told)))
+    subst (λ r. TellsFaults (needed_value name state r) error) (sym none)
+    (subst (λ s. TellsFaults {A = A} (Err (s.faults ++ fault_alone (missing name) s.span)) error) gone
+    (subst (λ fs. TellsFaults {A = A} (Err (after.faults ++ fs)) error) alone (tells A (after.faults ++ faults) error told)))

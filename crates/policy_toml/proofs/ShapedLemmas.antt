@@ -2,22 +2,22 @@
 use Rattle.std.proofs.Common.{◌≡◌, List, [], ◌∷◌, ◌++◌, Some, None, Ok, Err, Option, refl, ap, sym, ◌∙◌}
 use Rattle.std.specs.Prelude.{IfOk}
 use Rattle.std.specs.Result.{result_ok}
-use Rattle.toml_shapes.specs.Shaped.{Shaped, Tells, Gives, IsToldBy, HasFaults, shaped_map, shaped_then, faults_in}
+use Rattle.toml_shapes.specs.Shaped.{ShapeReading, TellsFaults, AnswersShape, IsToldBy, HasFaults, shaped_map, shaped_then, faults_in}
 use Rattle.toml_shapes.specs.Shapes.{Fault}
 use Rattle.toml_shapes.specs.declared.shape.DeserError.{DeserError}
 use Rattle.toml_shapes.specs.declared.shape.DeserError.TheVariants.{Faults, Memory}
 
 -- faults that an error tells are those of a refused reading
-pub tells : (A : Type 0) (faults : List Fault) (error : DeserError) → IsToldBy error faults → Tells {A = A} (Err faults) error
+pub tells : (A : Type 0) (faults : List Fault) (error : DeserError) → IsToldBy error faults → TellsFaults {A = A} (Err faults) error
 tells A faults (Faults told) h = (ap Err (sym h.0), h.1)
 tells A faults Memory h = h
 
 -- what refuses a reading refuses what is made of it
-pub tells_map : {A B : Type 0} (f : A → B) (read : Shaped A) (error : DeserError) → Tells read error → Tells (shaped_map f read) error
+pub tells_map : {A B : Type 0} (f : A → B) (read : ShapeReading A) (error : DeserError) → TellsFaults read error → TellsFaults (shaped_map f read) error
 tells_map f read (Faults told) h = (ap (shaped_map f) h.0, h.1)
 tells_map f read Memory h = h
 
-pub tells_then : {A B : Type 0} (f : A → Shaped B) (read : Shaped A) (error : DeserError) → Tells read error → Tells (shaped_then f read) error
+pub tells_then : {A B : Type 0} (f : A → ShapeReading B) (read : ShapeReading A) (error : DeserError) → TellsFaults read error → TellsFaults (shaped_then f read) error
 tells_then f read (Faults told) h = (ap (shaped_then f) h.0, h.1)
 tells_then f read Memory h = h
 
@@ -26,5 +26,5 @@ HasFaults-append [] faults h = h
 HasFaults-append (fault ∷ before) faults h = tt
 
 -- what is known of a reading that was refused
-pub faults_in-refused : {A : Type 0} (read : Shaped A) (faults : List Fault) → read ≡ Err faults → (result_ok read ≡ None) × (faults_in read ≡ faults)
+pub faults_in-refused : {A : Type 0} (read : ShapeReading A) (faults : List Fault) → read ≡ Err faults → (result_ok read ≡ None) × (faults_in read ≡ faults)
 faults_in-refused read faults e = (ap result_ok e, ap faults_in e)

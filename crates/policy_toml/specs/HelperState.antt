@@ -8,11 +8,11 @@ use Rattle.toml_shapes.specs.Kinds.{kind_word}
 use Rattle.toml_value.specs.Lookup.{value_at}
 use Rattle.toml_value.specs.Taken.{or_wanted, as_table}
 use Rattle.toml_value.specs.Removal.{entries_without, names_in}
-use Rattle.toml_shapes.specs.Shaped.{Shaped, shaped_map}
+use Rattle.toml_shapes.specs.Shaped.{ShapeReading, shaped_map}
 use Rattle.toml_shapes.specs.Shapes.{Fault, fault_alone, missing, unexpected_keys}
 use Rattle.toml_value.specs.Views.{value_view, entries_view}
 use Rattle.policy_toml.specs.declared.helper.TableHelper.{TableHelper}
-use Rattle.toml_shapes.specs.declared.shape.Kind.TheVariants as kind
+use Rattle.toml_shapes.specs.declared.shape.ValueKind.TheVariants as kind
 use Rattle.toml_value.specs.declared.value.Value.{Value}
 
 pub record HelperState : Type 0 where
@@ -25,7 +25,7 @@ abbrev pub state_of : TableHelper → HelperState
 state_of helper = record { left = entries_view helper.left; span = helper.span; faults = helper.faults }
 
 -- a table of which nothing was read yet
-abbrev pub opened_table : Toml → Shaped HelperState
+abbrev pub opened_table : Toml → ShapeReading HelperState
 opened_table value =
     shaped_map (λ entries. record { left = entries; span = value.span; faults = [] })
     (or_wanted (kind_word kind.Table) value (as_table value.content))
@@ -43,36 +43,36 @@ abbrev pub without_faults : HelperState → HelperState
 without_faults state = record state { faults = [] }
 
 -- what a type makes of the value at a key, where the key is there
-abbrev pub read_at : {A : Type 0} → List ℕ → (Toml → Shaped A) → HelperState → Option (Shaped A)
+abbrev pub read_at : {A : Type 0} → List ℕ → (Toml → ShapeReading A) → HelperState → Option (ShapeReading A)
 read_at name reads state = option_map reads (value_at name state.left)
 
 -- the value that was read
-abbrev pub given_value : {A : Type 0} → Option (Shaped A) → Option A
+abbrev pub given_value : {A : Type 0} → Option (ShapeReading A) → Option A
 given_value None = None
 given_value (Some (Ok x)) = Some x
 given_value (Some (Err faults)) = None
 
 -- what was wrong with it
-abbrev pub faults_of : {A : Type 0} → Option (Shaped A) → List Fault
+abbrev pub faults_of : {A : Type 0} → Option (ShapeReading A) → List Fault
 faults_of None = []
 faults_of (Some (Ok x)) = []
 faults_of (Some (Err faults)) = faults
 
 -- the value, or the faults so far and then what is wrong with it, or that it is missing
-abbrev pub needed_value : {A : Type 0} → List ℕ → HelperState → Option (Shaped A) → Shaped A
+abbrev pub needed_value : {A : Type 0} → List ℕ → HelperState → Option (ShapeReading A) → ShapeReading A
 needed_value name state None = Err (state.faults ++ fault_alone (missing name) state.span)
 needed_value name state (Some (Ok x)) = Ok x
 needed_value name state (Some (Err faults)) = Err (state.faults ++ faults)
 
 -- a key that may be there: its value, and the table behind it, where what was wrong with the value is collected
-abbrev pub optional_of : {A : Type 0} → List ℕ → (Toml → Shaped A) → HelperState → Option A
+abbrev pub optional_of : {A : Type 0} → List ℕ → (Toml → ShapeReading A) → HelperState → Option A
 optional_of name reads state = given_value (read_at name reads state)
 
-abbrev pub after_optional : {A : Type 0} → List ℕ → (Toml → Shaped A) → HelperState → HelperState
+abbrev pub after_optional : {A : Type 0} → List ℕ → (Toml → ShapeReading A) → HelperState → HelperState
 after_optional name reads state = with_faults (faults_of (read_at name reads state)) (without_key name state)
 
 -- a key that has to be there
-abbrev pub required_of : {A : Type 0} → List ℕ → (Toml → Shaped A) → HelperState → Shaped A
+abbrev pub required_of : {A : Type 0} → List ℕ → (Toml → ShapeReading A) → HelperState → ShapeReading A
 required_of name reads state = needed_value name state (read_at name reads state)
 
 -- the keys that nothing asked for are one fault of the table

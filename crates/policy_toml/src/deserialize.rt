@@ -6,25 +6,25 @@ ghost use Rattle.policy_toml.specs.Readings.{text_of, boolean_of, i64_of, i32_of
 ghost use Rattle.policy_toml.specs.Readings.{spanned_of, array_of, each_of, list_of};
 ghost use Rattle.toml_value.specs.Taken.{values_of, left_by};
 ghost use Rattle.policy_toml.specs.Readings.{thing_of_name, name_of, rows_of};
-ghost use Rattle.toml_shapes.specs.Shaped.{Shaped, Gives, OnAnswer, faults_in};
+ghost use Rattle.toml_shapes.specs.Shaped.{ShapeReading, AnswersShape, OnAnswer, faults_in};
 ghost use Rattle.toml_value.specs.Views.{value_view, values_view};
 
 use crate::hundredths::Hundredths;
 use deny_text::{ListOf, Spanned, Text, Texts};
 use std::alloc::{AllocError, Global};
-use toml_shapes::{DeserError, ErrorKind, Kind, ShapeErrors, answer, refuse};
+use toml_shapes::{DeserError, ErrorKind, ValueKind, ShapeErrors, answer, refuse};
 use toml_value::{Value, ValueInner, Values, refuse_kind};
 
 /// A type that is read from a value, in a context.
 pub trait Deserialize<X> {
     /// What the type makes of a value.
-    ghost reads: { X → Toml → Shaped Self };
+    ghost reads: { X → Toml → ShapeReading Self };
 
     /// What is left of the value then, also where it was refused.
     ghost leaves: { X → Toml → Toml };
 
     fn deserialize(alloc: Global, value: &mut Value<'_>, context: &X) -> Result<Self, DeserError>
-        ensures read { Gives (reads context.now (value_view value.old)) result }
+        ensures read { AnswersShape (reads context.now (value_view value.old)) result }
         ensures left { OnAnswer result (value_view value.new ≡ leaves context.now (value_view value.old)) };
 }
 
@@ -34,7 +34,7 @@ impl<X> Deserialize<X> for Text {
     ghost leaves = { λ _ value. left_by (text_of value) value };
 
     fn deserialize(alloc: Global, value: &mut Value<'_>, _context: &X) -> Result<Text, DeserError> {
-        match value.take_string(alloc, Kind::String.word()) {
+        match value.take_string(alloc, ValueKind::String.word()) {
             Ok(string) => Ok(Text::copy(alloc, string.as_str())?),
             Err(error) => Err(error),
         }
@@ -53,18 +53,18 @@ impl<X> Deserialize<X> for bool {
                 let _ = value.take();
                 Ok(flag)
             }
-            _ => refuse_kind(alloc, Kind::Boolean.word(), value),
+            _ => refuse_kind(alloc, ValueKind::Boolean.word(), value),
         }
     }
 }
 
 /// The number of an integer, which is left where it is.
 fn look_at_integer(alloc: Global, value: &Value<'_>) -> Result<i64, DeserError>
-    ensures { Gives (i64_of (value_view value.now)) result }
+    ensures { AnswersShape (i64_of (value_view value.now)) result }
 {
     match value.inner() {
         ValueInner::Integer(number) => Ok(*number),
-        _ => refuse_kind(alloc, Kind::Integer.word(), value),
+        _ => refuse_kind(alloc, ValueKind::Integer.word(), value),
     }
 }
 
@@ -136,7 +136,7 @@ impl<X> Deserialize<X> for Hundredths {
         let hundredths = match value.inner() {
             ValueInner::Integer(number) => number.saturating_mul(100),
             ValueInner::Decimal(hundredths) => *hundredths,
-            _ => return refuse_kind(alloc, Kind::Decimal.word(), value),
+            _ => return refuse_kind(alloc, ValueKind::Decimal.word(), value),
         };
         let _ = value.take();
         Ok(Hundredths(hundredths))
@@ -167,7 +167,7 @@ pub(crate) fn read_value<T: Deserialize<X>, X>(
     mut value: Value<'_>,
     context: &X,
 ) -> Result<T, DeserError>
-    ensures { Gives (T.reads context.now (value_view value.entry)) result }
+    ensures { AnswersShape (T.reads context.now (value_view value.entry)) result }
 {
     T::deserialize(alloc, &mut value, context)
 }
@@ -185,7 +185,7 @@ impl<X, T: Deserialize<X> + Drop> Deserialize<X> for ListOf<T> {
     ) -> Result<ListOf<T>, DeserError> {
         match value.take_array() {
             Some(values) => read_items(alloc, values, context),
-            None => refuse_kind(alloc, Kind::Array.word(), value),
+            None => refuse_kind(alloc, ValueKind::Array.word(), value),
         }
     }
 }
@@ -195,7 +195,7 @@ fn read_items<X, T: Deserialize<X> + Drop>(
     values: Values<'_>,
     context: &X,
 ) -> Result<ListOf<T>, DeserError>
-    ensures { Gives (each_of (T.reads context.now) (values_of (values_view values.entry))) result }
+    ensures { AnswersShape (each_of (T.reads context.now) (values_of (values_view values.entry))) result }
 {
     let mut items = ListOf::new(alloc);
     let mut errors = ShapeErrors::new(alloc);
@@ -232,7 +232,7 @@ pub fn deserialize_name<T: Copy>(
     wanted: &'static str,
     table: &[(&'static str, T)],
 ) -> Result<T, DeserError>
-    ensures read { Gives (name_of wanted.now (rows_of table.now) (value_view value.old)) result }
+    ensures read { AnswersShape (name_of wanted.now (rows_of table.now) (value_view value.old)) result }
     ensures left { let read = name_of wanted.now (rows_of table.now) (value_view value.old) in
         OnAnswer result (value_view value.new ≡ left_by read (value_view value.old)) }
 {

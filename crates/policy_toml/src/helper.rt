@@ -7,7 +7,7 @@ ghost use Rattle.toml_value.specs.Taken.{given_back};
 ghost use Rattle.policy_toml.specs.Readings.{spanned_of};
 ghost use Rattle.toml_value.specs.Taken.{left_by};
 ghost use Rattle.toml_value.specs.Removal.{entry_at, names_in};
-ghost use Rattle.toml_shapes.specs.Shaped.{Gives, GivesBy, HasFaults, IsToldBy, OnFaults, answer_of};
+ghost use Rattle.toml_shapes.specs.Shaped.{AnswersShape, GivesBy, HasFaults, IsToldBy, OnFaults, shaped_of};
 ghost use Rattle.toml_shapes.specs.Shapes.{fault_alone, missing};
 ghost use Rattle.toml_value.specs.Views.{value_view, entries_view};
 
@@ -15,7 +15,7 @@ use crate::deserialize::{Deserialize, read_value};
 use deny_text::{Span, Spanned};
 use std::alloc::{AllocError, Global};
 use std::mem;
-use toml_shapes::{DeserError, ErrorKind, Kind, ShapeError, ShapeErrors, answer};
+use toml_shapes::{DeserError, ErrorKind, ValueKind, ShapeError, ShapeErrors, answer};
 use toml_subset::Key;
 use toml_value::{Entries, Value, kind_fault};
 
@@ -40,7 +40,7 @@ impl<'de> TableHelper<'de> {
                 span: value.span(),
                 faults: ShapeErrors::new(alloc),
             }),
-            None => Err(kind_fault(alloc, Kind::Table.word(), value)),
+            None => Err(kind_fault(alloc, ValueKind::Table.word(), value)),
         }
     }
 
@@ -60,7 +60,7 @@ impl<'de> TableHelper<'de> {
         name: &'static str,
         context: &X,
     ) -> Result<T, DeserError>
-        ensures read { Gives (required_of name.now (T.reads context.now) (state_of self.old)) result }
+        ensures read { AnswersShape (required_of name.now (T.reads context.now) (state_of self.old)) result }
         ensures ok { OnOk result (state_of self.new ≡ without_key name.now (state_of self.old)) }
         ensures refused { let after = without_key name.now (state_of self.old) in
             OnFaults result (state_of self.new ≡ without_faults after) }
@@ -133,7 +133,7 @@ impl<'de> TableHelper<'de> {
     /// Ends the reading. The keys that are left go back into the value, or are a fault of the table.
     pub fn finalize(self, alloc: Global, back: Option<&mut Value<'de>>) -> Result<(), DeserError>
         ensures read { let faults = faults_at_end (is_some back.entry) (state_of self.entry) in
-            Gives (answer_of faults tt) result }
+            AnswersShape (shaped_of faults tt) result }
         ensures back { let left = (state_of self.entry).left in
             target_at_exit back.exit ≡ option_map (λ v. given_back left (value_view v.now)) back.entry }
     {

@@ -6,7 +6,7 @@ use Rattle.tree_core.specs.Faults.{Gained, GainedPrefix}
 use Rattle.diag_core.specs.File.{File}
 use Rattle.print_core.specs.declared.context.Format.TheVariants.{Sarif}
 use Rattle.print_core.specs.declared.context.LogContext.{LogContext}
-use Rattle.print_core.specs.Printed.{is_heard, printed_of, AllBelow, all_printed_at}
+use Rattle.print_core.specs.Printed.{is_printed, printed_of, AllBelow, all_printed_at}
 
 pub nothing_below : (context : LogContext) (files : List File) (findings : List Diag) → AllBelow context.log_level findings → all_printed_at context files findings ≡ []
 nothing_below context files [] below = refl
@@ -20,7 +20,7 @@ either_nothing false text none = refl
 pub nothing_in_sarif : (context : LogContext) (files : List File) (findings : List Diag) → context.format ≡ Sarif → all_printed_at context files findings ≡ []
 nothing_in_sarif context files [] sarif = refl
 nothing_in_sarif context files (finding ∷ findings) sarif =
-    ap₂ ◌++◌ (either_nothing (is_heard context.log_level finding.diag.severity) _ (ap (λ format. printed_of format files finding.diag) sarif)) (nothing_in_sarif context files findings sarif)
+    ap₂ ◌++◌ (either_nothing (is_printed context.log_level finding.diag.severity) _ (ap (λ format. printed_of format files finding.diag) sarif)) (nothing_in_sarif context files findings sarif)
 
 same_held : (held : Option (List ℕ)) → Gained held held []
 same_held None = refl

@@ -4,16 +4,16 @@ use Rattle.std.specs.Str.{IsCharBoundary}
 use Rattle.diag_core.specs.declared.label.Label.{Label}
 use Rattle.diag_core.specs.declared.diagnostic.Diagnostic.{Diagnostic}
 use Rattle.diag_core.specs.declared.pack.Diag.{Diag}
-use Rattle.diag_core.specs.File.{File, source_of, name_of}
+use Rattle.diag_core.specs.File.{File, source_of_file, name_of_file}
 use Rattle.diag_core.specs.Position.{line_of, column_of}
 
 -- the text of the label's file; empty where there is no such file
 abbrev pub source_under : List File → Label → List ℕ
-source_under files label = unwrap_or (source_of files label.file_id) []
+source_under files label = unwrap_or (source_of_file files label.file_id) []
 
 -- the name of the label's file; empty where there is no such file
 abbrev pub file_under : List File → Label → List ℕ
-file_under files label = unwrap_or (name_of files label.file_id) []
+file_under files label = unwrap_or (name_of_file files label.file_id) []
 
 -- the label's file is there, and the label's range lies in its text, between characters
 pub record LabelIsInside (files : List File) (label : Label) : Type 0 where

@@ -15,8 +15,8 @@ use Rattle.print_core.specs.Human.{human_lines}
 use Rattle.print_core.specs.Json.{json_line}
 
 -- the severity is at or above the level; none is at off
-abbrev pub is_heard : LevelFilter → Severity → Bool
-is_heard level severity = unwrap_or (option_map (λ least. nat_le (severity_rank least) (severity_rank severity)) (severity_of_filter level)) false
+abbrev pub is_printed : LevelFilter → Severity → Bool
+is_printed level severity = unwrap_or (option_map (λ least. nat_le (severity_rank least) (severity_rank severity)) (severity_of_filter level)) false
 
 -- the lines of a finding in a format
 abbrev pub printed_of : Format → List File → Diagnostic → List ℕ
@@ -26,11 +26,11 @@ printed_of Sarif files diag = []
 
 -- the lines of a finding, where it is at or above the level
 abbrev pub printed_at : LogContext → List File → Diagnostic → List ℕ
-printed_at context files diag = if is_heard context.log_level diag.severity then printed_of context.format files diag else []
+printed_at context files diag = if is_printed context.log_level diag.severity then printed_of context.format files diag else []
 
 -- each finding is below the level
 abbrev pub AllBelow : LevelFilter → List Diag → Type 0
-AllBelow level findings = All (λ finding. is_heard level finding.diag.severity ≡ false) findings
+AllBelow level findings = All (λ finding. is_printed level finding.diag.severity ≡ false) findings
 
 -- the lines of the findings that are at or above the level, in order
 abbrev pub all_printed_at : LogContext → List File → List Diag → List ℕ

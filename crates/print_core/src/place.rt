@@ -7,7 +7,7 @@ use diag_core::{Diagnostic, Files, Label, Pack};
 
 /// A line and a column, both from 1. The column counts characters.
 #[derive(Clone, Copy)]
-pub(crate) struct Place {
+pub(crate) struct LineColumn {
     pub(crate) line: usize,
     pub(crate) column: usize,
 }
@@ -68,13 +68,13 @@ pub(crate) fn cut<'f>(files: &'f Files, label: &Label) -> &'f str
 }
 
 /// Where the label starts.
-pub(crate) fn start(files: &Files, label: &Label) -> Place
+pub(crate) fn start(files: &Files, label: &Label) -> LineColumn
     requires { LabelIsInside files.now label.now }
     ensures line { result.line ≡ line_number files.now label.now }
     ensures column { result.column ≡ column_number files.now label.now }
 {
     match files.location(label.file_id, label.range.start) {
-        Ok(place) => Place {
+        Ok(place) => LineColumn {
             line: place.line + 1,
             column: place.column + 1,
         },

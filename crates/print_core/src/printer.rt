@@ -3,7 +3,7 @@ ghost use Rattle.std.specs.Prelude.{◌≡◌, ◌≢◌, ◌↔◌, ◌≤◌, 
 ghost use Rattle.std.specs.Prelude.{IfOk, IfErr, OnOk, OnErr, Err};
 ghost use Rattle.tree_core.specs.Faults.{Gained, GainedPrefix};
 ghost use Rattle.print_core.specs.Places.{LabelsAreInside, AllLabelsAreInside};
-ghost use Rattle.print_core.specs.Printed.{is_heard, printed_at, AllBelow, all_printed_at};
+ghost use Rattle.print_core.specs.Printed.{is_printed, printed_at, AllBelow, all_printed_at};
 ghost use Rattle.print_core.specs.Refusal.{HasReason};
 
 use crate::context::{Format, LogContext};
@@ -93,7 +93,7 @@ impl DiagPrinter {
 
     /// Whether a finding of the severity is at or above the level.
     fn hears(&self, severity: Severity) -> bool
-        ensures { result ≡ is_heard self.now.log_level severity }
+        ensures { result ≡ is_printed self.now.log_level severity }
     {
         severity >= self.least
     }
@@ -119,7 +119,7 @@ impl DiagPrinter {
         requires { LabelsAreInside files.now diag.now }
         ensures ok { OnOk result (string_bytes out.new
             ≡ string_bytes out.old ++ printed_at self.now files.now diag.now) }
-        ensures below { is_heard self.now.log_level diag.now.severity ≡ false → IsOk result }
+        ensures below { is_printed self.now.log_level diag.now.severity ≡ false → IsOk result }
         ensures sarif { self.now.format ≡ Format.Sarif → IsOk result }
     {
         if self.hears(diag.severity) {
@@ -170,7 +170,7 @@ impl<'p, S: Sink> OutputLock<'p, S> {
         ensures later { S.fault_count self.old.sink.now ≤ S.fault_count self.new.sink.now }
 
         // A finding that is not written needs no memory.
-        ensures below { is_heard self.old.printer.now.log_level diag.now.severity ≡ false → IsOk result }
+        ensures below { is_printed self.old.printer.now.log_level diag.now.severity ≡ false → IsOk result }
         ensures sarif { self.old.printer.now.format ≡ Format.Sarif → IsOk result }
 
         ensures same_printer { self.new.printer.now ≡ self.old.printer.now }

@@ -3,7 +3,7 @@ use Rattle.std.proofs.Common.{◌≡◌, ℕ, Bool, true, false, not, ◌||◌, 
 use Rattle.std.specs.List.{fold, list_any}
 use Rattle.std.specs.Ordering.{is_lt}
 use Rattle.deny_text.specs.Path.{components_of, path_order}
-use Rattle.reads_core.specs.Heard.{Heard}
+use Rattle.reads_core.specs.Heard.{ReadResult}
 use Rattle.pack_core.specs.Pack.{first_spellings, in_path_order, placed, same_path, without_path}
 use Rattle.pack_core.specs.View.{file_at, normal_heard, paths_of}
 use Rattle.pack_core.proofs.PackLemmas.{by_test, file_at-parts, has_path}
@@ -100,8 +100,8 @@ apart_in_order paths apart = apart_sorting [] paths tt apart (new_to_none paths)
 -- ---- files that are found by their paths
 
 -- what is heard at the paths of files that are apart is what the files have, where each look-up agrees
-pub heard_at_paths : (hears : List (List ℕ) → Heard) (files : List (List ℕ × Heard)) → AreApart (paths_of files)
-    → ((path : List ℕ) (heard : Heard) → file_at files path ≡ Some heard → normal_heard (hears (components_of path)) ≡ heard)
+pub heard_at_paths : (hears : List (List ℕ) → ReadResult) (files : List (List ℕ × ReadResult)) → AreApart (paths_of files)
+    → ((path : List ℕ) (heard : ReadResult) → file_at files path ≡ Some heard → normal_heard (hears (components_of path)) ≡ heard)
     → map (λ path. (path, normal_heard (hears (components_of path)))) (paths_of files) ≡ files
 heard_at_paths hears [] apart agrees = refl
 heard_at_paths hears (file ∷ files) apart agrees =
@@ -113,5 +113,5 @@ heard_at_paths hears (file ∷ files) apart agrees =
     let some : is_some (file_at files file.0) ≡ true = ap is_some there in
     let none : is_some (file_at files file.0) ≡ false = has_path files file.0 ∙ apart.0 in cc)
     (λ differs. ap (λ b. cond b (Some file.1) (file_at files path)) differs ∙ is))) in
-    ap (λ (heard : Heard). (file.0, heard) ∷ map (λ path. (path, normal_heard (hears (components_of path)))) (paths_of files)) here
-    ∙ ap (λ (more : List (List ℕ × Heard)). file ∷ more) rest
+    ap (λ (heard : ReadResult). (file.0, heard) ∷ map (λ path. (path, normal_heard (hears (components_of path)))) (paths_of files)) here
+    ∙ ap (λ (more : List (List ℕ × ReadResult)). file ∷ more) rest

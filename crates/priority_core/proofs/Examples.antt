@@ -17,12 +17,12 @@ use Rattle.spdx_core.specs.Grammar.{leaf}
 use Rattle.spdx_core.specs.Reading.{ExpressionView}
 use Rattle.graph_core.specs.Krate.{Record}
 use Rattle.reads_core.specs.Answered.{call_of}
-use Rattle.reads_core.specs.Heard.{Heard, failed, absent, not_utf8, text, entries, file_heard}
-use Rattle.reads_core.specs.Read.{AreReads, Read, call_lost, calls_in, records_in}
-use Rattle.pack_core.specs.Ears.{Ears, ears_by}
+use Rattle.reads_core.specs.Heard.{ReadResult, failed, absent, not_utf8, text, entries, file_heard}
+use Rattle.reads_core.specs.Read.{AreReads, AnsweredRead, call_lost, calls_in, records_of_reads}
+use Rattle.pack_core.specs.Ears.{FolderReads, ears_by}
 use Rattle.expression_core.specs.Scanned.{Scanner}
-use Rattle.priority_core.specs.Clarification.{Clarification}
-use Rattle.priority_core.specs.Priority.{Answer, folder_of, user_override, priority_of, records_of}
+use Rattle.priority_core.specs.Clarification.{ClarificationView}
+use Rattle.priority_core.specs.Priority.{LicenseAnswer, folder_of, user_override, priority_of, records_of}
 use Rattle.priority_core.specs.Settled.{missing_of}
 
 -- no text is identified
@@ -52,10 +52,10 @@ krate license_file = record {
 }
 
 -- what is heard of one file; of any other, nothing is there
-abbrev ears : Heard → List ℕ → Heard → Ears
+abbrev ears : ReadResult → List ℕ → ReadResult → FolderReads
 ears listing path heard = record { listing = listing; file = λ parts. cond (pointwise bytes_eq (components_of path) parts) heard absent }
 
-abbrev listed : Heard
+abbrev listed : ReadResult
 listed = entries ((codes "LICENSE", true) ∷ [])
 
 abbrev isc : ExpressionView
@@ -66,10 +66,10 @@ abbrev at_path : Span
 at_path = record { start = 7; end = 9 }
 
 -- a clarification of a file that is to have the hash of one LF, as `xxhsum -H0` has it
-abbrev clarified : List ℕ → List Clarification
+abbrev clarified : List ℕ → List ClarificationView
 clarified path = record { expression = isc; offset = 0; whole = None; files = record { named = record { path = path; hash = 0x81c9d352 }; span = at_path } ∷ [] } ∷ []
 
-abbrev by_policy : Option Answer
+abbrev by_policy : Option LicenseAnswer
 by_policy = Some (record { expression = isc; source = user_override; notes = [] })
 
 abbrev listing_read : ReadAnswer → ReadRecord
@@ -130,13 +130,13 @@ read_failed = refl
 -- ---- by the answers to the crate's own reads
 
 -- no clarification and no field: the folder is listed, and the file that is found is read
-abbrev were_read : List Read
+abbrev were_read : List AnsweredRead
 were_read =
     record { recorded = listing_read answer.Got; answer = call.entries ((codes "LICENSE", true) ∷ []) }
     ∷ record { recorded = license_read answer.Got; answer = call.bytes (10 ∷ []) }
     ∷ []
 
-own_reads : records_of scanner [] (krate None) (ears_by were_read) ≡ records_in were_read
+own_reads : records_of scanner [] (krate None) (ears_by were_read) ≡ records_of_reads were_read
 unfolding path_components path_names path_parent split_last_component trim_trailing rsplit_once is_utf8 chars encode file_heard
 own_reads = refl
 
@@ -146,10 +146,10 @@ unfolding path_components path_names path_parent split_last_component trim_trail
 own_calls = refl
 
 -- the listing fails as the first call that does: its record has the counts 0 and 1, and no file is read
-abbrev unlisted : List Read
+abbrev unlisted : List AnsweredRead
 unlisted = record { recorded = listing_read (answer.Failed 0 1); answer = call.failed } ∷ []
 
-unlisted_reads : records_of scanner [] (krate (Some (codes "LICENSE"))) (ears_by unlisted) ≡ records_in unlisted
+unlisted_reads : records_of scanner [] (krate (Some (codes "LICENSE"))) (ears_by unlisted) ≡ records_of_reads unlisted
 unfolding path_components path_names path_parent split_last_component trim_trailing rsplit_once
 unlisted_reads = refl
 
@@ -157,10 +157,10 @@ unlisted_counts : AreReads 0 unlisted
 unlisted_counts = (record { heard = failed 0 1; hears = refl; tells = refl }, tt)
 
 -- memory is wanting in the call of the file: with it, the listing is all that would be read
-abbrev first_read : List Read
+abbrev first_read : List AnsweredRead
 first_read = record { recorded = listing_read answer.Got; answer = call.entries ((codes "LICENSE", true) ∷ []) } ∷ []
 
-next_read : records_of scanner [] (krate None) (ears_by first_read) ≡ records_in first_read ++ license_read answer.Absent ∷ []
+next_read : records_of scanner [] (krate None) (ears_by first_read) ≡ records_of_reads first_read ++ license_read answer.Absent ∷ []
 unfolding path_components path_names path_parent split_last_component trim_trailing rsplit_once
 next_read = refl
 

@@ -5,30 +5,30 @@ use Rattle.std.specs.List.{flat_map, fold}
 use Rattle.std.specs.Option.{option_to_list}
 use Rattle.std.proofs.lemmas.List.Sums.{fold-append}
 use Rattle.deny_text.specs.declared.span.Span.{Span}
-use Rattle.pack_core.specs.Ears.{Ears, holds, looked_of, tried_of}
+use Rattle.pack_core.specs.Ears.{FolderReads, holds, looked_of, tried_of}
 use Rattle.pack_core.specs.Steps.{with_path}
-use Rattle.priority_core.specs.Clarification.{Clarification, files_of, held_in, named_in}
+use Rattle.priority_core.specs.Clarification.{ClarificationView, named_files, held_in, named_in}
 use Rattle.priority_core.specs.Priority.{holding}
 use Rattle.priority_core.specs.Settled.{missing_in, missing_of}
 
 -- what is looked up of clarifications, onto some paths
-abbrev pub looks : Ears → List (List ℕ) → List Clarification → List (List ℕ)
-looks ears paths clarifications = fold with_path paths (flat_map (looked_of ears) (tried_of ears (files_of clarifications)))
+abbrev pub looks : FolderReads → List (List ℕ) → List ClarificationView → List (List ℕ)
+looks ears paths clarifications = fold with_path paths (flat_map (looked_of ears) (tried_of ears (named_files clarifications)))
 
 -- ---- the first does not hold
 
-pub looks_on : (ears : Ears) (paths : List (List ℕ)) (one : Clarification) (rest : List Clarification) (here : Bool) → here ≡ holds ears (named_in one) → here ≡ false
+pub looks_on : (ears : FolderReads) (paths : List (List ℕ)) (one : ClarificationView) (rest : List ClarificationView) (here : Bool) → here ≡ holds ears (named_in one) → here ≡ false
     → looks ears paths (one ∷ rest) ≡ looks ears (fold with_path paths (looked_of ears (named_in one))) rest
 looks_on ears paths one rest here is differs =
-    let more = flat_map (looked_of ears) (tried_of ears (files_of rest)) in
-    ap (λ b. fold with_path paths (flat_map (looked_of ears) (named_in one ∷ cond b [] (tried_of ears (files_of rest))))) (sym is ∙ differs)
+    let more = flat_map (looked_of ears) (tried_of ears (named_files rest)) in
+    ap (λ b. fold with_path paths (flat_map (looked_of ears) (named_in one ∷ cond b [] (tried_of ears (named_files rest))))) (sym is ∙ differs)
     ∙ fold-append with_path paths (looked_of ears (named_in one)) more
 
-pub held_on : (ears : Ears) (one : Clarification) (rest : List Clarification) (here : Bool) → here ≡ holds ears (named_in one) → here ≡ false
+pub held_on : (ears : FolderReads) (one : ClarificationView) (rest : List ClarificationView) (here : Bool) → here ≡ holds ears (named_in one) → here ≡ false
     → option_map held_in (holding ears (one ∷ rest)) ≡ option_map held_in (holding ears rest)
 held_on ears one rest here is differs = ap (λ b. option_map held_in (cond b (Some one) (holding ears rest))) (sym is ∙ differs)
 
-pub missing_on : (ears : Ears) (front : List Span) (one : Clarification) (rest : List Clarification) (here : Bool) → here ≡ holds ears (named_in one) → here ≡ false
+pub missing_on : (ears : FolderReads) (front : List Span) (one : ClarificationView) (rest : List ClarificationView) (here : Bool) → here ≡ holds ears (named_in one) → here ≡ false
     → front ++ missing_of ears (one ∷ rest) ≡ (front ++ option_to_list (missing_in ears one)) ++ missing_of ears rest
 missing_on ears front one rest here is differs =
     ap (λ b. front ++ (option_to_list (missing_in ears one) ++ cond b [] (missing_of ears rest))) (sym is ∙ differs)
@@ -36,17 +36,17 @@ missing_on ears front one rest here is differs =
 
 -- ---- the first holds
 
-pub looks_last : (ears : Ears) (paths : List (List ℕ)) (one : Clarification) (rest : List Clarification) (here : Bool) → here ≡ holds ears (named_in one) → here ≡ true
+pub looks_last : (ears : FolderReads) (paths : List (List ℕ)) (one : ClarificationView) (rest : List ClarificationView) (here : Bool) → here ≡ holds ears (named_in one) → here ≡ true
     → looks ears paths (one ∷ rest) ≡ fold with_path paths (looked_of ears (named_in one))
 looks_last ears paths one rest here is passed =
-    ap (λ b. fold with_path paths (flat_map (looked_of ears) (named_in one ∷ cond b [] (tried_of ears (files_of rest))))) (sym is ∙ passed)
+    ap (λ b. fold with_path paths (flat_map (looked_of ears) (named_in one ∷ cond b [] (tried_of ears (named_files rest))))) (sym is ∙ passed)
     ∙ ap (fold with_path paths) (append-nil (looked_of ears (named_in one)))
 
-pub held_here : (ears : Ears) (one : Clarification) (rest : List Clarification) (here : Bool) → here ≡ holds ears (named_in one) → here ≡ true
+pub held_here : (ears : FolderReads) (one : ClarificationView) (rest : List ClarificationView) (here : Bool) → here ≡ holds ears (named_in one) → here ≡ true
     → option_map held_in (holding ears (one ∷ rest)) ≡ Some (held_in one)
 held_here ears one rest here is passed = ap (λ b. option_map held_in (cond b (Some one) (holding ears rest))) (sym is ∙ passed)
 
-pub missing_last : (ears : Ears) (front : List Span) (one : Clarification) (rest : List Clarification) (here : Bool) → here ≡ holds ears (named_in one) → here ≡ true
+pub missing_last : (ears : FolderReads) (front : List Span) (one : ClarificationView) (rest : List ClarificationView) (here : Bool) → here ≡ holds ears (named_in one) → here ≡ true
     → front ++ missing_of ears (one ∷ rest) ≡ front ++ option_to_list (missing_in ears one)
 missing_last ears front one rest here is passed =
     ap (λ b. front ++ (option_to_list (missing_in ears one) ++ cond b [] (missing_of ears rest))) (sym is ∙ passed)

@@ -1,8 +1,8 @@
 -- What is noted of licence files, and which of them give a name.
 use Rattle.std.specs.Prelude.{ℕ, Bool, List, [], ◌∷◌, ◌++◌, codes, Option, option_map, if◌then◌else◌}
 use Rattle.std.specs.List.{filter_map}
-use Rattle.expression_core.specs.declared.files.Scanned.{Scanned}
-use Rattle.expression_core.specs.declared.files.Scanned.TheVariants.{Bad, Unnamed, Low, Unknown, Joined}
+use Rattle.expression_core.specs.declared.files.FileResult.{FileResult}
+use Rattle.expression_core.specs.declared.files.FileResult.TheVariants.{Bad, Unnamed, Low, Unknown, Joined}
 use Rattle.expression_core.specs.declared.files.ScannedFile.{ScannedFile}
 use Rattle.expression_core.specs.Scanned.{joined_name}
 
@@ -24,7 +24,7 @@ deprecated_note path name deprecated =
     if deprecated then (codes "license '" ++ name ++ codes "' detected in '" ++ path ++ codes "' is deprecated in the catalogue") ∷ [] else []
 
 -- a name in place of `Pixar` is noted whatever comes of it, a deprecated name where it is joined
-abbrev pub notes_by : List ℕ → Scanned → List (List ℕ)
+abbrev pub notes_by : List ℕ → FileResult → List (List ℕ)
 notes_by path (Bad error) = []
 notes_by path (Unnamed hash score) = []
 notes_by path (Low hash score name) = renamed_note path name.renamed

@@ -5,16 +5,16 @@ use Rattle.deny_text.specs.declared.span.Span.{Span}
 use Rattle.catalog_core.specs.Catalog.{CatalogLists}
 use Rattle.catalog_core.specs.declared.identifier.Match.{Match}
 use Rattle.graph_core.specs.Krate.{Record}
-use Rattle.pack_core.specs.Ears.{Ears, holds, missing_from}
+use Rattle.pack_core.specs.Ears.{FolderReads, holds, missing_from}
 use Rattle.expression_core.specs.Scanned.{Scanner, match_by}
 use Rattle.priority_core.specs.declared.scan.Scan.{Scan}
-use Rattle.priority_core.specs.declared.settle.Settled.{Settled}
-use Rattle.priority_core.specs.Clarification.{Clarification, PlacedFile, named_in}
-use Rattle.priority_core.specs.Priority.{records_of, settling_of}
+use Rattle.priority_core.specs.declared.settle.SettledLicense.{SettledLicense}
+use Rattle.priority_core.specs.Clarification.{ClarificationView, PlacedFile, named_in}
+use Rattle.priority_core.specs.Priority.{records_of, basis_of}
 
 -- what texts are identified by, of what was handed in
-abbrev pub scanner_with : {I C : Type 0} → (C → CatalogLists) → (I → List ℕ → Match) → Scan I C → Scanner
-scanner_with lists_of match_of scan = record {
+abbrev pub scanner_of_scan : {I C : Type 0} → (C → CatalogLists) → (I → List ℕ → Match) → Scan I C → Scanner
+scanner_of_scan lists_of match_of scan = record {
   lists = lists_of scan.catalog.now;
   match_of = match_by match_of (option_copied scan.identifier);
   threshold = scan.threshold;
@@ -26,17 +26,17 @@ abbrev pub span_at : List PlacedFile → ℕ → Option Span
 span_at files number = option_map (λ file. file.span) (slice_get files number)
 
 -- the place of the first file that does not match, where nothing is there
-abbrev pub missing_in : Ears → Clarification → Option Span
+abbrev pub missing_in : FolderReads → ClarificationView → Option Span
 missing_in ears one = option_and_then (span_at one.files) (missing_from ears 0 (named_in one))
 
 -- of the clarifications that are tried, up to and with the first that holds
-abbrev pub missing_of : Ears → List Clarification → List Span
+abbrev pub missing_of : FolderReads → List ClarificationView → List Span
 missing_of ears [] = []
 missing_of ears (one ∷ more) = option_to_list (missing_in ears one) ++ (if holds ears (named_in one) then [] else missing_of ears more)
 
 -- A crate's licence is settled by what has priority by some ears; what is not there is told, and the reads are recorded by
 -- them.
-pub record IsSettledBy (scanner : Scanner) (clarifications : List Clarification) (krate : Record) (ears : Ears) (settled : Settled) : Type 0 where
-  pub by_is : settled.by ≡ settling_of scanner clarifications krate ears
+pub record IsSettledBy (scanner : Scanner) (clarifications : List ClarificationView) (krate : Record) (ears : FolderReads) (settled : SettledLicense) : Type 0 where
+  pub by_is : settled.by ≡ basis_of scanner clarifications krate ears
   pub missing_is : settled.missing ≡ missing_of ears clarifications
   pub reads_are : settled.reads ≡ records_of scanner clarifications krate ears

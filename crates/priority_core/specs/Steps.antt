@@ -2,16 +2,16 @@
 use Rattle.std.specs.Prelude.{◌≡◌, List, map, Option, option_map}
 use Rattle.deny_text.specs.declared.span.Span.{Span}
 use Rattle.graph_core.specs.Krate.{Record}
-use Rattle.pack_core.specs.Ears.{Ears}
+use Rattle.pack_core.specs.Ears.{FolderReads}
 use Rattle.pack_core.specs.Pack.{reads_of}
 use Rattle.pack_core.specs.Steps.{Agrees}
 use Rattle.pack_core.specs.View.{PackView, paths_read}
 use Rattle.expression_core.specs.Scanned.{Scanner, file_scanned}
-use Rattle.priority_core.specs.declared.clarification.Held.{Held}
-use Rattle.priority_core.specs.declared.settle.Settled.{Settled}
+use Rattle.priority_core.specs.declared.clarification.HeldClarification.{HeldClarification}
+use Rattle.priority_core.specs.declared.settle.SettledLicense.{SettledLicense}
 use Rattle.priority_core.specs.declared.settling.FilesSeen.{FilesSeen}
-use Rattle.priority_core.specs.Clarification.{Clarification, files_of, held_in}
-use Rattle.priority_core.specs.Priority.{folder_of, holding, records_with, seen_by, settling_of}
+use Rattle.priority_core.specs.Clarification.{ClarificationView, named_files, held_in}
+use Rattle.priority_core.specs.Priority.{folder_of, holding, records_with, seen_by, basis_of}
 use Rattle.priority_core.specs.Settled.{missing_of}
 
 -- what is seen of the files of a pack
@@ -20,15 +20,15 @@ seen_in scanner pack = seen_by pack.listing (map (file_scanned scanner) pack.fil
 
 -- The clarifications of a crate were tried with its pack: the records, what is taken of the first that holds and what is not
 -- there are those by whatever ears agree with the pack.
-pub record IsLooked (krate : Record) (clarifications : List Clarification) (pack : PackView) (held : Option Held) (missing : List Span) : Type 0 where
+pub record IsLooked (krate : Record) (clarifications : List ClarificationView) (pack : PackView) (held : Option HeldClarification) (missing : List Span) : Type 0 where
   pub folder : pack.folder ≡ folder_of krate
-  pub paths : (ears : Ears) → Agrees ears pack → paths_read pack.reads ≡ reads_of ears krate.license_file (files_of clarifications)
-  pub reads : (ears : Ears) → Agrees ears pack → pack.reads ≡ records_with clarifications krate ears
-  pub held_is : (ears : Ears) → Agrees ears pack → held ≡ option_map held_in (holding ears clarifications)
-  pub missing_is : (ears : Ears) → Agrees ears pack → missing ≡ missing_of ears clarifications
+  pub paths : (ears : FolderReads) → Agrees ears pack → paths_read pack.reads ≡ reads_of ears krate.license_file (named_files clarifications)
+  pub reads : (ears : FolderReads) → Agrees ears pack → pack.reads ≡ records_with clarifications krate ears
+  pub held_is : (ears : FolderReads) → Agrees ears pack → held ≡ option_map held_in (holding ears clarifications)
+  pub missing_is : (ears : FolderReads) → Agrees ears pack → missing ≡ missing_of ears clarifications
 
 -- what settles the licence by some ears, among the clarifications that are for the crate
-pub record IsOrderedBy (scanner : Scanner) (clarifications : List Clarification) (krate : Record) (ears : Ears) (settled : Settled) : Type 0 where
-  pub by : settled.by ≡ settling_of scanner clarifications krate ears
+pub record IsOrderedBy (scanner : Scanner) (clarifications : List ClarificationView) (krate : Record) (ears : FolderReads) (settled : SettledLicense) : Type 0 where
+  pub by : settled.by ≡ basis_of scanner clarifications krate ears
   pub missing : settled.missing ≡ missing_of ears clarifications
   pub reads : settled.reads ≡ records_with clarifications krate ears

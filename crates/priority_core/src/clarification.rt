@@ -57,7 +57,7 @@ impl<'p> NamedFile for FileRef<'p> {
 
 /// The expression of a clarification that holds, and where it stands in the policy's file.
 #[derive(Drop)]
-pub struct Held {
+pub struct HeldClarification {
     pub expression: Expression,
     /// Where the expression's text begins.
     pub offset: usize,
@@ -76,9 +76,9 @@ pub struct ClarificationRef<'p> {
 }
 
 impl<'p> Model for ClarificationRef<'p> {
-    ghost use Rattle.priority_core.specs.Clarification.{Clarification, clarification_code};
+    ghost use Rattle.priority_core.specs.Clarification.{ClarificationView, clarification_code};
 
-    ghost Value = { Clarification };
+    ghost Value = { ClarificationView };
 
     ghost coded = { clarification_code };
 
@@ -113,11 +113,11 @@ impl<'p> ClarificationRef<'p> {
     }
 
     /// The expression and where it stands.
-    pub fn held(&self, alloc: Global) -> Result<Held, AllocError>
+    pub fn held(&self, alloc: Global) -> Result<HeldClarification, AllocError>
         ensures { IfOk result (λ held. held ≡ held_in self.now) }
     {
         let expression = self.expression.copy(alloc)?;
-        Ok(Held {
+        Ok(HeldClarification {
             expression,
             offset: self.offset,
             whole: self.whole,

@@ -8,7 +8,7 @@ pub mod scan;
 pub mod settle;
 pub mod settling;
 
-pub use clarification::{ClarificationRef, FileRef, Held};
+pub use clarification::{ClarificationRef, FileRef, HeldClarification};
 pub use scan::Scan;
-pub use settle::{Settled, Spans, folder, settle_licence};
-pub use settling::{FilesSeen, JoinedNames, Settling};
+pub use settle::{SettledLicense, Spans, folder, settle_licence};
+pub use settling::{FilesSeen, JoinedNames, LicenseBasis};

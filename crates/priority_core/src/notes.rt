@@ -7,7 +7,7 @@ ghost use Rattle.priority_core.specs.Notes.{deprecated_note, file_notes, path_gi
 
 use deny_text::{PathBuf, Text, Texts};
 use diag_core::Notes;
-use expression_core::{Name, Scanned, ScannedFile};
+use expression_core::{IdentifiedName, FileResult, ScannedFile};
 use std::alloc::{AllocError, Global};
 
 /// Notes a file whose text was taken for that of `Pixar`.
@@ -15,7 +15,7 @@ fn note_renamed(
     alloc: Global,
     notes: &mut Notes,
     path: &PathBuf,
-    name: &Name,
+    name: &IdentifiedName,
 ) -> Result<(), AllocError>
     ensures { OnOk result (notes.new ≡ notes.old ++ renamed_note path.now name.now.renamed) }
 {
@@ -33,7 +33,7 @@ fn note_deprecated(
     alloc: Global,
     notes: &mut Notes,
     path: &PathBuf,
-    name: &Name,
+    name: &IdentifiedName,
     deprecated: bool,
 ) -> Result<(), AllocError>
     ensures { OnOk result (notes.new ≡ notes.old ++ deprecated_note path.now name.now.name deprecated) }
@@ -53,11 +53,11 @@ fn note_file(alloc: Global, notes: &mut Notes, file: &ScannedFile) -> Result<(),
     ensures { OnOk result (notes.new ≡ notes.old ++ file_notes file.now) }
 {
     match &file.scanned {
-        Scanned::Bad(_) => Ok(()),
-        Scanned::Unnamed { .. } => Ok(()),
-        Scanned::Low { name, .. } => note_renamed(alloc, notes, &file.path, name),
-        Scanned::Unknown { name, .. } => note_renamed(alloc, notes, &file.path, name),
-        Scanned::Joined {
+        FileResult::Bad(_) => Ok(()),
+        FileResult::Unnamed { .. } => Ok(()),
+        FileResult::Low { name, .. } => note_renamed(alloc, notes, &file.path, name),
+        FileResult::Unknown { name, .. } => note_renamed(alloc, notes, &file.path, name),
+        FileResult::Joined {
             name,
             deprecated,
             ..
@@ -84,7 +84,7 @@ fn push_given(alloc: Global, paths: &mut Texts, file: &ScannedFile) -> Result<()
     ensures { OnOk result (paths.new ≡ paths.old ++ option_to_list (path_given file.now)) }
 {
     match &file.scanned {
-        Scanned::Joined { .. } => {
+        FileResult::Joined { .. } => {
             let path = Text::copy(alloc, file.path.as_path())?;
             paths.push(path)
         }

@@ -4,24 +4,24 @@ ghost use Rattle.std.specs.List.{flat_map, fold};
 ghost use Rattle.std.specs.Option.{option_to_list};
 ghost use Rattle.graph_core.specs.Krate.{record_of};
 ghost use Rattle.pack_core.specs.Calls.{GoesBy, IsMadeBy, Starves, StarvesAmong};
-ghost use Rattle.pack_core.specs.Ears.{Ears, looked_of, tried_of};
+ghost use Rattle.pack_core.specs.Ears.{FolderReads, looked_of, tried_of};
 ghost use Rattle.pack_core.specs.Steps.{Agrees, with_path};
 ghost use Rattle.pack_core.specs.View.{paths_read};
 ghost use Rattle.priority_core.specs.Calls.{IsByReads};
-ghost use Rattle.priority_core.specs.Clarification.{behind, files_of, held_in};
+ghost use Rattle.priority_core.specs.Clarification.{behind, named_files, held_in};
 ghost use Rattle.priority_core.specs.Priority as spec;
 ghost use Rattle.priority_core.specs.Priority.{field_of, folder_of, holding, records_of, records_with};
-ghost use Rattle.priority_core.specs.Settled.{IsSettledBy, missing_of, scanner_with, span_at};
+ghost use Rattle.priority_core.specs.Settled.{IsSettledBy, missing_of, scanner_of_scan, span_at};
 ghost use Rattle.priority_core.specs.Steps.{IsLooked, IsOrderedBy};
 
-use crate::clarification::{ClarificationRef, FileRef, Held};
+use crate::clarification::{ClarificationRef, FileRef, HeldClarification};
 use crate::scan::Scan;
-use crate::settling::{Settling, settle_by_cases};
+use crate::settling::{LicenseBasis, settle_by_cases};
 use catalog_core::Identifier;
 use deny_text::path::parent;
 use deny_text::{ListOf, Span};
 use graph_core::Krate;
-use pack_core::Pack;
+use pack_core::LicensePack;
 use spdx_core::{Catalog, Expression};
 use std::alloc::{AllocError, Global};
 use tree_core::{Reads, Tree};
@@ -31,8 +31,8 @@ pub type Spans = ListOf<Span>;
 
 /// What settles a crate's licence, and the records of the reads that it was made of.
 #[derive(Drop)]
-pub struct Settled {
-    pub by: Settling,
+pub struct SettledLicense {
+    pub by: LicenseBasis,
     /// The places, in the policy's file, of the paths of files that are not there: of each clarification that
     /// was tried, that of the first file that does not match, where nothing is there.
     pub missing: Spans,
@@ -41,9 +41,9 @@ pub struct Settled {
 
 /// A crate's pack, the first clarification that holds by it, and the places of files that are not there.
 #[derive(Drop)]
-struct Clarified {
-    pack: Pack,
-    held: Option<Held>,
+struct ClarifiedPack {
+    pack: LicensePack,
+    held: Option<HeldClarification>,
     missing: Spans,
 }
 
@@ -86,15 +86,15 @@ fn push_missing(
 fn try_all<T: Tree>(
     alloc: Global,
     tree: &mut T,
-    pack: Pack,
+    pack: LicensePack,
     clarifications: &[&ClarificationRef<'_>],
-) -> Result<Clarified, AllocError>
-    ensures paths { IfOk result (λ clarified. (ears : Ears) → Agrees ears clarified.pack
+) -> Result<ClarifiedPack, AllocError>
+    ensures paths { IfOk result (λ clarified. (ears : FolderReads) → Agrees ears clarified.pack
         → paths_read clarified.pack.reads ≡ fold with_path (paths_read pack.reads)
-        (flat_map (looked_of ears) (tried_of ears (files_of (map behind clarifications.now))))) }
-    ensures held { IfOk result (λ clarified. (ears : Ears) → Agrees ears clarified.pack
+        (flat_map (looked_of ears) (tried_of ears (named_files (map behind clarifications.now))))) }
+    ensures held { IfOk result (λ clarified. (ears : FolderReads) → Agrees ears clarified.pack
         → clarified.held ≡ option_map held_in (holding ears (map behind clarifications.now))) }
-    ensures missing { IfOk result (λ clarified. (ears : Ears) → Agrees ears clarified.pack
+    ensures missing { IfOk result (λ clarified. (ears : FolderReads) → Agrees ears clarified.pack
         → clarified.missing ≡ missing_of ears (map behind clarifications.now)) }
     // over any tree: the calls are those of the reads that went into the pack
     ensures goes { IfOk result (λ clarified. GoesBy (T.content tree.old) (T.content tree.new) (T.fault_count tree.old)
@@ -103,7 +103,7 @@ fn try_all<T: Tree>(
     ensures no_memory { OnErr result (Starves (T.content tree.old) (T.content tree.new) (T.fault_count tree.old)
         (T.fault_count tree.new) (T.trace tree.old) (T.trace tree.new)
         pack (λ ears. fold with_path (paths_read pack.reads)
-        (flat_map (looked_of ears) (tried_of ears (files_of (map behind clarifications.now)))))) }
+        (flat_map (looked_of ears) (tried_of ears (named_files (map behind clarifications.now)))))) }
 {
     let mut pack = pack;
     let mut missing = Spans::new(alloc);
@@ -113,14 +113,14 @@ fn try_all<T: Tree>(
         push_missing(&mut missing, clarification.files(), tried.missing)?;
         if tried.holds {
             let held = clarification.held(alloc)?;
-            return Ok(Clarified {
+            return Ok(ClarifiedPack {
                 pack,
                 held: Some(held),
                 missing,
             });
         }
     }
-    Ok(Clarified {
+    Ok(ClarifiedPack {
         pack,
         held: None,
         missing,
@@ -133,7 +133,7 @@ fn look<T: Tree>(
     tree: &mut T,
     krate: &Krate,
     clarifications: &[&ClarificationRef<'_>],
-) -> Result<Clarified, AllocError>
+) -> Result<ClarifiedPack, AllocError>
     ensures looked { IfOk result (λ clarified.
         IsLooked (record_of krate.now) (map behind clarifications.now) clarified.pack clarified.held
         clarified.missing) }
@@ -144,17 +144,17 @@ fn look<T: Tree>(
         (T.fault_count tree.new) (T.trace tree.old) (T.trace tree.new)
         (folder_of (record_of krate.now)) (records_with (map behind clarifications.now) (record_of krate.now))) }
 {
-    let pack = Pack::read(alloc, tree, folder(krate), krate.license_file.as_ref())?;
+    let pack = LicensePack::read(alloc, tree, folder(krate), krate.license_file.as_ref())?;
     let clarified = try_all(alloc, tree, pack, clarifications)?;
     Ok(clarified)
 }
 
 /// By the field alone, where no clarification is for the crate.
-fn settle_by_field(alloc: Global, expression: Expression) -> Settled
-    ensures { result ≡ record { by = Settling.Field expression; missing = []; reads = [] } }
+fn settle_by_field(alloc: Global, expression: Expression) -> SettledLicense
+    ensures { result ≡ record { by = LicenseBasis.Field expression; missing = []; reads = [] } }
 {
-    Settled {
-        by: Settling::Field(expression),
+    SettledLicense {
+        by: LicenseBasis::Field(expression),
         missing: Spans::new(alloc),
         reads: Reads::new(alloc),
     }
@@ -168,12 +168,12 @@ fn settle_by_files<T: Tree, I: Identifier, C: Catalog>(
     krate: &Krate,
     clarifications: &[&ClarificationRef<'_>],
     field: Option<Expression>,
-) -> Result<Settled, AllocError>
+) -> Result<SettledLicense, AllocError>
     requires { field ≡ field_of (C.lists scan.now.catalog.now) (record_of krate.now) }
     ensures answered { let krate = record_of krate.now in IfOk result (λ settled.
         IsByReads (T.content tree.old) (T.content tree.new) (T.fault_count tree.old)
         (T.fault_count tree.new) (T.trace tree.old) (T.trace tree.new)
-        (folder_of krate) settled.reads (λ ears. IsOrderedBy (scanner_with C.lists I.match_of scan.now)
+        (folder_of krate) settled.reads (λ ears. IsOrderedBy (scanner_of_scan C.lists I.match_of scan.now)
         (map behind clarifications.now) krate ears settled)) }
     ensures no_memory { OnErr result (StarvesAmong (T.content tree.old) (T.content tree.new) (T.fault_count tree.old)
         (T.fault_count tree.new) (T.trace tree.old) (T.trace tree.new)
@@ -183,7 +183,7 @@ fn settle_by_files<T: Tree, I: Identifier, C: Catalog>(
     let by = settle_by_cases(alloc, scan, clarified.held, field, &clarified.pack)?;
     let missing = clarified.missing;
     let reads = clarified.pack.into_reads();
-    Ok(Settled { by, missing, reads })
+    Ok(SettledLicense { by, missing, reads })
 }
 
 /// Whether no clarification is for a crate.
@@ -204,17 +204,17 @@ pub fn settle_licence<T: Tree, I: Identifier, C: Catalog>(
     krate: &Krate,
     clarifications: &[&ClarificationRef<'_>],
     field: Option<Expression>,
-) -> Result<Settled, AllocError>
+) -> Result<SettledLicense, AllocError>
     requires { field ≡ field_of (C.lists scan.now.catalog.now) (record_of krate.now) }
     // over any tree, by the answers to the crate's own reads, which are all the calls
     ensures answered { let krate = record_of krate.now in IfOk result (λ settled.
         IsByReads (T.content tree.old) (T.content tree.new) (T.fault_count tree.old)
         (T.fault_count tree.new) (T.trace tree.old) (T.trace tree.new)
-        (folder_of krate) settled.reads (λ ears. IsSettledBy (scanner_with C.lists I.match_of scan.now)
+        (folder_of krate) settled.reads (λ ears. IsSettledBy (scanner_of_scan C.lists I.match_of scan.now)
         (map behind clarifications.now) krate ears settled)) }
     ensures no_memory { OnErr result (StarvesAmong (T.content tree.old) (T.content tree.new) (T.fault_count tree.old)
         (T.fault_count tree.new) (T.trace tree.old) (T.trace tree.new)
-        (folder_of (record_of krate.now)) (records_of (scanner_with C.lists I.match_of scan.now)
+        (folder_of (record_of krate.now)) (records_of (scanner_of_scan C.lists I.match_of scan.now)
         (map behind clarifications.now) (record_of krate.now))) }
 {
     if !is_nothing(clarifications) {

@@ -1,17 +1,17 @@
 //! What settles a licence.
 ghost use Rattle.std.specs.Prelude.{◌≡◌, IfOk};
-ghost use Rattle.priority_core.specs.Priority.{by_seen, files_in, joined_of, settling_by};
-ghost use Rattle.priority_core.specs.Settled.{scanner_with};
+ghost use Rattle.priority_core.specs.Priority.{by_seen, scanned_in, joined_of, settling_by};
+ghost use Rattle.priority_core.specs.Settled.{scanner_of_scan};
 ghost use Rattle.priority_core.specs.Steps.{seen_in};
 
-use crate::clarification::Held;
+use crate::clarification::HeldClarification;
 use crate::notes::{notes_of, paths_given};
 use crate::scan::Scan;
 use catalog_core::Identifier;
 use deny_text::{ListOf, Texts};
 use diag_core::Notes;
 use expression_core::{ScannedFile, joined, scan_pack};
-use pack_core::Pack;
+use pack_core::LicensePack;
 use reads_core::BadRead;
 use spdx_core::{Catalog, Expression};
 use std::alloc::{AllocError, Global};
@@ -37,9 +37,9 @@ pub struct JoinedNames {
 
 /// What settles a licence.
 #[derive(Drop)]
-pub enum Settling {
+pub enum LicenseBasis {
     /// A clarification of the policy, which holds.
-    Clarified(Held),
+    Clarified(HeldClarification),
     /// The crate's own field.
     Field(Expression),
     /// The licence files; joined is the expression of their names, where a file gives one.
@@ -52,7 +52,7 @@ pub enum Settling {
 impl FilesSeen {
     /// What comes of each file; nothing where the folder was not listed.
     pub fn files(&self) -> &[ScannedFile]
-        ensures { result.now ≡ files_in self.now }
+        ensures { result.now ≡ scanned_in self.now }
     {
         match self {
             FilesSeen::Unlisted(_) => &[],
@@ -65,10 +65,10 @@ impl FilesSeen {
 fn seen_of<I: Identifier, C: Catalog>(
     alloc: Global,
     scan: &Scan<'_, I, C>,
-    pack: &Pack,
+    pack: &LicensePack,
 ) -> Result<FilesSeen, AllocError>
     ensures { IfOk result (λ seen.
-        seen ≡ seen_in (scanner_with C.lists I.match_of scan.now) pack.now) }
+        seen ≡ seen_in (scanner_of_scan C.lists I.match_of scan.now) pack.now) }
 {
     match pack.unlisted() {
         Some(error) => Ok(FilesSeen::Unlisted(error)),
@@ -106,31 +106,31 @@ fn joined_names<C: Catalog>(
 fn by_pack<I: Identifier, C: Catalog>(
     alloc: Global,
     scan: &Scan<'_, I, C>,
-    pack: &Pack,
-) -> Result<Settling, AllocError>
-    ensures { let scanner = scanner_with C.lists I.match_of scan.now in IfOk result (λ by.
+    pack: &LicensePack,
+) -> Result<LicenseBasis, AllocError>
+    ensures { let scanner = scanner_of_scan C.lists I.match_of scan.now in IfOk result (λ by.
         by ≡ by_seen scanner.lists (seen_in scanner pack.now)) }
 {
     let seen = seen_of(alloc, scan, pack)?;
     let joined = joined_names(alloc, seen.files(), scan.catalog)?;
-    Ok(Settling::Files { seen, joined })
+    Ok(LicenseBasis::Files { seen, joined })
 }
 
 /// By a clarification that holds, else by the expression of the field, else by the licence files.
 pub(crate) fn settle_by_cases<I: Identifier, C: Catalog>(
     alloc: Global,
     scan: &Scan<'_, I, C>,
-    held: Option<Held>,
+    held: Option<HeldClarification>,
     field: Option<Expression>,
-    pack: &Pack,
-) -> Result<Settling, AllocError>
-    ensures { let scanner = scanner_with C.lists I.match_of scan.now in IfOk result (λ by.
+    pack: &LicensePack,
+) -> Result<LicenseBasis, AllocError>
+    ensures { let scanner = scanner_of_scan C.lists I.match_of scan.now in IfOk result (λ by.
         by ≡ settling_by held field (by_seen scanner.lists (seen_in scanner pack.now))) }
 {
     match held {
-        Some(held) => Ok(Settling::Clarified(held)),
+        Some(held) => Ok(LicenseBasis::Clarified(held)),
         None => match field {
-            Some(expression) => Ok(Settling::Field(expression)),
+            Some(expression) => Ok(LicenseBasis::Field(expression)),
             None => by_pack(alloc, scan, pack),
         },
     }

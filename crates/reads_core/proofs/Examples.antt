@@ -6,17 +6,17 @@ use Rattle.std.specs.Path.{path_components, path_join, path_names}
 use Rattle.std.specs.Str.{is_utf8, chars}
 use lib.Utf8.{encode}
 use Rattle.tree_core.specs.Call as call
-use Rattle.tree_core.specs.Call.{Answered}
-use Rattle.tree_core.specs.Content.{Content, Place, Node, file, folder, resolve, place_cmp, entry_in}
+use Rattle.tree_core.specs.Call.{CallAnswer}
+use Rattle.tree_core.specs.Content.{Content, Place, TreeNode, file, folder, resolve, place_cmp, entry_in}
 use Rattle.tree_core.specs.declared.reads.ReadAnswer.TheVariants.{Failed}
 use Rattle.tree_core.specs.declared.reads.ReadKind.TheVariants.{Manifest, Listing, LicenseFile}
 use Rattle.deny_text.specs.Path.{components_of}
 use Rattle.reads_core.specs.Answered.{call_of}
-use Rattle.reads_core.specs.Read.{Read, calls_in, first_heard, read_heard}
-use Rattle.reads_core.specs.Heard.{Heard, failed, absent, wrong_kind, not_utf8, text, entries, file_heard, is_read, listing_by, listing_heard, place_of, there_heard}
+use Rattle.reads_core.specs.Read.{AnsweredRead, calls_in, first_heard, read_heard}
+use Rattle.reads_core.specs.Heard.{ReadResult, failed, absent, wrong_kind, not_utf8, text, entries, file_heard, is_read, listing_by, listing_heard, read_place, there_heard}
 
 -- `/w` holds the file `LICENSE` of one LF, the file `COPYING` of the byte FF, and the folder `LICENSES`; `/T` is a file
-abbrev stored : List (Place × Node)
+abbrev stored : List (Place × TreeNode)
 stored =
     ([], folder)
     ∷ (codes "T" ∷ [], file (codes "t"))
@@ -30,12 +30,12 @@ abbrev tree : Content
 tree = map.from_sorted stored
 
 -- what it has of a licence file of the crate in `/w`
-abbrev there : List ℕ → Heard
-there path = there_heard LicenseFile tree (place_of LicenseFile (resolve (codes "/w")) (components_of path))
+abbrev there : List ℕ → ReadResult
+there path = there_heard LicenseFile tree (read_place LicenseFile (resolve (codes "/w")) (components_of path))
 
 -- what stands there is what is stored
-looks : (path : List ℕ) → there path ≡ file_heard (map.find place_cmp (place_of LicenseFile (resolve (codes "/w")) (components_of path)) stored)
-looks path = ap file_heard (map.get-from_sorted place_cmp stored (place_of LicenseFile (resolve (codes "/w")) (components_of path)) tt)
+looks : (path : List ℕ) → there path ≡ file_heard (map.find place_cmp (read_place LicenseFile (resolve (codes "/w")) (components_of path)) stored)
+looks path = ap file_heard (map.get-from_sorted place_cmp stored (read_place LicenseFile (resolve (codes "/w")) (components_of path)) tt)
 
 -- a file is a text
 a_text : there (codes "LICENSE") ≡ text (10 ∷ [])
@@ -70,22 +70,22 @@ unfolding path_components path_names is_utf8 chars encode file_heard
 at_root = looks (codes "/T")
 
 -- a listing is found by the root, whatever folder the crate is in
-a_listing : there_heard Listing tree (place_of Listing (resolve (codes "/w")) (components_of (codes "/w")))
+a_listing : there_heard Listing tree (read_place Listing (resolve (codes "/w")) (components_of (codes "/w")))
     ≡ entries ((codes "COPYING", true) ∷ (codes "LICENSE", true) ∷ (codes "LICENSES", false) ∷ [])
 unfolding path_components path_names listing_heard
 a_listing =
     ap (listing_by tree (codes "w" ∷ [])) (map.get-from_sorted place_cmp stored (codes "w" ∷ []) tt)
-    ∙ ap (λ all. entries (filter_map (λ (e : Place × Node). entry_in (codes "w" ∷ []) e.0 e.1) all)) (map.entries-from_sorted place_cmp stored tt)
+    ∙ ap (λ all. entries (filter_map (λ (e : Place × TreeNode). entry_in (codes "w" ∷ []) e.0 e.1) all)) (map.entries-from_sorted place_cmp stored tt)
 
 -- ---- reads with the answers of their calls
 
-abbrev file_read : Answered → Read
+abbrev file_read : CallAnswer → AnsweredRead
 file_read answered = record { recorded = record { path = codes "LICENSE"; kind = LicenseFile; answer = Failed 4 5 }; answer = answered }
 
-abbrev listing_read : Answered → Read
+abbrev listing_read : CallAnswer → AnsweredRead
 listing_read answered = record { recorded = record { path = codes "/w"; kind = Listing; answer = Failed 4 5 }; answer = answered }
 
-abbrev manifest_read : Answered → Read
+abbrev manifest_read : CallAnswer → AnsweredRead
 manifest_read answered = record { recorded = record { path = codes "/w/Cargo.toml"; kind = Manifest; answer = Failed 4 5 }; answer = answered }
 
 -- the folder is listed and the manifest read by their own paths, the licence file by its path from the folder

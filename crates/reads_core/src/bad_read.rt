@@ -15,10 +15,10 @@ pub enum BadRead {
 }
 
 impl From<BadRead> for ReadAnswer {
-    ghost use Rattle.reads_core.specs.Heard.{answer_of};
+    ghost use Rattle.reads_core.specs.Heard.{read_answer_of};
     ghost use Rattle.reads_core.specs.Views.{heard_bad};
 
-    ghost from_gives = { λ error answer. answer ≡ answer_of (heard_bad error) };
+    ghost from_gives = { λ error answer. answer ≡ read_answer_of (heard_bad error) };
 
     fn from(error: BadRead) -> ReadAnswer {
         match error {

@@ -5,8 +5,8 @@ ghost use Rattle.tree_core.specs.Call as call;
 ghost use Rattle.tree_core.specs.Content.{file};
 ghost use Rattle.tree_core.specs.Hearing.{MadeSome};
 ghost use Rattle.tree_core.specs.declared.reads.ReadKind.TheVariants.{Listing};
-ghost use Rattle.reads_core.specs.Answered.{IsListed, IsRead, call_of};
-ghost use Rattle.reads_core.specs.Heard.{file_heard, record_of};
+ghost use Rattle.reads_core.specs.Answered.{IsListed, IsFileRead, call_of};
+ghost use Rattle.reads_core.specs.Heard.{file_heard, read_record_of};
 ghost use Rattle.reads_core.specs.Views.{heard_file, heard_folder};
 
 use crate::bad_read::BadRead;
@@ -33,7 +33,7 @@ fn text_of(bytes: Bytes) -> FileHeard
 
 /// What is heard of the file at a path.
 fn read_at<T: Tree>(alloc: Global, tree: &mut T, path: &str) -> Result<FileHeard, AllocError>
-    ensures read { IfOk result (λ heard. IsRead (T.fault_count tree.old) (T.fault_count tree.new)
+    ensures read { IfOk result (λ heard. IsFileRead (T.fault_count tree.old) (T.fault_count tree.new)
         (T.trace tree.old) (T.trace tree.new) path.now (heard_file heard)) }
     ensures no_memory { OnErr result (T.trace tree.new
         ≡ T.trace tree.old ++ call_of call.read path.now call.no_memory ∷ []) }
@@ -60,7 +60,7 @@ pub fn read_file<T: Tree>(
     folder: &str,
     path: &str,
 ) -> Result<FileHeard, AllocError>
-    ensures read { IfOk result (λ heard. IsRead (T.fault_count tree.old) (T.fault_count tree.new)
+    ensures read { IfOk result (λ heard. IsFileRead (T.fault_count tree.old) (T.fault_count tree.new)
         (T.trace tree.old) (T.trace tree.new) (join_of folder.now path.now) (heard_file heard)) }
     ensures no_memory { OnErr result ((T.trace tree.new ≡ T.trace tree.old)
         ⊎ (T.trace tree.new ≡ T.trace tree.old
@@ -105,7 +105,7 @@ pub fn file_record(
     path: &PathBuf,
     heard: &FileHeard,
 ) -> Result<ReadRecord, AllocError>
-    ensures { IfOk result (λ read. read ≡ record_of kind path.now (heard_file heard.now)) }
+    ensures { IfOk result (λ read. read ≡ read_record_of kind path.now (heard_file heard.now)) }
 {
     let path = PathBuf::copy(alloc, path.as_path())?;
     let answer = match heard {
@@ -121,7 +121,7 @@ pub fn listing_record(
     folder: &str,
     heard: &FolderHeard,
 ) -> Result<ReadRecord, AllocError>
-    ensures { IfOk result (λ read. read ≡ record_of Listing folder.now (heard_folder heard.now)) }
+    ensures { IfOk result (λ read. read ≡ read_record_of Listing folder.now (heard_folder heard.now)) }
 {
     let path = PathBuf::copy(alloc, folder)?;
     let answer = match heard {

@@ -6,24 +6,24 @@ use Rattle.serde_json.specs.View.{view, items_view}
 use Rattle.serde_json.specs.declared.value.Value.{Value}
 use Rattle.records_core.specs.declared.fault.MetaError.{MetaError}
 use Rattle.records_core.specs.declared.fault.MetaError.TheVariants.{Syntax, Shape, Memory}
-use Rattle.records_core.specs.Told.{Told, ◌>>=◌, each, each_item, items_in, Fails}
+use Rattle.records_core.specs.Told.{MetadataReading, ◌>>=◌, each, each_item, items_in, Fails}
 use Rattle.records_core.proofs.Drops.{at-drop}
 
 -- what is told of the rest, behind what was told before
-abbrev pub onto : {T : Type 0} → List T → Told (List T) → Told (List T)
+abbrev pub onto : {T : Type 0} → List T → MetadataReading (List T) → MetadataReading (List T)
 onto done (Ok rest) = Ok (done ++ rest)
 onto done (Err fault) = Err fault
 
-pub onto-nil : {T : Type 0} (told : Told (List T)) → told ≡ onto [] told
+pub onto-nil : {T : Type 0} (told : MetadataReading (List T)) → told ≡ onto [] told
 onto-nil (Ok rest) = refl
 onto-nil (Err fault) = refl
 
-onto-cons : {T : Type 0} (done : List T) (value : T) (told : Told (List T))
+onto-cons : {T : Type 0} (done : List T) (value : T) (told : MetadataReading (List T))
     → onto done (told >>= (λ others. Ok (value ∷ others))) ≡ onto (done ++ value ∷ []) told
 onto-cons done value (Ok rest) = ap Ok (sym (append_assoc done (value ∷ []) rest))
 onto-cons done value (Err fault) = refl
 
-module _ {A T : Type 0} (row : ℕ → A → Told T) where
+module _ {A T : Type 0} (row : ℕ → A → MetadataReading T) where
   each-cons : (i : ℕ) (x : A) (rest : List A) (done : List T) (value : T) → row i x ≡ Ok value
       → onto done (each row i (x ∷ rest)) ≡ onto (done ++ value ∷ []) (each row (i + 1) rest)
   unfolding each
@@ -61,20 +61,20 @@ items-map : (values : List Value) → items_in (items_view values) ≡ map view 
 items-map [] = refl
 items-map (value ∷ values) = ap (λ rest. view value ∷ rest) (items-map values)
 
-pub each-map : {A B T : Type 0} (f : A → B) (row : ℕ → B → Told T) (i : ℕ) (xs : List A)
+pub each-map : {A B T : Type 0} (f : A → B) (row : ℕ → B → MetadataReading T) (i : ℕ) (xs : List A)
     → each row i (map f xs) ≡ each (λ j x. row j (f x)) i xs
 unfolding each
 each-map f row i [] = refl
 each-map f row i (x ∷ xs) =
     ap (λ rest. row i (f x) >>= (λ first. rest >>= (λ others. Ok (first ∷ others)))) (each-map f row (i + 1) xs)
 
-pub each-view : {T : Type 0} (row : ℕ → Data → Told T) (values : List Value)
+pub each-view : {T : Type 0} (row : ℕ → Data → MetadataReading T) (values : List Value)
     → each_item row (items_view values) ≡ each (λ j value. row j (view value)) 0 values
 each-view row values = ap (each row 0) (items-map values) ∙ each-map view row 0 values
 
 -- ---- for a loop over the items: what is told of all is what is told of the rest, behind what was told before
 
-module _ {A T : Type 0} (row : ℕ → A → Told T) (xs : List A) (i : ℕ) (done : List T) (whole : Told (List T)) where
+module _ {A T : Type 0} (row : ℕ → A → MetadataReading T) (xs : List A) (i : ℕ) (done : List T) (whole : MetadataReading (List T)) where
   pub starts : done ≡ [] → whole ≡ each row 0 xs → whole ≡ onto done (each row 0 (drop 0 xs))
   starts none e = rw none (e ∙ onto-nil (each row 0 xs))
 

@@ -9,7 +9,7 @@ use Rattle.std.specs.Cmp.{tied_itself}
 use Rattle.std.specs.Cmp.Lexicographic.{slice_cmp, nat_list_cmp_total}
 use Rattle.std.specs.FinMap.{find, put, is_sorted, slice_cmp-IsAntisymmetric, nat_cmp-IsAntisymmetric}
 use Rattle.std.specs.FinMap.Entries.{by_order, below_all}
-use Rattle.records_core.specs.Sound.{StandsAt, AreApart}
+use Rattle.records_core.specs.Sound.{HasIdAt, AreApart}
 
 abbrev pub by_bytes : List ℕ → List ℕ → Ordering
 by_bytes = slice_cmp nat_cmp
@@ -85,17 +85,17 @@ keys-rise (e ∷ es) h = (below-keys e.0 es (left _ _ h), keys-rise es (right _ 
 -- ---- entries whose keys stand at their values in a list of keys: no two have one value
 
 module _ (ids : List (List ℕ)) where
-  apart : (e f : List ℕ × ℕ) → T (is_lt (by_bytes e.0 f.0)) → StandsAt ids e.0 e.1 → StandsAt ids f.0 f.1 → f.1 ≡ e.1 → ⊥
+  apart : (e f : List ℕ × ℕ) → T (is_lt (by_bytes e.0 f.0)) → HasIdAt ids e.0 e.1 → HasIdAt ids f.0 f.1 → f.1 ≡ e.1 → ⊥
   apart e f h a b same =
       let keys : e.0 ≡ f.0 = same_some e.0 f.0 (sym a ∙ (ap (slice_get ids) (sym same) ∙ b)) in
       subst (λ r. T (is_lt r)) (ap (by_bytes e.0) (sym keys) ∙ tied_itself nat_list_cmp_total e.0) h
 
-  apart-from : (e : List ℕ × ℕ) (es : List (List ℕ × ℕ)) → T (below_all by_bytes e.0 es) → StandsAt ids e.0 e.1
-      → AllEntries (StandsAt ids) es → AllByRecursion (λ q. q ≡ e.1 → ⊥) (map (λ f. f.1) es)
+  apart-from : (e : List ℕ × ℕ) (es : List (List ℕ × ℕ)) → T (below_all by_bytes e.0 es) → HasIdAt ids e.0 e.1
+      → AllEntries (HasIdAt ids) es → AllByRecursion (λ q. q ≡ e.1 → ⊥) (map (λ f. f.1) es)
   apart-from e [] h a all = tt
   apart-from e (f ∷ es) h a all = (apart e f (left _ _ h) a all.0, apart-from e es (right _ _ h) a all.1)
 
-  pub values-apart : (es : List (List ℕ × ℕ)) → T (is_sorted by_bytes es) → AllEntries (StandsAt ids) es
+  pub values-apart : (es : List (List ℕ × ℕ)) → T (is_sorted by_bytes es) → AllEntries (HasIdAt ids) es
       → AreApart (map (λ f. f.1) es)
   values-apart [] h all = tt
   values-apart (e ∷ es) h all = (apart-from e es (left _ _ h) all.0 all.1, values-apart es (right _ _ h) all.1)

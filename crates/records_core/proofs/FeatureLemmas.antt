@@ -8,11 +8,11 @@ use Rattle.serde_json.specs.declared.value.Value.{Value}
 use Rattle.records_core.specs.declared.fault.MetaError.{MetaError}
 use Rattle.records_core.specs.declared.fault.MetaError.TheVariants.{Syntax, Shape, Memory}
 use Rattle.records_core.specs.Packages.{feature_row, features_in}
-use Rattle.records_core.specs.Told.{Told, ◌>>=◌, Fails}
+use Rattle.records_core.specs.Told.{MetadataReading, ◌>>=◌, Fails}
 
 module _ (index : ℕ) (found : TextMapTo (List (List ℕ))) (left : List (String Global × Value)) (name : String Global)
     (value : Value) (rest : List (String Global × Value)) (shown : List ℕ) where
-  row_is : shown ≡ string_bytes name → (told : Told (List (List ℕ))) → feature_row index shown (view value) ≡ told
+  row_is : shown ≡ string_bytes name → (told : MetadataReading (List (List ℕ))) → feature_row index shown (view value) ≡ told
       → feature_row index (string_bytes name) (view value) ≡ told
   row_is s told e = ap (λ text. feature_row index text (view value)) (sym s) ∙ e
 

@@ -5,21 +5,21 @@ use Rattle.serde_json.specs.View.{view, items_view}
 use Rattle.serde_json.specs.declared.value.Value.{Value}
 use Rattle.graph_core.specs.declared.edge.Kinds.{Kinds}
 use Rattle.graph_core.specs.declared.edge.DepKind.{DepKind}
-use Rattle.records_core.specs.declared.fault.Place.TheVariants.{Kind}
+use Rattle.records_core.specs.declared.fault.ObjectPlace.TheVariants.{Kind}
 use Rattle.records_core.specs.Nodes.{kind_row, kinds_in, with_kind}
-use Rattle.records_core.specs.Shape.{Known, known_in, with_place, id_of_item}
+use Rattle.records_core.specs.Shape.{IdPlaces, known_in, with_place, id_of_item}
 use Rattle.records_core.specs.declared.fault.MetaError.{MetaError}
 use Rattle.records_core.specs.declared.fault.MetaError.TheVariants.{Syntax, Shape, Memory}
 use Rattle.records_core.specs.Told.{◌>>=◌, Fails}
 use Rattle.records_core.proofs.Drops.{at-drop}
 
-pub known-step : (known : Known) (xs : List Value) (i : ℕ) (x : Value) → i < length xs → x ≡ get_or xs i x
+pub known-step : (known : IdPlaces) (xs : List Value) (i : ℕ) (x : Value) → i < length xs → x ≡ get_or xs i x
     → known_in known i (items_view (drop i xs))
     ≡ known_in (with_place known i (id_of_item (view x))) (i + 1) (items_view (drop (i + 1) xs))
 unfolding known_in
 known-step known xs i x h at = ap (λ rest. known_in known i (items_view rest)) (at-drop xs i x h at)
 
-pub known-end : (known : Known) (xs : List Value) (i : ℕ) → length xs ≤ i → known_in known i (items_view (drop i xs)) ≡ known
+pub known-end : (known : IdPlaces) (xs : List Value) (i : ℕ) → length xs ≤ i → known_in known i (items_view (drop i xs)) ≡ known
 unfolding known_in
 known-end known xs i h = ap (λ rest. known_in known i (items_view rest)) (drop_all i xs h)
 

@@ -11,14 +11,14 @@ use Rattle.std.proofs.lemmas.Option.{slice_get-map, slice_get_within}
 use Rattle.graph_core.specs.declared.edge.Edge.{Edge}
 use Rattle.graph_core.specs.declared.krate.Krate.{Krate}
 use Rattle.graph_core.specs.Krate.{Record, record_of, id_of, ids_in}
-use Rattle.graph_core.specs.Metadata.{FitTogether, LeadWithin, IsPlace, id_at, link_of, nodes_of}
+use Rattle.graph_core.specs.Metadata.{FitTogether, LeadWithin, IsPlace, crate_id_at, link_of, nodes_of}
 use Rattle.graph_core.specs.Graph.{graph_with}
 use Rattle.records_core.specs.declared.order.Spot.{Spot}
 use Rattle.records_core.specs.Nodes.{Member}
-use Rattle.records_core.specs.Order.{place_of, id_of_member, rank_at, rank_of_member, AreRanks, ranked_edge, ranked_edges}
-use Rattle.records_core.specs.Records.{spot_of, spots_of, id_of_package, link_to, edges_at, node_at}
-use Rattle.records_core.specs.Shape.{Known}
-use Rattle.records_core.specs.Sound.{StandsAt, AreApart}
+use Rattle.records_core.specs.Order.{spot_place, id_of_member, rank_at, rank_of_member, AreRanks, ranked_edge, ranked_edges}
+use Rattle.records_core.specs.Records.{spot_of, spots_of, id_of_package, link_to, edges_of_node, graph_node_at}
+use Rattle.records_core.specs.Shape.{IdPlaces}
+use Rattle.records_core.specs.Sound.{HasIdAt, AreApart}
 use Rattle.records_core.proofs.EntryLemmas.{by_bytes, AllEntries, find-place, keys-rise, values-apart, none_some, same_some}
 
 -- ---- taking out of slots
@@ -81,14 +81,14 @@ module _ (crates : List Krate) where
   id-first None id rest ids e same = absurd (none_some id e)
   id-first (Some krate) id rest ids e same = ap (λ first. first ∷ map id_of rest) (same_some krate.id id e) ∙ ap (λ more. id ∷ more) same
 
-  pub ids-crates_at : (es : List (List ℕ × ℕ)) → AllEntries (StandsAt (map id_of crates)) es
+  pub ids-crates_at : (es : List (List ℕ × ℕ)) → AllEntries (HasIdAt (map id_of crates)) es
       → map id_of (crates_at (map (λ e. e.1) es)) ≡ map (λ e. e.0) es
   ids-crates_at [] h = refl
   ids-crates_at (e ∷ es) h =
       id-first (slice_get crates e.1) e.0 (crates_at (map (λ e. e.1) es)) (map (λ e. e.0) es)
       (sym (slice_get-map id_of crates e.1) ∙ h.0) (ids-crates_at es h.1)
 
-  pub within-entries : (es : List (List ℕ × ℕ)) → AllEntries (StandsAt (map id_of crates)) es → Within (map (λ e. e.1) es)
+  pub within-entries : (es : List (List ℕ × ℕ)) → AllEntries (HasIdAt (map id_of crates)) es → Within (map (λ e. e.1) es)
   within-entries [] h = tt
   within-entries (e ∷ es) h =
       (subst (λ n. e.1 < n) (length-map crates id_of) (slice_get_within (map id_of crates) e.1 e.0 h.0), within-entries es h.1)
@@ -123,7 +123,7 @@ ids-told : (crates : List Krate) → ids_in (map record_of crates) ≡ map id_of
 ids-told [] = refl
 ids-told (krate ∷ crates) = ap (λ rest. krate.id ∷ rest) (ids-told crates)
 
-places-of : (firsts : Known) (es : List (List ℕ × ℕ)) → map place_of (map (spot_of firsts) es) ≡ map (λ e. e.1) es
+places-of : (firsts : IdPlaces) (es : List (List ℕ × ℕ)) → map spot_place (map (spot_of firsts) es) ≡ map (λ e. e.1) es
 places-of firsts [] = refl
 places-of firsts (e ∷ es) = ap (λ rest. e.1 ∷ rest) (places-of firsts es)
 
@@ -132,7 +132,7 @@ same_id None = refl
 same_id (Some krate) = refl
 
 edges-within : (P : Edge → Type 0) (lists : List (List Edge)) → AllByRecursion (AllByRecursion P) lists → (node : Option ℕ)
-    → AllByRecursion P (edges_at lists node)
+    → AllByRecursion P (edges_of_node lists node)
 edges-within P lists all None = tt
 edges-within P [] all (Some node) = tt
 edges-within P (list ∷ lists) all (Some zero) = all.0
@@ -155,92 +155,92 @@ all-every : {A : Type 0} (Q : A → Type 0) → ((x : A) → Q x) → (xs : List
 all-every Q step [] = tt
 all-every Q step (x ∷ xs) = (step x, all-every Q step xs)
 
-module _ (known firsts : Known) (crates : List Krate) (lists : List (List Edge)) (ranks : List ℕ)
-    (located : AllEntries (StandsAt (ids_in (map record_of crates))) (finmap.entries known))
+module _ (known firsts : IdPlaces) (crates : List Krate) (lists : List (List Edge)) (ranks : List ℕ)
+    (located : AllEntries (HasIdAt (ids_in (map record_of crates))) (finmap.entries known))
     (complete : (place : ℕ) (krate : Record) → slice_get (map record_of crates) place ≡ Some krate
     → finmap.get known krate.id ≡ Some place)
     (within : AllByRecursion (AllByRecursion (λ (edge : Edge). edge.to < length crates)) lists) where
   places : List ℕ
-  places = map place_of (spots_of known firsts)
+  places = map spot_place (spots_of known firsts)
 
-  same-places : map place_of (spots_of known firsts) ≡ map (λ e. e.1) (finmap.entries known)
+  same-places : map spot_place (spots_of known firsts) ≡ map (λ e. e.1) (finmap.entries known)
   same-places = places-of firsts (finmap.entries known)
 
-  here : AllEntries (StandsAt (map id_of crates)) (finmap.entries known)
-  here = subst (λ ids. AllEntries (StandsAt ids) (finmap.entries known)) (ids-told crates) located
+  here : AllEntries (HasIdAt (map id_of crates)) (finmap.entries known)
+  here = subst (λ ids. AllEntries (HasIdAt ids) (finmap.entries known)) (ids-told crates) located
 
-  pub places-within : Within crates (map place_of (spots_of known firsts))
+  pub places-within : Within crates (map spot_place (spots_of known firsts))
   places-within = subst (Within crates) (sym same-places) (within-entries crates (finmap.entries known) here)
 
-  pub places-apart : AreApart (map place_of (spots_of known firsts))
+  pub places-apart : AreApart (map spot_place (spots_of known firsts))
   places-apart =
       subst AreApart (sym same-places)
       (values-apart (map id_of crates) (finmap.entries known) (finmap.entries_sorted known) here)
 
   abbrev sorted : List Krate
-  sorted = crates_at crates (map place_of (spots_of known firsts))
+  sorted = crates_at crates (map spot_place (spots_of known firsts))
 
-  rising : IsStrictlySortedBy by_bytes (map id_of (crates_at crates (map place_of (spots_of known firsts))))
+  rising : IsStrictlySortedBy by_bytes (map id_of (crates_at crates (map spot_place (spots_of known firsts))))
   rising =
       subst (IsStrictlySortedBy by_bytes)
       (sym (ap (λ ps. map id_of (crates_at crates ps)) same-places ∙ ids-crates_at crates (finmap.entries known) here))
       (keys-rise (finmap.entries known) (finmap.entries_sorted known))
 
-  module _ (ranked : AreRanks (map place_of (spots_of known firsts)) (length (spots_of known firsts)) ranks) where
+  module _ (ranked : AreRanks (map spot_place (spots_of known firsts)) (length (spots_of known firsts)) ranks) where
     -- the rank of a package is the place of its crate
     rank-is : (place : ℕ) → place < length crates
-        → slice_get (map place_of (spots_of known firsts)) (rank_at ranks place) ≡ Some place
+        → slice_get (map spot_place (spots_of known firsts)) (rank_at ranks place) ≡ Some place
     rank-is place h =
         let found = within-some crates place h in
         let get : finmap.get known found.0.id ≡ Some place =
         complete place (record_of found.0) (slice_get-map record_of crates place ∙ ap (option_map record_of) found.1) in
         let at = find-place found.0.id place (finmap.entries known) (sym (finmap.get-entries known found.0.id) ∙ get) in
-        let spot : slice_get (map place_of (spots_of known firsts)) at.0 ≡ Some place =
+        let spot : slice_get (map spot_place (spots_of known firsts)) at.0 ≡ Some place =
         ap (λ ps. slice_get ps at.0) same-places ∙ at.1 in
         ranked at.0 place
-        (subst (λ n. at.0 < n) (length-map (spots_of known firsts) place_of)
-        (slice_get_within (map place_of (spots_of known firsts)) at.0 place spot))
+        (subst (λ n. at.0 < n) (length-map (spots_of known firsts) spot_place)
+        (slice_get_within (map spot_place (spots_of known firsts)) at.0 place spot))
         spot
 
     rank-below : (place : ℕ) → place < length crates
-        → rank_at ranks place < length (crates_at crates (map place_of (spots_of known firsts)))
+        → rank_at ranks place < length (crates_at crates (map spot_place (spots_of known firsts)))
     rank-below place h =
-        subst (λ n. rank_at ranks place < n) (sym (length-crates_at crates (map place_of (spots_of known firsts)) places-within))
-        (slice_get_within (map place_of (spots_of known firsts)) (rank_at ranks place) place (rank-is place h))
+        subst (λ n. rank_at ranks place < n) (sym (length-crates_at crates (map spot_place (spots_of known firsts)) places-within))
+        (slice_get_within (map spot_place (spots_of known firsts)) (rank_at ranks place) place (rank-is place h))
 
     id-is : (place : ℕ) → place < length crates
-        → id_at (crates_at crates (map place_of (spots_of known firsts))) (rank_at ranks place) ≡ id_of_package (map record_of crates) place
+        → crate_id_at (crates_at crates (map spot_place (spots_of known firsts))) (rank_at ranks place) ≡ id_of_package (map record_of crates) place
     id-is place h =
-        ap (λ o. unwrap_or o []) (slice_get-map id_of (crates_at crates (map place_of (spots_of known firsts))) (rank_at ranks place))
+        ap (λ o. unwrap_or o []) (slice_get-map id_of (crates_at crates (map spot_place (spots_of known firsts))) (rank_at ranks place))
         ∙ (ap (λ o. unwrap_or (option_map id_of o) [])
-        (at-crates_at crates (map place_of (spots_of known firsts)) places-within (rank_at ranks place) place (rank-is place h))
+        (at-crates_at crates (map spot_place (spots_of known firsts)) places-within (rank_at ranks place) place (rank-is place h))
         ∙ (same_id (slice_get crates place)
         ∙ ap (λ o. option_map_or (λ (krate : Record). krate.id) o []) (sym (slice_get-map record_of crates place))))
 
     links : (edges : List Edge) → AllByRecursion (λ (edge : Edge). edge.to < length crates) edges
-        → map (link_of (crates_at crates (map place_of (spots_of known firsts)))) (map (ranked_edge ranks) edges)
+        → map (link_of (crates_at crates (map spot_place (spots_of known firsts)))) (map (ranked_edge ranks) edges)
         ≡ map (link_to (map record_of crates)) edges
     links [] h = refl
     links (edge ∷ edges) h =
-        ap (λ id. record { to = id; kinds = edge.kinds } ∷ map (link_of (crates_at crates (map place_of (spots_of known firsts)))) (map (ranked_edge ranks) edges)) (id-is edge.to h.0)
+        ap (λ id. record { to = id; kinds = edge.kinds } ∷ map (link_of (crates_at crates (map spot_place (spots_of known firsts)))) (map (ranked_edge ranks) edges)) (id-is edge.to h.0)
         ∙ ap (λ rest. link_to (map record_of crates) edge ∷ rest) (links edges h.1)
 
-    nodes : (spots : List Spot) → Within crates (map place_of spots)
-        → nodes_of (crates_at crates (map place_of (spots_of known firsts))) (crates_at crates (map place_of spots)) (map (ranked_edges ranks lists) spots)
-        ≡ filter_map (node_at (map record_of crates) lists) spots
+    nodes : (spots : List Spot) → Within crates (map spot_place spots)
+        → nodes_of (crates_at crates (map spot_place (spots_of known firsts))) (crates_at crates (map spot_place spots)) (map (ranked_edges ranks lists) spots)
+        ≡ filter_map (graph_node_at (map record_of crates) lists) spots
     nodes [] h = refl
     nodes (spot ∷ spots) h =
-        let found = first-at crates spot.place (map place_of spots) h.0 in
+        let found = first-at crates spot.place (map spot_place spots) h.0 in
         let told : slice_get (map record_of crates) spot.place ≡ Some (record_of found.0) =
         slice_get-map record_of crates spot.place ∙ ap (option_map record_of) found.1 in
-        ap (λ list. nodes_of (crates_at crates (map place_of (spots_of known firsts))) list (map (ranked_edges ranks lists) (spot ∷ spots))) found.2
-        ∙ (ap (λ found_edges. record { krate = record_of found.0; edges = found_edges } ∷ nodes_of (crates_at crates (map place_of (spots_of known firsts))) (crates_at crates (map place_of spots)) (map (ranked_edges ranks lists) spots))
-        (links (edges_at lists spot.node) (edges-within (λ (edge : Edge). edge.to < length crates) lists within spot.node))
-        ∙ (ap (λ rest. record { krate = record_of found.0; edges = map (link_to (map record_of crates)) (edges_at lists spot.node) } ∷ rest) (nodes spots h.1)
-        ∙ ap (λ o. cons_option (option_map (λ krate. record { krate = krate; edges = map (link_to (map record_of crates)) (edges_at lists spot.node) }) o) (filter_map (node_at (map record_of crates) lists) spots)) (sym told)))
+        ap (λ list. nodes_of (crates_at crates (map spot_place (spots_of known firsts))) list (map (ranked_edges ranks lists) (spot ∷ spots))) found.2
+        ∙ (ap (λ found_edges. record { krate = record_of found.0; edges = found_edges } ∷ nodes_of (crates_at crates (map spot_place (spots_of known firsts))) (crates_at crates (map spot_place spots)) (map (ranked_edges ranks lists) spots))
+        (links (edges_of_node lists spot.node) (edges-within (λ (edge : Edge). edge.to < length crates) lists within spot.node))
+        ∙ (ap (λ rest. record { krate = record_of found.0; edges = map (link_to (map record_of crates)) (edges_of_node lists spot.node) } ∷ rest) (nodes spots h.1)
+        ∙ ap (λ o. cons_option (option_map (λ krate. record { krate = krate; edges = map (link_to (map record_of crates)) (edges_of_node lists spot.node) }) o) (filter_map (graph_node_at (map record_of crates) lists) spots)) (sym told)))
 
-    member-id : (member : Member) → StandsAt (ids_in (map record_of crates)) member.id member.place
-        → (member.place < length crates) × (id_at (crates_at crates (map place_of (spots_of known firsts))) (rank_at ranks member.place) ≡ member.id)
+    member-id : (member : Member) → HasIdAt (ids_in (map record_of crates)) member.id member.place
+        → (member.place < length crates) × (crate_id_at (crates_at crates (map spot_place (spots_of known firsts))) (rank_at ranks member.place) ≡ member.id)
     member-id member at =
         let stands : slice_get (map id_of crates) member.place ≡ Some member.id =
         ap (λ ids. slice_get ids member.place) (sym (ids-told crates)) ∙ at in
@@ -254,62 +254,62 @@ module _ (known firsts : Known) (crates : List Krate) (lists : List (List Edge))
         )
 
     members-are : (members : List Member)
-        → AllByRecursion (λ (member : Member). StandsAt (ids_in (map record_of crates)) member.id member.place) members
-        → map (id_at (crates_at crates (map place_of (spots_of known firsts)))) (map (rank_of_member ranks) members) ≡ map id_of_member members
+        → AllByRecursion (λ (member : Member). HasIdAt (ids_in (map record_of crates)) member.id member.place) members
+        → map (crate_id_at (crates_at crates (map spot_place (spots_of known firsts)))) (map (rank_of_member ranks) members) ≡ map id_of_member members
     members-are [] h = refl
     members-are (member ∷ members) h =
-        ap (λ id. id ∷ map (id_at (crates_at crates (map place_of (spots_of known firsts)))) (map (rank_of_member ranks) members)) (member-id member h.0).1
+        ap (λ id. id ∷ map (crate_id_at (crates_at crates (map spot_place (spots_of known firsts)))) (map (rank_of_member ranks) members)) (member-id member h.0).1
         ∙ ap (λ rest. member.id ∷ rest) (members-are members h.1)
 
     root-is : (root : Option ℕ) → IfSome root (λ place. place < length crates)
-        → IsPlace (length (crates_at crates (map place_of (spots_of known firsts)))) (option_map (rank_at ranks) root)
+        → IsPlace (length (crates_at crates (map spot_place (spots_of known firsts)))) (option_map (rank_at ranks) root)
     root-is None h = tt
     root-is (Some place) h = rank-below place h
 
     root-id : (root : Option ℕ) → IfSome root (λ place. place < length crates)
-        → option_map (id_at (crates_at crates (map place_of (spots_of known firsts)))) (option_map (rank_at ranks) root)
+        → option_map (crate_id_at (crates_at crates (map spot_place (spots_of known firsts)))) (option_map (rank_at ranks) root)
         ≡ option_map (id_of_package (map record_of crates)) root
     root-id None h = refl
     root-id (Some place) h = ap Some (id-is place h)
 
     pub fit : (members : List Member) (root : Option ℕ)
-        → AllByRecursion (λ (member : Member). StandsAt (ids_in (map record_of crates)) member.id member.place) members
+        → AllByRecursion (λ (member : Member). HasIdAt (ids_in (map record_of crates)) member.id member.place) members
         → IfSome root (λ place. place < length crates)
-        → FitTogether (crates_at crates (map place_of (spots_of known firsts))) (map (ranked_edges ranks lists) (spots_of known firsts))
+        → FitTogether (crates_at crates (map spot_place (spots_of known firsts))) (map (ranked_edges ranks lists) (spots_of known firsts))
         (map id_of_member members) (map (rank_of_member ranks) members) (option_map (rank_at ranks) root)
     fit members root stand below = record {
       rising = rising;
       counted = length-map (spots_of known firsts) (ranked_edges ranks lists)
-          ∙ (sym (length-map (spots_of known firsts) place_of)
-          ∙ sym (length-crates_at crates (map place_of (spots_of known firsts)) places-within));
-      within = all-index (LeadWithin (length (crates_at crates (map place_of (spots_of known firsts))))) (map (ranked_edges ranks lists) (spots_of known firsts))
-          (all-map (LeadWithin (length (crates_at crates (map place_of (spots_of known firsts))))) (ranked_edges ranks lists) (spots_of known firsts)
-          (all-every (λ spot. LeadWithin (length (crates_at crates (map place_of (spots_of known firsts)))) (ranked_edges ranks lists spot))
-          (λ spot. all-index (λ (edge : Edge). edge.to < length (crates_at crates (map place_of (spots_of known firsts)))) (ranked_edges ranks lists spot)
-          (all-map (λ (edge : Edge). edge.to < length (crates_at crates (map place_of (spots_of known firsts)))) (ranked_edge ranks) (edges_at lists spot.node)
-          (all-step (λ (edge : Edge). edge.to < length crates) (λ (edge : Edge). rank_at ranks edge.to < length (crates_at crates (map place_of (spots_of known firsts))))
-          (λ edge h. rank-below edge.to h) (edges_at lists spot.node) (edges-within (λ (edge : Edge). edge.to < length crates) lists within spot.node))))
+          ∙ (sym (length-map (spots_of known firsts) spot_place)
+          ∙ sym (length-crates_at crates (map spot_place (spots_of known firsts)) places-within));
+      within = all-index (LeadWithin (length (crates_at crates (map spot_place (spots_of known firsts))))) (map (ranked_edges ranks lists) (spots_of known firsts))
+          (all-map (LeadWithin (length (crates_at crates (map spot_place (spots_of known firsts))))) (ranked_edges ranks lists) (spots_of known firsts)
+          (all-every (λ spot. LeadWithin (length (crates_at crates (map spot_place (spots_of known firsts)))) (ranked_edges ranks lists spot))
+          (λ spot. all-index (λ (edge : Edge). edge.to < length (crates_at crates (map spot_place (spots_of known firsts)))) (ranked_edges ranks lists spot)
+          (all-map (λ (edge : Edge). edge.to < length (crates_at crates (map spot_place (spots_of known firsts)))) (ranked_edge ranks) (edges_of_node lists spot.node)
+          (all-step (λ (edge : Edge). edge.to < length crates) (λ (edge : Edge). rank_at ranks edge.to < length (crates_at crates (map spot_place (spots_of known firsts))))
+          (λ edge h. rank-below edge.to h) (edges_of_node lists spot.node) (edges-within (λ (edge : Edge). edge.to < length crates) lists within spot.node))))
           (spots_of known firsts)));
       member_ids = members-are members stand;
-      member_places = all-index (λ place. place < length (crates_at crates (map place_of (spots_of known firsts)))) (map (rank_of_member ranks) members)
-          (all-map (λ place. place < length (crates_at crates (map place_of (spots_of known firsts)))) (rank_of_member ranks) members
-          (all-step (λ (member : Member). StandsAt (ids_in (map record_of crates)) member.id member.place)
-          (λ (member : Member). rank_at ranks member.place < length (crates_at crates (map place_of (spots_of known firsts))))
+      member_places = all-index (λ place. place < length (crates_at crates (map spot_place (spots_of known firsts)))) (map (rank_of_member ranks) members)
+          (all-map (λ place. place < length (crates_at crates (map spot_place (spots_of known firsts)))) (rank_of_member ranks) members
+          (all-step (λ (member : Member). HasIdAt (ids_in (map record_of crates)) member.id member.place)
+          (λ (member : Member). rank_at ranks member.place < length (crates_at crates (map spot_place (spots_of known firsts))))
           (λ member at. rank-below member.place (member-id member at).0) members stand));
       root_place = root-is root below;
     }
 
     pub same_graph : (members : List Member) (folder : List ℕ) (root : Option ℕ) → IfSome root (λ place. place < length crates)
-        → graph_with (crates_at crates (map place_of (spots_of known firsts))) (map (ranked_edges ranks lists) (spots_of known firsts))
+        → graph_with (crates_at crates (map spot_place (spots_of known firsts))) (map (ranked_edges ranks lists) (spots_of known firsts))
         (map id_of_member members) folder (option_map (rank_at ranks) root)
         ≡ record {
-          nodes = filter_map (node_at (map record_of crates) lists) (spots_of known firsts);
+          nodes = filter_map (graph_node_at (map record_of crates) lists) (spots_of known firsts);
           members = map id_of_member members;
           workspace_root = folder;
           root = option_map (id_of_package (map record_of crates)) root;
         }
     same_graph members folder root below =
-        ap (λ found. record { nodes = found; members = map id_of_member members; workspace_root = folder; root = option_map (id_at (crates_at crates (map place_of (spots_of known firsts)))) (option_map (rank_at ranks) root) })
+        ap (λ found. record { nodes = found; members = map id_of_member members; workspace_root = folder; root = option_map (crate_id_at (crates_at crates (map spot_place (spots_of known firsts)))) (option_map (rank_at ranks) root) })
         (nodes (spots_of known firsts) places-within)
-        ∙ ap (λ found. record { nodes = filter_map (node_at (map record_of crates) lists) (spots_of known firsts); members = map id_of_member members; workspace_root = folder; root = found })
+        ∙ ap (λ found. record { nodes = filter_map (graph_node_at (map record_of crates) lists) (spots_of known firsts); members = map id_of_member members; workspace_root = folder; root = found })
         (root-id root below)

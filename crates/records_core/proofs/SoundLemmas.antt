@@ -11,38 +11,38 @@ use Rattle.graph_core.specs.declared.edge.Edge.{Edge}
 use Rattle.graph_core.specs.Krate.{Record, ids_in}
 use Rattle.records_core.specs.declared.fault.MetaFault.{MetaFault}
 use Rattle.records_core.specs.declared.fault.MetaReason.TheVariants.{RepeatedId}
-use Rattle.records_core.specs.declared.fault.Place.TheVariants.{Package, Root, Resolve, Dep}
+use Rattle.records_core.specs.declared.fault.ObjectPlace.TheVariants.{Package, Root, Resolve, Dep}
 use Rattle.records_core.specs.Floats.{unless_float}
-use Rattle.records_core.specs.Nodes.{Member, RootTold, ResolveTold, NodeTold, NodesTold, DepTold, member_row, members_in, object_at, root_row, known_or_null, resolve_row, nodes_in, dep_row, deps_in, all_deps, kinds_list_at, kinds_of, edge_row, edges_in, all_edges}
-use Rattle.records_core.specs.Packages.{Named, id_row, manifest_row, version_row, named_row, described_row, listed_row, record_with, package_row, packages_in}
-use Rattle.records_core.specs.Records.{Rows, rows_in}
-use Rattle.records_core.specs.Shape.{Known, object_here, text_from, text_at, text_here, list_at, optional_text_at, id_from, id_of_item, with_place, known_in, known_of, known_from, known_place, new_from}
-use Rattle.records_core.specs.Sound.{StandsAt, AreSound}
-use Rattle.records_core.specs.Told.{Told, ◌>>=◌, each, items_in, fault_at, place_text, key_place, item_place}
+use Rattle.records_core.specs.Nodes.{Member, RootTold, ResolveTold, NodeTold, NodesTold, DepTold, member_row, members_in, object_at, root_row, known_or_null, resolve_row, nodes_read, dep_row, deps_in, all_deps, kinds_list_at, kinds_of, edge_row, edges_in, all_edges}
+use Rattle.records_core.specs.Packages.{PackageKeys, id_row, manifest_row, version_row, named_row, described_row, listed_row, record_with, package_row, packages_in}
+use Rattle.records_core.specs.Records.{MetadataRows, rows_in}
+use Rattle.records_core.specs.Shape.{IdPlaces, object_here, text_from, text_at, text_here, list_at, optional_text_at, id_from, id_of_item, with_place, known_in, known_of, known_from, known_place, new_from}
+use Rattle.records_core.specs.Sound.{HasIdAt, AreSound}
+use Rattle.records_core.specs.Told.{MetadataReading, ◌>>=◌, each, items_in, meta_fault, object_place_text, key_place, item_place}
 use Rattle.records_core.proofs.EntryLemmas.{by_bytes, AllEntries, all-put, all-find, all-weaker, none_some, same_some}
 
 -- ---- one step after another
 
-fault_ok : {A : Type 0} (fault : MetaFault) (value : A) → ◌≡◌ {A = Told A} (Err fault) (Ok value) → ⊥
+fault_ok : {A : Type 0} (fault : MetaFault) (value : A) → ◌≡◌ {A = MetadataReading A} (Err fault) (Ok value) → ⊥
 fault_ok fault value e = subst T (sym (ap is_ok e)) tt
 
-abbrev or_value : {A : Type 0} → Told A → A → A
+abbrev or_value : {A : Type 0} → MetadataReading A → A → A
 or_value (Ok value) other = value
 or_value (Err fault) other = other
 
-same_ok : {A : Type 0} (x y : A) → ◌≡◌ {A = Told A} (Ok x) (Ok y) → x ≡ y
+same_ok : {A : Type 0} (x y : A) → ◌≡◌ {A = MetadataReading A} (Ok x) (Ok y) → x ≡ y
 same_ok x y e = ap (λ told. or_value told x) e
 
-abbrev Went : {A B : Type 0} → Told A → (A → Told B) → B → Type 0
+abbrev Went : {A B : Type 0} → MetadataReading A → (A → MetadataReading B) → B → Type 0
 Went {A} told next value = (first : A) × (told ≡ Ok first) × (next first ≡ Ok value)
 
-went : {A B : Type 0} (told : Told A) (next : A → Told B) (value : B) → told >>= next ≡ Ok value → Went told next value
+went : {A B : Type 0} (told : MetadataReading A) (next : A → MetadataReading B) (value : B) → told >>= next ≡ Ok value → Went told next value
 went (Ok first) next value e = (first, refl, e)
 went (Err fault) next value e = absurd (fault_ok fault value e)
 
 -- ---- lists
 
-module _ {A V : Type 0} (row : ℕ → A → Told V) where
+module _ {A V : Type 0} (row : ℕ → A → MetadataReading V) where
   record Split (i : ℕ) (first : A) (rest : List A) (all : List V) : Type 0 where
     told : V
     others : List V
@@ -127,12 +127,12 @@ new_is : (index : ℕ) (place id : List ℕ) (found : Option ℕ) (told : List �
     → (id ≡ told) × (found ≡ Some index)
 new_is index place id None told e = absurd (fault_ok _ told e)
 new_is index place id (Some first) told e =
-    elim (first == index) as (λ b. (first == index) ≡ b → ◌≡◌ {A = Told (List ℕ)} (cond b (Ok id) (fault_at place RepeatedId)) (Ok told) → (id ≡ told) × (Some first ≡ Some index)) [
+    elim (first == index) as (λ b. (first == index) ≡ b → ◌≡◌ {A = MetadataReading (List ℕ)} (cond b (Ok id) (meta_fault place RepeatedId)) (Ok told) → (id ≡ told) × (Some first ≡ Some index)) [
       | true ↦ λ same is. (same_ok id told is, ap Some (eqb-true first index same))
       | false ↦ λ same is. absurd (fault_ok _ told is)
     ] refl e
 
-id_is : (known : Known) (index : ℕ) (found : Data) (id : List ℕ) → id_row known index found ≡ Ok id
+id_is : (known : IdPlaces) (index : ℕ) (found : Data) (id : List ℕ) → id_row known index found ≡ Ok id
     → (id_of_item found ≡ Some id) × (finmap.get known id ≡ Some index)
 unfolding id_row
 id_is known index found id e =
@@ -140,7 +140,7 @@ id_is known index found id e =
     let new = new_is index (key_place (Package index) (codes "id")) one.0 (finmap.get known one.0) id one.2 in
     (text_is _ _ one.0 one.1 ∙ ap Some new.0, ap (finmap.get known) (sym new.0) ∙ new.1)
 
-named_id : (known : Known) (index : ℕ) (found : Data) (named : Named) → named_row known index found ≡ Ok named
+named_id : (known : IdPlaces) (index : ℕ) (found : Data) (named : PackageKeys) → named_row known index found ≡ Ok named
     → id_row known index found ≡ Ok named.id
 unfolding named_row
 named_id known index found named e =
@@ -151,12 +151,12 @@ named_id known index found named e =
     two.1 ∙ ap Ok (ap (λ named. named.id) (same_ok _ named four.2))
 
 -- a package is known by its id, at its place
-pub package_is : (sparse_dir : List ℕ) (known : Known) (index : ℕ) (found : Data) (krate : Record)
+pub package_is : (sparse_dir : List ℕ) (known : IdPlaces) (index : ℕ) (found : Data) (krate : Record)
     → package_row sparse_dir known index found ≡ Ok krate
     → (id_of_item found ≡ Some krate.id) × (finmap.get known krate.id ≡ Some index)
 unfolding package_row
 package_is sparse_dir known index found krate e =
-    let one = went (object_here (place_text (Package index)) found) _ krate e in
+    let one = went (object_here (object_place_text (Package index)) found) _ krate e in
     let two = went (named_row known index one.0) _ krate one.2 in
     let three = went (described_row sparse_dir index two.0.manifest_path one.0) _ krate two.2 in
     let four = went (listed_row index one.0) _ krate three.2 in
@@ -166,7 +166,7 @@ package_is sparse_dir known index found krate e =
 
 -- ---- the ids of packages
 
-place-all : (ids : List (Option (List ℕ))) (known : Known) (index : ℕ) (id : Option (List ℕ)) → slice_get ids index ≡ Some id
+place-all : (ids : List (Option (List ℕ))) (known : IdPlaces) (index : ℕ) (id : Option (List ℕ)) → slice_get ids index ≡ Some id
     → AllEntries (λ id place. slice_get ids place ≡ Some (Some id)) (finmap.entries known)
     → AllEntries (λ id place. slice_get ids place ≡ Some (Some id)) (finmap.entries (with_place known index id))
 place-all ids known index None at all = all
@@ -177,7 +177,7 @@ place-all ids known index (Some id) at all =
           (all-put (λ id place. slice_get ids place ≡ Some (Some id)) id index (finmap.entries known) at all)
     ]
 
-known-all : (ids : List (Option (List ℕ))) (known : Known) (index : ℕ) (items : Items)
+known-all : (ids : List (Option (List ℕ))) (known : IdPlaces) (index : ℕ) (items : Items)
     → ((j : ℕ) → slice_get (map id_of_item (items_in items)) j ≡ slice_get ids (index + j))
     → AllEntries (λ id place. slice_get ids place ≡ Some (Some id)) (finmap.entries known)
     → AllEntries (λ id place. slice_get ids place ≡ Some (Some id)) (finmap.entries (known_in known index items))
@@ -213,7 +213,7 @@ some_of_map f (x ∷ xs) (suc i) y e = some_of_map f xs i y e
 module _ (sparse_dir : List ℕ) (packages : Items) (crates : List Record)
     (told : packages_in sparse_dir (known_of packages) packages ≡ Ok crates) where
   stands : (id : List ℕ) (place : ℕ) → slice_get (map id_of_item (items_in packages)) place ≡ Some (Some id)
-      → StandsAt (ids_in crates) id place
+      → HasIdAt (ids_in crates) id place
   stands id place at =
       let found = some_of_map id_of_item (items_in packages) place (Some id) at in
       let one = each-at (package_row sparse_dir (known_of packages)) 0 (items_in packages) crates told place found.0 found.1 in
@@ -221,7 +221,7 @@ module _ (sparse_dir : List ℕ) (packages : Items) (crates : List Record)
       slice_get-map (λ krate. krate.id) crates place
       ∙ (ap (option_map (λ krate. krate.id)) one.1 ∙ ap Some (same_some one.0.id id (sym is.0 ∙ found.2)))
 
-  pub located : AllEntries (StandsAt (ids_in crates)) (finmap.entries (known_of packages))
+  pub located : AllEntries (HasIdAt (ids_in crates)) (finmap.entries (known_of packages))
   located = all-weaker _ _ stands (finmap.entries (known_of packages)) (known-has packages)
 
   pub complete : (place : ℕ) (krate : Record) → slice_get crates place ≡ Some krate
@@ -231,9 +231,9 @@ module _ (sparse_dir : List ℕ) (packages : Items) (crates : List Record)
       (package_is sparse_dir (known_of packages) (0 + place) one.0 krate one.1).1 ∙ ap Some (omega arith)
 
   -- an id that is known leads to the crate that has it
-  pub leads : (id : List ℕ) (place : ℕ) → finmap.get (known_of packages) id ≡ Some place → StandsAt (ids_in crates) id place
+  pub leads : (id : List ℕ) (place : ℕ) → finmap.get (known_of packages) id ≡ Some place → HasIdAt (ids_in crates) id place
   leads id place e =
-      all-find (StandsAt (ids_in crates)) id place (finmap.entries (known_of packages)) located
+      all-find (HasIdAt (ids_in crates)) id place (finmap.entries (known_of packages)) located
       (sym (finmap.get-entries (known_of packages) id) ∙ e)
 
   pub below : (id : List ℕ) (place : ℕ) → finmap.get (known_of packages) id ≡ Some place → place < length crates
@@ -242,10 +242,10 @@ module _ (sparse_dir : List ℕ) (packages : Items) (crates : List Record)
 
 -- ---- members, the root and edges
 
-abbrev Reaches : Known → ℕ → Type 0
+abbrev Reaches : IdPlaces → ℕ → Type 0
 Reaches known place = (id : List ℕ) × (finmap.get known id ≡ Some place)
 
-member_is : (known : Known) (index : ℕ) (found : Data) (told : Member) → member_row known index found ≡ Ok told
+member_is : (known : IdPlaces) (index : ℕ) (found : Data) (told : Member) → member_row known index found ≡ Ok told
     → finmap.get known told.id ≡ Some told.place
 unfolding member_row
 member_is known index found told e =
@@ -254,22 +254,22 @@ member_is known index found told e =
     subst (λ (row : Member). finmap.get known row.id ≡ Some row.place) (same_ok (record { id = one.0; place = two.0 }) told two.2)
     (known_is _ (finmap.get known one.0) two.0 two.1)
 
-members_are : (known : Known) (items : Items) (members : List Member) → members_in known items ≡ Ok members
+members_are : (known : IdPlaces) (items : Items) (members : List Member) → members_in known items ≡ Ok members
     → AllByRecursion (λ member. finmap.get known member.id ≡ Some member.place) members
 members_are known items members e =
     each-all (member_row known) Anything (λ member. finmap.get known member.id ≡ Some member.place)
     (λ i x y any is. member_is known i x y is) 0 (items_in items) members (all_anything (items_in items)) e
 
-dep_is : (known : Known) (i j : ℕ) (found : Data) (dep : DepTold) → dep_row known i j found ≡ Ok dep → Reaches known dep.to
+dep_is : (known : IdPlaces) (i j : ℕ) (found : Data) (dep : DepTold) → dep_row known i j found ≡ Ok dep → Reaches known dep.to
 unfolding dep_row
 dep_is known i j found dep e =
-    let one = went (object_here (place_text (Dep i j)) found) _ dep e in
+    let one = went (object_here (object_place_text (Dep i j)) found) _ dep e in
     let two = went (text_at (Dep i j) (codes "pkg") one.0) _ dep one.2 in
     let three = went (known_place known (key_place (Dep i j) (codes "pkg")) two.0) _ dep two.2 in
     let four = went (kinds_list_at (Dep i j) (codes "dep_kinds") one.0) _ dep three.2 in
     (two.0, known_is _ (finmap.get known two.0) three.0 three.1 ∙ ap (λ (dep : DepTold). Some dep.to) (same_ok _ dep four.2))
 
-deps_are : (known : Known) (nodes : List NodeTold) (lists : List (List DepTold)) → all_deps known nodes ≡ Ok lists
+deps_are : (known : IdPlaces) (nodes : List NodeTold) (lists : List (List DepTold)) → all_deps known nodes ≡ Ok lists
     → AllByRecursion (AllByRecursion (λ dep. Reaches known dep.to)) lists
 deps_are known nodes lists e =
     each-all (deps_in known) Anything (AllByRecursion (λ dep. Reaches known dep.to))
@@ -284,7 +284,7 @@ edge_is i j dep edge e =
     let one = went (kinds_of i j dep.kinds) _ edge e in
     ap (λ (edge : Edge). edge.to) (same_ok _ edge one.2)
 
-edges_are : (known : Known) (lists : List (List DepTold)) (edges : List (List Edge)) → all_edges lists ≡ Ok edges
+edges_are : (known : IdPlaces) (lists : List (List DepTold)) (edges : List (List Edge)) → all_edges lists ≡ Ok edges
     → AllByRecursion (AllByRecursion (λ dep. Reaches known dep.to)) lists
     → AllByRecursion (AllByRecursion (λ edge. Reaches known edge.to)) edges
 edges_are known lists edges e all =
@@ -294,14 +294,14 @@ edges_are known lists edges e all =
     (λ j x y reach is. subst (Reaches known) (edge_is i j x y is) reach) 0 deps list reach is)
     0 lists edges all e
 
-root_known : (known : Known) (place : List ℕ) (text : Option (List ℕ)) (root : Option ℕ)
+root_known : (known : IdPlaces) (place : List ℕ) (text : Option (List ℕ)) (root : Option ℕ)
     → known_or_null known place text ≡ Ok root → IfSome root (Reaches known)
 root_known known place None root e = subst (λ root. IfSome root (Reaches known)) (same_ok None root e) tt
 root_known known place (Some id) root e =
     let one = went (known_place known place id) _ root e in
     subst (λ root. IfSome root (Reaches known)) (same_ok (Some one.0) root one.2) (id, known_is _ (finmap.get known id) one.0 one.1)
 
-resolve_is : (known : Known) (found : Data) (told : ResolveTold) → resolve_row known found ≡ Ok told → IfSome told.root (Reaches known)
+resolve_is : (known : IdPlaces) (found : Data) (told : ResolveTold) → resolve_row known found ≡ Ok told → IfSome told.root (Reaches known)
 unfolding resolve_row
 resolve_is known found told e =
     let one = went (list_at Resolve (codes "nodes") found) _ told e in
@@ -317,7 +317,7 @@ record RootIs (told : RootTold) : Type 0 where
 root_is : (found : Data) (told : RootTold) → root_row found ≡ Ok told → RootIs told
 unfolding root_row
 root_is found told e =
-    let one = went (object_here (place_text Root) found) _ told e in
+    let one = went (object_here (object_place_text Root) found) _ told e in
     let two = went (list_at Root (codes "packages") one.0) _ told one.2 in
     let three = went (list_at Root (codes "workspace_members") one.0) _ told two.2 in
     let four = went (members_in (known_of two.0) three.0) _ told three.2 in
@@ -343,33 +343,33 @@ sound_with : (sparse_dir : List ℕ) (root : RootTold) (crates : List Record) (r
 sound_with sparse_dir root crates resolve nodes edges is packages told reach =
     let known : packages_in sparse_dir (known_of root.packages) root.packages ≡ Ok crates =
     subst (λ known. packages_in sparse_dir known root.packages ≡ Ok crates) is.known packages in
-    let lead : (id : List ℕ) (place : ℕ) → finmap.get root.known id ≡ Some place → StandsAt (ids_in crates) id place =
-    subst (λ known. (id : List ℕ) (place : ℕ) → finmap.get known id ≡ Some place → StandsAt (ids_in crates) id place)
+    let lead : (id : List ℕ) (place : ℕ) → finmap.get root.known id ≡ Some place → HasIdAt (ids_in crates) id place =
+    subst (λ known. (id : List ℕ) (place : ℕ) → finmap.get known id ≡ Some place → HasIdAt (ids_in crates) id place)
     (sym is.known) (leads sparse_dir root.packages crates known) in
     let low : (place : ℕ) → Reaches root.known place → place < length crates =
     subst (λ known. (place : ℕ) → Reaches known place → place < length crates) (sym is.known)
     (λ place r. below sparse_dir root.packages crates known r.0 place r.1) in
     record {
-      located = subst (λ known. AllEntries (StandsAt (ids_in crates)) (finmap.entries known)) (sym is.known)
+      located = subst (λ known. AllEntries (HasIdAt (ids_in crates)) (finmap.entries known)) (sym is.known)
           (located sparse_dir root.packages crates known);
       complete = subst (λ known. (place : ℕ) (krate : Record) → slice_get crates place ≡ Some krate
           → finmap.get known krate.id ≡ Some place) (sym is.known) (complete sparse_dir root.packages crates known);
       members = every-weaker (λ (m : Member). finmap.get root.known m.id ≡ Some m.place)
-          (λ (m : Member). StandsAt (ids_in crates) m.id m.place) (λ m e. lead m.id m.place e) root.members is.members;
+          (λ (m : Member). HasIdAt (ids_in crates) m.id m.place) (λ m e. lead m.id m.place e) root.members is.members;
       root = some-weaker (Reaches root.known) (λ place. place < length crates) low resolve.root told;
       within = every-weaker (AllByRecursion (λ (edge : Edge). Reaches root.known edge.to))
           (AllByRecursion (λ (edge : Edge). edge.to < length crates))
           (λ list h. every-weaker (λ (edge : Edge). Reaches root.known edge.to) (λ (edge : Edge). edge.to < length crates) (λ edge r. low edge.to r) list h) edges reach;
     }
 
-pub sound : (sparse_dir : List ℕ) (found : Data) (rows : Rows) → rows_in sparse_dir found ≡ Ok rows → AreSound rows
-unfolding rows_in nodes_in
+pub sound : (sparse_dir : List ℕ) (found : Data) (rows : MetadataRows) → rows_in sparse_dir found ≡ Ok rows → AreSound rows
+unfolding rows_in nodes_read
 sound sparse_dir found rows e =
     let one = went (unless_float found) _ rows e in
     let root = went (root_row one.0) _ rows one.2 in
     let crates = went (packages_in sparse_dir root.0.known root.0.packages) _ rows root.2 in
     let resolve = went (resolve_row root.0.known root.0.resolve) _ rows crates.2 in
-    let nodes = went (nodes_in root.0.known resolve.0.nodes) _ rows resolve.2 in
+    let nodes = went (nodes_read root.0.known resolve.0.nodes) _ rows resolve.2 in
     let deps = went (all_deps root.0.known nodes.0.nodes) _ rows nodes.2 in
     let edges = went (all_edges deps.0) _ rows deps.2 in
     subst AreSound (same_ok _ rows edges.2)

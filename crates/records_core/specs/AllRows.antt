@@ -3,10 +3,10 @@ use Rattle.std.specs.Prelude.{map}
 use Rattle.graph_core.specs.Krate.{record_of}
 use Rattle.records_core.specs.declared.rows.AllRows.{AllRows}
 use Rattle.records_core.specs.NodeRows.{root_of, resolve_of, nodes_of}
-use Rattle.records_core.specs.Records.{Rows}
+use Rattle.records_core.specs.Records.{MetadataRows}
 
-abbrev pub rows_told : AllRows → Rows
-rows_told rows = record {
+abbrev pub rows_view : AllRows → MetadataRows
+rows_view rows = record {
   root = root_of rows.root;
   crates = map record_of rows.crates.items;
   resolve = resolve_of rows.resolve;

@@ -5,7 +5,7 @@ use Rattle.serde_json.specs.Data.{Data, null, boolean, number, string, array, ob
 use Rattle.serde_json.specs.Find.{is_float}
 use Rattle.serde_json.specs.Written.{has_float}
 use Rattle.records_core.specs.declared.fault.MetaReason.TheVariants.{Float}
-use Rattle.records_core.specs.Told.{Told, fault_at, with_key, with_index}
+use Rattle.records_core.specs.Told.{MetadataReading, meta_fault, with_key, with_index}
 
 -- where the first float of a value stands, which itself stands at a place; none without one
 abbrev mutual
@@ -28,11 +28,11 @@ abbrev mutual
       option_or (float_in (with_key place key) first) (float_in_members place rest)
 
 -- the value, unless a float stands in it
-abbrev pub unless_found : Data → Option (List ℕ) → Told Data
+abbrev pub unless_found : Data → Option (List ℕ) → MetadataReading Data
 unless_found found None = Ok found
-unless_found found (Some place) = fault_at place Float
+unless_found found (Some place) = meta_fault place Float
 
-abbrev pub unless_float : Data → Told Data
+abbrev pub unless_float : Data → MetadataReading Data
 unless_float found = unless_found found (float_in [] found)
 
 -- there is a first float exactly where there is a float

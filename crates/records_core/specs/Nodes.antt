@@ -9,10 +9,10 @@ use Rattle.graph_core.specs.declared.edge.DepKind.{DepKind}
 use Rattle.graph_core.specs.declared.edge.DepKind.TheVariants.{Normal, Dev, Build}
 use Rattle.graph_core.specs.Metadata.{no_kinds}
 use Rattle.records_core.specs.declared.fault.MetaReason.TheVariants.{Missing, WrongKind, UnknownKind}
-use Rattle.records_core.specs.declared.fault.Place.{Place}
-use Rattle.records_core.specs.declared.fault.Place.TheVariants.{Root, Resolve, Node, Dep, Kind}
-use Rattle.records_core.specs.Shape.{object_here, text_at, text_here, optional_text_at, list_at, list_or_empty_at, Known, known_of, known_place, new_from}
-use Rattle.records_core.specs.Told.{Told, ◌>>=◌, each, each_item, fault_at, place_text, key_place, item_place}
+use Rattle.records_core.specs.declared.fault.ObjectPlace.{ObjectPlace}
+use Rattle.records_core.specs.declared.fault.ObjectPlace.TheVariants.{Root, Resolve, Node, Dep, Kind}
+use Rattle.records_core.specs.Shape.{object_here, text_at, text_here, optional_text_at, list_at, list_or_empty_at, IdPlaces, known_of, known_place, new_from}
+use Rattle.records_core.specs.Told.{MetadataReading, ◌>>=◌, each, each_item, meta_fault, object_place_text, key_place, item_place}
 
 -- ---- the root
 
@@ -21,33 +21,33 @@ pub record Member : Type 0 where
   pub id : List ℕ
   pub place : ℕ
 
-unfoldable pub member_row : Known → ℕ → Data → Told Member
+unfoldable pub member_row : IdPlaces → ℕ → Data → MetadataReading Member
 member_row known index found = do
   id ← text_here (item_place Root (codes "workspace_members") index) found
   place ← known_place known (item_place Root (codes "workspace_members") index) id
   Ok (record { id = id; place = place })
 
-abbrev pub members_in : Known → Items → Told (List Member)
+abbrev pub members_in : IdPlaces → Items → MetadataReading (List Member)
 members_in known items = each_item (member_row known) items
 
 -- an object that has to be there
-abbrev pub object_from : List ℕ → Option Data → Told Data
-object_from place None = fault_at place Missing
+abbrev pub object_from : List ℕ → Option Data → MetadataReading Data
+object_from place None = meta_fault place Missing
 object_from place (Some found) = object_here place found
 
-abbrev pub object_at : Place → List ℕ → Data → Told Data
+abbrev pub object_at : ObjectPlace → List ℕ → Data → MetadataReading Data
 object_at place key found = object_from (key_place place key) (get key found)
 
 pub record RootTold : Type 0 where
   pub packages : Items
-  pub known : Known
+  pub known : IdPlaces
   pub members : List Member
   pub workspace_root : List ℕ
   pub resolve : Data
 
-unfoldable pub root_row : Data → Told RootTold
+unfoldable pub root_row : Data → MetadataReading RootTold
 root_row found = do
-  root ← object_here (place_text Root) found
+  root ← object_here (object_place_text Root) found
   packages ← list_at Root (codes "packages") root
   listed ← list_at Root (codes "workspace_members") root
   members ← members_in (known_of packages) listed
@@ -57,7 +57,7 @@ root_row found = do
 
 -- ---- `resolve`
 
-abbrev pub known_or_null : Known → List ℕ → Option (List ℕ) → Told (Option ℕ)
+abbrev pub known_or_null : IdPlaces → List ℕ → Option (List ℕ) → MetadataReading (Option ℕ)
 known_or_null known place None = Ok None
 known_or_null known place (Some id) = do
   root ← known_place known place id
@@ -67,7 +67,7 @@ pub record ResolveTold : Type 0 where
   pub nodes : Items
   pub root : Option ℕ
 
-unfoldable pub resolve_row : Known → Data → Told ResolveTold
+unfoldable pub resolve_row : IdPlaces → Data → MetadataReading ResolveTold
 resolve_row known found = do
   nodes ← list_at Resolve (codes "nodes") found
   text ← optional_text_at Resolve (codes "root") found
@@ -81,25 +81,25 @@ pub record NodeTold : Type 0 where
   pub deps : Items
 
 -- `firsts` leads from an id to the first node that has it
-unfoldable pub node_row : Known → Known → ℕ → Data → Told NodeTold
+unfoldable pub node_row : IdPlaces → IdPlaces → ℕ → Data → MetadataReading NodeTold
 node_row known firsts index found = do
-  node ← object_here (place_text (Node index)) found
+  node ← object_here (object_place_text (Node index)) found
   id ← text_at (Node index) (codes "id") node
   place ← known_place known (key_place (Node index) (codes "id")) id
   new ← new_from index (key_place (Node index) (codes "id")) id (finmap.get firsts id)
   deps ← list_or_empty_at (Node index) (codes "deps") node
   Ok (record { deps = deps })
 
-abbrev pub nodes_with : Known → Known → Items → Told (List NodeTold)
+abbrev pub nodes_with : IdPlaces → IdPlaces → Items → MetadataReading (List NodeTold)
 nodes_with known firsts nodes = each_item (node_row known firsts) nodes
 
 -- the nodes, of which no two have one id, and the place of the node that has an id
 pub record NodesTold : Type 0 where
-  pub firsts : Known
+  pub firsts : IdPlaces
   pub nodes : List NodeTold
 
-unfoldable pub nodes_in : Known → Items → Told NodesTold
-nodes_in known nodes = do
+unfoldable pub nodes_read : IdPlaces → Items → MetadataReading NodesTold
+nodes_read known nodes = do
   listed ← nodes_with known (known_of nodes) nodes
   Ok (record { firsts = known_of nodes; nodes = listed })
 
@@ -110,27 +110,27 @@ pub record DepTold : Type 0 where
   pub to : ℕ
   pub kinds : Option Items
 
-abbrev pub kinds_list_from : List ℕ → Option Data → Told (Option Items)
+abbrev pub kinds_list_from : List ℕ → Option Data → MetadataReading (Option Items)
 kinds_list_from place None = Ok None
 kinds_list_from place (Some (array items)) = Ok (Some items)
-kinds_list_from place (Some _) = fault_at place WrongKind
+kinds_list_from place (Some _) = meta_fault place WrongKind
 
-abbrev pub kinds_list_at : Place → List ℕ → Data → Told (Option Items)
+abbrev pub kinds_list_at : ObjectPlace → List ℕ → Data → MetadataReading (Option Items)
 kinds_list_at place key found = kinds_list_from (key_place place key) (get key found)
 
-unfoldable pub dep_row : Known → ℕ → ℕ → Data → Told DepTold
+unfoldable pub dep_row : IdPlaces → ℕ → ℕ → Data → MetadataReading DepTold
 dep_row known i j found = do
-  dep ← object_here (place_text (Dep i j)) found
+  dep ← object_here (object_place_text (Dep i j)) found
   id ← text_at (Dep i j) (codes "pkg") dep
   to ← known_place known (key_place (Dep i j) (codes "pkg")) id
   kinds ← kinds_list_at (Dep i j) (codes "dep_kinds") dep
   Ok (record { to = to; kinds = kinds })
 
-abbrev pub deps_in : Known → ℕ → NodeTold → Told (List DepTold)
+abbrev pub deps_in : IdPlaces → ℕ → NodeTold → MetadataReading (List DepTold)
 deps_in known i node = each_item (dep_row known i) node.deps
 
 -- the dependencies of all nodes
-abbrev pub all_deps : Known → List NodeTold → Told (List (List DepTold))
+abbrev pub all_deps : IdPlaces → List NodeTold → MetadataReading (List (List DepTold))
 all_deps known nodes = each (deps_in known) 0 nodes
 
 -- ---- kinds
@@ -141,42 +141,42 @@ with_kind kinds Normal = record kinds { normal = true }
 with_kind kinds Dev = record kinds { dev = true }
 with_kind kinds Build = record kinds { build = true }
 
-abbrev pub kind_named : List ℕ → List ℕ → Told DepKind
+abbrev pub kind_named : List ℕ → List ℕ → MetadataReading DepKind
 kind_named place name =
     if bytes_eq name (codes "dev") then Ok Dev
-    else (if bytes_eq name (codes "build") then Ok Build else fault_at place UnknownKind)
+    else (if bytes_eq name (codes "build") then Ok Build else meta_fault place UnknownKind)
 
 -- null is a normal dependency, and so is nothing
-abbrev pub kind_from : List ℕ → Option (List ℕ) → Told DepKind
+abbrev pub kind_from : List ℕ → Option (List ℕ) → MetadataReading DepKind
 kind_from place None = Ok Normal
 kind_from place (Some name) = kind_named place name
 
-unfoldable pub kind_row : Place → Data → Told DepKind
+unfoldable pub kind_row : ObjectPlace → Data → MetadataReading DepKind
 kind_row place found = do
-  listed ← object_here (place_text place) found
+  listed ← object_here (object_place_text place) found
   name ← optional_text_at place (codes "kind") listed
   kind_from (key_place place (codes "kind")) name
 
 -- the kinds with those of the items from the one at this index on
-unfoldable pub kinds_in : ℕ → ℕ → ℕ → Kinds → Items → Told Kinds
+unfoldable pub kinds_in : ℕ → ℕ → ℕ → Kinds → Items → MetadataReading Kinds
 kinds_in i j k kinds no_items = Ok kinds
 kinds_in i j k kinds (item first rest) = do
   kind ← kind_row (Kind i j k) first
   kinds_in i j (k + 1) (with_kind kinds kind) rest
 
 -- without a list a dependency is a normal one
-abbrev pub kinds_of : ℕ → ℕ → Option Items → Told Kinds
+abbrev pub kinds_of : ℕ → ℕ → Option Items → MetadataReading Kinds
 kinds_of i j None = Ok (with_kind no_kinds Normal)
 kinds_of i j (Some items) = kinds_in i j 0 no_kinds items
 
-unfoldable pub edge_row : ℕ → ℕ → DepTold → Told Edge
+unfoldable pub edge_row : ℕ → ℕ → DepTold → MetadataReading Edge
 edge_row i j dep = do
   kinds ← kinds_of i j dep.kinds
   Ok (record { to = dep.to; kinds = kinds })
 
-abbrev pub edges_in : ℕ → List DepTold → Told (List Edge)
+abbrev pub edges_in : ℕ → List DepTold → MetadataReading (List Edge)
 edges_in i deps = each (edge_row i) 0 deps
 
 -- the edges of all nodes
-abbrev pub all_edges : List (List DepTold) → Told (List (List Edge))
+abbrev pub all_edges : List (List DepTold) → MetadataReading (List (List Edge))
 all_edges lists = each edges_in 0 lists

@@ -3,10 +3,10 @@ use Rattle.std.specs.Prelude.{◌≡◌, ℕ, ◌<◌, List, map, slice_get, sli
 use Rattle.graph_core.specs.declared.edge.Edge.{Edge}
 use Rattle.records_core.specs.declared.order.Spot.{Spot}
 use Rattle.records_core.specs.Nodes.{Member}
-use Rattle.records_core.specs.Records.{edges_at}
+use Rattle.records_core.specs.Records.{edges_of_node}
 
-abbrev pub place_of : Spot → ℕ
-place_of spot = spot.place
+abbrev pub spot_place : Spot → ℕ
+spot_place spot = spot.place
 
 abbrev pub id_of_member : Member → List ℕ
 id_of_member member = member.id
@@ -28,4 +28,4 @@ abbrev pub ranked_edge : List ℕ → Edge → Edge
 ranked_edge ranks edge = record { to = rank_at ranks edge.to; kinds = edge.kinds }
 
 abbrev pub ranked_edges : List ℕ → List (List Edge) → Spot → List Edge
-ranked_edges ranks lists spot = map (ranked_edge ranks) (edges_at lists spot.node)
+ranked_edges ranks lists spot = map (ranked_edge ranks) (edges_of_node lists spot.node)

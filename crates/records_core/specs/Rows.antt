@@ -5,9 +5,9 @@ use Rattle.records_core.specs.declared.package.NamedRow.{NamedRow}
 use Rattle.records_core.specs.declared.package.DescribedRow.{DescribedRow}
 use Rattle.records_core.specs.declared.package.ListedRow.{ListedRow}
 use Rattle.records_core.specs.declared.package.Copies.{Copies}
-use Rattle.records_core.specs.Packages.{Named, Described, Listed}
+use Rattle.records_core.specs.Packages.{PackageKeys, PackageTexts, PackageLists}
 
-abbrev pub named_of : NamedRow → Named
+abbrev pub named_of : NamedRow → PackageKeys
 named_of row = record {
   name = row.name.now;
   id = row.id.now;
@@ -15,7 +15,7 @@ named_of row = record {
   version = parts_of row.version;
 }
 
-abbrev pub described_of : DescribedRow → Described
+abbrev pub described_of : DescribedRow → PackageTexts
 described_of row = record {
   license = option_copied row.license;
   license_file = option_copied row.license_file;
@@ -25,11 +25,11 @@ described_of row = record {
   rust_version = option_copied row.rust_version;
 }
 
-abbrev pub listed_of : ListedRow → Listed
+abbrev pub listed_of : ListedRow → PackageLists
 listed_of row = record { authors = row.authors; features = row.features; publish = row.publish }
 
 -- the texts that a crate has of its rows
-abbrev pub copies_in : Named → Described → Copies
+abbrev pub copies_in : PackageKeys → PackageTexts → Copies
 copies_in named described = record {
   name = named.name;
   id = named.id;

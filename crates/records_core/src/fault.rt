@@ -1,7 +1,7 @@
 //! Why metadata is not read.
 ghost use Rattle.std.specs.Prelude.{◌≡◌, Some};
 ghost use Rattle.records_core.specs.declared.fault.MetaError.TheVariants.{Memory};
-ghost use Rattle.records_core.specs.Told.{IsFault, IsFaultOf, ReadFails, dep_place, place_text, key_place};
+ghost use Rattle.records_core.specs.Told.{IsMetaFault, IsMetaFaultOf, ReadFails, dep_place, object_place_text, key_place};
 ghost use Rattle.records_core.specs.Told.{item_place};
 
 use deny_text::Text;
@@ -79,7 +79,7 @@ impl<T: Drop> From<AllocFailed<T>> for MetaError {
 
 /// Where an object of the metadata stands, by its places in lists.
 #[derive(Clone, Copy, Debug)]
-pub(crate) enum Place {
+pub(crate) enum ObjectPlace {
     Root,
     Package(usize),
     Features(usize),
@@ -105,18 +105,18 @@ impl fmt::Display for DepPlace {
     }
 }
 
-impl fmt::Display for Place {
-    ghost output = { λ place. Some (place_text place) };
+impl fmt::Display for ObjectPlace {
+    ghost output = { λ place. Some (object_place_text place) };
 
     fn fmt<W: fmt::Write>(&self, f: &mut fmt::Formatter<W>) -> fmt::Result {
         match self {
-            Place::Root => Ok(()),
-            Place::Package(i) => write!(f, "/packages/{i}"),
-            Place::Features(i) => write!(f, "/packages/{i}/features"),
-            Place::Resolve => f.write_str("/resolve"),
-            Place::Node(i) => write!(f, "/resolve/nodes/{i}"),
-            Place::Dep(i, j) => fmt::Display::fmt(&DepPlace { node: *i, dep: *j }, f),
-            Place::Kind(i, j, k) => {
+            ObjectPlace::Root => Ok(()),
+            ObjectPlace::Package(i) => write!(f, "/packages/{i}"),
+            ObjectPlace::Features(i) => write!(f, "/packages/{i}/features"),
+            ObjectPlace::Resolve => f.write_str("/resolve"),
+            ObjectPlace::Node(i) => write!(f, "/resolve/nodes/{i}"),
+            ObjectPlace::Dep(i, j) => fmt::Display::fmt(&DepPlace { node: *i, dep: *j }, f),
+            ObjectPlace::Kind(i, j, k) => {
                 let dep = DepPlace { node: *i, dep: *j };
                 write!(f, "{dep}/dep_kinds/{k}")
             }
@@ -125,7 +125,7 @@ impl fmt::Display for Place {
 }
 
 fn fault_with(place: Result<String, AllocError>, fault: MetaReason) -> MetaError
-    ensures { IsFaultOf result place fault }
+    ensures { IsMetaFaultOf result place fault }
 {
     match place {
         Ok(place) => MetaError::Shape(MetaFault {
@@ -137,15 +137,15 @@ fn fault_with(place: Result<String, AllocError>, fault: MetaReason) -> MetaError
 }
 
 /// The fault of an object.
-pub(crate) fn fault_of(alloc: Global, place: Place, fault: MetaReason) -> MetaError
-    ensures { IsFault result (place_text place) fault }
+pub(crate) fn fault_of(alloc: Global, place: ObjectPlace, fault: MetaReason) -> MetaError
+    ensures { IsMetaFault result (object_place_text place) fault }
 {
     fault_with(format!(in alloc; "{place}"), fault)
 }
 
 /// The fault at a key of an object.
-pub(crate) fn fault_at(alloc: Global, place: Place, key: &str, fault: MetaReason) -> MetaError
-    ensures { IsFault result (key_place place key.now) fault }
+pub(crate) fn fault_at(alloc: Global, place: ObjectPlace, key: &str, fault: MetaReason) -> MetaError
+    ensures { IsMetaFault result (key_place place key.now) fault }
 {
     fault_with(format!(in alloc; "{place}/{key}"), fault)
 }
@@ -153,12 +153,12 @@ pub(crate) fn fault_at(alloc: Global, place: Place, key: &str, fault: MetaReason
 /// The fault of an item of the list at a key of an object.
 pub(crate) fn fault_in(
     alloc: Global,
-    place: Place,
+    place: ObjectPlace,
     key: &str,
     index: usize,
     fault: MetaReason,
 ) -> MetaError
-    ensures { IsFault result (item_place place key.now index) fault }
+    ensures { IsMetaFault result (item_place place key.now index) fault }
 {
     fault_with(format!(in alloc; "{place}/{key}/{index}"), fault)
 }

@@ -5,7 +5,7 @@ ghost use Rattle.serde_json.specs.Written.{has_float, items_have_float, members_
 ghost use Rattle.records_core.specs.Floats as spec;
 ghost use Rattle.records_core.specs.Floats.{FloatsAreFound};
 ghost use Rattle.records_core.specs.Told as told;
-ghost use Rattle.records_core.specs.Told.{Tells};
+ghost use Rattle.records_core.specs.Told.{AnswersMeta};
 
 use crate::fault::{MetaError, MetaFault, MetaReason};
 use deny_text::Text;
@@ -110,7 +110,7 @@ fn float_in_members(
 
 /// Refuses a value that holds a float, with the place of the first.
 pub(crate) fn unless_float(alloc: Global, value: &Value) -> Result<(), MetaError>
-    ensures { Tells (λ _. view value.now) result (spec.unless_float (view value.now)) }
+    ensures { AnswersMeta (λ _. view value.now) result (spec.unless_float (view value.now)) }
 {
     if !holds_float(value) {
         return Ok(());

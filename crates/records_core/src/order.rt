@@ -2,10 +2,10 @@
 ghost use Rattle.std.specs.Prelude.{◌≡◌, ◌<◌, [], ◌++◌, map, length, option_map, slice_get, slice_set};
 ghost use Rattle.std.specs.Prelude.{slice_index_or, Some, None, IfOk, OnOk};
 ghost use Rattle.std.specs.List.{AllByRecursion, cons_option, filter_map};
-ghost use Rattle.records_core.specs.AllRows.{rows_told};
+ghost use Rattle.records_core.specs.AllRows.{rows_view};
 ghost use Rattle.records_core.specs.NodeRows.{member_of};
 ghost use Rattle.records_core.specs.Order as spec;
-ghost use Rattle.records_core.specs.Order.{AreRanks, id_of_member, place_of, rank_at, rank_of_member};
+ghost use Rattle.records_core.specs.Order.{AreRanks, id_of_member, spot_place, rank_at, rank_of_member};
 ghost use Rattle.records_core.specs.Ordered.{AreOrdered};
 ghost use Rattle.records_core.specs.Order.{ranked_edge, ranked_edges};
 ghost use Rattle.records_core.specs.Records as records;
@@ -14,7 +14,7 @@ ghost use Rattle.records_core.specs.Sound.{AreApart, AreSound};
 
 use crate::nodes::MemberRow;
 use crate::rows::AllRows;
-use crate::shape::Known;
+use crate::shape::IdPlaces;
 use deny_text::{PathBuf, Text, Texts};
 use graph_core::{Edge, Edges, Krate, Metadata};
 use std::alloc::{AllocError, Global};
@@ -26,7 +26,7 @@ pub(crate) struct Spot {
     node: Option<usize>,
 }
 
-fn spot_of(firsts: &Known, id: &str, place: usize) -> Spot
+fn spot_of(firsts: &IdPlaces, id: &str, place: usize) -> Spot
     ensures { result ≡ records.spot_of firsts.now (id.now, place) }
 {
     Spot {
@@ -36,7 +36,7 @@ fn spot_of(firsts: &Known, id: &str, place: usize) -> Spot
 }
 
 /// The spots of all crates, in the order of their ids.
-fn spots_of(alloc: Global, known: &Known, firsts: &Known) -> Result<Vec<Spot>, AllocError>
+fn spots_of(alloc: Global, known: &IdPlaces, firsts: &IdPlaces) -> Result<Vec<Spot>, AllocError>
     ensures { IfOk result (λ spots. spots.items ≡ records.spots_of known.now firsts.now) }
 {
     let mut spots = Vec::new(alloc);
@@ -48,8 +48,8 @@ fn spots_of(alloc: Global, known: &Known, firsts: &Known) -> Result<Vec<Spot>, A
 
 /// The rank of each package: the place of its crate in the order of the ids.
 fn ranks_of(alloc: Global, count: usize, spots: &[Spot]) -> Result<Vec<usize>, AllocError>
-    requires { AllByRecursion (λ place. place < count) (map place_of spots.now) }
-    ensures { IfOk result (λ ranks. AreRanks (map place_of spots.now) (length spots.now) ranks.items) }
+    requires { AllByRecursion (λ place. place < count) (map spot_place spots.now) }
+    ensures { IfOk result (λ ranks. AreRanks (map spot_place spots.now) (length spots.now) ranks.items) }
 {
     let mut ranks = Vec::from_elem(alloc, 0, count)?;
     'ranks: for (rank, spot) in spots.iter().enumerate() {
@@ -99,10 +99,10 @@ fn crates_in_order(
     spots: &[Spot],
     crates: Vec<Krate>,
 ) -> Result<Vec<Krate>, AllocError>
-    requires apart { AreApart (map place_of spots.now) }
-    requires within { AllByRecursion (λ place. place < length crates.items) (map place_of spots.now) }
+    requires apart { AreApart (map spot_place spots.now) }
+    requires within { AllByRecursion (λ place. place < length crates.items) (map spot_place spots.now) }
     ensures { IfOk result (λ ordered. ordered.items
-        ≡ filter_map (slice_get crates.items) (map place_of spots.now)) }
+        ≡ filter_map (slice_get crates.items) (map spot_place spots.now)) }
 {
     let mut slots = slots_of(alloc, crates)?;
     let mut ordered = Vec::with_capacity(alloc, slots.len())?;
@@ -139,7 +139,7 @@ fn ranked(alloc: Global, ranks: &[usize], edges: &[Edge]) -> Result<Edges, Alloc
 
 /// The edges of a node; none without one.
 fn edges_at(lists: &[Edges], node: Option<usize>) -> &[Edge]
-    ensures { result.now ≡ records.edges_at lists.now node }
+    ensures { result.now ≡ records.edges_of_node lists.now node }
 {
     match node {
         Some(node) => match lists.get(node) {
@@ -217,7 +217,7 @@ pub(crate) struct OrderedParts {
 /// The parts of the graph that are made by looking at the rows.
 fn parts_of(alloc: Global, rows: &AllRows<'_>) -> Result<OrderedParts, AllocError>
     requires { let spots = records.spots_of rows.now.root.known rows.now.nodes.firsts in
-        AllByRecursion (λ place. place < length rows.now.crates.items) (map place_of spots) }
+        AllByRecursion (λ place. place < length rows.now.crates.items) (map spot_place spots) }
     ensures { IfOk result (λ parts. AreOrdered rows.now parts) }
 {
     let spots = spots_of(alloc, &rows.root.known, &rows.nodes.firsts)?;
@@ -240,8 +240,8 @@ fn parts_of(alloc: Global, rows: &AllRows<'_>) -> Result<OrderedParts, AllocErro
 
 /// The graph that the rows tell.
 pub(crate) fn in_order(alloc: Global, rows: AllRows<'_>) -> Result<Metadata, AllocError>
-    requires { AreSound (rows_told rows) }
-    ensures { IfOk result (λ metadata. metadata ≡ graph_of (rows_told rows.entry)) }
+    requires { AreSound (rows_view rows) }
+    ensures { IfOk result (λ metadata. metadata ≡ graph_of (rows_view rows.entry)) }
 {
     let parts = parts_of(alloc, &rows)?;
     let crates = crates_in_order(alloc, &parts.spots, rows.crates)?;

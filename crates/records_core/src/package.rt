@@ -6,11 +6,11 @@ ghost use Rattle.semver.specs.Identifiers.{parts_of};
 ghost use Rattle.graph_core.specs.Krate.{record_of};
 ghost use Rattle.records_core.specs.Packages as spec;
 ghost use Rattle.records_core.specs.Rows.{named_of, described_of, listed_of, copies_in};
-ghost use Rattle.records_core.specs.Told.{Tells};
+ghost use Rattle.records_core.specs.Told.{AnswersMeta};
 
-use crate::fault::{MetaError, MetaReason, Place, fault_at};
+use crate::fault::{MetaError, MetaReason, ObjectPlace, fault_at};
 use crate::shape::{
-    Known, new_at, object_here, optional_text_at, optional_texts_at, text_at, texts_in,
+    IdPlaces, new_at, object_here, optional_text_at, optional_texts_at, text_at, texts_in,
     texts_or_empty_at,
 };
 use deny_text::path::parent;
@@ -25,27 +25,27 @@ use std::alloc::{AllocError, Global};
 #[tactic(auto, unfolding(crate::specs::Packages::id_row))]
 fn id_row<'v>(
     alloc: Global,
-    known: &Known,
+    known: &IdPlaces,
     index: usize,
     value: &'v Value,
 ) -> Result<&'v str, MetaError>
-    ensures { Tells (λ id. id.now) result (spec.id_row known.now index (view value.now)) }
+    ensures { AnswersMeta (λ id. id.now) result (spec.id_row known.now index (view value.now)) }
 {
-    let id = text_at(alloc, Place::Package(index), "id", value)?;
-    new_at(alloc, known, Place::Package(index), index, id)
+    let id = text_at(alloc, ObjectPlace::Package(index), "id", value)?;
+    new_at(alloc, known, ObjectPlace::Package(index), index, id)
 }
 
 /// The path of the manifest, which stands in a folder.
 #[tactic(auto, unfolding(crate::specs::Packages::manifest_row))]
 fn manifest_row<'v>(alloc: Global, index: usize, value: &'v Value) -> Result<&'v str, MetaError>
-    ensures { Tells (λ path. path.now) result (spec.manifest_row index (view value.now)) }
+    ensures { AnswersMeta (λ path. path.now) result (spec.manifest_row index (view value.now)) }
 {
-    let path = text_at(alloc, Place::Package(index), "manifest_path", value)?;
+    let path = text_at(alloc, ObjectPlace::Package(index), "manifest_path", value)?;
     match parent(path) {
         Some(_) => Ok(path),
         None => Err(fault_at(
             alloc,
-            Place::Package(index),
+            ObjectPlace::Package(index),
             "manifest_path",
             MetaReason::NoFolder,
         )),
@@ -54,15 +54,15 @@ fn manifest_row<'v>(alloc: Global, index: usize, value: &'v Value) -> Result<&'v
 
 #[tactic(auto, unfolding(crate::specs::Packages::version_row))]
 fn version_row(alloc: Global, index: usize, value: &Value) -> Result<Version, MetaError>
-    ensures { Tells parts_of result (spec.version_row index (view value.now)) }
+    ensures { AnswersMeta parts_of result (spec.version_row index (view value.now)) }
 {
-    let text = text_at(alloc, Place::Package(index), "version", value)?;
+    let text = text_at(alloc, ObjectPlace::Package(index), "version", value)?;
     match Version::parse(alloc, text) {
         Ok(version) => Ok(version),
         Err(error) if error == semver::Error::from(AllocError) => Err(MetaError::Memory),
         Err(_) => Err(fault_at(
             alloc,
-            Place::Package(index),
+            ObjectPlace::Package(index),
             "version",
             MetaReason::BadVersion,
         )),
@@ -97,20 +97,20 @@ fn source_row(
     manifest: &str,
     value: &Value,
 ) -> Result<Option<Source>, MetaError>
-    ensures { Tells (λ source. source) result
+    ensures { AnswersMeta (λ source. source) result
         (spec.source_row sparse_dir.now index manifest.now (view value.now)) }
 {
-    let text = optional_text_at(alloc, Place::Package(index), "source", value)?;
+    let text = optional_text_at(alloc, ObjectPlace::Package(index), "source", value)?;
     Ok(source_in(alloc, sparse_dir, manifest, text)?)
 }
 
 /// What one feature turns on.
 fn feature_row(alloc: Global, index: usize, name: &str, value: &Value) -> Result<Texts, MetaError>
-    ensures { Tells (λ texts. texts) result (spec.feature_row index name.now (view value.now)) }
+    ensures { AnswersMeta (λ texts. texts) result (spec.feature_row index name.now (view value.now)) }
 {
     match value {
-        Value::Array(items) => texts_in(alloc, Place::Features(index), name, items),
-        _ => Err(fault_at(alloc, Place::Features(index), name, MetaReason::WrongKind)),
+        Value::Array(items) => texts_in(alloc, ObjectPlace::Features(index), name, items),
+        _ => Err(fault_at(alloc, ObjectPlace::Features(index), name, MetaReason::WrongKind)),
     }
 }
 
@@ -119,7 +119,7 @@ fn features_in(
     index: usize,
     members: &Map<String, Value>,
 ) -> Result<FeatureMap, MetaError>
-    ensures { Tells (λ features. features) result
+    ensures { AnswersMeta (λ features. features) result
         (spec.features_in index finmap.empty (members_view members.now.entries)) }
 {
     let mut features = FeatureMap::new(alloc);
@@ -131,14 +131,14 @@ fn features_in(
 }
 
 fn features_row(alloc: Global, index: usize, value: &Value) -> Result<FeatureMap, MetaError>
-    ensures { Tells (λ features. features) result (spec.features_row index (view value.now)) }
+    ensures { AnswersMeta (λ features. features) result (spec.features_row index (view value.now)) }
 {
     match value.get("features") {
         None => Ok(FeatureMap::new(alloc)),
         Some(Value::Object(members)) => features_in(alloc, index, members),
         Some(_) => Err(fault_at(
             alloc,
-            Place::Package(index),
+            ObjectPlace::Package(index),
             "features",
             MetaReason::WrongKind,
         )),
@@ -157,13 +157,13 @@ struct NamedRow<'v> {
 #[tactic(auto, unfolding(crate::specs::Packages::named_row))]
 fn named_row<'v>(
     alloc: Global,
-    known: &Known,
+    known: &IdPlaces,
     index: usize,
     value: &'v Value,
 ) -> Result<NamedRow<'v>, MetaError>
-    ensures { Tells named_of result (spec.named_row known.now index (view value.now)) }
+    ensures { AnswersMeta named_of result (spec.named_row known.now index (view value.now)) }
 {
-    let name = text_at(alloc, Place::Package(index), "name", value)?;
+    let name = text_at(alloc, ObjectPlace::Package(index), "name", value)?;
     let id = id_row(alloc, known, index, value)?;
     let manifest_path = manifest_row(alloc, index, value)?;
     let version = version_row(alloc, index, value)?;
@@ -194,10 +194,10 @@ fn described_row<'v>(
     manifest: &str,
     value: &'v Value,
 ) -> Result<DescribedRow<'v>, MetaError>
-    ensures { Tells described_of result
+    ensures { AnswersMeta described_of result
         (spec.described_row sparse_dir.now index manifest.now (view value.now)) }
 {
-    let place = Place::Package(index);
+    let place = ObjectPlace::Package(index);
     let license = optional_text_at(alloc, place, "license", value)?;
     let license_file = optional_text_at(alloc, place, "license_file", value)?;
     let source = source_row(alloc, sparse_dir, index, manifest, value)?;
@@ -224,9 +224,9 @@ struct ListedRow {
 
 #[tactic(auto, unfolding(crate::specs::Packages::listed_row))]
 fn listed_row(alloc: Global, index: usize, value: &Value) -> Result<ListedRow, MetaError>
-    ensures { Tells listed_of result (spec.listed_row index (view value.now)) }
+    ensures { AnswersMeta listed_of result (spec.listed_row index (view value.now)) }
 {
-    let place = Place::Package(index);
+    let place = ObjectPlace::Package(index);
     let authors = texts_or_empty_at(alloc, place, "authors", value)?;
     let features = features_row(alloc, index, value)?;
     let publish = optional_texts_at(alloc, place, "publish", value)?;
@@ -320,13 +320,13 @@ fn krate_with(
 fn package_row(
     alloc: Global,
     sparse_dir: &str,
-    known: &Known,
+    known: &IdPlaces,
     index: usize,
     value: &Value,
 ) -> Result<Krate, MetaError>
-    ensures { Tells record_of result (spec.package_row sparse_dir.now known.now index (view value.now)) }
+    ensures { AnswersMeta record_of result (spec.package_row sparse_dir.now known.now index (view value.now)) }
 {
-    let value = object_here(alloc, Place::Package(index), value)?;
+    let value = object_here(alloc, ObjectPlace::Package(index), value)?;
     let named = named_row(alloc, known, index, value)?;
     let described = described_row(alloc, sparse_dir, index, named.manifest_path, value)?;
     let listed = listed_row(alloc, index, value)?;
@@ -337,10 +337,10 @@ fn package_row(
 pub(crate) fn packages_in(
     alloc: Global,
     sparse_dir: &str,
-    known: &Known,
+    known: &IdPlaces,
     packages: &[Value],
 ) -> Result<Vec<Krate>, MetaError>
-    ensures { Tells (λ crates. map record_of crates.items) result
+    ensures { AnswersMeta (λ crates. map record_of crates.items) result
         (spec.packages_in sparse_dir.now known.now (items_view packages.now)) }
 {
     let mut crates = Vec::with_capacity(alloc, packages.len())?;

@@ -3,7 +3,7 @@ ghost use Rattle.std.specs.Prelude.{◌≡◌, Some, None, Ok, Err, IfOk, IfErr}
 ghost use Rattle.graph_core.specs.Metadata.{Graph};
 ghost use Rattle.records_core.specs.declared.fault.MetaFault.{MetaFault};
 ghost use Rattle.records_core.specs.declared.fault.MetaError.TheVariants.{Shape, Syntax};
-ghost use Rattle.records_core.specs.Records.{records_of, AnswersOr, IsCause};
+ghost use Rattle.records_core.specs.Records.{metadata_of, AnswersOr, IsMetaCause};
 
 use crate::fault::MetaError;
 use crate::order::in_order;
@@ -17,13 +17,13 @@ use std::alloc::Global;
 /// of equal keys of an object the last holds. A source that can't be read is none. `sparse_dir` is the name
 /// of the folder in which cargo keeps crates of the sparse index of crates.io.
 pub fn records(alloc: Global, text: &str, sparse_dir: &str) -> Result<Metadata, MetaError>
-    ensures records { IfOk result (λ metadata. records_of text.now sparse_dir.now ≡ Some (Ok metadata)) }
-    ensures cause { IfErr result (λ error. IsCause error (records_of text.now sparse_dir.now)) }
-    ensures told { (graph : Graph) → records_of text.now sparse_dir.now ≡ Some (Ok graph)
+    ensures records { IfOk result (λ metadata. metadata_of text.now sparse_dir.now ≡ Some (Ok metadata)) }
+    ensures cause { IfErr result (λ error. IsMetaCause error (metadata_of text.now sparse_dir.now)) }
+    ensures told { (graph : Graph) → metadata_of text.now sparse_dir.now ≡ Some (Ok graph)
         → AnswersOr result (Ok graph) }
-    ensures faulty { (fault : MetaFault) → records_of text.now sparse_dir.now ≡ Some (Err fault)
+    ensures faulty { (fault : MetaFault) → metadata_of text.now sparse_dir.now ≡ Some (Err fault)
         → AnswersOr result (Err (Shape fault)) }
-    ensures unread { records_of text.now sparse_dir.now ≡ None → AnswersOr result (Err Syntax) }
+    ensures unread { metadata_of text.now sparse_dir.now ≡ None → AnswersOr result (Err Syntax) }
 {
     let value = Value::from_str(alloc, text)?;
     let rows = rows_in(alloc, sparse_dir, &value)?;

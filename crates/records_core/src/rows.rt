@@ -3,9 +3,9 @@ ghost use Rattle.std.specs.Prelude.{◌≡◌, map, Some, None, Ok};
 ghost use Rattle.serde_json.specs.View.{view};
 ghost use Rattle.graph_core.specs.Krate.{record_of};
 ghost use Rattle.records_core.specs.NodeRows.{root_of, resolve_of, node_of};
-ghost use Rattle.records_core.specs.AllRows.{rows_told};
+ghost use Rattle.records_core.specs.AllRows.{rows_view};
 ghost use Rattle.records_core.specs.Records as spec;
-ghost use Rattle.records_core.specs.Told.{Tells};
+ghost use Rattle.records_core.specs.Told.{AnswersMeta};
 
 use crate::fault::MetaError;
 use crate::floats::unless_float;
@@ -33,7 +33,7 @@ pub(crate) fn rows_in<'v>(
     sparse_dir: &str,
     value: &'v Value,
 ) -> Result<AllRows<'v>, MetaError>
-    ensures { Tells rows_told result (spec.rows_in sparse_dir.now (view value.now)) }
+    ensures { AnswersMeta rows_view result (spec.rows_in sparse_dir.now (view value.now)) }
 {
     unless_float(alloc, value)?;
     let root = root_row(alloc, value)?;

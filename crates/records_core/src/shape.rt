@@ -4,22 +4,22 @@ ghost use Rattle.std.specs.FinMap as finmap;
 ghost use Rattle.serde_json.specs.View.{view, items_view};
 ghost use Rattle.records_core.specs.Known.{given_back};
 ghost use Rattle.records_core.specs.Shape as spec;
-ghost use Rattle.records_core.specs.Told.{Tells, place_text, key_place, item_place};
+ghost use Rattle.records_core.specs.Told.{AnswersMeta, object_place_text, key_place, item_place};
 
-use crate::fault::{MetaError, MetaReason, Place, fault_at, fault_in, fault_of};
+use crate::fault::{MetaError, MetaReason, ObjectPlace, fault_at, fault_in, fault_of};
 use deny_text::{Text, TextMap, Texts};
 use serde_json::Value;
 use std::alloc::{AllocError, Global};
 
 /// From each id to the place of the first package that has it.
-pub(crate) type Known = TextMap<usize>;
+pub(crate) type IdPlaces = TextMap<usize>;
 
 pub(crate) fn object_here<'v>(
     alloc: Global,
-    place: Place,
+    place: ObjectPlace,
     value: &'v Value,
 ) -> Result<&'v Value, MetaError>
-    ensures { Tells (λ found. view found.now) result (spec.object_here (place_text place) (view value.now)) }
+    ensures { AnswersMeta (λ found. view found.now) result (spec.object_here (object_place_text place) (view value.now)) }
 {
     match value {
         Value::Object(_) => Ok(value),
@@ -30,11 +30,11 @@ pub(crate) fn object_here<'v>(
 /// A string that has to be there.
 pub(crate) fn text_at<'v>(
     alloc: Global,
-    place: Place,
+    place: ObjectPlace,
     key: &str,
     value: &'v Value,
 ) -> Result<&'v str, MetaError>
-    ensures { Tells (λ text. text.now) result (spec.text_at place key.now (view value.now)) }
+    ensures { AnswersMeta (λ text. text.now) result (spec.text_at place key.now (view value.now)) }
 {
     match value.get(key) {
         Some(Value::String(text)) => Ok(text.as_str()),
@@ -46,11 +46,11 @@ pub(crate) fn text_at<'v>(
 /// A string, or null or nothing.
 pub(crate) fn optional_text_at<'v>(
     alloc: Global,
-    place: Place,
+    place: ObjectPlace,
     key: &str,
     value: &'v Value,
 ) -> Result<Option<&'v str>, MetaError>
-    ensures { Tells (λ text. option_copied text) result
+    ensures { AnswersMeta (λ text. option_copied text) result
         (spec.optional_text_at place key.now (view value.now)) }
 {
     match value.get(key) {
@@ -63,11 +63,11 @@ pub(crate) fn optional_text_at<'v>(
 /// A list that has to be there.
 pub(crate) fn list_at<'v>(
     alloc: Global,
-    place: Place,
+    place: ObjectPlace,
     key: &str,
     value: &'v Value,
 ) -> Result<&'v [Value], MetaError>
-    ensures { Tells (λ items. items_view items.now) result (spec.list_at place key.now (view value.now)) }
+    ensures { AnswersMeta (λ items. items_view items.now) result (spec.list_at place key.now (view value.now)) }
 {
     match value.get(key) {
         Some(Value::Array(items)) => Ok(items),
@@ -79,11 +79,11 @@ pub(crate) fn list_at<'v>(
 /// A list; where nothing stands it is empty.
 pub(crate) fn list_or_empty_at<'v>(
     alloc: Global,
-    place: Place,
+    place: ObjectPlace,
     key: &str,
     value: &'v Value,
 ) -> Result<&'v [Value], MetaError>
-    ensures { Tells (λ items. items_view items.now) result
+    ensures { AnswersMeta (λ items. items_view items.now) result
         (spec.list_or_empty_at place key.now (view value.now)) }
 {
     match value.get(key) {
@@ -96,11 +96,11 @@ pub(crate) fn list_or_empty_at<'v>(
 /// A list, or null or nothing.
 pub(crate) fn optional_list_at<'v>(
     alloc: Global,
-    place: Place,
+    place: ObjectPlace,
     key: &str,
     value: &'v Value,
 ) -> Result<Option<&'v [Value]>, MetaError>
-    ensures { Tells (λ items. option_map (λ list. items_view list.now) items) result
+    ensures { AnswersMeta (λ items. option_map (λ list. items_view list.now) items) result
         (spec.optional_list_at place key.now (view value.now)) }
 {
     match value.get(key) {
@@ -113,12 +113,12 @@ pub(crate) fn optional_list_at<'v>(
 /// An item that has to be a string.
 pub(crate) fn text_here<'v>(
     alloc: Global,
-    place: Place,
+    place: ObjectPlace,
     key: &str,
     index: usize,
     value: &'v Value,
 ) -> Result<&'v str, MetaError>
-    ensures { Tells (λ text. text.now) result
+    ensures { AnswersMeta (λ text. text.now) result
         (spec.text_here (item_place place key.now index) (view value.now)) }
 {
     match value {
@@ -130,11 +130,11 @@ pub(crate) fn text_here<'v>(
 /// The items, each a string.
 pub(crate) fn texts_in(
     alloc: Global,
-    place: Place,
+    place: ObjectPlace,
     key: &str,
     items: &[Value],
 ) -> Result<Texts, MetaError>
-    ensures { Tells (λ texts. texts) result (spec.texts_in place key.now (items_view items.now)) }
+    ensures { AnswersMeta (λ texts. texts) result (spec.texts_in place key.now (items_view items.now)) }
 {
     let mut texts = Texts::from(Vec::with_capacity(alloc, items.len())?);
     'items: for (index, item) in items.iter().enumerate() {
@@ -148,11 +148,11 @@ pub(crate) fn texts_in(
 #[tactic(auto, unfolding(crate::specs::Shape::texts_or_empty_at))]
 pub(crate) fn texts_or_empty_at(
     alloc: Global,
-    place: Place,
+    place: ObjectPlace,
     key: &str,
     value: &Value,
 ) -> Result<Texts, MetaError>
-    ensures { Tells (λ texts. texts) result (spec.texts_or_empty_at place key.now (view value.now)) }
+    ensures { AnswersMeta (λ texts. texts) result (spec.texts_or_empty_at place key.now (view value.now)) }
 {
     let items = list_or_empty_at(alloc, place, key, value)?;
     texts_in(alloc, place, key, items)
@@ -162,11 +162,11 @@ pub(crate) fn texts_or_empty_at(
 #[tactic(auto, unfolding(crate::specs::Shape::optional_texts_at))]
 pub(crate) fn optional_texts_at(
     alloc: Global,
-    place: Place,
+    place: ObjectPlace,
     key: &str,
     value: &Value,
 ) -> Result<Option<Texts>, MetaError>
-    ensures { Tells (λ texts. texts) result (spec.optional_texts_at place key.now (view value.now)) }
+    ensures { AnswersMeta (λ texts. texts) result (spec.optional_texts_at place key.now (view value.now)) }
 {
     match optional_list_at(alloc, place, key, value)? {
         Some(items) => Ok(Some(texts_in(alloc, place, key, items)?)),
@@ -187,7 +187,7 @@ fn id_of_item(value: &Value) -> Option<&str>
 /// Gives an id the place again that it had before another was set, where it had one.
 fn give_back(
     alloc: Global,
-    known: &mut Known,
+    known: &mut IdPlaces,
     id: &str,
     first: Option<usize>,
 ) -> Result<(), AllocError>
@@ -202,7 +202,7 @@ fn give_back(
 /// Notes the id of a package, unless an earlier one has it. A new id is looked up once.
 fn note_place(
     alloc: Global,
-    known: &mut Known,
+    known: &mut IdPlaces,
     index: usize,
     id: Option<&str>,
 ) -> Result<(), AllocError>
@@ -216,10 +216,10 @@ fn note_place(
 }
 
 /// The ids of packages, with the place of the first that has each.
-pub(crate) fn known_of(alloc: Global, packages: &[Value]) -> Result<Known, AllocError>
+pub(crate) fn known_of(alloc: Global, packages: &[Value]) -> Result<IdPlaces, AllocError>
     ensures { IfOk result (λ known. known ≡ spec.known_of (items_view packages.now)) }
 {
-    let mut known = Known::new(alloc);
+    let mut known = IdPlaces::new(alloc);
     'packages: for (index, item) in packages.iter().enumerate() {
         note_place(alloc, &mut known, index, id_of_item(item))?;
     }
@@ -229,12 +229,12 @@ pub(crate) fn known_of(alloc: Global, packages: &[Value]) -> Result<Known, Alloc
 /// The place of the package with the id at a key.
 pub(crate) fn known_at(
     alloc: Global,
-    known: &Known,
-    place: Place,
+    known: &IdPlaces,
+    place: ObjectPlace,
     key: &str,
     id: &str,
 ) -> Result<usize, MetaError>
-    ensures { Tells (λ found. found) result (spec.known_place known.now (key_place place key.now) id.now) }
+    ensures { AnswersMeta (λ found. found) result (spec.known_place known.now (key_place place key.now) id.now) }
 {
     match known.get(id) {
         Some(found) => Ok(*found),
@@ -245,13 +245,13 @@ pub(crate) fn known_at(
 /// The place of the package with the id that is an item of the list at a key.
 pub(crate) fn known_in(
     alloc: Global,
-    known: &Known,
-    place: Place,
+    known: &IdPlaces,
+    place: ObjectPlace,
     key: &str,
     index: usize,
     id: &str,
 ) -> Result<usize, MetaError>
-    ensures { Tells (λ found. found) result
+    ensures { AnswersMeta (λ found. found) result
         (spec.known_place known.now (item_place place key.now index) id.now) }
 {
     match known.get(id) {
@@ -263,12 +263,12 @@ pub(crate) fn known_in(
 /// An id, where the first that has it is the one at this index.
 pub(crate) fn new_at<'v>(
     alloc: Global,
-    firsts: &Known,
-    place: Place,
+    firsts: &IdPlaces,
+    place: ObjectPlace,
     index: usize,
     id: &'v str,
 ) -> Result<&'v str, MetaError>
-    ensures { Tells (λ id. id.now) result
+    ensures { AnswersMeta (λ id. id.now) result
         (spec.new_from index (key_place place (codes "id")) id.now (finmap.get firsts.now id.now)) }
 {
     match firsts.get(id) {

@@ -11,7 +11,7 @@ use Rattle.print_core.specs.declared.context.LogContext.{LogContext}
 use Rattle.deny_text.specs.Path.{join_of}
 use Rattle.request_core.specs.Cli.{cli}
 use Rattle.request_core.specs.Reading.{and_then}
-use Rattle.request_core.specs.Request.{asked_of, gate_words, krate_context_of, log_context_of, path_at, subcommand_asked}
+use Rattle.request_core.specs.Request.{request_of_rows, gate_words, krate_context_of, log_context_of, path_at, subcommand_asked}
 use Rattle.request_core.specs.Given.{IsGivenFor}
 use Rattle.request_core.specs.Laws.{SecondDenyChangesNothing, FolderShowsInPaths, hidden, without_folder}
 
@@ -58,7 +58,7 @@ by_log rows below one other (Ok log_ctx) = by_command rows log_ctx one other bel
 by_log rows below one other (Err error) = refl
 
 asked_same : (rows : List Row) (below : Option (Text × List Row)) (one other : Text)
-    → option_map without_folder (result_ok (asked_of rows below one)) ≡ option_map without_folder (result_ok (asked_of rows below other))
+    → option_map without_folder (result_ok (request_of_rows rows below one)) ≡ option_map without_folder (result_ok (request_of_rows rows below other))
 asked_same rows below one other = by_log rows (subcommand_asked below) one other (log_context_of rows)
 
 pub folder_shows : FolderShowsInPaths

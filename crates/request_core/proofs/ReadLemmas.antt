@@ -9,11 +9,11 @@ use Rattle.clap.specs.declared.error.kind.ErrorKind.{ErrorKind}
 use Rattle.clap.specs.declared.parser.matches.ArgMatches.{ArgMatches}
 use Rattle.clap.proofs.OnLiterals.{clap_on_literals}
 use Rattle.request_core.specs.declared.request.Request.{Request}
-use Rattle.request_core.specs.declared.read.Given.{Given}
-use Rattle.request_core.specs.declared.read.Given.TheVariants.{Asked, Shown, Usage}
+use Rattle.request_core.specs.declared.read.CliAnswer.{CliAnswer}
+use Rattle.request_core.specs.declared.read.CliAnswer.TheVariants.{Asked, Shown, Usage}
 use Rattle.request_core.specs.Cli.{cli}
 use Rattle.request_core.specs.Request.{request_in}
-use Rattle.request_core.specs.Given.{AnswersHelp, AnswersMistake, AnswersRequest, HasMatches, IsAsked, IsGivenFor, IsShown, IsTold, IsUsage, is_display, may_refuse, may_show}
+use Rattle.request_core.specs.Given.{AnswersHelp, AnswersMistake, AnswersRequest, HasMatches, IsAsked, IsGivenFor, IsShown, IsErrorAnswer, IsUsage, is_display, may_refuse, may_show}
 
 -- the command line is one of which `clap` states the matches
 pub cli_is_simple : is_simple cli ≡ true
@@ -53,7 +53,7 @@ among p kind (first ∷ kinds) (inr later) holds = either (p first) (among p kin
     either false found = found
 
 -- what is said of an error is what the words allow
-pub told_is_given : (words : List Text) (cwd : Text) (error : Error) (given : Given) → HasKind (fault_of cli words) error → IsTold (kind_of error) given → IsGivenFor words cwd given
+pub told_is_given : (words : List Text) (cwd : Text) (error : Error) (given : CliAnswer) → HasKind (fault_of cli words) error → IsErrorAnswer (kind_of error) given → IsGivenFor words cwd given
 told_is_given words cwd error (Asked request) has told = absurd told
 told_is_given words cwd error (Shown text) (inl memory) told =
     let no : false ≡ true = sym (ap is_display memory) ∙ told in absurd (true≢false (sym no))
@@ -67,14 +67,14 @@ no_value (Ok value) is = absurd (true≢false (sym is))
 no_value (Err error) is = refl
 
 -- what matches ask for is what the words ask for
-pub asked_is_given : (words : List Text) (cwd : Text) (matches : ArgMatches) (given : Given) → HasMatches words matches
+pub asked_is_given : (words : List Text) (cwd : Text) (matches : ArgMatches) (given : CliAnswer) → HasMatches words matches
     → IsAsked (rows_of (found_of matches)) (subcommand_rows_of matches) cwd given → IsGivenFor words cwd given
 asked_is_given words cwd matches given has asked =
     let P : List Row → Option (Text × List Row) → Type 0 = λ rows below. IsAsked rows below cwd given in
     finish given (subst (λ (below : Option (Text × List Row)). P (matches_of cli words) below) has.below
     (subst (λ (rows : List Row). P rows (subcommand_rows_of matches)) has.rows asked))
   where
-    finish : (given : Given) → IsAsked (matches_of cli words) (subcommand_of cli words) cwd given → IsGivenFor words cwd given
+    finish : (given : CliAnswer) → IsAsked (matches_of cli words) (subcommand_of cli words) cwd given → IsGivenFor words cwd given
     finish (Asked request) is = (has.takes, ap result_ok is)
     finish (Shown text) is = absurd is
     finish (Usage text) is = inr (has.takes, no_value _ is)
@@ -91,7 +91,7 @@ err_kinds app words (Ok matches) is fails = tt
 err_kinds app words (Err error) is fails = failed app words error is fails
 
 -- words that are taken and ask for a request are answered with it
-pub asked_when : (words : List Text) (cwd : Text) (request : Request) (given : Given) → fault_of cli words ≡ [] → request_in words cwd ≡ Some request → IsGivenFor words cwd given → given ≡ Asked request
+pub asked_when : (words : List Text) (cwd : Text) (request : Request) (given : CliAnswer) → fault_of cli words ≡ [] → request_in words cwd ≡ Some request → IsGivenFor words cwd given → given ≡ Asked request
 asked_when words cwd request (Asked other) takes asks is = ap Asked (some (sym is.1 ∙ asks))
   where
     some : {one two : Request} → Some one ≡ Some two → one ≡ two
@@ -104,7 +104,7 @@ asked_when words cwd request (Usage text) takes asks (inr none) =
     let no : ◌≡◌ {A = Option Request} None (Some request) = sym none.1 ∙ asks in absurd (cc)
 
 -- words that can only be taken for a call for help or the version are answered with a text to show
-pub shown_when : (words : List Text) (cwd : Text) (given : Given) → may_show (fault_of cli words) ≡ true → may_refuse (fault_of cli words) ≡ false → IsGivenFor words cwd given → IsShown given
+pub shown_when : (words : List Text) (cwd : Text) (given : CliAnswer) → may_show (fault_of cli words) ≡ true → may_refuse (fault_of cli words) ≡ false → IsGivenFor words cwd given → IsShown given
 shown_when words cwd (Asked request) shows refuses is =
     let no : false ≡ true = sym (ap may_show is.0) ∙ shows in absurd (true≢false (sym no))
 shown_when words cwd (Shown text) shows refuses is = tt
@@ -113,7 +113,7 @@ shown_when words cwd (Usage text) shows refuses (inr none) =
     let no : false ≡ true = sym (ap may_show none.0) ∙ shows in absurd (true≢false (sym no))
 
 -- words that can only be taken for a mistake, and words that are taken and ask for nothing, are refused
-pub refused_when : (words : List Text) (cwd : Text) (given : Given) → may_show (fault_of cli words) ≡ false → ((may_refuse (fault_of cli words) ≡ true) ⊎ (request_in words cwd ≡ None)) → IsGivenFor words cwd given → IsUsage given
+pub refused_when : (words : List Text) (cwd : Text) (given : CliAnswer) → may_show (fault_of cli words) ≡ false → ((may_refuse (fault_of cli words) ≡ true) ⊎ (request_in words cwd ≡ None)) → IsGivenFor words cwd given → IsUsage given
 refused_when words cwd (Asked request) shows (inl refuses) is =
     let no : false ≡ true = sym (ap may_refuse is.0) ∙ refuses in absurd (true≢false (sym no))
 refused_when words cwd (Asked request) shows (inr none) is =
@@ -122,24 +122,24 @@ refused_when words cwd (Shown text) shows why is = absurd (true≢false (sym is 
 refused_when words cwd (Usage text) shows why is = tt
 
 -- the same of an outcome that may be want of memory
-pub request_clause : {E : Type 0} (words : List Text) (cwd : Text) (r : Result Given E) → IfOk r (IsGivenFor words cwd) → IfOk r (AnswersRequest words cwd)
+pub request_clause : {E : Type 0} (words : List Text) (cwd : Text) (r : Result CliAnswer E) → IfOk r (IsGivenFor words cwd) → IfOk r (AnswersRequest words cwd)
 request_clause words cwd (Ok given) is = λ request takes asks. asked_when words cwd request given takes asks is
 request_clause words cwd (Err error) is = tt
 
-pub help_clause : {E : Type 0} (words : List Text) (cwd : Text) (r : Result Given E) → IfOk r (IsGivenFor words cwd) → IfOk r (AnswersHelp words)
+pub help_clause : {E : Type 0} (words : List Text) (cwd : Text) (r : Result CliAnswer E) → IfOk r (IsGivenFor words cwd) → IfOk r (AnswersHelp words)
 help_clause words cwd (Ok given) is = λ shows refuses. shown_when words cwd given shows refuses is
 help_clause words cwd (Err error) is = tt
 
-pub mistake_clause : {E : Type 0} (words : List Text) (cwd : Text) (r : Result Given E) → IfOk r (IsGivenFor words cwd) → IfOk r (AnswersMistake words cwd)
+pub mistake_clause : {E : Type 0} (words : List Text) (cwd : Text) (r : Result CliAnswer E) → IfOk r (IsGivenFor words cwd) → IfOk r (AnswersMistake words cwd)
 mistake_clause words cwd (Ok given) is = λ shows why. refused_when words cwd given shows why is
 mistake_clause words cwd (Err error) is = tt
 
-pub asked_clause : {E : Type 0} (words : List Text) (cwd : Text) (matches : ArgMatches) (r : Result Given E) → HasMatches words matches
+pub asked_clause : {E : Type 0} (words : List Text) (cwd : Text) (matches : ArgMatches) (r : Result CliAnswer E) → HasMatches words matches
     → IfOk r (IsAsked (rows_of (found_of matches)) (subcommand_rows_of matches) cwd) → IfOk r (IsGivenFor words cwd)
 asked_clause words cwd matches (Ok given) has is = asked_is_given words cwd matches given has is
 asked_clause words cwd matches (Err error) has is = tt
 
-pub told_clause : {E : Type 0} (words : List Text) (cwd : Text) (error : Error) (r : Result Given E) → HasKind (fault_of cli words) error
-    → IfOk r (IsTold (kind_of error)) → IfOk r (IsGivenFor words cwd)
+pub told_clause : {E : Type 0} (words : List Text) (cwd : Text) (error : Error) (r : Result CliAnswer E) → HasKind (fault_of cli words) error
+    → IfOk r (IsErrorAnswer (kind_of error)) → IfOk r (IsGivenFor words cwd)
 told_clause words cwd error (Ok given) has is = told_is_given words cwd error given has is
 told_clause words cwd error (Err refused) has is = tt

@@ -12,7 +12,7 @@ use Rattle.request_core.specs.declared.output.OutputFormat.TheVariants.{Human}
 use Rattle.request_core.specs.declared.output.Layout.TheVariants.{License}
 use Rattle.request_core.specs.Named.{named_in}
 use Rattle.request_core.specs.Names.{which_names, output_names, layout_names, code_or_level_named}
-use Rattle.request_core.specs.Number.{number_of, threshold_of}
+use Rattle.request_core.specs.Number.{number_of, threshold_read}
 use Rattle.request_core.specs.Reading.{and_then, first_read, all_read, is_set}
 
 -- the codes and levels of each kind, in the order of their words
@@ -60,4 +60,4 @@ list_args_of rows =
     }))
     (first_read (named_in layout_names) (codes "layout") rows))
     (first_read (named_in output_names) (codes "format") rows))
-    (first_read threshold_of (codes "threshold") rows)
+    (first_read threshold_read (codes "threshold") rows)

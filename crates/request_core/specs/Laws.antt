@@ -2,14 +2,14 @@
 use Rattle.std.specs.Prelude.{◌≡◌, ◌↔◌, List, [], ◌∷◌, Option, option_map, codes}
 use Rattle.clap.specs.Words.{Text}
 use Rattle.request_core.specs.declared.request.Request.{Request}
-use Rattle.request_core.specs.declared.read.Given.{Given}
+use Rattle.request_core.specs.declared.read.CliAnswer.{CliAnswer}
 use Rattle.request_core.specs.Request.{request_of, without_deny}
 use Rattle.request_core.specs.Given.{IsGiven}
 
 -- A second word `deny` changes nothing: the words with it and without it have the same answers, where no further `deny` stands
 -- behind it.
 abbrev pub SecondDenyChangesNothing : Type 0
-SecondDenyChangesNothing = (program : Text) (words : List Text) (cwd : Text) (given : Given) → without_deny words ≡ words
+SecondDenyChangesNothing = (program : Text) (words : List Text) (cwd : Text) (given : CliAnswer) → without_deny words ≡ words
     → IsGiven (program ∷ codes "deny" ∷ words) cwd given ↔ IsGiven (program ∷ words) cwd given
 
 -- a path of which it is only known that it is there

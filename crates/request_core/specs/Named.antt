@@ -1,10 +1,10 @@
 -- Tables of names.
 use Rattle.std.specs.Prelude.{ℕ, List, [], ◌∷◌, Option, Some, None, if◌then◌else◌}
 use Rattle.std.specs.Str.{bytes_eq}
-use Rattle.request_core.specs.declared.from_word.Name.{Name}
+use Rattle.request_core.specs.declared.from_word.NamedValue.{NamedValue}
 
 -- a name with its value
-abbrev pub pair_of : {T : Type 0} → Name T → List ℕ × T
+abbrev pub pair_of : {T : Type 0} → NamedValue T → List ℕ × T
 pair_of row = (row.name.now, row.value)
 
 -- the value of that name in a table: the first, if there were several

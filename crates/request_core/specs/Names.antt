@@ -23,33 +23,33 @@ use Rattle.request_core.specs.declared.output.Layout.TheVariants as layout
 use Rattle.request_core.specs.Named.{named_in}
 
 -- names, each with its value
-abbrev pub Table : Type 0 → Type 0
-Table T = List (List ℕ × T)
+abbrev pub NameTable : Type 0 → Type 0
+NameTable T = List (List ℕ × T)
 
-abbrev pub filter_names : Table LevelFilter
+abbrev pub filter_names : NameTable LevelFilter
 filter_names =
     (codes "off", filter.Off) ∷ (codes "error", filter.Error) ∷ (codes "warn", filter.Warn)
     ∷ (codes "info", filter.Info) ∷ (codes "debug", filter.Debug) ∷ (codes "trace", filter.Trace) ∷ []
 
-abbrev pub format_names : Table Format
+abbrev pub format_names : NameTable Format
 format_names = (codes "human", format.Human) ∷ (codes "json", format.Json) ∷ (codes "sarif", format.Sarif) ∷ []
 
-abbrev pub color_names : Table Color
+abbrev pub color_names : NameTable Color
 color_names = (codes "auto", color.Auto) ∷ (codes "always", color.Always) ∷ (codes "never", color.Never) ∷ []
 
-abbrev pub which_names : Table WhichCheck
+abbrev pub which_names : NameTable WhichCheck
 which_names =
     (codes "advisories", which.Advisories) ∷ (codes "bans", which.Bans) ∷ (codes "licenses", which.Licenses)
     ∷ (codes "sources", which.Sources) ∷ (codes "all", which.All) ∷ []
 
-abbrev pub level_names : Table Level
+abbrev pub level_names : NameTable Level
 level_names =
     (codes "allowed", level.Allowed) ∷ (codes "warnings", level.Warnings) ∷ (codes "denied", level.Denied) ∷ []
 
-abbrev pub output_names : Table OutputFormat
+abbrev pub output_names : NameTable OutputFormat
 output_names = (codes "human", output.Human) ∷ (codes "json", output.Json) ∷ (codes "tsv", output.Tsv) ∷ []
 
-abbrev pub layout_names : Table Layout
+abbrev pub layout_names : NameTable Layout
 layout_names = (codes "crate", layout.Crate) ∷ (codes "license", layout.License) ∷ []
 
 -- the level of that name, or else the code of that name; a code's name stands alone, without the letter of its check

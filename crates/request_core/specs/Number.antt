@@ -46,10 +46,10 @@ abbrev pub behind_point : ℕ → ℕ → ℕ → ℕ → Option Threshold
 behind_point point ones tenths hundredths = if point == 46 then hundredths_of ones tenths hundredths else None
 
 -- the threshold that a word writes, in hundredths: a digit, and maybe a point and one or two digits; at most one
-abbrev pub threshold_of : List ℕ → Option Threshold
-threshold_of [] = None
-threshold_of (ones ∷ []) = hundredths_of ones 48 48
-threshold_of (ones ∷ point ∷ []) = None
-threshold_of (ones ∷ point ∷ tenths ∷ []) = behind_point point ones tenths 48
-threshold_of (ones ∷ point ∷ tenths ∷ hundredths ∷ []) = behind_point point ones tenths hundredths
-threshold_of (ones ∷ point ∷ tenths ∷ hundredths ∷ more ∷ rest) = None
+abbrev pub threshold_read : List ℕ → Option Threshold
+threshold_read [] = None
+threshold_read (ones ∷ []) = hundredths_of ones 48 48
+threshold_read (ones ∷ point ∷ []) = None
+threshold_read (ones ∷ point ∷ tenths ∷ []) = behind_point point ones tenths 48
+threshold_read (ones ∷ point ∷ tenths ∷ hundredths ∷ []) = behind_point point ones tenths hundredths
+threshold_read (ones ∷ point ∷ tenths ∷ hundredths ∷ more ∷ rest) = None

@@ -2,13 +2,13 @@
 use Rattle.std.specs.Prelude.{List, [], ◌∷◌, Option, None, Some}
 use Rattle.std.specs.Borrow.{Bor}
 use Rattle.clap.specs.Words.{Text, Rule, App, with_rule}
-use Rattle.request_core.specs.declared.options.Kind.{Kind}
-use Rattle.request_core.specs.declared.options.Kind.TheVariants.{One, Many, Flag, Words, Word}
+use Rattle.request_core.specs.declared.options.OptionUse.{OptionUse}
+use Rattle.request_core.specs.declared.options.OptionUse.TheVariants.{One, Many, Flag, Words, Word}
 use Rattle.request_core.specs.declared.options.OptionRow.{OptionRow}
 use Rattle.request_core.specs.Cli.{option_rule, many_rule, flag_rule, words_rule, word_rule}
 
 -- a use of that kind, under this name
-abbrev pub rule_of_kind : Kind → Text → Rule
+abbrev pub rule_of_kind : OptionUse → Text → Rule
 rule_of_kind One name = option_rule name
 rule_of_kind Many name = many_rule name
 rule_of_kind Flag name = flag_rule name

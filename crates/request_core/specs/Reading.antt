@@ -7,9 +7,9 @@ use Rattle.request_core.specs.declared.error.ArgsError.{ArgsError}
 use Rattle.request_core.specs.declared.error.ArgsError.TheVariants.{BadValue, Memory}
 
 -- the answer is the expected one, or memory was refused
-abbrev pub Answers : {T : Type 0} → Result T ArgsError → Result T ArgsError → Type 0
-Answers expected (Ok value) = expected ≡ Ok value
-Answers expected (Err error) = (error ≡ Memory) ⊎ (expected ≡ Err error)
+abbrev pub AnswersArgs : {T : Type 0} → Result T ArgsError → Result T ArgsError → Type 0
+AnswersArgs expected (Ok value) = expected ≡ Ok value
+AnswersArgs expected (Err error) = (error ≡ Memory) ⊎ (expected ≡ Err error)
 
 -- what follows a value that was read; the first refusal is the answer
 abbrev pub and_then : {T U : Type 0} → (T → Result U ArgsError) → Result T ArgsError → Result U ArgsError
@@ -17,13 +17,13 @@ and_then next (Ok value) = next value
 and_then next (Err error) = Err error
 
 -- the value that a word stands for, or the refusal that tells the option and the word
-abbrev pub value_read : {T : Type 0} → (Text → Option T) → Text → Text → Result T ArgsError
-value_read read option word = ok_or (read word) (BadValue option word)
+abbrev pub option_value : {T : Type 0} → (Text → Option T) → Text → Text → Result T ArgsError
+option_value read option word = ok_or (read word) (BadValue option word)
 
 -- the value of the word, where there is a word
 abbrev pub maybe_read : {T : Type 0} → (Text → Option T) → Text → Option Text → Result (Option T) ArgsError
 maybe_read read option None = Ok None
-maybe_read read option (Some word) = and_then (λ value. Ok (Some value)) (value_read read option word)
+maybe_read read option (Some word) = and_then (λ value. Ok (Some value)) (option_value read option word)
 
 -- the value of an option
 abbrev pub first_read : {T : Type 0} → (Text → Option T) → Text → List Row → Result (Option T) ArgsError
@@ -33,15 +33,15 @@ first_read read option rows = maybe_read read option (first_of option rows)
 abbrev pub words_read : {T : Type 0} → (Text → Option T) → Text → List Text → Result (List T) ArgsError
 words_read read option [] = Ok []
 words_read read option (word ∷ words) =
-    and_then (λ value. and_then (λ values. Ok (value ∷ values)) (words_read read option words)) (value_read read option word)
+    and_then (λ value. and_then (λ values. Ok (value ∷ values)) (words_read read option words)) (option_value read option word)
 
 -- the words of an option, of all its uses
-abbrev pub words_of : Text → List Row → List Text
-words_of option rows = unwrap_or (all_of option rows) []
+abbrev pub option_words : Text → List Row → List Text
+option_words option rows = unwrap_or (all_of option rows) []
 
 -- the values of an option, of all its uses
 abbrev pub all_read : {T : Type 0} → (Text → Option T) → Text → List Row → Result (List T) ArgsError
-all_read read option rows = words_read read option (words_of option rows)
+all_read read option rows = words_read read option (option_words option rows)
 
 -- an option without a value was used
 abbrev pub is_set : Text → List Row → Bool

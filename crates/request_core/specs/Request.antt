@@ -20,7 +20,7 @@ use Rattle.request_core.specs.declared.number.SampleSize.{SampleSize}
 use Rattle.request_core.specs.Named.{named_in}
 use Rattle.request_core.specs.Names.{filter_names, format_names, color_names}
 use Rattle.request_core.specs.Number.{sample_size_of}
-use Rattle.request_core.specs.Reading.{and_then, first_read, words_of, is_set, is_comma}
+use Rattle.request_core.specs.Reading.{and_then, first_read, option_words, is_set, is_comma}
 use Rattle.request_core.specs.Args.{check_args_of, list_args_of}
 use Rattle.request_core.specs.Cli.{cli}
 
@@ -47,11 +47,11 @@ krate_context_of rows cwd = record {
   config_path = first_of (codes "config") rows;
   metadata_path = path_at cwd (codes "metadata-path") rows;
   workspace = is_set (codes "workspace") rows;
-  exclude = words_of (codes "exclude") rows;
+  exclude = option_words (codes "exclude") rows;
   targets = option_to_list (first_of (codes "target") rows);
   no_default_features = is_set (codes "no-default-features") rows;
   all_features = is_set (codes "all-features") rows;
-  features = flat_map (slice_split is_comma) (words_of (codes "features") rows);
+  features = flat_map (slice_split is_comma) (option_words (codes "features") rows);
   frozen = is_set (codes "frozen") rows;
   locked = is_set (codes "locked") rows || is_set (codes "frozen") rows;
   offline = is_set (codes "offline") rows || is_set (codes "frozen") rows;
@@ -79,8 +79,8 @@ subcommand_asked None = Err (BadValue (codes "COMMAND") [])
 subcommand_asked (Some named) = subcommand_named named.0 named.1
 
 -- what the rows ask for, or the first value that is outside its table, or a depth beside hidden graphs
-abbrev pub asked_of : List Row → Option (Text × List Row) → Text → Result Request ArgsError
-asked_of rows below cwd =
+abbrev pub request_of_rows : List Row → Option (Text × List Row) → Text → Result Request ArgsError
+request_of_rows rows below cwd =
     and_then (λ log_ctx. and_then (λ command. Ok (record {
       log_ctx = log_ctx;
       manifest_path = path_at cwd (codes "manifest-path") rows;
@@ -102,7 +102,7 @@ gate_words (program ∷ words) = program ∷ without_deny words
 
 -- what the words that are read ask for, where the command line takes them
 abbrev pub request_in : List Text → Text → Option Request
-request_in words cwd = result_ok (asked_of (matches_of cli words) (subcommand_of cli words) cwd)
+request_in words cwd = result_ok (request_of_rows (matches_of cli words) (subcommand_of cli words) cwd)
 
 -- what the words ask for, where the command line takes them
 abbrev pub request_of : List Text → Text → Option Request

@@ -2,7 +2,7 @@
 ghost use Rattle.std.specs.Prelude.{◌≡◌, IfOk};
 ghost use Rattle.clap.specs.Words.{app_of, found_of, rows_of};
 ghost use Rattle.request_core.specs.Cli.{alone, check_shape};
-ghost use Rattle.request_core.specs.Reading.{Answers};
+ghost use Rattle.request_core.specs.Reading.{AnswersArgs};
 ghost use Rattle.request_core.specs.Args.{check_args_of, lint_levels_of};
 
 use crate::command::check_command;
@@ -37,7 +37,7 @@ impl Args {
     /// What the matches of `check` ask for. The first refusal is told, in the order of the options, and a
     /// depth beside hidden graphs behind all values.
     pub fn parse(alloc: Global, matches: &ArgMatches<'_>) -> Result<Args, ArgsError>
-        ensures { Answers (check_args_of (rows_of (found_of matches.now))) result }
+        ensures { AnswersArgs (check_args_of (rows_of (found_of matches.now))) result }
     {
         let lint_levels = lint_levels(alloc, matches)?;
         let feature_depth: Option<u32> = read_first(alloc, matches, "feature-depth")?;
@@ -61,7 +61,7 @@ impl Args {
 
 /// What the words say of codes and levels.
 fn lint_levels(alloc: Global, matches: &ArgMatches<'_>) -> Result<LintLevels, ArgsError>
-    ensures { Answers (lint_levels_of (rows_of (found_of matches.now))) result }
+    ensures { AnswersArgs (lint_levels_of (rows_of (found_of matches.now))) result }
 {
     let warn = read_all(alloc, matches, "warn")?;
     let allow = read_all(alloc, matches, "allow")?;

@@ -4,7 +4,7 @@ ghost use Rattle.clap.specs.Words.{rule_of, new_rule, app_of, shape_of, with_sub
 ghost use Rattle.request_core.specs.Cli.{cli, top_shape, alone, check_shape, list_shape, sample_shape};
 ghost use Rattle.request_core.specs.OptionRow.{rule_of_row, defaults_of, grown};
 
-use crate::options::{Kind, OptionRow, check_rows, list_rows, main_rows, sample_rows};
+use crate::options::{OptionUse, OptionRow, check_rows, list_rows, main_rows, sample_rows};
 use clap::{Arg, ArgAction, Command};
 use std::alloc::{AllocError, Global};
 
@@ -91,17 +91,17 @@ fn arg_of<'a>(alloc: Global, row: &'static OptionRow) -> Arg<'a>
 {
     let arg = defaulted(alloc, row);
     match row.kind {
-        Kind::One => arg
+        OptionUse::One => arg
             .long(row.name)
             .value_name(row.value)
             .action(ArgAction::Set),
-        Kind::Many => arg
+        OptionUse::Many => arg
             .long(row.name)
             .value_name(row.value)
             .action(ArgAction::Append),
-        Kind::Flag => arg.long(row.name).action(ArgAction::SetTrue),
-        Kind::Words => arg.value_name(row.value).action(ArgAction::Append),
-        Kind::Word => arg
+        OptionUse::Flag => arg.long(row.name).action(ArgAction::SetTrue),
+        OptionUse::Words => arg.value_name(row.value).action(ArgAction::Append),
+        OptionUse::Word => arg
             .value_name(row.value)
             .action(ArgAction::Set)
             .required(true),

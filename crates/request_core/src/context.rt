@@ -4,7 +4,7 @@ ghost use Rattle.std.specs.List.{flat_map, slice_split};
 ghost use Rattle.std.specs.Option.{option_to_list};
 ghost use Rattle.clap.specs.Words.{found_of, rows_of, first_of};
 ghost use Rattle.deny_text.specs.Path.{join_of};
-ghost use Rattle.request_core.specs.Reading.{words_of, is_set, is_comma};
+ghost use Rattle.request_core.specs.Reading.{option_words, is_set, is_comma};
 ghost use Rattle.request_core.specs.Request.{krate_context_of, path_at};
 
 use crate::rows::{copied_path, copied_words, is_set, pieces, word_under};
@@ -116,9 +116,9 @@ fn paths_given(alloc: Global, matches: &ArgMatches<'_>, cwd: &str) -> Result<Giv
 fn lists_given(alloc: Global, matches: &ArgMatches<'_>) -> Result<GivenLists, AllocError>
     ensures { let rows = rows_of (found_of matches.now) in
         IfOk result (λ lists. lists ≡ record {
-          exclude = words_of (codes "exclude") rows;
+          exclude = option_words (codes "exclude") rows;
           targets = option_to_list (first_of (codes "target") rows);
-          features = flat_map (slice_split is_comma) (words_of (codes "features") rows);
+          features = flat_map (slice_split is_comma) (option_words (codes "features") rows);
         }) }
 {
     let exclude = copied_words(alloc, matches, "exclude")?;

@@ -13,13 +13,13 @@ pub trait FromWord: Copy {
 
 /// A name, and the value that it names.
 #[derive(Clone, Copy)]
-pub(crate) struct Name<T> {
+pub(crate) struct NamedValue<T> {
     pub(crate) name: &'static str,
     pub(crate) value: T,
 }
 
 /// The value of that name in a table.
-pub(crate) fn value_named<T: Copy>(names: &[Name<T>], word: &str) -> Option<T>
+pub(crate) fn value_named<T: Copy>(names: &[NamedValue<T>], word: &str) -> Option<T>
     ensures { result ≡ named_in (map pair_of names.now) word.now }
 {
     'names: for name in names {

@@ -3,7 +3,7 @@ ghost use Rattle.std.specs.Prelude.{◌≡◌, map};
 ghost use Rattle.request_core.specs.Named.{named_in, pair_of};
 ghost use Rattle.request_core.specs.Names.{which_names, level_names, code_or_level_named, severity_of_level};
 
-use crate::from_word::{FromWord, Name, value_named};
+use crate::from_word::{FromWord, NamedValue, value_named};
 use deny_text::ListOf;
 use diag_core::{DiagnosticCode, Severity};
 
@@ -59,51 +59,51 @@ impl From<Level> for Severity {
     }
 }
 
-static CHECKS: [Name<WhichCheck>; 5] = [
-    Name {
+static CHECKS: [NamedValue<WhichCheck>; 5] = [
+    NamedValue {
         name: "advisories",
         value: WhichCheck::Advisories,
     },
-    Name {
+    NamedValue {
         name: "bans",
         value: WhichCheck::Bans,
     },
-    Name {
+    NamedValue {
         name: "licenses",
         value: WhichCheck::Licenses,
     },
-    Name {
+    NamedValue {
         name: "sources",
         value: WhichCheck::Sources,
     },
-    Name {
+    NamedValue {
         name: "all",
         value: WhichCheck::All,
     },
 ];
 
-static LEVELS: [Name<Level>; 3] = [
-    Name {
+static LEVELS: [NamedValue<Level>; 3] = [
+    NamedValue {
         name: "allowed",
         value: Level::Allowed,
     },
-    Name {
+    NamedValue {
         name: "warnings",
         value: Level::Warnings,
     },
-    Name {
+    NamedValue {
         name: "denied",
         value: Level::Denied,
     },
 ];
 
-fn checks() -> &'static [Name<WhichCheck>]
+fn checks() -> &'static [NamedValue<WhichCheck>]
     ensures { map pair_of result.now ≡ which_names }
 {
     &CHECKS
 }
 
-fn levels() -> &'static [Name<Level>]
+fn levels() -> &'static [NamedValue<Level>]
     ensures { map pair_of result.now ≡ level_names }
 {
     &LEVELS

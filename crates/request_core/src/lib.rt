@@ -25,5 +25,5 @@ pub use from_word::FromWord;
 pub use level::{CodeOrLevel, CodeOrLevels, Level, LintLevels, WhichCheck, WhichChecks};
 pub use number::{SampleSize, Threshold};
 pub use output::{Layout, OutputFormat};
-pub use read::Given;
+pub use read::CliAnswer;
 pub use request::{Request, Subcommand};

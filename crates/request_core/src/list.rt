@@ -2,7 +2,7 @@
 ghost use Rattle.std.specs.Prelude.{◌≡◌, IfOk};
 ghost use Rattle.clap.specs.Words.{app_of, found_of, rows_of};
 ghost use Rattle.request_core.specs.Cli.{alone, list_shape};
-ghost use Rattle.request_core.specs.Reading.{Answers};
+ghost use Rattle.request_core.specs.Reading.{AnswersArgs};
 ghost use Rattle.request_core.specs.Args.{list_args_of, hundredths_in};
 
 use crate::command::list_command;
@@ -32,7 +32,7 @@ impl Args {
 
     /// What the matches of `list` ask for. The first refusal is told, in the order of the options.
     pub fn parse(alloc: Global, matches: &ArgMatches<'_>) -> Result<Args, ArgsError>
-        ensures { Answers (list_args_of (rows_of (found_of matches.now))) result }
+        ensures { AnswersArgs (list_args_of (rows_of (found_of matches.now))) result }
     {
         let threshold: Option<Threshold> = read_first(alloc, matches, "threshold")?;
         let format: Option<OutputFormat> = read_first(alloc, matches, "format")?;

@@ -1,6 +1,6 @@
 //! What is said of values that are refused.
 
-use crate::options::{Kind, OptionRow, Values};
+use crate::options::{OptionUse, OptionRow, OptionValues};
 use std::alloc::{AllocError, Global};
 
 /// That a value is outside its table, and which values are possible.
@@ -33,15 +33,15 @@ pub(crate) fn depth_with_hide(alloc: Global) -> Result<String, AllocError> {
 fn push_label(text: &mut String, row: &OptionRow) -> Result<(), AllocError> {
     let (name, value) = (row.name, row.value);
     match row.kind {
-        Kind::One | Kind::Many => write!(text, "--{name} <{value}>'"),
-        Kind::Flag => write!(text, "--{name}'"),
-        Kind::Words => write!(text, "[{value}]...'"),
-        Kind::Word => write!(text, "<{value}>'"),
+        OptionUse::One | OptionUse::Many => write!(text, "--{name} <{value}>'"),
+        OptionUse::Flag => write!(text, "--{name}'"),
+        OptionUse::Words => write!(text, "[{value}]...'"),
+        OptionUse::Word => write!(text, "<{value}>'"),
     }
 }
 
-fn push_possible(text: &mut String, values: Values) -> Result<(), AllocError> {
-    let Values::Names(names) = values else {
+fn push_possible(text: &mut String, values: OptionValues) -> Result<(), AllocError> {
+    let OptionValues::Names(names) = values else {
         return Ok(());
     };
     let mut before = "\n  [possible values: ";

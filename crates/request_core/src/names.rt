@@ -3,80 +3,80 @@ ghost use Rattle.std.specs.Prelude.{◌≡◌, map};
 ghost use Rattle.request_core.specs.Named.{named_in, pair_of};
 ghost use Rattle.request_core.specs.Names.{filter_names, format_names, color_names};
 
-use crate::from_word::{FromWord, Name, value_named};
+use crate::from_word::{FromWord, NamedValue, value_named};
 use diag_core::LevelFilter;
 use print_core::{Color, Format};
 
-static FILTERS: [Name<LevelFilter>; 6] = [
-    Name {
+static FILTERS: [NamedValue<LevelFilter>; 6] = [
+    NamedValue {
         name: "off",
         value: LevelFilter::Off,
     },
-    Name {
+    NamedValue {
         name: "error",
         value: LevelFilter::Error,
     },
-    Name {
+    NamedValue {
         name: "warn",
         value: LevelFilter::Warn,
     },
-    Name {
+    NamedValue {
         name: "info",
         value: LevelFilter::Info,
     },
-    Name {
+    NamedValue {
         name: "debug",
         value: LevelFilter::Debug,
     },
-    Name {
+    NamedValue {
         name: "trace",
         value: LevelFilter::Trace,
     },
 ];
 
-static FORMATS: [Name<Format>; 3] = [
-    Name {
+static FORMATS: [NamedValue<Format>; 3] = [
+    NamedValue {
         name: "human",
         value: Format::Human,
     },
-    Name {
+    NamedValue {
         name: "json",
         value: Format::Json,
     },
-    Name {
+    NamedValue {
         name: "sarif",
         value: Format::Sarif,
     },
 ];
 
-static COLORS: [Name<Color>; 3] = [
-    Name {
+static COLORS: [NamedValue<Color>; 3] = [
+    NamedValue {
         name: "auto",
         value: Color::Auto,
     },
-    Name {
+    NamedValue {
         name: "always",
         value: Color::Always,
     },
-    Name {
+    NamedValue {
         name: "never",
         value: Color::Never,
     },
 ];
 
-fn filters() -> &'static [Name<LevelFilter>]
+fn filters() -> &'static [NamedValue<LevelFilter>]
     ensures { map pair_of result.now ≡ filter_names }
 {
     &FILTERS
 }
 
-fn formats() -> &'static [Name<Format>]
+fn formats() -> &'static [NamedValue<Format>]
     ensures { map pair_of result.now ≡ format_names }
 {
     &FORMATS
 }
 
-fn colors() -> &'static [Name<Color>]
+fn colors() -> &'static [NamedValue<Color>]
     ensures { map pair_of result.now ≡ color_names }
 {
     &COLORS

@@ -1,6 +1,6 @@
 //! The numbers that words write.
 ghost use Rattle.std.specs.Prelude.{◌≡◌, ◌+◌, ◌-◌, ◌*◌, ◌≤◌, pos, Some, option_map};
-ghost use Rattle.request_core.specs.Number.{number_of, sample_size_of, threshold_of, hundredths_of};
+ghost use Rattle.request_core.specs.Number.{number_of, sample_size_of, threshold_read, hundredths_of};
 ghost use Rattle.request_core.specs.Number.{behind_point, digit_of};
 
 use crate::from_word::FromWord;
@@ -41,7 +41,7 @@ impl FromWord for SampleSize {
 
 /// `0`, `1`, or one of these with a point and one or two digits, at most 1.
 impl FromWord for Threshold {
-    ghost read = { threshold_of };
+    ghost read = { threshold_read };
 
     fn from_word(word: &str) -> Option<Threshold> {
         match word.as_bytes() {

@@ -5,7 +5,7 @@ ghost use Rattle.request_core.specs.OptionRow.{rule_of_row};
 
 /// How an option is used.
 #[derive(Clone, Copy, Debug, PartialEq, Eq)]
-pub enum Kind {
+pub enum OptionUse {
     /// With one value, once at most.
     One,
     /// With one value a use.
@@ -20,7 +20,7 @@ pub enum Kind {
 
 /// What the value of an option is, for help and completion.
 #[derive(Clone, Copy)]
-pub enum Values {
+pub enum OptionValues {
     /// Any text, or none.
     Any,
     /// The path of a file.
@@ -34,7 +34,7 @@ pub enum Values {
 /// An option of the command line.
 #[derive(Clone, Copy)]
 pub struct OptionRow {
-    pub kind: Kind,
+    pub kind: OptionUse,
     /// Behind `--`, but for words without a name.
     pub name: &'static str,
     /// Behind `-`.
@@ -43,7 +43,7 @@ pub struct OptionRow {
     pub default: Option<&'static str>,
     /// What help calls the value.
     pub value: &'static str,
-    pub values: Values,
+    pub values: OptionValues,
     /// What the option does.
     pub help: &'static str,
 }
@@ -55,12 +55,12 @@ macro_rules! chosen {
         [$first:literal $(, $other:literal)*], $help:literal
     ) => {
         OptionRow {
-            kind: Kind::One,
+            kind: OptionUse::One,
             name: $name,
             letter: Some($letter),
             default: Some($default),
             value: $value,
-            values: Values::Names(&[$first $(, $other)*]),
+            values: OptionValues::Names(&[$first $(, $other)*]),
             help: concat!($help, " [possible values: ", $first $(, ", ", $other)*, "]"),
         }
     };
@@ -73,7 +73,7 @@ macro_rules! valued {
         $values:expr, $help:literal
     ) => {
         OptionRow {
-            kind: Kind::$kind,
+            kind: OptionUse::$kind,
             name: $name,
             letter: $letter,
             default: $default,
@@ -88,12 +88,12 @@ macro_rules! valued {
 macro_rules! flag {
     ($name:literal, $letter:expr, $help:literal) => {
         OptionRow {
-            kind: Kind::Flag,
+            kind: OptionUse::Flag,
             name: $name,
             letter: $letter,
             default: None,
             value: "",
-            values: Values::Any,
+            values: OptionValues::Any,
             help: $help,
         }
     };
@@ -104,7 +104,7 @@ macro_rules! overriding {
     ($name:literal, $letter:literal, $help:literal) => {
         valued!(
             Many, $name, Some($letter), None, "CODE",
-            Values::Names(&[
+            OptionValues::Names(&[
                 "allowed", "warnings", "denied", "accepted", "rejected", "unlicensed",
                 "skipped-private-workspace-crate", "license-not-encountered",
                 "license-exception-not-encountered", "missing-clarification-file", "parse-error",
@@ -146,7 +146,7 @@ static MAIN: [OptionRow; 17] = [
         None,
         None,
         "PATH",
-        Values::File,
+        OptionValues::File,
         "The project's Cargo.toml [default: that of the working folder]"
     ),
     valued!(
@@ -155,7 +155,7 @@ static MAIN: [OptionRow; 17] = [
         None,
         None,
         "PATH",
-        Values::File,
+        OptionValues::File,
         "The output of `cargo metadata --format-version 1`; it has to be given"
     ),
     valued!(
@@ -164,7 +164,7 @@ static MAIN: [OptionRow; 17] = [
         None,
         None,
         "PATH",
-        Values::File,
+        OptionValues::File,
         "The policy [default: the nearest deny.toml, .deny.toml or .cargo/deny.toml above the manifest]"
     ),
     valued!(
@@ -173,7 +173,7 @@ static MAIN: [OptionRow; 17] = [
         Some('t'),
         None,
         "TARGET",
-        Values::Any,
+        OptionValues::Any,
         "Only what this target needs; not carried"
     ),
     valued!(
@@ -182,7 +182,7 @@ static MAIN: [OptionRow; 17] = [
         None,
         None,
         "SPEC",
-        Values::Any,
+        OptionValues::Any,
         "A crate that is left out, as name, name@version or name:version; one a use"
     ),
     valued!(
@@ -191,7 +191,7 @@ static MAIN: [OptionRow; 17] = [
         None,
         None,
         "FEATURES",
-        Values::Any,
+        OptionValues::Any,
         "Features, with commas between; read, and without effect"
     ),
     flag!("workspace", None, "Begins at every member of the workspace"),
@@ -235,7 +235,7 @@ static CHECK: [OptionRow; 9] = [
         Some('g'),
         None,
         "FOLDER",
-        Values::Folder,
+        OptionValues::Folder,
         "A folder for graphs of crates; not carried"
     ),
     flag!(
@@ -266,7 +266,7 @@ static CHECK: [OptionRow; 9] = [
         None,
         None,
         "DEPTH",
-        Values::Any,
+        OptionValues::Any,
         "How deep graphs tell features, below 4294967296, not beside --hide-inclusion-graph; read, and \
          without effect"
     ),
@@ -276,7 +276,7 @@ static CHECK: [OptionRow; 9] = [
         None,
         None,
         "WHICH",
-        Values::Names(&["advisories", "bans", "licenses", "sources", "all"]),
+        OptionValues::Names(&["advisories", "bans", "licenses", "sources", "all"]),
         "The checks [possible values: advisories, bans, licenses, sources, all]; only licenses is carried"
     ),
 ];
@@ -288,7 +288,7 @@ static LIST: [OptionRow; 3] = [
         Some('t'),
         Some("0.8"),
         "SCORE",
-        Values::Any,
+        OptionValues::Any,
         "The least score at which a text is taken for a licence, from 0 to 1, with two decimals at most"
     ),
     chosen!(
@@ -315,7 +315,7 @@ static SAMPLE: [OptionRow; 1] = [valued!(
     None,
     None,
     "N",
-    Values::Any,
+    OptionValues::Any,
     "How many crates the sample has, from 1 to 20000"
 )];
 

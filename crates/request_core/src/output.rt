@@ -3,7 +3,7 @@ ghost use Rattle.std.specs.Prelude.{◌≡◌, map};
 ghost use Rattle.request_core.specs.Named.{named_in, pair_of};
 ghost use Rattle.request_core.specs.Names.{output_names, layout_names};
 
-use crate::from_word::{FromWord, Name, value_named};
+use crate::from_word::{FromWord, NamedValue, value_named};
 
 /// The form of a listing.
 #[derive(Clone, Copy, Debug, PartialEq, Eq)]
@@ -22,39 +22,39 @@ pub enum Layout {
     License,
 }
 
-static FORMATS: [Name<OutputFormat>; 3] = [
-    Name {
+static FORMATS: [NamedValue<OutputFormat>; 3] = [
+    NamedValue {
         name: "human",
         value: OutputFormat::Human,
     },
-    Name {
+    NamedValue {
         name: "json",
         value: OutputFormat::Json,
     },
-    Name {
+    NamedValue {
         name: "tsv",
         value: OutputFormat::Tsv,
     },
 ];
 
-static LAYOUTS: [Name<Layout>; 2] = [
-    Name {
+static LAYOUTS: [NamedValue<Layout>; 2] = [
+    NamedValue {
         name: "crate",
         value: Layout::Crate,
     },
-    Name {
+    NamedValue {
         name: "license",
         value: Layout::License,
     },
 ];
 
-fn formats() -> &'static [Name<OutputFormat>]
+fn formats() -> &'static [NamedValue<OutputFormat>]
     ensures { map pair_of result.now ≡ output_names }
 {
     &FORMATS
 }
 
-fn layouts() -> &'static [Name<Layout>]
+fn layouts() -> &'static [NamedValue<Layout>]
     ensures { map pair_of result.now ≡ layout_names }
 {
     &LAYOUTS

@@ -4,7 +4,7 @@ ghost use Rattle.clap.specs.Words.{HasKind, app_of, fault_of, found_of, kind_of,
 ghost use Rattle.request_core.specs.Cli.{cli};
 ghost use Rattle.request_core.specs.Request.{gate_words};
 ghost use Rattle.request_core.specs.Given.{AnswersHelp, AnswersMistake, AnswersRequest, HasMatches, IsAsked};
-ghost use Rattle.request_core.specs.Given.{IsGiven, IsGivenFor, IsTold, IsUsage, texts};
+ghost use Rattle.request_core.specs.Given.{IsGiven, IsGivenFor, IsErrorAnswer, IsUsage, texts};
 ghost use Rattle.request_core.specs.declared.error.ArgsError.TheVariants.{Memory};
 
 use crate::command::command;
@@ -21,7 +21,7 @@ use std::alloc::{AllocError, Global};
 
 /// What words are answered with.
 #[derive(Drop)]
-pub enum Given {
+pub enum CliAnswer {
     /// They ask for a run.
     Asked(Request),
     /// They ask for help or the version: this text is for standard output.
@@ -32,7 +32,7 @@ pub enum Given {
 
 /// The answer to words, of which the first is the program's name. A second word `deny` is dropped, since
 /// `cargo deny` passes it on. Relative paths are joined to `cwd`, but for that of the policy.
-pub fn read(alloc: Global, words: &[String], cwd: &str) -> Result<Given, AllocError>
+pub fn read(alloc: Global, words: &[String], cwd: &str) -> Result<CliAnswer, AllocError>
     ensures given { IfOk result (IsGiven (texts words.now) cwd.now) }
     ensures request { IfOk result (AnswersRequest (gate_words (texts words.now)) cwd.now) }
     ensures help { IfOk result (AnswersHelp (gate_words (texts words.now))) }
@@ -42,7 +42,7 @@ pub fn read(alloc: Global, words: &[String], cwd: &str) -> Result<Given, AllocEr
     given_for(alloc, kept.as_slice(), cwd)
 }
 
-fn given_for(alloc: Global, words: &[&str], cwd: &str) -> Result<Given, AllocError>
+fn given_for(alloc: Global, words: &[&str], cwd: &str) -> Result<CliAnswer, AllocError>
     ensures given { IfOk result (IsGivenFor (map (λ word. word.now) words.now) cwd.now) }
     ensures request { IfOk result (AnswersRequest (map (λ word. word.now) words.now) cwd.now) }
     ensures help { IfOk result (AnswersHelp (map (λ word. word.now) words.now)) }
@@ -51,7 +51,7 @@ fn given_for(alloc: Global, words: &[&str], cwd: &str) -> Result<Given, AllocErr
     given_by(alloc, words, cwd)
 }
 
-fn given_by(alloc: Global, words: &[&str], cwd: &str) -> Result<Given, AllocError>
+fn given_by(alloc: Global, words: &[&str], cwd: &str) -> Result<CliAnswer, AllocError>
     ensures { IfOk result (IsGivenFor (map (λ word. word.now) words.now) cwd.now) }
 {
     let mut command = command(alloc)?;
@@ -64,7 +64,7 @@ fn given_with<'a>(
     command: &mut Command<'a>,
     words: &'a [&'a str],
     cwd: &str,
-) -> Result<Given, AllocError>
+) -> Result<CliAnswer, AllocError>
     requires { app_of command.old ≡ cli }
     ensures { IfOk result (IsGivenFor (map (λ word. word.now) words.entry.now) cwd.now) }
 {
@@ -84,25 +84,25 @@ fn matches_of<'a>(command: &mut Command<'a>, words: &'a [&'a str]) -> Result<Arg
 }
 
 /// The answer to an error, which is let go.
-fn told_by(alloc: Global, error: Error) -> Result<Given, AllocError>
-    ensures { IfOk result (IsTold (kind_of error.entry)) }
+fn told_by(alloc: Global, error: Error) -> Result<CliAnswer, AllocError>
+    ensures { IfOk result (IsErrorAnswer (kind_of error.entry)) }
 {
     told(alloc, &error)
 }
 
 /// The answer to an error: help and the version are shown, and mistakes refused.
-fn told(alloc: Global, error: &Error) -> Result<Given, AllocError>
-    ensures { IfOk result (IsTold (kind_of error.now)) }
+fn told(alloc: Global, error: &Error) -> Result<CliAnswer, AllocError>
+    ensures { IfOk result (IsErrorAnswer (kind_of error.now)) }
 {
     match error.kind() {
         ErrorKind::OutOfMemory => Err(AllocError),
         ErrorKind::DisplayHelp | ErrorKind::DisplayVersion => {
             let text = format!(in alloc; "{error}")?;
-            Ok(Given::Shown(Text::from(text)))
+            Ok(CliAnswer::Shown(Text::from(text)))
         }
         _ => {
             let text = format!(in alloc; "{error}")?;
-            Ok(Given::Usage(Text::from(text)))
+            Ok(CliAnswer::Usage(Text::from(text)))
         }
     }
 }
@@ -113,7 +113,7 @@ fn asked_by(
     command: &mut Command<'_>,
     matches: ArgMatches<'_>,
     cwd: &str,
-) -> Result<Given, AllocError>
+) -> Result<CliAnswer, AllocError>
     ensures { IfOk result
         (IsAsked (rows_of (found_of matches.entry)) (subcommand_rows_of matches.entry) cwd.now) }
 {
@@ -126,7 +126,7 @@ fn asked(
     command: &mut Command<'_>,
     matches: &ArgMatches<'_>,
     cwd: &str,
-) -> Result<Given, AllocError>
+) -> Result<CliAnswer, AllocError>
     ensures { IfOk result
         (IsAsked (rows_of (found_of matches.now)) (subcommand_rows_of matches.now) cwd.now) }
 {
@@ -137,7 +137,7 @@ fn asked(
             Ok(subcommand) => {
                 let manifest_path = path_at(alloc, matches, "manifest-path", cwd)?;
                 let krate_ctx = KrateContext::from_matches(alloc, matches, cwd)?;
-                Ok(Given::Asked(Request {
+                Ok(CliAnswer::Asked(Request {
                     log_ctx,
                     manifest_path,
                     krate_ctx,
@@ -154,7 +154,7 @@ fn refused(
     command: &mut Command<'_>,
     rows: &[OptionRow],
     error: ArgsError,
-) -> Result<Given, AllocError>
+) -> Result<CliAnswer, AllocError>
     ensures memory { IfOk result (λ _. error ≢ Memory) }
     ensures usage { IfOk result IsUsage }
 {
@@ -167,5 +167,5 @@ fn refused(
     };
     let error = command.error(ErrorKind::InvalidValue, message.as_str())?;
     let text = format!(in alloc; "{error}")?;
-    Ok(Given::Usage(Text::from(text)))
+    Ok(CliAnswer::Usage(Text::from(text)))
 }

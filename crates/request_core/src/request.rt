@@ -1,7 +1,7 @@
 //! What the matches of a command line ask for.
 ghost use Rattle.std.specs.Prelude.{◌≡◌};
 ghost use Rattle.clap.specs.Words.{found_of, rows_of, subcommand_rows_of};
-ghost use Rattle.request_core.specs.Reading.{Answers};
+ghost use Rattle.request_core.specs.Reading.{AnswersArgs};
 ghost use Rattle.request_core.specs.Request.{log_context_of, sample_of, subcommand_named, subcommand_asked};
 
 use crate::context::KrateContext;
@@ -36,7 +36,7 @@ pub struct Request {
 }
 
 pub(crate) fn log_context(alloc: Global, matches: &ArgMatches<'_>) -> Result<LogContext, ArgsError>
-    ensures { Answers (log_context_of (rows_of (found_of matches.now))) result }
+    ensures { AnswersArgs (log_context_of (rows_of (found_of matches.now))) result }
 {
     let log_level: Option<LevelFilter> = read_first(alloc, matches, "log-level")?;
     let format: Option<Format> = read_first(alloc, matches, "format")?;
@@ -62,7 +62,7 @@ pub(crate) fn subcommand_asked(
     alloc: Global,
     matches: &ArgMatches<'_>,
 ) -> Result<Subcommand, ArgsError>
-    ensures { Answers (subcommand_asked (subcommand_rows_of matches.now)) result }
+    ensures { AnswersArgs (subcommand_asked (subcommand_rows_of matches.now)) result }
 {
     match matches.subcommand() {
         Some((name, below)) => subcommand_named(alloc, name, below),
@@ -75,7 +75,7 @@ fn subcommand_named(
     name: &str,
     below: &ArgMatches<'_>,
 ) -> Result<Subcommand, ArgsError>
-    ensures { Answers (subcommand_named name.now (rows_of (found_of below.now))) result }
+    ensures { AnswersArgs (subcommand_named name.now (rows_of (found_of below.now))) result }
 {
     if name == "check" {
         let args = check::Args::parse(alloc, below)?;
@@ -92,7 +92,7 @@ fn subcommand_named(
 }
 
 fn sample_of(alloc: Global, size: Option<SampleSize>) -> Result<Subcommand, ArgsError>
-    ensures { Answers (sample_of size) result }
+    ensures { AnswersArgs (sample_of size) result }
 {
     match size {
         Some(size) => Ok(Subcommand::Sample(size.0)),

@@ -2,8 +2,8 @@
 ghost use Rattle.std.specs.Prelude.{◌≡◌, ◌++◌, map, option_map, IfOk, OnOk};
 ghost use Rattle.std.specs.List.{flat_map, slice_split};
 ghost use Rattle.clap.specs.Words.{found_of, rows_of, first_of, all_of};
-ghost use Rattle.request_core.specs.Reading.{Answers, value_read, maybe_read, first_read, words_read};
-ghost use Rattle.request_core.specs.Reading.{all_read, words_of, is_set, is_comma};
+ghost use Rattle.request_core.specs.Reading.{AnswersArgs, option_value, maybe_read, first_read, words_read};
+ghost use Rattle.request_core.specs.Reading.{all_read, option_words, is_set, is_comma};
 
 use crate::error::ArgsError;
 use crate::from_word::FromWord;
@@ -40,7 +40,7 @@ pub(crate) fn is_set(matches: &ArgMatches<'_>, option: &str) -> bool
 
 /// The value that a word stands for.
 fn read_value<T: FromWord>(alloc: Global, option: &str, word: &str) -> Result<T, ArgsError>
-    ensures { Answers (value_read T.read option.now word.now) result }
+    ensures { AnswersArgs (option_value T.read option.now word.now) result }
 {
     match T::from_word(word) {
         Some(value) => Ok(value),
@@ -54,7 +54,7 @@ pub(crate) fn read_first<T: FromWord>(
     matches: &ArgMatches<'_>,
     option: &str,
 ) -> Result<Option<T>, ArgsError>
-    ensures { Answers (first_read T.read option.now (rows_of (found_of matches.now))) result }
+    ensures { AnswersArgs (first_read T.read option.now (rows_of (found_of matches.now))) result }
 {
     match word_under(matches, option) {
         Some(word) => {
@@ -71,7 +71,7 @@ pub(crate) fn read_all<T: FromWord + Drop>(
     matches: &ArgMatches<'_>,
     option: &str,
 ) -> Result<ListOf<T>, ArgsError>
-    ensures { Answers (all_read T.read option.now (rows_of (found_of matches.now))) result }
+    ensures { AnswersArgs (all_read T.read option.now (rows_of (found_of matches.now))) result }
 {
     match words_under(matches, option) {
         Some(words) => read_words(alloc, option, words),
@@ -84,7 +84,7 @@ fn read_words<T: FromWord + Drop>(
     option: &str,
     words: &[&str],
 ) -> Result<ListOf<T>, ArgsError>
-    ensures { Answers (words_read T.read option.now (map (λ word. word.now) words.now)) result }
+    ensures { AnswersArgs (words_read T.read option.now (map (λ word. word.now) words.now)) result }
 {
     let mut values = ListOf::new(alloc);
     'words: for word in words {
@@ -100,7 +100,7 @@ pub(crate) fn copied_words(
     matches: &ArgMatches<'_>,
     option: &str,
 ) -> Result<Texts, AllocError>
-    ensures { IfOk result (λ texts. texts ≡ words_of option.now (rows_of (found_of matches.now))) }
+    ensures { IfOk result (λ texts. texts ≡ option_words option.now (rows_of (found_of matches.now))) }
 {
     match words_under(matches, option) {
         Some(words) => copied(alloc, words),
@@ -126,7 +126,7 @@ pub(crate) fn pieces(
     option: &str,
 ) -> Result<Texts, AllocError>
     ensures { IfOk result (λ texts. texts
-        ≡ flat_map (slice_split is_comma) (words_of option.now (rows_of (found_of matches.now)))) }
+        ≡ flat_map (slice_split is_comma) (option_words option.now (rows_of (found_of matches.now)))) }
 {
     match words_under(matches, option) {
         Some(words) => all_pieces(alloc, words),

@@ -3,4 +3,4 @@
 
 pub mod search;
 
-pub use search::{SearchError, Sought, find_upwards};
+pub use search::{SearchError, SoughtFile, find_upwards};

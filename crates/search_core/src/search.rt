@@ -3,8 +3,8 @@ ghost use Rattle.std.specs.Prelude.{◌≡◌, ◌≤◌, ◌++◌, [], ◌∷�
 ghost use Rattle.tree_core.specs.Hearing.{MadeSome};
 ghost use Rattle.heard_core.specs.Cause.{ReadCounts};
 ghost use Rattle.tree_core.specs.Call.{told};
-ghost use Rattle.search_core.specs.Looked.{Looked, LookedUntil, look_of, lost};
-ghost use Rattle.search_core.specs.Search.{names_of, paths_in, candidates, search_cause};
+ghost use Rattle.search_core.specs.Looked.{FindsByLooks, LookedUntil, look_of, lost};
+ghost use Rattle.search_core.specs.Search.{names_sought, paths_in_folder, candidates, search_cause};
 ghost use Rattle.search_core.specs.declared.search.SearchError.TheVariants.{Memory};
 
 use deny_text::PathBuf;
@@ -14,7 +14,7 @@ use tree_core::{Tree, TreeError};
 
 /// What is looked for.
 #[derive(Clone, Copy, Debug, PartialEq, Eq)]
-pub enum Sought {
+pub enum SoughtFile {
     /// A policy: `deny.toml`, `.deny.toml` or `.cargo/deny.toml`.
     Policy,
     /// An exceptions file: `deny.exceptions.toml`, `.deny.exceptions.toml` or
@@ -39,14 +39,14 @@ impl From<AllocError> for SearchError {
     }
 }
 
-impl Sought {
+impl SoughtFile {
     /// The names that a folder is asked for, in order.
     fn names(self) -> [&'static str; 3]
-        ensures { map (λ name. name.now) result ≡ names_of self }
+        ensures { map (λ name. name.now) result ≡ names_sought self }
     {
         match self {
-            Sought::Policy => ["deny.toml", ".deny.toml", ".cargo/deny.toml"],
-            Sought::Exceptions => [
+            SoughtFile::Policy => ["deny.toml", ".deny.toml", ".cargo/deny.toml"],
+            SoughtFile::Exceptions => [
                 "deny.exceptions.toml",
                 ".deny.exceptions.toml",
                 ".cargo/deny.exceptions.toml",
@@ -82,14 +82,14 @@ fn first_in<T: Tree>(
     alloc: Global,
     tree: &mut T,
     folder: &str,
-    sought: Sought,
+    sought: SoughtFile,
     begun: u64,
 ) -> Result<Option<PathBuf>, SearchError>
     requires { begun ≤ T.fault_count tree.old }
     ensures looked { IfOk result
-        (Looked (paths_in (names_of sought) folder.now) (T.trace tree.old) (T.trace tree.new)) }
+        (FindsByLooks (paths_in_folder (names_sought sought) folder.now) (T.trace tree.old) (T.trace tree.new)) }
     ensures given_up { IfErr result
-        (LookedUntil (paths_in (names_of sought) folder.now) (T.trace tree.old) (T.trace tree.new)) }
+        (LookedUntil (paths_in_folder (names_sought sought) folder.now) (T.trace tree.old) (T.trace tree.new)) }
     ensures made { MadeSome (T.content tree.old) (T.content tree.new) (T.fault_count tree.old)
         (T.fault_count tree.new) (T.trace tree.old) (T.trace tree.new) }
     ensures counts { IfErr result (λ error.
@@ -112,12 +112,12 @@ pub fn find_upwards<T: Tree>(
     alloc: Global,
     tree: &mut T,
     manifest_path: &str,
-    sought: Sought,
+    sought: SoughtFile,
     begun: u64,
 ) -> Result<Option<PathBuf>, SearchError>
     requires { begun ≤ T.fault_count tree.old }
     ensures looked { IfOk result
-        (Looked (candidates sought manifest_path.now) (T.trace tree.old) (T.trace tree.new)) }
+        (FindsByLooks (candidates sought manifest_path.now) (T.trace tree.old) (T.trace tree.new)) }
     ensures given_up { IfErr result
         (LookedUntil (candidates sought manifest_path.now) (T.trace tree.old) (T.trace tree.new)) }
     ensures made { MadeSome (T.content tree.old) (T.content tree.new) (T.fault_count tree.old)

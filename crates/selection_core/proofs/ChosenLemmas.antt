@@ -11,7 +11,7 @@ use Rattle.selection_core.specs.Choice.{Choice}
 use Rattle.selection_core.specs.Roots.{crates_of}
 use Rattle.selection_core.specs.Walks.{MayBeTaken, Reached, Step}
 use Rattle.selection_core.specs.Listed.{IsChosen, IsListOf, chosen_with, has_kind}
-use Rattle.selection_core.specs.Places.{AreMarksOf, AreWithout, is_marked, kept, kinds_at, kinds_kept}
+use Rattle.selection_core.specs.Places.{AreMarksOf, AreWithout, is_marked, marked_items, kinds_at, kinds_kept}
 use Rattle.selection_core.proofs.PutLemmas.{both-right}
 use Rattle.selection_core.proofs.LeftLemmas.{both}
 use Rattle.selection_core.proofs.Rising.{one-place}
@@ -91,15 +91,15 @@ module _ (graph : Graph) (choice : Choice) (rising : AreRising (ids_of graph)) (
   }
 
   pub chosen-is : (crates : List Krate) → map record_of crates ≡ crates_of graph
-      → IsChosen graph choice (chosen_with (kept crates marks) (kinds_kept normal dev build 0 marks) graph.members graph.workspace_root)
+      → IsChosen graph choice (chosen_with (marked_items crates marks) (kinds_kept normal dev build 0 marks) graph.members graph.workspace_root)
   chosen-is crates told = record {
     reached = subst (IsListOf graph (Reached graph choice None))
-        (sym (items-all (kept crates marks) (kinds_kept normal dev build 0 marks)
-        ∙ (kept-map record_of crates marks ∙ ap (λ records. kept records marks) told)))
+        (sym (items-all (marked_items crates marks) (kinds_kept normal dev build 0 marks)
+        ∙ (kept-map record_of crates marks ∙ ap (λ records. marked_items records marks) told)))
         (kept-lists graph rising (Reached graph choice None) marks reached);
     without = λ kind. subst (IsListOf graph (Reached graph choice (Some kind)))
         (sym (items-passing (has_kind kind) normal dev build crates 0 marks
-        ∙ ap (λ records. kept records (passing (has_kind kind) normal dev build 0 marks)) told))
+        ∙ ap (λ records. marked_items records (passing (has_kind kind) normal dev build 0 marks)) told))
         (kept-lists graph rising (Reached graph choice (Some kind)) (passing (has_kind kind) normal dev build 0 marks) (marks-without kind));
     members = refl;
     workspace_root = refl;

@@ -10,7 +10,7 @@ use Rattle.selection_core.specs.declared.selection.BuildError.{BuildError}
 use Rattle.selection_core.specs.declared.selection.BuildError.TheVariants.{NoRoots}
 use Rattle.selection_core.specs.declared.standing.Standing.{Standing}
 use Rattle.selection_core.specs.Choice.{Choice}
-use Rattle.selection_core.specs.Roots.{HasRoot, IsCause, LacksRoots, crates_of, is_root}
+use Rattle.selection_core.specs.Roots.{HasRoot, IsRootsCause, LacksRoots, crates_of, is_root}
 use Rattle.selection_core.specs.Places.{is_excluded_standing, is_root_standing, is_unpublished_standing, root_needed, standing_of, standings_in}
 use Rattle.selection_core.proofs.GraphPlaces.{with-at, with-place, within-some}
 use Rattle.selection_core.proofs.PutLemmas.{true-false}
@@ -163,18 +163,18 @@ module _ (graph : Graph) (choice : Choice) (rising : AreRising (ids_of graph)) (
         | inr none ↦ (let is = answer-is false none in cc)
       ]
 
-  lacks : list_any is_root_standing standings ≡ false → IsCause graph choice refusal
+  lacks : list_any is_root_standing standings ≡ false → IsRootsCause graph choice refusal
   lacks none =
       subst (λ all. LacksRoots graph choice (count_by (λ (s : Standing). s.base) all) (count_by is_excluded_standing all)
       (count_by is_unpublished_standing all)) (sym told)
       (lacks-roots graph choice rising (subst (λ all. list_any is_root_standing all ≡ false) told none))
 
-  pub needed-err : (error : BuildError) → root_needed standings ≡ Err error → IsCause graph choice error
+  pub needed-err : (error : BuildError) → root_needed standings ≡ Err error → IsRootsCause graph choice error
   needed-err error e =
       elim (cases_Bool (list_any is_root_standing standings)) [
         | inl some ↦ (let is = answer-is true some in cc)
         | inr none ↦
             let is = answer-is false none in
             let same : refusal ≡ error = cc in
-            subst (IsCause graph choice) same (lacks none)
+            subst (IsRootsCause graph choice) same (lacks none)
       ]

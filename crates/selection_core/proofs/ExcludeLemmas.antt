@@ -13,7 +13,7 @@ use Rattle.std.proofs.lemmas.Cmp.{same_from_slice_cmp}
 use Rattle.std.proofs.lemmas.List.Sorted.{searchable_from_sorted}
 use Rattle.graph_core.specs.Krate.{Record, Version}
 use Rattle.selection_core.specs.declared.exclude.ExcludeSpec.{ExcludeSpec}
-use Rattle.selection_core.specs.Choice.{Spec, spec_of, excludes, is_excluded, same_version, fits}
+use Rattle.selection_core.specs.Choice.{ExcludeSpecView, exclude_spec_of, excludes, is_excluded, same_version, fits}
 use Rattle.selection_core.specs.ExcludeOrder.{version_key, key_with, key_of, key_order, key_behind, AreSorted, AreOrdered}
 use Rattle.std.specs.Borrow.{Bor}
 
@@ -140,11 +140,11 @@ any_map f test [] = refl
 any_map f test (x ∷ xs) = ap (λ b. test (f x) || b) (any_map f test xs)
 
 pub excluded_from_finds : (specs : List ExcludeSpec) (refs : List (Bor ExcludeSpec)) (krate : Record) → AreOrdered specs refs
-    → (list_any (λ spec. is_eq (key_order (key_behind spec) (key_with krate.name None))) refs || list_any (λ spec. is_eq (key_order (key_behind spec) (key_with krate.name (Some krate.version)))) refs) ≡ is_excluded (map spec_of specs) krate
+    → (list_any (λ spec. is_eq (key_order (key_behind spec) (key_with krate.name None))) refs || list_any (λ spec. is_eq (key_order (key_behind spec) (key_with krate.name (Some krate.version)))) refs) ≡ is_excluded (map exclude_spec_of specs) krate
 excluded_from_finds specs refs krate ordered =
     let any : Bor ExcludeSpec → Bool = λ spec. is_eq (key_order (key_behind spec) (key_with krate.name None)) in
     let own : Bor ExcludeSpec → Bool = λ spec. is_eq (key_order (key_behind spec) (key_with krate.name (Some krate.version))) in
     sym (any_or any own refs)
-    ∙ any_same (λ spec. any spec || own spec) (λ spec. excludes (spec_of spec.now) krate) (λ spec. sym (excludes_by spec.now.name krate.name (spec_of spec.now).version krate.version)) refs
-    ∙ ordered.same (λ spec. excludes (spec_of spec) krate)
-    ∙ any_map spec_of (λ spec. excludes spec krate) specs
+    ∙ any_same (λ spec. any spec || own spec) (λ spec. excludes (exclude_spec_of spec.now) krate) (λ spec. sym (excludes_by spec.now.name krate.name (exclude_spec_of spec.now).version krate.version)) refs
+    ∙ ordered.same (λ spec. excludes (exclude_spec_of spec) krate)
+    ∙ any_map exclude_spec_of (λ spec. excludes spec krate) specs

@@ -3,7 +3,7 @@ use Rattle.std.proofs.Common.{◌≡◌, ℕ, zero, suc, ◌+◌, ◌<◌, ◌�
 use Rattle.std.proofs.lemmas.Bool.{cases_eq}
 use Rattle.std.proofs.lemmas.List.{length-set, length-append, get_or-set_same, get_or-set_other}
 use Rattle.std.proofs.lemmas.List.Elements.{Contains-append_left, Contains-push, Contains-push_cases, All-push}
-use Rattle.selection_core.specs.Places.{Seen, is_marked, put, put_if}
+use Rattle.selection_core.specs.Places.{FrontierView, is_marked, put, put_if}
 
 pub true-false : true ≡ false → ⊥
 true-false e = subst T e tt
@@ -39,10 +39,10 @@ unmarked-set (true ∷ marks) (suc place) below free = unmarked-set marks place 
 unmarked-set (false ∷ marks) (suc place) below free = ap suc (unmarked-set marks place (omega arith) free)
 
 -- what is left to do: places that are not marked, and those that wait
-abbrev pub left_to_do : Seen → ℕ
+abbrev pub left_to_do : FrontierView → ℕ
 left_to_do seen = unmarked seen.marks + length seen.waiting
 
-module _ (place : ℕ) (wanted : Bool) (seen : Seen) where
+module _ (place : ℕ) (wanted : Bool) (seen : FrontierView) where
   counted-if : (b : Bool) → length (put_if b place seen).marks ≡ length seen.marks
   counted-if true = length-set seen.marks place true
   counted-if false = refl

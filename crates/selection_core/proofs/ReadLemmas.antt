@@ -2,7 +2,7 @@
 use Rattle.std.proofs.Common.{◌≡◌, ◌∙◌, refl, sym, ap, ℕ, suc, ◌+◌, ◌<◌, List, ◌∷◌, ◌++◌, drop, get_or, length, Option, Some, None, append_assoc, add-one, drop-cons}
 use Rattle.std.specs.List.{cons_option, filter_map}
 use Rattle.std.specs.Option.{option_to_list}
-use Rattle.selection_core.specs.Choice.{Spec, read_one, spec_read}
+use Rattle.selection_core.specs.Choice.{ExcludeSpecView, read_one, spec_read}
 
 one_or_none : {A : Type 0} (first : Option A) (rest : List A) → option_to_list first ++ rest ≡ cons_option first rest
 one_or_none None rest = refl
@@ -13,7 +13,7 @@ at-drop xs i x within at =
     drop-cons xs i x within ∙ (ap (λ first. first ∷ drop (suc i) xs) (sym at) ∙ ap (λ n. x ∷ drop n xs) (sym (add-one i)))
 
 -- the spec of the next text, if it is readable, goes behind those so far
-pub read-next : (texts : List (List ℕ)) (i : ℕ) (text : List ℕ) (before after : List Spec) → i < length texts → text ≡ get_or texts i text
+pub read-next : (texts : List (List ℕ)) (i : ℕ) (text : List ℕ) (before after : List ExcludeSpecView) → i < length texts → text ≡ get_or texts i text
     → after ≡ before ++ read_one text
     → after ++ filter_map spec_read (drop (i + 1) texts) ≡ before ++ filter_map spec_read (drop i texts)
 read-next texts i text before after within at is =

@@ -8,7 +8,7 @@ use Rattle.graph_core.specs.Metadata.{Graph, Node, AreRising, ids_of, id_of_node
 use Rattle.selection_core.specs.declared.standing.Standing.{Standing}
 use Rattle.selection_core.specs.Choice.{Choice}
 use Rattle.selection_core.specs.Roots.{IsRoot, crates_of, is_root}
-use Rattle.selection_core.specs.Places.{Seen, is_marked, is_root_standing, nobody, nothing_seen, put, put_roots, standing_of, standings_in}
+use Rattle.selection_core.specs.Places.{FrontierView, is_marked, is_root_standing, nobody, nothing_seen, put, put_roots, standing_of, standings_in}
 use Rattle.selection_core.proofs.WalkLemmas.{reached-root}
 use Rattle.selection_core.proofs.PutLemmas.{put-counted, put-keeps, put-new, put-found, put-waits, put-waiting, put-within, true-false}
 use Rattle.selection_core.proofs.GraphPlaces.{node-at, standing-is, with-at, with-place}
@@ -22,39 +22,39 @@ pub record IsRootFrom (first : ℕ) (standings : List Standing) (place : ℕ) : 
   pub at : first + index ≡ place
 
 module _ (n : ℕ) where
-  abbrev next : ℕ → Standing → Seen → Seen
+  abbrev next : ℕ → Standing → FrontierView → FrontierView
   next place standing seen = put place (is_root_standing standing) seen
 
-  below : (place count : ℕ) (seen : Seen) → length seen.marks ≡ n → place + suc count ≡ n → place < length seen.marks
+  below : (place count : ℕ) (seen : FrontierView) → length seen.marks ≡ n → place + suc count ≡ n → place < length seen.marks
   below place count seen counted fits = omega arith
 
-  pub roots-counted : (place : ℕ) (standings : List Standing) (seen : Seen) → length seen.marks ≡ n
+  pub roots-counted : (place : ℕ) (standings : List Standing) (seen : FrontierView) → length seen.marks ≡ n
       → length (put_roots place standings seen).marks ≡ n
   roots-counted place [] seen counted = counted
   roots-counted place (standing ∷ standings) seen counted =
       roots-counted (suc place) standings (next place standing seen) (put-counted place (is_root_standing standing) seen ∙ counted)
 
-  pub roots-keep : (place : ℕ) (standings : List Standing) (seen : Seen) (q : ℕ) → length seen.marks ≡ n → place + length standings ≡ n
+  pub roots-keep : (place : ℕ) (standings : List Standing) (seen : FrontierView) (q : ℕ) → length seen.marks ≡ n → place + length standings ≡ n
       → is_marked seen.marks q ≡ true → is_marked (put_roots place standings seen).marks q ≡ true
   roots-keep place [] seen q counted fits marked = marked
   roots-keep place (standing ∷ standings) seen q counted fits marked =
       roots-keep (suc place) standings (next place standing seen) q (put-counted place (is_root_standing standing) seen ∙ counted) (omega arith)
       (put-keeps place (is_root_standing standing) seen q (below place (length standings) seen counted fits) marked)
 
-  pub roots-wait : (place : ℕ) (standings : List Standing) (seen : Seen) (q : ℕ) → Contains seen.waiting q
+  pub roots-wait : (place : ℕ) (standings : List Standing) (seen : FrontierView) (q : ℕ) → Contains seen.waiting q
       → Contains (put_roots place standings seen).waiting q
   roots-wait place [] seen q waits = waits
   roots-wait place (standing ∷ standings) seen q waits =
       roots-wait (suc place) standings (next place standing seen) q (put-waits place (is_root_standing standing) seen q waits)
 
-  pub roots-within : (place : ℕ) (standings : List Standing) (seen : Seen) → place + length standings ≡ n → All (λ q. q < n) seen.waiting
+  pub roots-within : (place : ℕ) (standings : List Standing) (seen : FrontierView) → place + length standings ≡ n → All (λ q. q < n) seen.waiting
       → All (λ q. q < n) (put_roots place standings seen).waiting
   roots-within place [] seen fits within = within
   roots-within place (standing ∷ standings) seen fits within =
       roots-within (suc place) standings (next place standing seen) (omega arith)
       (put-within place (is_root_standing standing) seen n (omega arith) within)
 
-  pub roots-waiting : (place : ℕ) (standings : List Standing) (seen : Seen) (q : ℕ) → length seen.marks ≡ n → place + length standings ≡ n
+  pub roots-waiting : (place : ℕ) (standings : List Standing) (seen : FrontierView) (q : ℕ) → length seen.marks ≡ n → place + length standings ≡ n
       → ((p : ℕ) → Contains seen.waiting p → is_marked seen.marks p ≡ true) → Contains (put_roots place standings seen).waiting q
       → is_marked (put_roots place standings seen).marks q ≡ true
   roots-waiting place [] seen q counted fits marked waits = marked q waits
@@ -66,7 +66,7 @@ module _ (n : ℕ) where
       ])
       waits
 
-  pub roots-found : (place : ℕ) (standings : List Standing) (seen : Seen) (index : ℕ) → length seen.marks ≡ n → place + length standings ≡ n
+  pub roots-found : (place : ℕ) (standings : List Standing) (seen : FrontierView) (index : ℕ) → length seen.marks ≡ n → place + length standings ≡ n
       → index < length standings → is_root_standing (slice_index_or standings index nobody) ≡ true
       → is_marked (put_roots place standings seen).marks (place + index) ≡ true
   roots-found place [] seen index counted fits within root = absurd (omega arith)
@@ -93,7 +93,7 @@ module _ (n : ℕ) where
       → IsRootFrom place (standing ∷ standings) q
   first-root place standing standings q same root = record { index = 0; within = omega arith; is_root = root; at = omega arith }
 
-  pub roots-new : (place : ℕ) (standings : List Standing) (seen : Seen) (q : ℕ) → is_marked (put_roots place standings seen).marks q ≡ true
+  pub roots-new : (place : ℕ) (standings : List Standing) (seen : FrontierView) (q : ℕ) → is_marked (put_roots place standings seen).marks q ≡ true
       → (is_marked seen.marks q ≡ true) ⊎ (IsRootFrom place standings q × Contains (put_roots place standings seen).waiting q)
   roots-new place [] seen q marked = inl marked
   roots-new place (standing ∷ standings) seen q marked =
@@ -120,7 +120,7 @@ none-waits : (place : ℕ) → Contains [] place → ⊥
 none-waits place (k, below, is) = absurd (omega arith)
 
 module _ (graph : Graph) (choice : Choice) (named : Option DepKind) (rising : AreRising (ids_of graph)) where
-  abbrev started : Seen
+  abbrev started : FrontierView
   started = put_roots 0 (standings_in graph choice) (nothing_seen (length graph.nodes))
 
   count-standings : length (standings_in graph choice) ≡ length graph.nodes

@@ -11,7 +11,7 @@ use Rattle.std.proofs.lemmas.List.Elements.{recursion_from_All}
 use Rattle.std.proofs.lemmas.Option.{get_or_from_slice_get, slice_get-get_or, slice_get-map}
 use Rattle.std.proofs.lemmas.Slice.Eq.{bytes_eq-Decides}
 use Rattle.graph_core.specs.declared.krate.Krate.{Krate}
-use Rattle.graph_core.specs.Krate.{Record, holds, record_of}
+use Rattle.graph_core.specs.Krate.{Record, has_text, record_of}
 use Rattle.graph_core.specs.Metadata.{Graph, Node, ArePlaces, AreRising, ids_of, id_of_node}
 use Rattle.selection_core.specs.Choice.{Choice}
 use Rattle.selection_core.specs.Roots.{crates_of, is_base, is_base_of, is_member}
@@ -77,7 +77,7 @@ module _ (graph : Graph) (rising : AreRising (ids_of graph)) where
       )
 
   among-holds : (places : List ℕ) (p : ℕ) → p < length graph.nodes → AllByRecursion (λ q. q < length graph.nodes) places
-      → among p places ≡ holds (map (id_of_node graph) places) (id_of_node graph p)
+      → among p places ≡ has_text (map (id_of_node graph) places) (id_of_node graph p)
   among-holds [] p below within = refl
   among-holds (q ∷ places) p below within =
       ap (λ b. b || among p places) (same-test p q below within.0)
@@ -88,7 +88,7 @@ module _ (graph : Graph) (rising : AreRising (ids_of graph)) where
     within-all = recursion_from_All (λ q. q < length graph.nodes) places are
 
     mark-is : (k : ℕ) → k < length graph.nodes
-        → is_marked (marks_at (length graph.nodes) places) k ≡ holds (map (id_of_node graph) places) (id_of_node graph k)
+        → is_marked (marks_at (length graph.nodes) places) k ≡ has_text (map (id_of_node graph) places) (id_of_node graph k)
     mark-is k below =
         marked-among places (replicate (length graph.nodes) false) k
         (subst (λ n. AllByRecursion (λ q. q < n) places) (sym (length-replicate (length graph.nodes) false)) within-all)
@@ -102,7 +102,7 @@ module _ (graph : Graph) (rising : AreRising (ids_of graph)) where
     count-crates : {A : Type 0} (f : Record → A) → length (map f (crates_of graph)) ≡ length graph.nodes
     count-crates f = length-map (crates_of graph) f ∙ length-map graph.nodes (λ (node : Node). node.krate)
 
-    pub marks-say : (f : Record → Bool) → ((krate : Record) → holds (map (id_of_node graph) places) krate.id ≡ f krate)
+    pub marks-say : (f : Record → Bool) → ((krate : Record) → has_text (map (id_of_node graph) places) krate.id ≡ f krate)
         → marks_at (length graph.nodes) places ≡ map f (crates_of graph)
     marks-say f says =
         same-marks (marks_at (length graph.nodes) places) (map f (crates_of graph)) (count-marks ∙ sym (count-crates f))
@@ -110,14 +110,14 @@ module _ (graph : Graph) (rising : AreRising (ids_of graph)) where
         let within : k < length graph.nodes = subst (λ n. k < n) count-marks below in
         let there = node-at graph rising k within in
         mark-is k within
-        ∙ (ap (holds (map (id_of_node graph) places)) (id-at graph rising k there.0 there.1)
+        ∙ (ap (has_text (map (id_of_node graph) places)) (id-at graph rising k there.0 there.1)
         ∙ (says there.0.krate ∙ sym (said-at f k there.0 false there.1))))
 
     -- of the members
     pub marks-members : map (id_of_node graph) places ≡ graph.members
         → marks_at (length graph.nodes) places ≡ map (λ (krate : Record). is_member graph krate.id) (crates_of graph)
     marks-members told =
-        marks-say (λ (krate : Record). is_member graph krate.id) (λ krate. ap (λ ids. holds ids krate.id) told)
+        marks-say (λ (krate : Record). is_member graph krate.id) (λ krate. ap (λ ids. has_text ids krate.id) told)
 
     base-all : (workspace : Bool) (root : Option (List ℕ)) → workspace ≡ true → (id : List ℕ)
         → is_member graph id ≡ is_base_of graph workspace root id
@@ -131,13 +131,13 @@ module _ (graph : Graph) (rising : AreRising (ids_of graph)) where
         → marks_at (length graph.nodes) places ≡ map (is_base graph choice) (crates_of graph)
     marks-all choice told is =
         marks-say (is_base graph choice)
-        (λ krate. ap (λ ids. holds ids krate.id) told ∙ base-all choice.workspace graph.root is krate.id)
+        (λ krate. ap (λ ids. has_text ids krate.id) told ∙ base-all choice.workspace graph.root is krate.id)
 
     pub marks-none : (choice : Choice) → map (id_of_node graph) places ≡ graph.members → graph.root ≡ None
         → marks_at (length graph.nodes) places ≡ map (is_base graph choice) (crates_of graph)
     marks-none choice told none =
         marks-say (is_base graph choice)
-        (λ krate. ap (λ ids. holds ids krate.id) told
+        (λ krate. ap (λ ids. has_text ids krate.id) told
         ∙ (base-none choice.workspace krate.id
         ∙ sym (ap (λ root. is_base_of graph choice.workspace root krate.id) none)))
 

@@ -9,7 +9,7 @@ use Rattle.graph_core.specs.Metadata.{Graph, Node, AreRising, LeadWithin, ids_of
 use Rattle.selection_core.specs.declared.standing.Standing.{Standing}
 use Rattle.selection_core.specs.Choice.{Choice}
 use Rattle.selection_core.specs.Roots.{crates_of}
-use Rattle.selection_core.specs.Places.{Seen, counting_at, follow, other_kinds, standing_at, standing_of, standings_in}
+use Rattle.selection_core.specs.Places.{FrontierView, counting_at, follow, other_kinds, standing_at, standing_of, standings_in}
 use Rattle.selection_core.proofs.PutLemmas.{left_to_do, unmarked}
 use Rattle.selection_core.proofs.FollowLemmas.{follow-left}
 use Rattle.selection_core.proofs.GraphPlaces.{node-at}
@@ -22,7 +22,7 @@ module _ (graph : Graph) (choice : Choice) (named : Option DepKind) (rising : Ar
       ap length told
       ∙ (length-map (crates_of graph) (standing_of graph choice) ∙ length-map graph.nodes (λ (node : Node). node.krate))
 
-  module _ (seen : Seen) (rest : List ℕ) (place : ℕ) (waits : seen.waiting ≡ rest ++ place ∷ [])
+  module _ (seen : FrontierView) (rest : List ℕ) (place : ℕ) (waits : seen.waiting ≡ rest ++ place ∷ [])
       (before : IsUnderWay graph choice named seen) where
     popped : IsUnderWay graph choice named (record { marks = seen.marks; waiting = rest ++ place ∷ [] })
     popped = subst (λ waiting. IsUnderWay graph choice named (record { marks = seen.marks; waiting = waiting })) waits before
@@ -40,7 +40,7 @@ module _ (graph : Graph) (choice : Choice) (named : Option DepKind) (rising : Ar
       pub within-standings : LeadWithin (length standings) edges
       within-standings = subst (λ n. LeadWithin n edges) (sym count-standings) within
 
-      abbrev start : Seen
+      abbrev start : FrontierView
       start = record { marks = seen.marks; waiting = rest }
 
       pub less : (counting : Kinds) → left_to_do (follow standings counting start edges) < left_to_do seen

@@ -14,7 +14,7 @@ use Rattle.selection_core.specs.declared.standing.Standing.{Standing}
 use Rattle.selection_core.specs.Choice.{Choice, is_excluded}
 use Rattle.selection_core.specs.Roots.{IsExcluded, IsRoot, is_member}
 use Rattle.selection_core.specs.Walks.{IsEdge, MayBeTaken, Reached, Step, link_of_step}
-use Rattle.selection_core.specs.Places.{AreMarksOf, Seen, counting_at, follow, is_marked, meet, other_kinds, passes, standing_at, standing_of, standings_in}
+use Rattle.selection_core.specs.Places.{AreMarksOf, FrontierView, counting_at, follow, is_marked, meet, other_kinds, passes, standing_at, standing_of, standings_in}
 use Rattle.selection_core.proofs.Rising.{id-at, one-node}
 use Rattle.selection_core.proofs.WalkLemmas.{reached-more, reached-stays}
 use Rattle.selection_core.proofs.PutLemmas.{both-left, both-right, not-true, true-false}
@@ -32,7 +32,7 @@ abbrev pub IsDone : Graph → Choice → Option DepKind → List Bool → ℕ �
 IsDone graph choice named marks place =
     (step : Step) → MayBeTaken graph choice named step → step.from ≡ id_of_node graph place → IdMarked graph marks step.to
 
-pub record IsUnderWay (graph : Graph) (choice : Choice) (named : Option DepKind) (seen : Seen) : Type 0 where
+pub record IsUnderWay (graph : Graph) (choice : Choice) (named : Option DepKind) (seen : FrontierView) : Type 0 where
   pub counted : length seen.marks ≡ length graph.nodes
   pub within : All (λ place. place < length graph.nodes) seen.waiting
   pub marked : (place : ℕ) → Contains seen.waiting place → is_marked seen.marks place ≡ true
@@ -51,13 +51,13 @@ module _ (graph : Graph) (choice : Choice) (named : Option DepKind) (rising : Ar
       (edges : List Edge) (within : LeadWithin (length graph.nodes) edges) (told : map (link_in graph) edges ≡ edges_at graph place)
       (rest : List ℕ) (marks : List Bool)
       (before : IsUnderWay graph choice named (record { marks = marks; waiting = rest ++ place ∷ [] })) where
-    abbrev start : Seen
+    abbrev start : FrontierView
     start = record { marks = marks; waiting = rest }
 
     abbrev counting : Kinds
     counting = counting_at choice.exclude_dev (other_kinds named) (standing_at (standings_in graph choice) place)
 
-    abbrev end : Seen
+    abbrev end : FrontierView
     end = follow (standings_in graph choice) counting start edges
 
     in_range : AllByRecursion (λ (edge : Edge). edge.to < length graph.nodes) edges

@@ -11,7 +11,7 @@ use Rattle.selection_core.specs.declared.exclude.ExcludeSpec.{ExcludeSpec}
 use Rattle.selection_core.specs.declared.selection.Selection.{Selection}
 
 -- crates that are left out: each of the name, or those of them that have the version
-pub record Spec : Type 0 where
+pub record ExcludeSpecView : Type 0 where
   pub name : List ℕ
   pub version : Option Version
 
@@ -19,19 +19,19 @@ pub record Spec : Type 0 where
 -- `exclude_unpublished`: members that are published nowhere are no roots.
 pub record Choice : Type 0 where
   pub workspace : Bool
-  pub exclude : List Spec
+  pub exclude : List ExcludeSpecView
   pub exclude_dev : Bool
   pub exclude_unpublished : Bool
 
 -- ---- without where they lie in memory
 
-abbrev pub spec_of : ExcludeSpec → Spec
-spec_of spec = record { name = spec.name; version = option_map parts_of spec.version }
+abbrev pub exclude_spec_of : ExcludeSpec → ExcludeSpecView
+exclude_spec_of spec = record { name = spec.name; version = option_map parts_of spec.version }
 
 abbrev pub choice_of : Selection → Choice
 choice_of selection = record {
   workspace = selection.workspace;
-  exclude = map spec_of selection.exclude;
+  exclude = map exclude_spec_of selection.exclude;
   exclude_dev = selection.exclude_dev;
   exclude_unpublished = selection.exclude_unpublished;
 }
@@ -47,10 +47,10 @@ abbrev pub fits : Option Version → Version → Bool
 fits None version = true
 fits (Some wanted) version = same_version wanted version
 
-abbrev pub excludes : Spec → Record → Bool
+abbrev pub excludes : ExcludeSpecView → Record → Bool
 excludes spec krate = bytes_eq spec.name krate.name && fits spec.version krate.version
 
-abbrev pub is_excluded : List Spec → Record → Bool
+abbrev pub is_excluded : List ExcludeSpecView → Record → Bool
 is_excluded specs krate = list_any (λ spec. excludes spec krate) specs
 
 -- ---- a readable spec: `name@version`, `name:version` or `name`
@@ -60,20 +60,20 @@ abbrev pub first_cut : List ℕ → Option (List ℕ × List ℕ)
 first_cut text = option_or (cut_at is_at_sign text) (cut_at is_colon text)
 
 -- a version has to be full
-abbrev pub spec_with : List ℕ → Result Version Error → Option Spec
+abbrev pub spec_with : List ℕ → Result Version Error → Option ExcludeSpecView
 spec_with name (Ok version) = Some (record { name = name; version = Some version })
 spec_with name (Err refused) = None
 
-abbrev pub spec_of_cut : List ℕ → Option (List ℕ × List ℕ) → Option Spec
+abbrev pub spec_of_cut : List ℕ → Option (List ℕ × List ℕ) → Option ExcludeSpecView
 spec_of_cut text None = Some (record { name = text; version = None })
 spec_of_cut text (Some (name, rest)) = spec_with name (version_parts rest)
 
 -- the spec that a text is read as; none where it is unreadable
-abbrev pub spec_read : List ℕ → Option Spec
+abbrev pub spec_read : List ℕ → Option ExcludeSpecView
 spec_read text = spec_of_cut text (first_cut text)
 
 -- the specs of a text: one, or none
-abbrev pub read_one : List ℕ → List Spec
+abbrev pub read_one : List ℕ → List ExcludeSpecView
 read_one text = option_to_list (spec_read text)
 
 -- ---- a spec that is not carried: it holds a `/` or a `#`

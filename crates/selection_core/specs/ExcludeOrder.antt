@@ -7,7 +7,7 @@ use Rattle.std.specs.Cmp.Lexicographic.{slice_cmp}
 use Rattle.std.specs.declared.cmp.Ordering.{Ordering}
 use Rattle.graph_core.specs.Krate.{Version}
 use Rattle.selection_core.specs.declared.exclude.ExcludeSpec.{ExcludeSpec}
-use Rattle.selection_core.specs.Choice.{Spec, spec_of}
+use Rattle.selection_core.specs.Choice.{ExcludeSpecView, exclude_spec_of}
 use Rattle.std.specs.Borrow.{Bor}
 
 -- what tells versions apart: three numbers and two texts; nothing where there is no version
@@ -19,7 +19,7 @@ version_key (Some version) = (version.0 ∷ []) ∷ (version.1 ∷ []) ∷ (vers
 abbrev pub key_with : List ℕ → Option Version → List (List ℕ)
 key_with name version = name ∷ version_key version
 
-abbrev pub key_of : Spec → List (List ℕ)
+abbrev pub key_of : ExcludeSpecView → List (List ℕ)
 key_of spec = key_with spec.name spec.version
 
 abbrev pub key_order : List (List ℕ) → List (List ℕ) → Ordering
@@ -27,7 +27,7 @@ key_order = slice_cmp (slice_cmp nat_cmp)
 
 -- the key of what a reference leads to
 abbrev pub key_behind : Bor ExcludeSpec → List (List ℕ)
-key_behind spec = key_of (spec_of spec.now)
+key_behind spec = key_of (exclude_spec_of spec.now)
 
 abbrev pub AreSorted : List (Bor ExcludeSpec) → Type 0
 AreSorted refs = IsSortedBy (λ a b. is_lt (key_order (key_behind a) (key_behind b))) refs

@@ -22,12 +22,12 @@ pub record IsListOf (graph : Graph) (Has : List ℕ → Type 0) (crates : List R
 -- ---- what is seen of the crates that are reached
 
 -- a crate that is reached, and the kinds without which it is reached too
-pub record Item : Type 0 where
+pub record ListedCrate : Type 0 where
   pub krate : Record
   pub without : Kinds
 
 pub record Chosen : Type 0 where
-  pub items : List Item
+  pub items : List ListedCrate
   pub members : List (List ℕ)
   pub workspace_root : List ℕ
 
@@ -36,7 +36,7 @@ has_kind Normal kinds = kinds.normal
 has_kind Dev kinds = kinds.dev
 has_kind Build kinds = kinds.build
 
-abbrev pub crates_in : List Item → List Record
+abbrev pub crates_in : List ListedCrate → List Record
 crates_in items = map (λ item. item.krate) items
 
 abbrev pub reached_in : Chosen → List Record
@@ -61,14 +61,14 @@ pub record IsChosen (graph : Graph) (choice : Choice) (chosen : Chosen) : Type 0
 -- ---- the same of crates in memory
 
 -- a crate of which nothing stands beside is reached without no kind
-abbrev pub items_of : List Krate → List Kinds → List Item
-items_of [] without = []
-items_of (krate ∷ crates) [] = record { krate = record_of krate; without = no_kinds } ∷ items_of crates []
-items_of (krate ∷ crates) (kinds ∷ without) = record { krate = record_of krate; without = kinds } ∷ items_of crates without
+abbrev pub listed_crates : List Krate → List Kinds → List ListedCrate
+listed_crates [] without = []
+listed_crates (krate ∷ crates) [] = record { krate = record_of krate; without = no_kinds } ∷ listed_crates crates []
+listed_crates (krate ∷ crates) (kinds ∷ without) = record { krate = record_of krate; without = kinds } ∷ listed_crates crates without
 
 abbrev pub chosen_with : List Krate → List Kinds → List (List ℕ) → List ℕ → Chosen
 chosen_with crates without members workspace_root =
-    record { items = items_of crates without; members = members; workspace_root = workspace_root }
+    record { items = listed_crates crates without; members = members; workspace_root = workspace_root }
 
 abbrev pub record_behind : Bor Krate → Record
 record_behind krate = record_of krate.now

@@ -11,7 +11,7 @@ use Rattle.selection_core.specs.declared.selection.BuildError.{BuildError}
 use Rattle.selection_core.specs.declared.selection.BuildError.TheVariants.{NoRoots}
 use Rattle.selection_core.specs.declared.selection.Include.{Include}
 use Rattle.selection_core.specs.declared.standing.Standing.{Standing}
-use Rattle.selection_core.specs.declared.marks.Found.{Found}
+use Rattle.selection_core.specs.declared.marks.Frontier.{Frontier}
 use Rattle.selection_core.specs.Choice.{Choice, is_excluded}
 use Rattle.selection_core.specs.Roots.{crates_of, is_member, is_base, is_unpublished, is_published_nowhere}
 use Rattle.selection_core.specs.Walks.{Reached}
@@ -29,10 +29,10 @@ abbrev pub marks_at : ℕ → List ℕ → List Bool
 marks_at count places = fold marked_at (replicate count false) places
 
 -- the items that are marked
-abbrev pub kept : {T : Type 0} → List T → List Bool → List T
-kept [] marks = []
-kept (item ∷ items) [] = []
-kept (item ∷ items) (mark ∷ marks) = cond mark (item ∷ kept items marks) (kept items marks)
+abbrev pub marked_items : {T : Type 0} → List T → List Bool → List T
+marked_items [] marks = []
+marked_items (item ∷ items) [] = []
+marked_items (item ∷ items) (mark ∷ marks) = cond mark (item ∷ marked_items items marks) (marked_items items marks)
 
 -- marks of the crates that have a property
 pub record AreMarksOf (graph : Graph) (Has : List ℕ → Type 0) (marks : List Bool) : Type 0 where
@@ -108,31 +108,31 @@ passes standings counting edge = meet edge.kinds counting && not (standing_at st
 -- ---- places that were found
 
 -- marks of those that were found, and those of them to go on from
-pub record Seen : Type 0 where
+pub record FrontierView : Type 0 where
   pub marks : List Bool
   pub waiting : List ℕ
 
-abbrev pub seen_of : Found → Seen
-seen_of found = record { marks = found.marks.items; waiting = found.waiting.items }
+abbrev pub frontier_of : Frontier → FrontierView
+frontier_of found = record { marks = found.marks.items; waiting = found.waiting.items }
 
-abbrev pub nothing_seen : ℕ → Seen
+abbrev pub nothing_seen : ℕ → FrontierView
 nothing_seen count = record { marks = replicate count false; waiting = [] }
 
 -- a place is found, where it is wanted and was not found before
-abbrev pub put_if : Bool → ℕ → Seen → Seen
+abbrev pub put_if : Bool → ℕ → FrontierView → FrontierView
 put_if true place seen = record { marks = marked_at seen.marks place; waiting = seen.waiting ++ place ∷ [] }
 put_if false place seen = seen
 
-abbrev pub put : ℕ → Bool → Seen → Seen
+abbrev pub put : ℕ → Bool → FrontierView → FrontierView
 put place wanted seen = put_if (wanted && not (is_marked seen.marks place)) place seen
 
-abbrev pub follow : List Standing → Kinds → Seen → List Edge → Seen
+abbrev pub follow : List Standing → Kinds → FrontierView → List Edge → FrontierView
 follow standings counting seen [] = seen
 follow standings counting seen (edge ∷ edges) =
     follow standings counting (put edge.to (passes standings counting edge) seen) edges
 
 -- the roots among the standings, of which the first has this place
-abbrev pub put_roots : ℕ → List Standing → Seen → Seen
+abbrev pub put_roots : ℕ → List Standing → FrontierView → FrontierView
 put_roots place [] seen = seen
 put_roots place (standing ∷ standings) seen =
     put_roots (suc place) standings (put place (is_root_standing standing) seen)

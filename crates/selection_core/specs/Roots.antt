@@ -1,6 +1,6 @@
 -- The crates at which walks begin.
 use Rattle.std.specs.Prelude.{◌≡◌, ℕ, ◌+◌, ◌&&◌, not, Bool, true, false, List, [], ◌∷◌, map, bytes_eq, count_by, Contains, IsTrue, Option, Some, None}
-use Rattle.graph_core.specs.Krate.{Record, holds}
+use Rattle.graph_core.specs.Krate.{Record, has_text}
 use Rattle.graph_core.specs.Metadata.{Graph}
 use Rattle.selection_core.specs.declared.selection.BuildError.{BuildError}
 use Rattle.selection_core.specs.declared.selection.BuildError.TheVariants.{NoRoots, Memory}
@@ -10,7 +10,7 @@ abbrev pub crates_of : Graph → List Record
 crates_of graph = map (λ node. node.krate) graph.nodes
 
 abbrev pub is_member : Graph → List ℕ → Bool
-is_member graph id = holds graph.members id
+is_member graph id = has_text graph.members id
 
 -- The base roots are all members with `workspace` or without a root crate, else the root crate, which need not be a member.
 abbrev pub is_base_of : Graph → Bool → Option (List ℕ) → List ℕ → Bool
@@ -73,6 +73,6 @@ pub record LacksRoots (graph : Graph) (choice : Choice) (base excluded unpublish
   pub unpublished_roots : unpublished ≡ count_by (is_unpublished_base graph choice) (crates_of graph)
 
 -- a refusal but want of memory has its cause
-abbrev pub IsCause : Graph → Choice → BuildError → Type 0
-IsCause graph choice Memory = Unit {0}
-IsCause graph choice (NoRoots base excluded unpublished) = LacksRoots graph choice base excluded unpublished
+abbrev pub IsRootsCause : Graph → Choice → BuildError → Type 0
+IsRootsCause graph choice Memory = Unit {0}
+IsRootsCause graph choice (NoRoots base excluded unpublished) = LacksRoots graph choice base excluded unpublished

@@ -7,7 +7,7 @@ ghost use Rattle.semver.specs.Identifiers.{parts_of};
 ghost use Rattle.semver.specs.Parse.{version_parts};
 ghost use Rattle.graph_core.specs.Krate.{record_of};
 ghost use Rattle.selection_core.specs.Choice as spec;
-ghost use Rattle.selection_core.specs.Choice.{spec_of, spec_read};
+ghost use Rattle.selection_core.specs.Choice.{exclude_spec_of, spec_read};
 ghost use Rattle.selection_core.specs.ExcludeOrder.{AreOrdered, AreSorted, key_behind, key_of, key_order, key_with};
 ghost use Rattle.selection_core.specs.ExcludeOrder.{version_key};
 
@@ -51,7 +51,7 @@ fn version_in(alloc: Global, text: &str) -> Result<Option<Version>, AllocError>
 }
 
 fn spec_with(alloc: Global, name: &str, rest: &str) -> Result<Option<ExcludeSpec>, AllocError>
-    ensures { IfOk result (λ read. option_map spec_of read
+    ensures { IfOk result (λ read. option_map exclude_spec_of read
         ≡ spec.spec_with name.now (version_parts rest.now)) }
 {
     match version_in(alloc, rest)? {
@@ -86,7 +86,7 @@ impl ExcludeSpec {
     /// Reads `name@version`, `name:version` or `name`. It is cut at the first `@`, or without one at the
     /// first `:`, and the version has to be a full one. None is an unreadable spec. The name may be empty.
     pub fn read(alloc: Global, text: &str) -> Result<Option<ExcludeSpec>, AllocError>
-        ensures { IfOk result (λ read. option_map spec_of read ≡ spec_read text.now) }
+        ensures { IfOk result (λ read. option_map exclude_spec_of read ≡ spec_read text.now) }
     {
         match first_cut(text) {
             Some((name, rest)) => spec_with(alloc, name, rest),
@@ -99,7 +99,7 @@ impl ExcludeSpec {
 
     /// Whether it leaves a crate out.
     pub fn excludes(&self, krate: &Krate) -> bool
-        ensures { result ≡ spec.excludes (spec_of self.now) (record_of krate.now) }
+        ensures { result ≡ spec.excludes (exclude_spec_of self.now) (record_of krate.now) }
     {
         self.name.as_str() == krate.name.as_str() && fits(&self.version, &krate.version)
     }
@@ -107,7 +107,7 @@ impl ExcludeSpec {
 
 /// Appends the spec that a text is read as. An unreadable one is passed over.
 fn push_spec(alloc: Global, specs: &mut ExcludeSpecs, text: &Text) -> Result<(), AllocError>
-    ensures { OnOk result (map spec_of specs.new ≡ map spec_of specs.old ++ spec.read_one text.now) }
+    ensures { OnOk result (map exclude_spec_of specs.new ≡ map exclude_spec_of specs.old ++ spec.read_one text.now) }
 {
     if let Some(read) = ExcludeSpec::read(alloc, text.as_str())? {
         specs.push(read)?;
@@ -117,7 +117,7 @@ fn push_spec(alloc: Global, specs: &mut ExcludeSpecs, text: &Text) -> Result<(),
 
 /// Appends the specs that texts are read as. Unreadable ones are passed over.
 pub fn read_specs(alloc: Global, specs: &mut ExcludeSpecs, texts: &[Text]) -> Result<(), AllocError>
-    ensures { OnOk result (map spec_of specs.new ≡ map spec_of specs.old ++ filter_map spec_read texts.now) }
+    ensures { OnOk result (map exclude_spec_of specs.new ≡ map exclude_spec_of specs.old ++ filter_map spec_read texts.now) }
 {
     'texts: for text in texts {
         push_spec(alloc, specs, text)?;
@@ -171,7 +171,7 @@ fn compare_wanted(version: &Option<Version>, other: Option<&Version>) -> Orderin
 
 /// How a spec stands to one of a name and a version.
 fn compare_to(spec: &ExcludeSpec, name: &str, version: Option<&Version>) -> Ordering
-    ensures { result ≡ key_order (key_of (spec_of spec.now))
+    ensures { result ≡ key_order (key_of (exclude_spec_of spec.now))
         (key_with name.now (option_map (λ version. parts_of version.now) version.entry)) }
 {
     let wanted = compare_wanted(&spec.version, version);
@@ -180,7 +180,7 @@ fn compare_to(spec: &ExcludeSpec, name: &str, version: Option<&Version>) -> Orde
 
 /// How a spec stands to another.
 fn compare_specs(spec: &ExcludeSpec, other: &ExcludeSpec) -> Ordering
-    ensures { result ≡ key_order (key_of (spec_of spec.now)) (key_of (spec_of other.now)) }
+    ensures { result ≡ key_order (key_of (exclude_spec_of spec.now)) (key_of (exclude_spec_of other.now)) }
 {
     compare_to(spec, other.name.as_str(), other.version.as_ref())
 }
@@ -220,7 +220,7 @@ fn finds(refs: &[&ExcludeSpec], name: &str, version: Option<&Version>) -> bool
 /// Whether one of the specs, which are handed in once more in order, leaves a crate out.
 pub(crate) fn is_excluded(specs: &[ExcludeSpec], refs: &[&ExcludeSpec], krate: &Krate) -> bool
     requires { AreOrdered specs.now refs.now }
-    ensures { result ≡ spec.is_excluded (map spec_of specs.now) (record_of krate.now) }
+    ensures { result ≡ spec.is_excluded (map exclude_spec_of specs.now) (record_of krate.now) }
 {
     let _count = specs.len();
     let name = krate.name.as_str();

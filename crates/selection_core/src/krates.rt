@@ -8,7 +8,7 @@ ghost use Rattle.selection_core.specs.Listed.{IsChosen, IsListOf, reached_in, re
 ghost use Rattle.selection_core.specs.Listed.{selected_in, record_behind};
 ghost use Rattle.selection_core.specs.Places as spec;
 ghost use Rattle.selection_core.specs.Places.{standings_in};
-ghost use Rattle.selection_core.specs.Roots.{HasRoot, IsCause};
+ghost use Rattle.selection_core.specs.Roots.{HasRoot, IsRootsCause};
 ghost use Rattle.selection_core.specs.Walks.{Selected};
 
 use crate::marks::marks_of;
@@ -74,7 +74,7 @@ fn put<T: Drop>(list: &mut Vec<T>, item: T, wanted: bool) -> Result<(), AllocErr
 
 /// The crates that are marked, in order.
 fn crates_kept(alloc: Global, crates: Vec<Krate>, marks: &[bool]) -> Result<Vec<Krate>, AllocError>
-    ensures { IfOk result (λ left. left.items ≡ spec.kept crates.items marks.now) }
+    ensures { IfOk result (λ left. left.items ≡ spec.marked_items crates.items marks.now) }
 {
     let mut left = Vec::new(alloc);
     'crates: for (krate, mark) in crates.into_iter().zip(marks.iter()) {
@@ -181,7 +181,7 @@ fn refs_covering<'k>(
 ) -> Result<KrateRefs<'k>, AllocError>
     ensures { IfOk result (λ refs. map record_behind refs
         ≡ listed.crates_in
-        (filter (λ item. spec.covers needed item.without) (listed.items_of crates.now without.now))) }
+        (filter (λ item. spec.covers needed item.without) (listed.listed_crates crates.now without.now))) }
 {
     let mut refs = Vec::new(alloc);
     'crates: for (place, krate) in crates.iter().enumerate() {
@@ -201,7 +201,7 @@ impl Krates {
     ) -> Result<Krates, BuildError>
         ensures chosen { IfOk result (λ krates. IsChosen metadata (choice_of selection.now) krates) }
         ensures rooted { OnOk result (HasRoot metadata (choice_of selection.now)) }
-        ensures cause { IfErr result (λ error. IsCause metadata (choice_of selection.now) error) }
+        ensures cause { IfErr result (λ error. IsRootsCause metadata (choice_of selection.now) error) }
     {
         let standings = standings_of(alloc, &metadata, selection)?;
         need_root(&standings)?;

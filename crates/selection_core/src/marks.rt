@@ -3,7 +3,7 @@ ghost use Rattle.std.specs.Prelude.{◌≡◌, ◌<◌, length, IfOk, OnOk};
 ghost use Rattle.graph_core.specs.Metadata.{AreRising, LeadWithin, ids_of};
 ghost use Rattle.selection_core.specs.Choice.{choice_of};
 ghost use Rattle.selection_core.specs.Places as spec;
-ghost use Rattle.selection_core.specs.Places.{AreMarksOf, seen_of, standings_in};
+ghost use Rattle.selection_core.specs.Places.{AreMarksOf, frontier_of, standings_in};
 ghost use Rattle.selection_core.specs.Walks.{Reached};
 
 use crate::selection::Selection;
@@ -74,17 +74,17 @@ fn passes(standings: &[Standing], counting: Kinds, edge: &Edge) -> bool
 
 /// The places that were found, and those of them whose edges are still to be followed.
 #[derive(Drop)]
-pub(crate) struct Found {
+pub(crate) struct Frontier {
     pub(crate) marks: Vec<bool>,
     pub(crate) waiting: Vec<usize>,
 }
 
-impl Found {
-    fn nothing(alloc: Global, count: usize) -> Result<Found, AllocError>
-        ensures { IfOk result (λ found. seen_of found ≡ spec.nothing_seen count) }
+impl Frontier {
+    fn nothing(alloc: Global, count: usize) -> Result<Frontier, AllocError>
+        ensures { IfOk result (λ found. frontier_of found ≡ spec.nothing_seen count) }
     {
         let marks = Vec::from_elem(alloc, false, count)?;
-        Ok(Found {
+        Ok(Frontier {
             marks,
             waiting: Vec::new(alloc),
         })
@@ -93,7 +93,7 @@ impl Found {
     /// Finds a place, where it is wanted and was not found before.
     fn put(&mut self, place: usize, wanted: bool) -> Result<(), AllocError>
         requires { place < length self.old.marks.items }
-        ensures { OnOk result (seen_of self.new ≡ spec.put place wanted (seen_of self.old)) }
+        ensures { OnOk result (frontier_of self.new ≡ spec.put place wanted (frontier_of self.old)) }
     {
         if wanted && !self.marks[place] {
             self.waiting.push(place)?;
@@ -112,7 +112,7 @@ impl Found {
         requires counted { length self.old.marks.items ≡ length standings.now }
         requires within { LeadWithin (length standings.now) edges.now }
         ensures { OnOk result
-            (seen_of self.new ≡ spec.follow standings.now counting (seen_of self.old) edges.now) }
+            (frontier_of self.new ≡ spec.follow standings.now counting (frontier_of self.old) edges.now) }
     {
         'edges: for edge in edges {
             let wanted = passes(standings, counting, edge);
@@ -123,11 +123,11 @@ impl Found {
 }
 
 /// The roots, of which none was followed yet.
-fn roots_in(alloc: Global, standings: &[Standing]) -> Result<Found, AllocError>
-    ensures { IfOk result (λ found. seen_of found
+fn roots_in(alloc: Global, standings: &[Standing]) -> Result<Frontier, AllocError>
+    ensures { IfOk result (λ found. frontier_of found
         ≡ spec.put_roots 0 standings.now (spec.nothing_seen (length standings.now))) }
 {
-    let mut found = Found::nothing(alloc, standings.len())?;
+    let mut found = Frontier::nothing(alloc, standings.len())?;
     'roots: for (place, standing) in standings.iter().enumerate() {
         found.put(place, standing.is_root())?;
     }

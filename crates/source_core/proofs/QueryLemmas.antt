@@ -5,7 +5,7 @@ use Rattle.std.proofs.lemmas.Option.{slice_get-get_or}
 use Rattle.std.proofs.lemmas.List.{length-append, take_all}
 use Rattle.std.proofs.Math.Seq.{get_or-append_seam}
 use Rattle.std.specs.List.{join_with_byte}
-use Rattle.source_core.specs.Git.{Pair, names_spec, last_of, last_spec, later, is_master, is_kept, written, with_pair, with_kept, query_text, text_without_master}
+use Rattle.source_core.specs.Git.{Pair, names_spec, last_of, last_spec, later, is_master, is_kept, pair_text, with_pair, with_kept, query_text, text_without_master}
 
 last_of-append : (pairs : List Pair) (pair : Pair) → last_of (pairs ++ pair ∷ []) ≡ Some pair
 last_of-append pairs pair =
@@ -29,7 +29,7 @@ last_spec-more pairs i pair h e =
 -- ---- the text of the pairs that are kept
 
 abbrev texts_kept : List Pair → List (List ℕ)
-texts_kept pairs = map written (filter is_kept pairs)
+texts_kept pairs = map pair_text (filter is_kept pairs)
 
 joined-two : (x y : List ℕ) (rest : List (List ℕ))
     → join_with_byte 38 ((x ++ 38 ∷ y) ∷ rest) ≡ x ++ 38 ∷ join_with_byte 38 (y ∷ rest)
@@ -42,10 +42,10 @@ fold-after byte bytes [] = refl
 fold-after byte bytes (pair ∷ pairs) =
     elim (is_master pair)
     as (λ master. fold with_kept (cond master (byte ∷ bytes) (with_pair (byte ∷ bytes) pair)) pairs
-    ≡ join_with_byte 38 ((byte ∷ bytes) ∷ map written (cond (not master) (pair ∷ filter is_kept pairs) (filter is_kept pairs)))) [
+    ≡ join_with_byte 38 ((byte ∷ bytes) ∷ map pair_text (cond (not master) (pair ∷ filter is_kept pairs) (filter is_kept pairs)))) [
       | true ↦ fold-after byte bytes pairs
-      | false ↦ fold-after byte (bytes ++ 38 ∷ written pair) pairs
-          ∙ joined-two (byte ∷ bytes) (written pair) (texts_kept pairs)
+      | false ↦ fold-after byte (bytes ++ 38 ∷ pair_text pair) pairs
+          ∙ joined-two (byte ∷ bytes) (pair_text pair) (texts_kept pairs)
     ]
 
 written-cons : (name value : List ℕ) (pairs : List Pair)
@@ -59,7 +59,7 @@ fold-kept [] = refl
 fold-kept ((name, value) ∷ pairs) =
     elim (is_master (name, value))
     as (λ master. fold with_kept (cond master [] (with_pair [] (name, value))) pairs
-    ≡ join_with_byte 38 (map written (cond (not master) ((name, value) ∷ filter is_kept pairs) (filter is_kept pairs))))
+    ≡ join_with_byte 38 (map pair_text (cond (not master) ((name, value) ∷ filter is_kept pairs) (filter is_kept pairs))))
     [ true ↦ fold-kept pairs | false ↦ written-cons name value pairs ]
 
 pub fold-kept_all : (pairs : List Pair) (n : ℕ) → length pairs ≤ n

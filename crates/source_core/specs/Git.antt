@@ -76,13 +76,13 @@ abbrev pub is_kept : Pair → Bool
 is_kept pair = not (is_master pair)
 
 -- a pair as `name=value`
-abbrev pub written : Pair → List ℕ
-written (name, value) = name ++ 61 ∷ value
+abbrev pub pair_text : Pair → List ℕ
+pair_text (name, value) = name ++ 61 ∷ value
 
 -- a text with one more pair, behind an `&` where it has one
 abbrev pub with_pair : List ℕ → Pair → List ℕ
-with_pair [] pair = written pair
-with_pair (byte ∷ bytes) pair = byte ∷ bytes ++ 38 ∷ written pair
+with_pair [] pair = pair_text pair
+with_pair (byte ∷ bytes) pair = byte ∷ bytes ++ 38 ∷ pair_text pair
 
 -- a text with one more pair, unless that is `branch=master`
 abbrev pub with_kept : List ℕ → Pair → List ℕ
@@ -90,7 +90,7 @@ with_kept text pair = if is_master pair then text else with_pair text pair
 
 -- the pairs as they are written, with `&` between them
 abbrev pub query_text : List Pair → List ℕ
-query_text pairs = join_with_byte 38 (map written pairs)
+query_text pairs = join_with_byte 38 (map pair_text pairs)
 
 -- the pairs but `branch=master`, as a query
 abbrev pub text_without_master : List Pair → List ℕ
@@ -112,8 +112,8 @@ abbrev pub normal_address : Parts → Parts
 normal_address address = without_master (query_of address) (with_normal_path address)
 
 -- what the address names in the repository, and its value
-abbrev pub spec_of : Parts → GitSpec
-spec_of address = spec_in (query_of address)
+abbrev pub git_spec_of : Parts → GitSpec
+git_spec_of address = spec_in (query_of address)
 
 abbrev pub value_of : Parts → Option (List ℕ)
 value_of address = value_in (query_of address)

@@ -52,11 +52,11 @@ matches_rustsec (Sparse x) (Some (Sparse y)) = same_address x y
 matches_rustsec _ (Some _) = false
 
 -- the text of a source
-abbrev pub text_of : Source → List ℕ
-text_of (CratesIo is_sparse) = codes "registry+https://github.com/rust-lang/crates.io-index"
-text_of (Git spec address value) = codes "git+" ++ serialize address
-text_of (Registry address) = codes "registry+" ++ serialize address
-text_of (Sparse address) = serialize address
+abbrev pub source_text_of : Source → List ℕ
+source_text_of (CratesIo is_sparse) = codes "registry+https://github.com/rust-lang/crates.io-index"
+source_text_of (Git spec address value) = codes "git+" ++ serialize address
+source_text_of (Registry address) = codes "registry+" ++ serialize address
+source_text_of (Sparse address) = serialize address
 
 -- ---- the order: by variant and by what is said of it, then by the text of the address, then by the git value
 

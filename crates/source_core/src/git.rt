@@ -1,7 +1,7 @@
 //! Addresses of git repositories.
 ghost use Rattle.std.specs.Prelude.{◌≡◌, IfOk, OnOk};
 ghost use Rattle.source_core.specs.Git as spec;
-ghost use Rattle.source_core.specs.Git.{query_of, with_normal_path, without_master, normal_address, spec_of};
+ghost use Rattle.source_core.specs.Git.{query_of, with_normal_path, without_master, normal_address, git_spec_of};
 ghost use Rattle.source_core.specs.Git.{value_of};
 
 use crate::query::{QueryPairs, query_pairs};
@@ -62,7 +62,7 @@ pub fn normalize_git_url(
     url: &mut Url,
 ) -> Result<(GitSpec, Option<Text>), AllocError>
     ensures address { OnOk result (url.new ≡ normal_address url.old) }
-    ensures spec { IfOk result (λ named. named.0 ≡ spec_of url.old) }
+    ensures spec { IfOk result (λ named. named.0 ≡ git_spec_of url.old) }
     ensures value { IfOk result (λ named. named.1 ≡ value_of url.old) }
 {
     let pairs = query_pairs(alloc, url)?;

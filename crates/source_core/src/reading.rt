@@ -1,7 +1,7 @@
 //! Sources read from texts.
 ghost use Rattle.std.specs.Prelude.{◌≡◌, ◌⊎◌, Ok, Err, option_copied, option_map, IfOk, IfErr};
 ghost use Rattle.source_core.specs.Reading as spec;
-ghost use Rattle.source_core.specs.Reading.{Gives, source_of, address_of};
+ghost use Rattle.source_core.specs.Reading.{AnswersSource, source_of, address_of};
 ghost use Rattle.source_core.specs.declared.source.SourceError.TheVariants.{Memory};
 
 use crate::git::normalize_git_url;
@@ -15,7 +15,7 @@ use url::{ParseError, Url};
 const ADDRESS_LIMIT: usize = 65_536;
 
 fn read_address(alloc: Global, text: &str) -> Result<Url, SourceError>
-    ensures { Gives result (address_of text.now) }
+    ensures { AnswersSource result (address_of text.now) }
 {
     if text.len() > ADDRESS_LIMIT {
         return Err(SourceError::BadUrl);
@@ -45,7 +45,7 @@ fn is_sparse_at(manifest: Option<&str>, sparse_dir: &str) -> bool
 }
 
 fn sparse_source(alloc: Global, text: &str) -> Result<Source, SourceError>
-    ensures { Gives result (spec.sparse_source text.now) }
+    ensures { AnswersSource result (spec.sparse_source text.now) }
 {
     if text == "sparse+https://index.crates.io/" {
         Ok(Source::CratesIo(true))
@@ -55,7 +55,7 @@ fn sparse_source(alloc: Global, text: &str) -> Result<Source, SourceError>
 }
 
 fn registry_source(alloc: Global, rest: &str, is_sparse: bool) -> Result<Source, SourceError>
-    ensures { Gives result (spec.registry_source is_sparse rest.now) }
+    ensures { AnswersSource result (spec.registry_source is_sparse rest.now) }
 {
     if rest == "https://github.com/rust-lang/crates.io-index" {
         Ok(Source::CratesIo(is_sparse))
@@ -65,7 +65,7 @@ fn registry_source(alloc: Global, rest: &str, is_sparse: bool) -> Result<Source,
 }
 
 fn git_source(alloc: Global, rest: &str) -> Result<Source, SourceError>
-    ensures { Gives result (spec.git_source rest.now) }
+    ensures { AnswersSource result (spec.git_source rest.now) }
 {
     let mut url = read_address(alloc, rest)?;
     let (spec, spec_value) = normalize_git_url(alloc, &mut url)?;

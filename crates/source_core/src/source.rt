@@ -111,7 +111,7 @@ impl Source {
 }
 
 impl fmt::Display for Source {
-    ghost output = { λ source. Some (spec.text_of source) };
+    ghost output = { λ source. Some (spec.source_text_of source) };
 
     fn fmt<W: fmt::Write>(&self, f: &mut fmt::Formatter<W>) -> fmt::Result {
         match self {

@@ -5,24 +5,24 @@ use Rattle.std.specs.Str.{IsUtf8}
 use Rattle.catalog_core.specs.Catalog.{CatalogLists, IsCatalog}
 use Rattle.term_core.specs.declared.mode.ParseMode.{ParseMode}
 use Rattle.term_core.specs.declared.item.Item.{Item}
-use Rattle.term_core.specs.declared.item.Wanted.TheVariants.{Term as wants_term}
+use Rattle.term_core.specs.declared.item.WantedItem.TheVariants.{Term as wants_term}
 use Rattle.term_core.specs.declared.term.ExpressionReq.{ExpressionReq}
 use Rattle.term_core.specs.Items.{items_of}
 use Rattle.term_core.specs.Faults.{fault_from, fault_of, first_fault}
 use Rattle.term_core.proofs.FaultLemmas.{no}
 use Rattle.spdx_core.specs.declared.node.ExprNode.{ExprNode}
 use Rattle.spdx_core.specs.declared.node.ExprNode.TheVariants.{Or as or_node}
-use Rattle.spdx_core.specs.Grammar.{Tree, Rule, Reads, Spells, Allowed, simple, simple_with, grouped, one_part, and, one_conjunction, or}
+use Rattle.spdx_core.specs.Grammar.{ExpressionTree, Rule, ReadsAs, Spells, AllowedForms, simple, simple_with, grouped, one_part, and, one_conjunction, or}
 use Rattle.spdx_core.specs.Reading.{postfix, tree_of, nothing_read, after_items}
 use Rattle.spdx_core.specs.ExpressionCode.{tree_of_postfix}
 use Rattle.spdx_core.specs.Machine.{Machine, no_machine, run, written}
-use Rattle.spdx_core.specs.Expressions.{IsExpression, IsKept, IsRead}
+use Rattle.spdx_core.specs.Expressions.{IsExpression, AreNodesKept, IsExpressionRead}
 use Rattle.spdx_core.proofs.HasTree.{has_tree}
 use Rattle.spdx_core.proofs.ReadingLemmas.{ReadWhole, complete}
 use Rattle.spdx_core.proofs.MachineLemmas.{shown, sum_nodes, run_same}
 use Rattle.spdx_core.proofs.SpellingLemmas.{in_order, terms_rise}
 
-some_terms : {allowed : Allowed} {rule : Rule} {n : ℕ} {items : List Item} {tree : Tree} {terms : List ExpressionReq} → Reads allowed rule n items tree terms → 0 < length terms
+some_terms : {allowed : AllowedForms} {rule : Rule} {n : ℕ} {items : List Item} {tree : ExpressionTree} {terms : List ExpressionReq} → ReadsAs allowed rule n items tree terms → 0 < length terms
 some_terms (simple n named start end ok) = omega arith
 some_terms (simple_with n named name start mid from to last end ok) = omega arith
 some_terms (grouped n from to last end inner tree terms reads) = some_terms reads
@@ -38,12 +38,12 @@ fine_from mode len (it ∷ items) none = none
 
 -- what the reader made of a text
 pub record Made (mode : ParseMode) (lists : CatalogLists) (text : List ℕ) (nodes : List ExprNode) (terms : List ExpressionReq) : Type 0 where
-  pub tree : Tree
+  pub tree : ExpressionTree
   pub spells : Spells mode lists text tree terms
   pub postfix_is : nodes ≡ postfix tree
   pub fine : first_fault mode lists text ≡ None
 
-made_by : (mode : ParseMode) (lists : CatalogLists) (text : List ℕ) (m : Machine) (tree : Tree) (terms : List ExpressionReq) → first_fault mode lists text ≡ None → m ≡ run no_machine (items_of mode lists text)
+made_by : (mode : ParseMode) (lists : CatalogLists) (text : List ℕ) (m : Machine) (tree : ExpressionTree) (terms : List ExpressionReq) → first_fault mode lists text ≡ None → m ≡ run no_machine (items_of mode lists text)
     → Spells mode lists text tree terms → Made mode lists text (written m.level.or or_node m.nodes) m.terms
 made_by mode lists text m tree terms none ran spells =
     let items = items_of mode lists text in
@@ -67,7 +67,7 @@ made mode lists text m none ran =
     made_by mode lists text m tree.0 tree.1 none ran tree.2
 
 -- what was made is kept, and is what the text spells
-pub kept : (mode : ParseMode) (lists : CatalogLists) (text : List ℕ) (nodes : List ExprNode) (terms : List ExpressionReq) → IsCatalog lists → IsUtf8 text → Made mode lists text nodes terms → IsKept text terms nodes
+pub kept : (mode : ParseMode) (lists : CatalogLists) (text : List ℕ) (nodes : List ExprNode) (terms : List ExpressionReq) → IsCatalog lists → IsUtf8 text → Made mode lists text nodes terms → AreNodesKept text terms nodes
 kept mode lists text nodes terms laws utf8 m =
     let same : tree_of nodes ≡ m.tree = ap (λ all. tree_of all) m.postfix_is ∙ tree_of_postfix m.tree in
     record {
@@ -76,7 +76,7 @@ kept mode lists text nodes terms laws utf8 m =
     }
 
 pub read_is : (mode : ParseMode) (lists : CatalogLists) (text own : List ℕ) (nodes : List ExprNode) (terms : List ExpressionReq) → own ≡ text → Made mode lists text nodes terms
-    → IsRead mode lists text (record { text = own; terms = terms; tree = tree_of nodes })
+    → IsExpressionRead mode lists text (record { text = own; terms = terms; tree = tree_of nodes })
 read_is mode lists text own nodes terms same m =
     let tree : tree_of nodes ≡ m.tree = ap (λ all. tree_of all) m.postfix_is ∙ tree_of_postfix m.tree in
     record { text_kept = same; spelled = subst (λ t. Spells mode lists text t terms) (sym tree) m.spells; fine = m.fine }

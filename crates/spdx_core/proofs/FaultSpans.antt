@@ -13,15 +13,15 @@ use Rattle.term_core.specs.declared.error.ParseError.{ParseError}
 use Rattle.term_core.specs.declared.error.ParseReason.{ParseReason}
 use Rattle.term_core.specs.declared.error.ParseReason.TheVariants.{Unexpected, DeprecatedId, GplNoPlus}
 use Rattle.term_core.specs.declared.term.LicenseItem.{LicenseItem}
-use Rattle.term_core.specs.declared.item.Wanted.{Wanted}
-use Rattle.term_core.specs.declared.item.Wanted.TheVariants.{Term as wants_term}
-use Rattle.term_core.specs.declared.item.What.{What}
-use Rattle.term_core.specs.declared.item.What.TheVariants.{Term, Exception, And, Or, With, Open, Close, Plus, Word, Other}
+use Rattle.term_core.specs.declared.item.WantedItem.{WantedItem}
+use Rattle.term_core.specs.declared.item.WantedItem.TheVariants.{Term as wants_term}
+use Rattle.term_core.specs.declared.item.ItemKind.{ItemKind}
+use Rattle.term_core.specs.declared.item.ItemKind.TheVariants.{Term, Exception, And, Or, With, Open, Close, Plus, Word, Other}
 use Rattle.term_core.specs.declared.item.Item.{Item}
 use Rattle.term_core.specs.declared.item.Simple.{Simple}
 use Rattle.term_core.specs.Spans.{Rise}
 use Rattle.term_core.specs.Items.{item_at, term_of, plus_behind, items_of, wanted_after}
-use Rattle.term_core.specs.Faults.{unless, fault_over, takes_term, takes_exception, takes_operator, takes_with, word_reason, mark_fault, first_of, fault_at, opened_after, has_open, last_open, end_fault, fault_from, fault_of, first_fault, is_alone, lone_fault, licensee_mode, licensee_fault, licensee_fault_from, licensee_fault_of}
+use Rattle.term_core.specs.Faults.{unless, fault_over, takes_term, takes_exception, takes_operator, takes_with, word_reason, mark_fault, first_of, item_fault, opened_after, has_open, last_open, end_fault, fault_from, fault_of, first_fault, is_alone, lone_fault, licensee_mode, licensee_fault, licensee_fault_from, licensee_fault_of}
 use Rattle.term_core.proofs.ItemSpans.{items_rise}
 use Rattle.spdx_core.proofs.ItemKinds.{is_other, Kinds, Each, each_item}
 
@@ -34,7 +34,7 @@ record NameEnds (place : ℕ) (text : List ℕ) (named : Simple) (span : Span) :
   name : named.name_end ≡ place + len
   ends : (span.end ≡ place + len) ⊎ ((len < length text) × (get_or text len 0 ≡ 43))
 
-Named : ℕ → List ℕ → What → Span → Type 0
+Named : ℕ → List ℕ → ItemKind → Span → Type 0
 Named place text (Term named) span = NameEnds place text named span
 Named place text (Exception name) span = Unit {0}
 Named place text And span = Unit {0}
@@ -60,7 +60,7 @@ unfolding Named
 named_term true item later deprecated gnu place len text behind = record { start = refl; len = len; name = refl; ends = inr (behind refl) }
 named_term false item later deprecated gnu place len text behind = record { start = refl; len = len; name = refl; ends = inl refl }
 
-named_other : (what : What) (place : ℕ) (text : List ℕ) (len : ℕ) → is_other what ≡ true → NamedItem place text (item_at what place len)
+named_other : (what : ItemKind) (place : ℕ) (text : List ℕ) (len : ℕ) → is_other what ≡ true → NamedItem place text (item_at what place len)
 unfolding Named
 named_other (Term named) place text len is = absurd (false≢true is)
 named_other (Exception name) place text len is = tt
@@ -87,7 +87,7 @@ record NameLies (text : List ℕ) (named : Simple) (span : Span) : Type 0 where
   behind : span.start ≤ named.name_end
   border : (span.end ≡ named.name_end) ⊎ IsCharBoundary text named.name_end
 
-Lies : List ℕ → What → Span → Type 0
+Lies : List ℕ → ItemKind → Span → Type 0
 Lies text (Term named) span = NameLies text named span
 Lies text (Exception name) span = Unit {0}
 Lies text And span = Unit {0}
@@ -120,7 +120,7 @@ name_lies text place named span ends =
       ];
     }
 
-lies_by : (text : List ℕ) (place : ℕ) (what : What) (span : Span) → Named place (drop place text) what span → Lies text what span
+lies_by : (text : List ℕ) (place : ℕ) (what : ItemKind) (span : Span) → Named place (drop place text) what span → Lies text what span
 unfolding Named Lies
 lies_by text place (Term named) span ends = name_lies text place named span ends
 lies_by text place (Exception name) span ends = tt
@@ -177,7 +177,7 @@ told_marks text mode named span lies name =
     (told_over text DeprecatedId (record { start = span.start; end = named.name_end }) (name_in text named span lies name))
     (told_unless text (not (named.marks.gnu && named.marks.plus) || mode.allow_postfix_plus_on_gpl) GplNoPlus span lies)
 
-told_at : (text : List ℕ) (mode : ParseMode) (wanted : Wanted) (opened : Bool) (what : What) (span : Span) → LiesBetween text span → Lies text what span → Told text (fault_at mode wanted opened what span)
+told_at : (text : List ℕ) (mode : ParseMode) (wanted : WantedItem) (opened : Bool) (what : ItemKind) (span : Span) → LiesBetween text span → Lies text what span → Told text (item_fault mode wanted opened what span)
 unfolding Lies
 told_at text mode wanted opened (Term named) span lies name = told_first text (unless (takes_term wanted) Unexpected span) (mark_fault mode named span) (told_unless text (takes_term wanted) Unexpected span lies) (told_marks text mode named span lies name)
 told_at text mode wanted opened (Exception name) span lies there = told_unless text (takes_exception wanted) Unexpected span lies
@@ -200,7 +200,7 @@ unfolding AllIn
 all_but_first text [] all = tt
 all_but_first text (span ∷ spans) all = all.1
 
-opened_lie : (text : List ℕ) (opened : List Span) (what : What) (span : Span) → AllIn text opened → LiesBetween text span → AllIn text (opened_after opened what span)
+opened_lie : (text : List ℕ) (opened : List Span) (what : ItemKind) (span : Span) → AllIn text opened → LiesBetween text span → AllIn text (opened_after opened what span)
 unfolding AllIn
 opened_lie text opened (Term named) span all lies = all
 opened_lie text opened (Exception name) span all lies = all
@@ -216,7 +216,7 @@ opened_lie text opened Other span all lies = all
 at_end : (text : List ℕ) → LiesBetween text (record { start = length text; end = length text })
 at_end text = record { ordered = omega arith; start_border = IsCharBoundary-end text; end_border = IsCharBoundary-end text }
 
-told_unclosed : (text : List ℕ) (opened : List Span) (wanted : Wanted) → AllIn text opened → Told text (end_fault (length text) wanted (last_open opened))
+told_unclosed : (text : List ℕ) (opened : List Span) (wanted : WantedItem) → AllIn text opened → Told text (end_fault (length text) wanted (last_open opened))
 unfolding AllIn Told
 told_unclosed text [] wanted all = told_cond text (takes_operator wanted) _ _ tt (at_end text)
 told_unclosed text (last ∷ rest) wanted all = told_cond text (takes_operator wanted) _ _ all.0 (at_end text)
@@ -224,12 +224,12 @@ told_unclosed text (last ∷ rest) wanted all = told_cond text (takes_operator w
 item_in : (text : List ℕ) (place : ℕ) (it : Item) (items : List Item) (end : ℕ) → Rise text place (map (λ item. item.span) (it ∷ items)) end → LiesBetween text it.span
 item_in text place it items end rise = let some : it.span.start < it.span.end = rise.0.some in record { ordered = omega arith; start_border = rise.0.start_border; end_border = rise.0.end_border }
 
-told_from : (text : List ℕ) (mode : ParseMode) (wanted : Wanted) (opened : List Span) (place : ℕ) (items : List Item) → AllIn text opened → Rise text place (map (λ item. item.span) items) (length text) → NamesLie text items
+told_from : (text : List ℕ) (mode : ParseMode) (wanted : WantedItem) (opened : List Span) (place : ℕ) (items : List Item) → AllIn text opened → Rise text place (map (λ item. item.span) items) (length text) → NamesLie text items
     → Told text (fault_from mode (length text) wanted opened items)
 told_from text mode wanted opened place [] all rise names = told_unclosed text opened wanted all
 told_from text mode wanted opened place (it ∷ items) all rise names =
     let lies = item_in text place it items (length text) rise in
-    told_first text (fault_at mode wanted (has_open opened) it.what it.span) _
+    told_first text (item_fault mode wanted (has_open opened) it.what it.span) _
     (told_at text mode wanted (has_open opened) it.what it.span lies names.0)
     (told_from text mode (wanted_after wanted it.what) (opened_after opened it.what it.span) it.span.end items (opened_lie text opened it.what it.span all lies) rise.1 names.1)
 
@@ -242,11 +242,11 @@ told_of text mode [] utf8 rise names = told_empty text Unexpected utf8
 told_of text mode (it ∷ items) utf8 rise names = told_from text mode wants_term [] 0 (it ∷ items) tt rise names
 
 -- the same of licensees
-told_lone : (text : List ℕ) (mode : ParseMode) (wanted : Wanted) (what : What) (span : Span) → LiesBetween text span → Lies text what span → Told text (lone_fault mode wanted what span)
+told_lone : (text : List ℕ) (mode : ParseMode) (wanted : WantedItem) (what : ItemKind) (span : Span) → LiesBetween text span → Lies text what span → Told text (lone_fault mode wanted what span)
 told_lone text mode wanted what span lies name =
-    told_first text (unless (is_alone what) Unexpected span) (fault_at mode wanted false what span) (told_unless text (is_alone what) Unexpected span lies) (told_at text mode wanted false what span lies name)
+    told_first text (unless (is_alone what) Unexpected span) (item_fault mode wanted false what span) (told_unless text (is_alone what) Unexpected span lies) (told_at text mode wanted false what span lies name)
 
-told_alone : (text : List ℕ) (mode : ParseMode) (wanted : Wanted) (place : ℕ) (items : List Item) → Rise text place (map (λ item. item.span) items) (length text) → NamesLie text items → Told text (licensee_fault_from mode (length text) wanted items)
+told_alone : (text : List ℕ) (mode : ParseMode) (wanted : WantedItem) (place : ℕ) (items : List Item) → Rise text place (map (λ item. item.span) items) (length text) → NamesLie text items → Told text (licensee_fault_from mode (length text) wanted items)
 unfolding AllIn
 told_alone text mode wanted place [] rise names = told_unclosed text [] wanted tt
 told_alone text mode wanted place (it ∷ items) rise names =

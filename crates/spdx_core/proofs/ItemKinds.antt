@@ -8,16 +8,16 @@ use Rattle.term_core.specs.declared.mode.ParseMode.{ParseMode}
 use Rattle.term_core.specs.declared.term.LicenseItem.{LicenseItem}
 use Rattle.term_core.specs.declared.item.Token.{Token}
 use Rattle.term_core.specs.declared.item.Token.TheVariants.{Word as a_word, Plus as a_plus, Open as an_open, Close as a_close, Slash as a_slash, Other as another}
-use Rattle.term_core.specs.declared.item.Wanted.{Wanted}
-use Rattle.term_core.specs.declared.item.Wanted.TheVariants.{Term as wants_term, Exception as wants_exception, AfterTerm, AfterPart}
-use Rattle.term_core.specs.declared.item.What.{What}
-use Rattle.term_core.specs.declared.item.What.TheVariants.{Term, Exception, And, Or, With, Open, Close, Plus, Word, Other}
+use Rattle.term_core.specs.declared.item.WantedItem.{WantedItem}
+use Rattle.term_core.specs.declared.item.WantedItem.TheVariants.{Term as wants_term, Exception as wants_exception, AfterTerm, AfterPart}
+use Rattle.term_core.specs.declared.item.ItemKind.{ItemKind}
+use Rattle.term_core.specs.declared.item.ItemKind.TheVariants.{Term, Exception, And, Or, With, Open, Close, Plus, Word, Other}
 use Rattle.term_core.specs.declared.item.Item.{Item}
 use Rattle.term_core.specs.Tokens.{is_white, says_and, says_or, says_with, one_of, token_of, rest_len, reference_of}
 use Rattle.term_core.specs.Items.{item_at, term_of, licence_of, licence_at, reference_at, plus_behind, has_reading, longest, imprecise_at, imprecise_if, plain_item, word_item, token_item, first_item, operator_of, items_from, item_here, with_item, wanted_behind, used_behind, wanted_after}
 
 -- an operator, a mark, a word or a character
-abbrev pub is_other : What → Bool
+abbrev pub is_other : ItemKind → Bool
 is_other (Term named) = false
 is_other (Exception name) = false
 is_other And = true
@@ -35,7 +35,7 @@ pub record Kinds (lists : CatalogLists) (Holds : ℕ → List ℕ → Item → T
   pub reference : (item : LicenseItem) (place : ℕ) (text : List ℕ) (len : ℕ) → reference_of (take len text) ≡ Some item
       → Holds place text (term_of item (record { later = false; deprecated = false; gnu = false; plus = false }) place len)
   pub exception : (name : List ℕ) (place : ℕ) (text : List ℕ) (len : ℕ) → one_of lists.exceptions name ≡ true → Holds place text (item_at (Exception name) place len)
-  pub other : (what : What) (place : ℕ) (text : List ℕ) (len : ℕ) → is_other what ≡ true → Holds place text (item_at what place len)
+  pub other : (what : ItemKind) (place : ℕ) (text : List ℕ) (len : ℕ) → is_other what ≡ true → Holds place text (item_at what place len)
 
 abbrev HoldsIf : (ℕ → List ℕ → Item → Type 0) → ℕ → List ℕ → Option Item → Type 0
 HoldsIf Holds place text None = Unit {0}
@@ -93,7 +93,7 @@ of_exception : {lists : CatalogLists} {Holds : ℕ → List ℕ → Item → Typ
 of_exception kinds true word place text len is = kinds.exception word place text len is
 of_exception kinds false word place text len is = of_word kinds word place text len
 
-of_wanted : {lists : CatalogLists} {Holds : ℕ → List ℕ → Item → Type 0} → Kinds lists Holds → (mode : ParseMode) (wanted : Wanted) (place : ℕ) (text : List ℕ) (len : ℕ) → Holds place text (word_item mode lists wanted place text len)
+of_wanted : {lists : CatalogLists} {Holds : ℕ → List ℕ → Item → Type 0} → Kinds lists Holds → (mode : ParseMode) (wanted : WantedItem) (place : ℕ) (text : List ℕ) (len : ℕ) → Holds place text (word_item mode lists wanted place text len)
 of_wanted {lists} {Holds} kinds mode wants_term place text len =
     or_else_of Holds place text (imprecise_if mode.allow_imprecise_license_names lists place text len) (plain_item lists place text len)
     (of_imprecise_if kinds mode.allow_imprecise_license_names place text len) (of_plain kinds place text len)
@@ -101,7 +101,7 @@ of_wanted {lists} kinds mode wants_exception place text len = of_exception kinds
 of_wanted kinds mode AfterTerm place text len = of_word kinds (take len text) place text len
 of_wanted kinds mode AfterPart place text len = of_word kinds (take len text) place text len
 
-of_token : {lists : CatalogLists} {Holds : ℕ → List ℕ → Item → Type 0} → Kinds lists Holds → (mode : ParseMode) (wanted : Wanted) (place : ℕ) (text : List ℕ) (len : ℕ) (token : Token) → Holds place text (token_item mode lists wanted place text len token)
+of_token : {lists : CatalogLists} {Holds : ℕ → List ℕ → Item → Type 0} → Kinds lists Holds → (mode : ParseMode) (wanted : WantedItem) (place : ℕ) (text : List ℕ) (len : ℕ) (token : Token) → Holds place text (token_item mode lists wanted place text len token)
 of_token kinds mode wanted place text len a_word = of_wanted kinds mode wanted place text len
 of_token kinds mode wanted place text len a_plus = kinds.other Plus place text len refl
 of_token kinds mode wanted place text len an_open = kinds.other Open place text len refl
@@ -116,7 +116,7 @@ Each Holds (it ∷ items) = Holds it × Each Holds items
 
 -- what holds of every item in its place holds of the items of a text
 pub each_item : {lists : CatalogLists} {Holds : ℕ → List ℕ → Item → Type 0} → Kinds lists Holds → (mode : ParseMode) (text : List ℕ) (Said : Item → Type 0) → ((place : ℕ) (it : Item) → Holds place (drop place text) it → Said it)
-    → (wanted : Wanted) (place used : ℕ) (bytes : List ℕ) → drop place text ≡ bytes → Each Said (items_from mode lists wanted place used bytes)
+    → (wanted : WantedItem) (place used : ℕ) (bytes : List ℕ) → drop place text ≡ bytes → Each Said (items_from mode lists wanted place used bytes)
 each_item kinds mode text Said says wanted place used [] is = tt
 each_item {lists} {Holds} kinds mode text Said says wanted place used (b ∷ rest) is =
     let behind : drop (place + 1) text ≡ rest = sym (drop-drop 1 place text) ∙ ap (drop 1) is in

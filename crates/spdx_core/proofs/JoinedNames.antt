@@ -11,11 +11,11 @@ use Rattle.term_core.specs.declared.term.LicenseItem.TheVariants.{Spdx}
 use Rattle.term_core.specs.declared.term.ExpressionReq.{ExpressionReq}
 use Rattle.term_core.specs.declared.item.Simple.{Simple}
 use Rattle.term_core.specs.declared.item.Item.{Item}
-use Rattle.term_core.specs.declared.item.What.TheVariants.{Term, And}
-use Rattle.term_core.specs.declared.item.Wanted.TheVariants.{Term as wants_term, AfterTerm}
+use Rattle.term_core.specs.declared.item.ItemKind.TheVariants.{Term, And}
+use Rattle.term_core.specs.declared.item.WantedItem.TheVariants.{Term as wants_term, AfterTerm}
 use Rattle.term_core.specs.Items.{item_at, plus_behind, items_of, items_from}
 use Rattle.term_core.proofs.ItemBorders.{step_white}
-use Rattle.spdx_core.specs.Grammar.{Tree, leaf, both, Reads, conjunction, expression, allowed_in, simple, one_part, and, one_conjunction, item, term}
+use Rattle.spdx_core.specs.Grammar.{ExpressionTree, leaf, both, ReadsAs, conjunction, expression, allowed_in, simple, one_part, and, one_conjunction, item, term}
 use Rattle.spdx_core.specs.Printing.{named_mode, next_names, joined_names, with_names, IsKnown, IsNameOf, JoinedNamesAreRead}
 use Rattle.spdx_core.proofs.NameItems.{word_step, name_step}
 
@@ -59,20 +59,20 @@ one_and lists place rest =
     ∙ word_step named_mode lists AfterTerm (place + 1) (codes "AND") (32 ∷ rest) (item_at And (place + 1) 3) 3 refl refl refl refl (omega arith) (omega arith)
     ∙ ap (λ items. item And (place + 1) (place + 1 + 3) ∷ items) (step_white named_mode lists wants_term (place + 1 + 3) 32 rest refl)
 
-record Extended (lists : CatalogLists) (place : ℕ) (before : List Item) (tree : Tree) (some : List ExpressionReq) (names : List (List ℕ)) : Type 0 where
+record Extended (lists : CatalogLists) (place : ℕ) (before : List Item) (tree : ExpressionTree) (some : List ExpressionReq) (names : List (List ℕ)) : Type 0 where
   more : List ExpressionReq
-  reads : Reads (allowed_in named_mode) conjunction 0 (before ++ items_from named_mode lists AfterTerm place place (next_names names)) (with_names tree (length some) names) (some ++ more)
+  reads : ReadsAs (allowed_in named_mode) conjunction 0 (before ++ items_from named_mode lists AfterTerm place place (next_names names)) (with_names tree (length some) names) (some ++ more)
   named : AllZip (IsNameOf lists) names more
 
 -- what was read goes on with each name
-extended : (lists : CatalogLists) → IsCatalog lists → (names : List (List ℕ)) → AllByRecursion (IsKnown lists) names → (place : ℕ) (before : List Item) (tree : Tree) (some : List ExpressionReq)
-    → Reads (allowed_in named_mode) conjunction 0 before tree some → Extended lists place before tree some names
+extended : (lists : CatalogLists) → IsCatalog lists → (names : List (List ℕ)) → AllByRecursion (IsKnown lists) names → (place : ℕ) (before : List Item) (tree : ExpressionTree) (some : List ExpressionReq)
+    → ReadsAs (allowed_in named_mode) conjunction 0 before tree some → Extended lists place before tree some names
 unfolding named_at
 extended lists laws [] known place before tree some reads = record {
   more = [];
   reads =
-      subst (λ terms. Reads (allowed_in named_mode) conjunction 0 (before ++ []) tree terms) (sym (append-nil some))
-      (subst (λ items. Reads (allowed_in named_mode) conjunction 0 items tree some) (sym (append-nil before)) reads);
+      subst (λ terms. ReadsAs (allowed_in named_mode) conjunction 0 (before ++ []) tree terms) (sym (append-nil some))
+      (subst (λ items. ReadsAs (allowed_in named_mode) conjunction 0 items tree some) (sym (append-nil before)) reads);
   named = tt;
 }
 extended lists laws (name ∷ names) (here, others) place before tree some reads =
@@ -84,10 +84,10 @@ extended lists laws (name ∷ names) (here, others) place before tree some reads
     let it = item (Term named) from to in
     let one : ExpressionReq = term named.item None from to in
     let place_of : 0 + length some ≡ length some = omega arith in
-    let joined : Reads (allowed_in named_mode) conjunction 0 (before ++ sign ∷ it ∷ []) (both tree (leaf (0 + length some))) (some ++ one ∷ []) =
+    let joined : ReadsAs (allowed_in named_mode) conjunction 0 (before ++ sign ∷ it ∷ []) (both tree (leaf (0 + length some))) (some ++ one ∷ []) =
     and 0 (place + 1) (place + 1 + 3) before (it ∷ []) tree (leaf (0 + length some)) some (one ∷ []) reads (simple (0 + length some) named from to (unmarked entry.gnu)) in
-    let first : Reads (allowed_in named_mode) conjunction 0 (before ++ sign ∷ it ∷ []) (both tree (leaf (length some))) (some ++ one ∷ []) =
-    subst (λ n. Reads (allowed_in named_mode) conjunction 0 (before ++ sign ∷ it ∷ []) (both tree (leaf n)) (some ++ one ∷ [])) place_of joined in
+    let first : ReadsAs (allowed_in named_mode) conjunction 0 (before ++ sign ∷ it ∷ []) (both tree (leaf (length some))) (some ++ one ∷ []) =
+    subst (λ n. ReadsAs (allowed_in named_mode) conjunction 0 (before ++ sign ∷ it ∷ []) (both tree (leaf n)) (some ++ one ∷ [])) place_of joined in
     let next : Extended lists to (before ++ sign ∷ it ∷ []) (both tree (leaf (length some))) (some ++ one ∷ []) names =
     extended lists laws names others to (before ++ sign ∷ it ∷ []) (both tree (leaf (length some))) (some ++ one ∷ []) first in
     let rest = items_from named_mode lists AfterTerm to to (next_names names) in
@@ -99,10 +99,10 @@ extended lists laws (name ∷ names) (here, others) place before tree some reads
     record {
       more = one ∷ next.more;
       reads =
-          subst (λ items. Reads (allowed_in named_mode) conjunction 0 items (with_names tree (length some) (name ∷ names)) (some ++ one ∷ next.more))
+          subst (λ items. ReadsAs (allowed_in named_mode) conjunction 0 items (with_names tree (length some) (name ∷ names)) (some ++ one ∷ next.more))
           (append_assoc before (sign ∷ it ∷ []) rest ∙ ap (λ items. before ++ items) (sym step))
-          (subst (λ n. Reads (allowed_in named_mode) conjunction 0 ((before ++ sign ∷ it ∷ []) ++ rest) (with_names (both tree (leaf (length some))) n names) (some ++ one ∷ next.more)) count
-          (subst (λ terms. Reads (allowed_in named_mode) conjunction 0 ((before ++ sign ∷ it ∷ []) ++ rest) (with_names (both tree (leaf (length some))) (length (some ++ one ∷ [])) names) terms) (append_assoc some (one ∷ []) next.more) next.reads));
+          (subst (λ n. ReadsAs (allowed_in named_mode) conjunction 0 ((before ++ sign ∷ it ∷ []) ++ rest) (with_names (both tree (leaf (length some))) n names) (some ++ one ∷ next.more)) count
+          (subst (λ terms. ReadsAs (allowed_in named_mode) conjunction 0 ((before ++ sign ∷ it ∷ []) ++ rest) (with_names (both tree (leaf (length some))) (length (some ++ one ∷ [])) names) terms) (append_assoc some (one ∷ []) next.more) next.reads));
       named = (record { entry = entry; known = here.1; is = refl }, next.named);
     }
 
@@ -114,11 +114,11 @@ joined_read lists first names laws here others =
     let to : ℕ = 0 + length first in
     let it = item (Term named) 0 to in
     let one : ExpressionReq = term named.item None 0 to in
-    let start : Reads (allowed_in named_mode) conjunction 0 (it ∷ []) (leaf 0) (one ∷ []) = one_part 0 (it ∷ []) (leaf 0) (one ∷ []) (simple 0 named 0 to (unmarked entry.gnu)) in
+    let start : ReadsAs (allowed_in named_mode) conjunction 0 (it ∷ []) (leaf 0) (one ∷ []) = one_part 0 (it ∷ []) (leaf 0) (one ∷ []) (simple 0 named 0 to (unmarked entry.gnu)) in
     let all : Extended lists to (it ∷ []) (leaf 0) (one ∷ []) names = extended lists laws names others to (it ∷ []) (leaf 0) (one ∷ []) start in
     let items : items_of named_mode lists (joined_names first names) ≡ it ∷ items_from named_mode lists AfterTerm to to (next_names names) = one_name lists 0 first names entry laws here.1 in (
       one ∷ all.more,
-      subst (λ found. Reads (allowed_in named_mode) expression 0 found (with_names (leaf 0) 1 names) (one ∷ all.more)) (sym items)
+      subst (λ found. ReadsAs (allowed_in named_mode) expression 0 found (with_names (leaf 0) 1 names) (one ∷ all.more)) (sym items)
           (one_conjunction 0 _ (with_names (leaf 0) 1 names) (one ∷ all.more) all.reads),
       (record { entry = entry; known = here.1; is = refl }, all.named),
     )

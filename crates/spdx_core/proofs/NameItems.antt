@@ -13,8 +13,8 @@ use Rattle.catalog_core.specs.Catalog.{CatalogLists, IsCatalog, entry_of, names_
 use Rattle.catalog_core.specs.Words.{is_word_byte, is_word, is_name, is_operator, is_reference, ends_word}
 use Rattle.term_core.specs.declared.mode.ParseMode.{ParseMode}
 use Rattle.term_core.specs.declared.item.Token.TheVariants.{Word as a_word, Plus as a_plus, Open as an_open, Close as a_close, Slash as a_slash, Other as another}
-use Rattle.term_core.specs.declared.item.Wanted.{Wanted}
-use Rattle.term_core.specs.declared.item.Wanted.TheVariants.{Term as wants_term, AfterTerm}
+use Rattle.term_core.specs.declared.item.WantedItem.{WantedItem}
+use Rattle.term_core.specs.declared.item.WantedItem.TheVariants.{Term as wants_term, AfterTerm}
 use Rattle.term_core.specs.declared.item.Item.{Item}
 use Rattle.term_core.specs.declared.term.LicenseItem.{LicenseItem}
 use Rattle.term_core.specs.Tokens.{in_word, is_white, token_of, rest_len, after_prefix, own_licence, in_document, or_else, reference_of}
@@ -67,7 +67,7 @@ dark : (b : ℕ) → in_word b ≡ true → is_white b ≡ false
 dark b h = grind (arith, nat_tests)
 
 -- the item that a word begins
-word_first : (mode : ParseMode) (lists : CatalogLists) (wanted : Wanted) (place b : ℕ) (bs rest : List ℕ) → in_word b ≡ true → list_all in_word bs ≡ true → ends_word rest ≡ true
+word_first : (mode : ParseMode) (lists : CatalogLists) (wanted : WantedItem) (place b : ℕ) (bs rest : List ℕ) → in_word b ≡ true → list_all in_word bs ≡ true → ends_word rest ≡ true
     → first_item mode lists wanted place b (bs ++ rest) ≡ word_item mode lists wanted place (b ∷ bs ++ rest) (length (b ∷ bs))
 word_first mode lists wanted place b bs rest is all ends =
     let token : token_of mode.allow_slash_as_or_operator b ≡ a_word =
@@ -78,7 +78,7 @@ word_first mode lists wanted place b bs rest is all ends =
     ∙ ap (λ n. word_item mode lists wanted place (b ∷ bs ++ rest) n) long
 
 -- a word is read, and so is what stands behind its item
-pub word_step : (mode : ParseMode) (lists : CatalogLists) (wanted : Wanted) (place : ℕ) (word rest : List ℕ) (it : Item) (len : ℕ) → is_run word ≡ true → ends_word rest ≡ true
+pub word_step : (mode : ParseMode) (lists : CatalogLists) (wanted : WantedItem) (place : ℕ) (word rest : List ℕ) (it : Item) (len : ℕ) → is_run word ≡ true → ends_word rest ≡ true
     → word_item mode lists wanted place (word ++ rest) (length word) ≡ it → it.span.end ≡ place + len → 0 < len → len ≤ length (word ++ rest)
     → items_from mode lists wanted place place (word ++ rest) ≡ it ∷ items_from mode lists (wanted_after wanted it.what) (place + len) (place + len) (drop len (word ++ rest))
 word_step mode lists wanted place [] rest it len run ends is end some inside = absurd (false≢true run)

@@ -6,26 +6,26 @@ use Rattle.term_core.specs.declared.mode.ParseMode.{ParseMode}
 use Rattle.term_core.specs.declared.error.ParseError.{ParseError}
 use Rattle.term_core.specs.declared.error.ParseReason.TheVariants.{Unexpected}
 use Rattle.term_core.specs.declared.term.ExpressionReq.{ExpressionReq}
-use Rattle.term_core.specs.declared.item.Wanted.{Wanted}
-use Rattle.term_core.specs.declared.item.Wanted.TheVariants.{Term as wants_term, AfterTerm, AfterPart}
-use Rattle.term_core.specs.declared.item.What.TheVariants.{And, Or, Close}
+use Rattle.term_core.specs.declared.item.WantedItem.{WantedItem}
+use Rattle.term_core.specs.declared.item.WantedItem.TheVariants.{Term as wants_term, AfterTerm, AfterPart}
+use Rattle.term_core.specs.declared.item.ItemKind.TheVariants.{And, Or, Close}
 use Rattle.term_core.specs.declared.item.Item.{Item}
 use Rattle.catalog_core.specs.Catalog.{CatalogLists}
 use Rattle.term_core.specs.Items.{items_of}
 use Rattle.term_core.specs.Faults.{fault_from, fault_of, first_fault, first_of, unless, takes_operator, end_fault}
 use Rattle.term_core.proofs.FaultLemmas.{marks_untold}
-use Rattle.spdx_core.specs.Grammar.{Tree, Rule, expression, Reads, Spells, allowed_in, simple, simple_with, grouped, one_part, and, one_conjunction, or, item}
+use Rattle.spdx_core.specs.Grammar.{ExpressionTree, Rule, expression, ReadsAs, Spells, allowed_in, simple, simple_with, grouped, one_part, and, one_conjunction, or, item}
 
 -- the faults of items behind what was read are those from a place that takes an operator
 pub record Clean (mode : ParseMode) (len : ℕ) (opened : List Span) (rest items : List Item) : Type 0 where
-  pub wanted : Wanted
+  pub wanted : WantedItem
   pub operator : takes_operator wanted ≡ true
   pub same : fault_from mode len wants_term opened (items ++ rest) ≡ fault_from mode len wanted opened rest
 
 fine : (b : Bool) (span : Span) (later : Option ParseError) → b ≡ true → first_of (unless b Unexpected span) later ≡ later
 fine b span later is = ap (λ t. first_of (unless t Unexpected span) later) is
 
-pub clean : (mode : ParseMode) {rule : Rule} {n : ℕ} {items : List Item} {tree : Tree} {terms : List ExpressionReq} → Reads (allowed_in mode) rule n items tree terms → (len : ℕ) (opened : List Span) (rest : List Item) → Clean mode len opened rest items
+pub clean : (mode : ParseMode) {rule : Rule} {n : ℕ} {items : List Item} {tree : ExpressionTree} {terms : List ExpressionReq} → ReadsAs (allowed_in mode) rule n items tree terms → (len : ℕ) (opened : List Span) (rest : List Item) → Clean mode len opened rest items
 clean mode (simple n named start end ok) len opened rest = record {
   wanted = AfterTerm;
   operator = refl;
@@ -65,10 +65,10 @@ clean mode (or n from to before behind left right some more reads_left reads_rig
           ∙ l.same ∙ fine (takes_operator l.wanted) (record { start = from; end = to }) (fault_from mode len wants_term opened (behind ++ rest)) l.operator ∙ r.same;
     }
 
-ended : (len : ℕ) (wanted : Wanted) → takes_operator wanted ≡ true → end_fault len wanted None ≡ None
+ended : (len : ℕ) (wanted : WantedItem) → takes_operator wanted ≡ true → end_fault len wanted None ≡ None
 ended len wanted is = rw is refl
 
-no_fault_items : (mode : ParseMode) (len : ℕ) (items : List Item) (tree : Tree) (terms : List ExpressionReq) → Reads (allowed_in mode) expression 0 items tree terms → fault_of mode len items ≡ None
+no_fault_items : (mode : ParseMode) (len : ℕ) (items : List Item) (tree : ExpressionTree) (terms : List ExpressionReq) → ReadsAs (allowed_in mode) expression 0 items tree terms → fault_of mode len items ≡ None
 no_fault_items mode len [] tree terms reads =
     let c = clean mode reads len [] [] in absurd (true≢false (ap is_some (c.same ∙ ended len c.wanted c.operator)))
 no_fault_items mode len (it ∷ items) tree terms reads =
@@ -76,5 +76,5 @@ no_fault_items mode len (it ∷ items) tree terms reads =
     ap (fault_from mode len wants_term []) (sym (append-nil (it ∷ items))) ∙ c.same ∙ ended len c.wanted c.operator
 
 -- a text that has a tree has no fault
-pub no_fault : (mode : ParseMode) (lists : CatalogLists) (text : List ℕ) (tree : Tree) (terms : List ExpressionReq) → Spells mode lists text tree terms → first_fault mode lists text ≡ None
+pub no_fault : (mode : ParseMode) (lists : CatalogLists) (text : List ℕ) (tree : ExpressionTree) (terms : List ExpressionReq) → Spells mode lists text tree terms → first_fault mode lists text ≡ None
 no_fault mode lists text tree terms spells = no_fault_items mode (length text) (items_of mode lists text) tree terms spells

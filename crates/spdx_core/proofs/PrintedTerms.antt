@@ -18,14 +18,14 @@ use Rattle.term_core.specs.declared.term.LicenseItem.TheVariants.{Spdx, Referenc
 use Rattle.term_core.specs.declared.term.ExpressionReq.{ExpressionReq}
 use Rattle.term_core.specs.declared.item.Simple.{Simple}
 use Rattle.term_core.specs.declared.item.Item.{Item}
-use Rattle.term_core.specs.declared.item.What.TheVariants.{Term, Exception, With}
-use Rattle.term_core.specs.declared.item.Wanted.TheVariants.{Term as wants_term, Exception as wants_exception, AfterTerm, AfterPart}
+use Rattle.term_core.specs.declared.item.ItemKind.TheVariants.{Term, Exception, With}
+use Rattle.term_core.specs.declared.item.WantedItem.TheVariants.{Term as wants_term, Exception as wants_exception, AfterTerm, AfterPart}
 use Rattle.term_core.specs.Tokens.{in_word, is_colon, after_prefix, own_licence, in_document, or_else, reference_of, one_of}
 use Rattle.term_core.specs.Items.{item_at, term_of, licence_at, plus_behind, operator_of, word_item, items_from}
 use Rattle.term_core.specs.Terms.{reference_text, item_text, exception_text}
 use Rattle.term_core.proofs.ImpreciseLemmas.{both_true, and_true}
 use Rattle.term_core.proofs.ItemBorders.{step_white}
-use Rattle.spdx_core.specs.Grammar.{leaf, Reads, expression, part, Spells, allowed_in, simple, simple_with, one_part, one_conjunction, item, term}
+use Rattle.spdx_core.specs.Grammar.{leaf, ReadsAs, expression, part, Spells, allowed_in, simple, simple_with, one_part, one_conjunction, item, term}
 use Rattle.spdx_core.specs.Printing.{IsLicenceOf, IsWordIf, IsItemOf, IsExceptionOf, printed_mode, PrintedReadsBack}
 use Rattle.spdx_core.proofs.NameItems.{run_all, is_run, letters_in_word, IsNamed, name_parts, some_bytes, word_step, name_step}
 
@@ -191,7 +191,7 @@ behind_with lists laws name known place =
 
 -- ---- whole terms
 
-as_expression : {items : List Item} {terms : List ExpressionReq} → Reads (allowed_in printed_mode) part 0 items (leaf 0) terms → Reads (allowed_in printed_mode) expression 0 items (leaf 0) terms
+as_expression : {items : List Item} {terms : List ExpressionReq} → ReadsAs (allowed_in printed_mode) part 0 items (leaf 0) terms → ReadsAs (allowed_in printed_mode) expression 0 items (leaf 0) terms
 as_expression {items} {terms} reads = one_conjunction 0 items (leaf 0) terms (one_part 0 items (leaf 0) terms reads)
 
 -- the term of so many bytes
@@ -204,9 +204,9 @@ printed_with lists laws it None is none =
     let p : Printed lists it [] = printed_item lists laws it is [] refl refl in
     let long : length (item_text it ++ []) ≡ length (item_text it) = ap length (append-nil (item_text it)) in
     let same : p.end ≡ length (item_text it ++ []) = p.ends ∙ sym long in
-    subst (λ items. Reads (allowed_in printed_mode) expression 0 items (leaf 0) (whole_term it None (length (item_text it ++ [])))) (sym p.items)
-    (subst (λ end. Reads (allowed_in printed_mode) expression 0 (item (Term p.named) 0 p.end ∷ []) (leaf 0) (whole_term it None end)) same
-    (subst (λ found. Reads (allowed_in printed_mode) expression 0 (item (Term p.named) 0 p.end ∷ []) (leaf 0) (whole_term found None p.end)) p.is
+    subst (λ items. ReadsAs (allowed_in printed_mode) expression 0 items (leaf 0) (whole_term it None (length (item_text it ++ [])))) (sym p.items)
+    (subst (λ end. ReadsAs (allowed_in printed_mode) expression 0 (item (Term p.named) 0 p.end ∷ []) (leaf 0) (whole_term it None end)) same
+    (subst (λ found. ReadsAs (allowed_in printed_mode) expression 0 (item (Term p.named) 0 p.end ∷ []) (leaf 0) (whole_term found None p.end)) p.is
     (as_expression (simple 0 p.named 0 p.end refl))))
 printed_with lists laws it (Some name) is known =
     let rest : List ℕ = codes " WITH " ++ name in
@@ -219,9 +219,9 @@ printed_with lists laws it (Some name) is known =
     let long : length (item_text it ++ (codes " WITH " ++ name)) ≡ length (item_text it) + length (codes " WITH " ++ name) = length-append (item_text it) (codes " WITH " ++ name) in
     let front : p.end ≡ length (item_text it) = p.ends in
     let same : p.end + 1 + 4 + 1 + length name ≡ length (item_text it ++ (codes " WITH " ++ name)) = omega arith in
-    subst (λ all. Reads (allowed_in printed_mode) expression 0 all (leaf 0) (whole_term it (Some name) (length (item_text it ++ rest)))) (sym behind)
-    (subst (λ n. Reads (allowed_in printed_mode) expression 0 items (leaf 0) (whole_term it (Some name) n)) same
-    (subst (λ found. Reads (allowed_in printed_mode) expression 0 items (leaf 0) (whole_term found (Some name) end)) p.is
+    subst (λ all. ReadsAs (allowed_in printed_mode) expression 0 all (leaf 0) (whole_term it (Some name) (length (item_text it ++ rest)))) (sym behind)
+    (subst (λ n. ReadsAs (allowed_in printed_mode) expression 0 items (leaf 0) (whole_term it (Some name) n)) same
+    (subst (λ found. ReadsAs (allowed_in printed_mode) expression 0 items (leaf 0) (whole_term found (Some name) end)) p.is
     (as_expression (simple_with 0 p.named name 0 p.end (p.end + 1) (p.end + 1 + 4) last end refl))))
 
 pub printed_reads : PrintedReadsBack

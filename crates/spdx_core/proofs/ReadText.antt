@@ -7,8 +7,8 @@ use Rattle.catalog_core.specs.Catalog.{CatalogLists}
 use Rattle.term_core.specs.declared.mode.ParseMode.{ParseMode}
 use Rattle.term_core.specs.declared.error.ParseError.{ParseError}
 use Rattle.term_core.specs.declared.error.ParseReason.TheVariants.{Empty}
-use Rattle.term_core.specs.declared.item.Wanted.{Wanted}
-use Rattle.term_core.specs.declared.item.Wanted.TheVariants.{Term as wants_term}
+use Rattle.term_core.specs.declared.item.WantedItem.{WantedItem}
+use Rattle.term_core.specs.declared.item.WantedItem.TheVariants.{Term as wants_term}
 use Rattle.term_core.specs.declared.item.Item.{Item}
 use Rattle.term_core.specs.Items.{items_of}
 use Rattle.term_core.specs.NextItem.{items_behind}
@@ -16,16 +16,16 @@ use Rattle.term_core.specs.Faults.{fault, fault_from, fault_of, first_fault, end
 use Rattle.spdx_core.specs.Machine.{Machine, no_machine, run}
 
 -- what is wrong at the end of a text whose last item ends at a place: where there is none, the text is empty
-abbrev end_behind : ℕ → ℕ → Wanted → List Span → Option ParseError
+abbrev end_behind : ℕ → ℕ → WantedItem → List Span → Option ParseError
 end_behind zero len wanted opened = fault Empty 0 len
 end_behind (suc place) len wanted opened = end_fault len wanted (last_open opened)
 
 -- what is wrong behind a place
-abbrev pub fault_behind : ℕ → ParseMode → ℕ → Wanted → List Span → List Item → Option ParseError
+abbrev pub fault_behind : ℕ → ParseMode → ℕ → WantedItem → List Span → List Item → Option ParseError
 fault_behind place mode len wanted opened [] = end_behind place len wanted opened
 fault_behind place mode len wanted opened (item ∷ items) = fault_from mode len wanted opened (item ∷ items)
 
-pub record ReadsOn (mode : ParseMode) (lists : CatalogLists) (text : List ℕ) (place : ℕ) (wanted : Wanted) (opened : List Span) (m : Machine) : Type 0 where
+pub record ReadsOn (mode : ParseMode) (lists : CatalogLists) (text : List ℕ) (place : ℕ) (wanted : WantedItem) (opened : List Span) (m : Machine) : Type 0 where
   pub border : IsCharBoundary text place
   pub faults : first_fault mode lists text ≡ fault_behind place mode (length text) wanted opened (items_behind mode lists wanted place text)
   pub runs : run no_machine (items_of mode lists text) ≡ run m (items_behind mode lists wanted place text)

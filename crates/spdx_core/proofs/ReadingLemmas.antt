@@ -4,10 +4,10 @@ use Rattle.std.proofs.lemmas.List.{length-append}
 use Rattle.std.proofs.lemmas.Bool.Decides.{nat_tests}
 use Rattle.std.specs.Option.{option_and_then}
 use Rattle.term_core.specs.declared.term.ExpressionReq.{ExpressionReq}
-use Rattle.term_core.specs.declared.item.What.TheVariants.{And, Or, Close}
+use Rattle.term_core.specs.declared.item.ItemKind.TheVariants.{And, Or, Close}
 use Rattle.term_core.specs.declared.item.Item.{Item}
-use Rattle.spdx_core.specs.Grammar.{Tree, leaf, both, Rule, expression, conjunction, part, Reads, Allowed, simple, simple_with, grouped, one_part, and, one_conjunction, or, item, term}
-use Rattle.spdx_core.specs.Reading.{Level, Read, nothing_read, joined, summed, level_tree, with_exception, after_items, numbered_from}
+use Rattle.spdx_core.specs.Grammar.{ExpressionTree, leaf, both, Rule, expression, conjunction, part, ReadsAs, AllowedForms, simple, simple_with, grouped, one_part, and, one_conjunction, or, item, term}
+use Rattle.spdx_core.specs.Reading.{ParenthesisLevel, ReaderState, nothing_read, joined, summed, level_tree, with_exception, after_items, numbered_from}
 
 -- the last term gets its exception
 last_excepted : (terms : List ExpressionReq) (last : ExpressionReq) (name : List ℕ) (end : ℕ) → with_exception (terms ++ last ∷ []) name end ≡ terms ++ term last.req.item (Some name) last.span.start end ∷ []
@@ -15,17 +15,17 @@ last_excepted [] last name end = refl
 last_excepted (first ∷ []) last name end = refl
 last_excepted (first ∷ next ∷ rest) last name end = ap (λ more. first ∷ more) (last_excepted (next ∷ rest) last name end)
 
-abbrev state : List Level → Option Tree → Option Tree → List ExpressionReq → Read
+abbrev state : List ParenthesisLevel → Option ExpressionTree → Option ExpressionTree → List ExpressionReq → ReaderState
 state outer sum product terms = record { outer = outer; level = record { sum = sum; product = product }; terms = terms }
 
 -- what an expression leaves: a conjunction, which with the sum before it is the tree
-pub record ReadWhole (outer : List Level) (terms : List ExpressionReq) (items rest : List Item) (tree : Tree) (more : List ExpressionReq) : Type 0 where
-  pub sum : Option Tree
-  pub last : Tree
+pub record ReadWhole (outer : List ParenthesisLevel) (terms : List ExpressionReq) (items rest : List Item) (tree : ExpressionTree) (more : List ExpressionReq) : Type 0 where
+  pub sum : Option ExpressionTree
+  pub last : ExpressionTree
   pub whole : summed sum last ≡ tree
   pub read : after_items (state outer None None terms) (items ++ rest) ≡ after_items (state outer sum (Some last) (terms ++ more)) rest
 
-abbrev pub Says : Rule → List Level → Option Tree → Option Tree → List ExpressionReq → List Item → List Item → Tree → List ExpressionReq → Type 0
+abbrev pub Says : Rule → List ParenthesisLevel → Option ExpressionTree → Option ExpressionTree → List ExpressionReq → List Item → List Item → ExpressionTree → List ExpressionReq → Type 0
 Says part outer sum product terms items rest tree more = after_items (state outer sum product terms) (items ++ rest) ≡ after_items (state outer sum (Some (joined product tree)) (terms ++ more)) rest
 Says conjunction outer sum product terms items rest tree more = after_items (state outer sum None terms) (items ++ rest) ≡ after_items (state outer sum (Some tree) (terms ++ more)) rest
 Says expression outer sum product terms items rest tree more = ReadWhole outer terms items rest tree more
@@ -33,8 +33,8 @@ Says expression outer sum product terms items rest tree more = ReadWhole outer t
 more_terms : (terms some : List ExpressionReq) (n : ℕ) → length terms ≡ n → length (terms ++ some) ≡ n + length some
 more_terms terms some n e = length-append terms some ∙ ap (λ k. k + length some) e
 
-pub complete : {allowed : Allowed} {rule : Rule} {n : ℕ} {items : List Item} {tree : Tree} {more : List ExpressionReq} → Reads allowed rule n items tree more
-    → (outer : List Level) (sum product : Option Tree) (terms : List ExpressionReq) (rest : List Item) → length terms ≡ n → Says rule outer sum product terms items rest tree more
+pub complete : {allowed : AllowedForms} {rule : Rule} {n : ℕ} {items : List Item} {tree : ExpressionTree} {more : List ExpressionReq} → ReadsAs allowed rule n items tree more
+    → (outer : List ParenthesisLevel) (sum product : Option ExpressionTree) (terms : List ExpressionReq) (rest : List Item) → length terms ≡ n → Says rule outer sum product terms items rest tree more
 complete (simple n named start end ok) outer sum product terms rest e =
     ap (λ k. after_items (state outer sum (Some (joined product (leaf k))) (terms ++ term named.item None start end ∷ [])) rest) e
 complete (simple_with n named name start mid from to last end ok) outer sum product terms rest e =
@@ -72,11 +72,11 @@ complete (or n from to before behind left right some more reads_left reads_right
     }
 
 -- all items of a text
-pub record ReadAll (items : List Item) (tree : Tree) (terms : List ExpressionReq) : Type 0 where
+pub record ReadAll (items : List Item) (tree : ExpressionTree) (terms : List ExpressionReq) : Type 0 where
   pub tree_read : level_tree (after_items nothing_read items).level ≡ Some tree
   pub terms_read : (after_items nothing_read items).terms ≡ terms
 
-pub read_all : {allowed : Allowed} {items : List Item} {tree : Tree} {terms : List ExpressionReq} → Reads allowed expression 0 items tree terms → ReadAll items tree terms
+pub read_all : {allowed : AllowedForms} {items : List Item} {tree : ExpressionTree} {terms : List ExpressionReq} → ReadsAs allowed expression 0 items tree terms → ReadAll items tree terms
 read_all {items = items} {tree = tree} {terms = terms} reads =
     let r = complete reads [] None None [] [] refl in
     let whole = ap (after_items nothing_read) (sym (append-nil items)) ∙ r.read in
@@ -86,13 +86,13 @@ read_all {items = items} {tree = tree} {terms = terms} reads =
     }
 
 -- places are numbered
-numbered_joined : (n m k : ℕ) (left right : Tree) → numbered_from n left ≡ Some m → numbered_from m right ≡ Some k → option_and_then (λ x. numbered_from x right) (numbered_from n left) ≡ Some k
+numbered_joined : (n m k : ℕ) (left right : ExpressionTree) → numbered_from n left ≡ Some m → numbered_from m right ≡ Some k → option_and_then (λ x. numbered_from x right) (numbered_from n left) ≡ Some k
 numbered_joined n m k left right l r = ap (option_and_then (λ x. numbered_from x right)) l ∙ r
 
 same_place : (n : ℕ) → nat_eq n n ≡ true
 same_place n = grind (arith, nat_tests)
 
-pub numbered : {allowed : Allowed} {rule : Rule} {n : ℕ} {items : List Item} {tree : Tree} {terms : List ExpressionReq} → Reads allowed rule n items tree terms → numbered_from n tree ≡ Some (n + length terms)
+pub numbered : {allowed : AllowedForms} {rule : Rule} {n : ℕ} {items : List Item} {tree : ExpressionTree} {terms : List ExpressionReq} → ReadsAs allowed rule n items tree terms → numbered_from n tree ≡ Some (n + length terms)
 numbered (simple n named start end ok) = ap (λ t. cond t (Some (n + 1)) None) (same_place n)
 numbered (simple_with n named name start mid from to last end ok) = ap (λ t. cond t (Some (n + 1)) None) (same_place n)
 numbered (grouped n from to last end inner tree terms reads) = numbered reads

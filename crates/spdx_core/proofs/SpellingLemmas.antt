@@ -8,34 +8,34 @@ use Rattle.term_core.specs.declared.mode.ParseMode.{ParseMode}
 use Rattle.term_core.specs.declared.error.ParseError.{ParseError}
 use Rattle.term_core.specs.declared.term.ExpressionReq.{ExpressionReq}
 use Rattle.term_core.specs.declared.item.Item.{Item}
-use Rattle.term_core.specs.declared.item.What.TheVariants.{And, Or, Close}
+use Rattle.term_core.specs.declared.item.ItemKind.TheVariants.{And, Or, Close}
 use Rattle.term_core.specs.Items.{items_of}
 use Rattle.term_core.specs.Faults.{first_fault}
 use Rattle.term_core.specs.Spans.{Rise}
 use Rattle.term_core.specs.Laws.{with_slash, has_no_slash}
 use Rattle.term_core.proofs.ImpreciseLemmas.{some_same}
 use Rattle.term_core.proofs.ItemSpans.{items_rise, slash_same}
-use Rattle.spdx_core.specs.Grammar.{Tree, Rule, expression, Reads, Spells, Allowed, allowed_in, simple, simple_with, grouped, one_part, and, one_conjunction, or}
-use Rattle.spdx_core.specs.Reading.{ExpressionView, Read, nothing_read, after_items, expression_if, expression_of, numbered_from}
+use Rattle.spdx_core.specs.Grammar.{ExpressionTree, Rule, expression, ReadsAs, Spells, AllowedForms, allowed_in, simple, simple_with, grouped, one_part, and, one_conjunction, or}
+use Rattle.spdx_core.specs.Reading.{ExpressionView, ReaderState, nothing_read, after_items, expression_if, expression_of_text, numbered_from}
 use Rattle.spdx_core.proofs.NoFault.{no_fault}
 use Rattle.spdx_core.proofs.HasTree.{has_tree}
 use Rattle.spdx_core.proofs.ReadingLemmas.{ReadAll, read_all, numbered}
 
 -- the plain reader finds what is spelled
-pub is_read : (mode : ParseMode) (lists : CatalogLists) (text : List ℕ) (tree : Tree) (terms : List ExpressionReq) → Spells mode lists text tree terms
-    → expression_of mode lists text ≡ Some (record { text = text; terms = terms; tree = tree })
+pub is_read : (mode : ParseMode) (lists : CatalogLists) (text : List ℕ) (tree : ExpressionTree) (terms : List ExpressionReq) → Spells mode lists text tree terms
+    → expression_of_text mode lists text ≡ Some (record { text = text; terms = terms; tree = tree })
 is_read mode lists text tree terms spells =
-    let read : Read = after_items nothing_read (items_of mode lists text) in
+    let read : ReaderState = after_items nothing_read (items_of mode lists text) in
     let all : ReadAll (items_of mode lists text) tree terms = read_all spells in
-    let made : Tree → ExpressionView = λ tree. record { text = text; terms = read.terms; tree = tree } in
+    let made : ExpressionTree → ExpressionView = λ tree. record { text = text; terms = read.terms; tree = tree } in
     ap (λ fault. expression_if (is_none fault) text read) (no_fault mode lists text tree terms spells)
     ∙ ap (option_map made) all.tree_read
     ∙ ap (λ (found : List ExpressionReq). Some (let e : ExpressionView = record { text = text; terms = found; tree = tree } in e)) all.terms_read
 
 -- what it finds is spelled
-pub is_spelled : (mode : ParseMode) (lists : CatalogLists) (text : List ℕ) (found : ExpressionView) → expression_of mode lists text ≡ Some found → (found.text ≡ text) × Spells mode lists text found.tree found.terms
+pub is_spelled : (mode : ParseMode) (lists : CatalogLists) (text : List ℕ) (found : ExpressionView) → expression_of_text mode lists text ≡ Some found → (found.text ≡ text) × Spells mode lists text found.tree found.terms
 is_spelled mode lists text found h =
-    let read : Read = after_items nothing_read (items_of mode lists text) in
+    let read : ReaderState = after_items nothing_read (items_of mode lists text) in
     elim (first_fault mode lists text) as (λ (fault : Option ParseError). first_fault mode lists text ≡ fault → expression_if (is_none fault) text read ≡ Some found → (found.text ≡ text) × Spells mode lists text found.tree found.terms) [
       | Some fault ↦ λ is e. cc
       | None ↦ λ is e.
@@ -46,11 +46,11 @@ is_spelled mode lists text found h =
     ]
     refl h
 
-pub strict : (mode : ParseMode) (lists : CatalogLists) (text : List ℕ) (tree : Tree) (terms : List ExpressionReq) → IsTrue (has_no_slash text) → Spells (with_slash true mode) lists text tree terms
+pub strict : (mode : ParseMode) (lists : CatalogLists) (text : List ℕ) (tree : ExpressionTree) (terms : List ExpressionReq) → IsTrue (has_no_slash text) → Spells (with_slash true mode) lists text tree terms
     → Spells (with_slash false mode) lists text tree terms
-strict mode lists text tree terms none spells = subst (λ items. Reads (allowed_in mode) expression 0 items tree terms) (slash_same mode lists text none) spells
+strict mode lists text tree terms none spells = subst (λ items. ReadsAs (allowed_in mode) expression 0 items tree terms) (slash_same mode lists text none) spells
 
-pub in_order : (mode : ParseMode) (lists : CatalogLists) (text : List ℕ) (tree : Tree) (terms : List ExpressionReq) → Spells mode lists text tree terms → numbered_from 0 tree ≡ Some (length terms)
+pub in_order : (mode : ParseMode) (lists : CatalogLists) (text : List ℕ) (tree : ExpressionTree) (terms : List ExpressionReq) → Spells mode lists text tree terms → numbered_from 0 tree ≡ Some (length terms)
 in_order mode lists text tree terms spells = numbered spells ∙ ap Some (let e : 0 + length terms ≡ length terms = omega arith in e)
 
 abbrev item_spans : List Item → List Span
@@ -92,7 +92,7 @@ joined : (text : List ℕ) (place : ℕ) (some more : List ExpressionReq) (middl
 joined text place [] more middle end first second = lower text middle place (term_spans more) end first second
 joined text place (term ∷ some) more middle end first second = (first.0, joined text term.span.end some more middle end first.1 second)
 
-term_rise : {allowed : Allowed} {rule : Rule} {n : ℕ} {items : List Item} {tree : Tree} {terms : List ExpressionReq} → Reads allowed rule n items tree terms
+term_rise : {allowed : AllowedForms} {rule : Rule} {n : ℕ} {items : List Item} {tree : ExpressionTree} {terms : List ExpressionReq} → ReadsAs allowed rule n items tree terms
     → (text : List ℕ) (place end : ℕ) → Rise text place (item_spans items) end → Rise text place (term_spans terms) end
 term_rise (simple n named start to ok) text place end rise = rise
 term_rise (simple_with n named name start mid from behind last to ok) text place end rise =
@@ -124,5 +124,5 @@ term_rise (or n from to before behind left right some more l r) text place end r
     joined text place some more p.middle end (term_rise l text place p.middle p.first) (lower text to p.middle (term_spans more) end (omega arith) (term_rise r text to end p.second.1))
 
 -- the terms of an expression follow one another in its text
-pub terms_rise : (mode : ParseMode) (lists : CatalogLists) (text : List ℕ) (tree : Tree) (terms : List ExpressionReq) → IsCatalog lists → IsUtf8 text → Spells mode lists text tree terms → Rise text 0 (term_spans terms) (length text)
+pub terms_rise : (mode : ParseMode) (lists : CatalogLists) (text : List ℕ) (tree : ExpressionTree) (terms : List ExpressionReq) → IsCatalog lists → IsUtf8 text → Spells mode lists text tree terms → Rise text 0 (term_spans terms) (length text)
 terms_rise mode lists text tree terms laws utf8 spells = term_rise spells text 0 (length text) (items_rise mode lists laws text utf8)

@@ -11,17 +11,17 @@ use Rattle.term_core.specs.declared.term.LicenseItem.{LicenseItem}
 use Rattle.term_core.specs.declared.term.LicenseItem.TheVariants.{Reference}
 use Rattle.term_core.specs.declared.term.LicenseReq.{LicenseReq}
 use Rattle.term_core.specs.declared.term.ExpressionReq.{ExpressionReq}
-use Rattle.term_core.specs.declared.item.Marks.{Marks}
+use Rattle.term_core.specs.declared.item.LicenseMarks.{LicenseMarks}
 use Rattle.term_core.specs.declared.item.Item.{Item}
-use Rattle.term_core.specs.declared.item.What.{What}
-use Rattle.term_core.specs.declared.item.What.TheVariants.{Term, Exception, And, Or, With, Open, Close, Plus, Word, Other}
-use Rattle.term_core.specs.declared.item.Wanted.TheVariants.{Term as wants_term}
+use Rattle.term_core.specs.declared.item.ItemKind.{ItemKind}
+use Rattle.term_core.specs.declared.item.ItemKind.TheVariants.{Term, Exception, And, Or, With, Open, Close, Plus, Word, Other}
+use Rattle.term_core.specs.declared.item.WantedItem.TheVariants.{Term as wants_term}
 use Rattle.term_core.specs.Tokens.{is_colon, after_prefix, own_licence, in_document, or_else, reference_of, one_of}
 use Rattle.term_core.specs.Items.{items_of}
 use Rattle.term_core.specs.Faults.{licensee_mode}
 use Rattle.term_core.specs.Licensee.{IsLicensee, IsOnePart, alone, with_exception, without_plus}
 use Rattle.term_core.proofs.ImpreciseLemmas.{some_same}
-use Rattle.spdx_core.specs.Grammar.{Tree, Rule, Allowed, Reads, Spells, simple, simple_with, grouped, one_part, and, one_conjunction, or, item}
+use Rattle.spdx_core.specs.Grammar.{ExpressionTree, Rule, AllowedForms, ReadsAs, Spells, simple, simple_with, grouped, one_part, and, one_conjunction, or, item}
 use Rattle.spdx_core.specs.Printing.{IsWordIf, IsItemOf, IsTermOf}
 use Rattle.spdx_core.proofs.ItemKinds.{is_other, Kinds, Each, each_item}
 
@@ -67,7 +67,7 @@ is_reference_of word it h =
 -- ---- items
 
 -- what a term names is of the catalogue, also where its `+` is ignored; and so is an exception
-Said : CatalogLists → What → Type 0
+Said : CatalogLists → ItemKind → Type 0
 Said lists (Term named) = IsItemOf lists named.item × IsItemOf lists (without_plus named.item named.marks)
 Said lists (Exception name) = one_of lists.exceptions name ≡ true
 Said lists And = Unit {0}
@@ -79,7 +79,7 @@ Said lists Plus = Unit {0}
 Said lists Word = Unit {0}
 Said lists Other = Unit {0}
 
-said_other : (lists : CatalogLists) (what : What) → is_other what ≡ true → Said lists what
+said_other : (lists : CatalogLists) (what : ItemKind) → is_other what ≡ true → Said lists what
 unfolding Said
 said_other lists (Term named) is = absurd (false≢true is)
 said_other lists (Exception name) is = absurd (false≢true is)
@@ -92,7 +92,7 @@ said_other lists Plus is = tt
 said_other lists Word is = tt
 said_other lists Other is = tt
 
-said_reference : (lists : CatalogLists) (it : LicenseItem) (marks : Marks) → IsReference it → IsItemOf lists it × IsItemOf lists (without_plus it marks)
+said_reference : (lists : CatalogLists) (it : LicenseItem) (marks : LicenseMarks) → IsReference it → IsItemOf lists it × IsItemOf lists (without_plus it marks)
 said_reference lists it marks ref = subst (λ one. IsItemOf lists one × IsItemOf lists (without_plus one marks)) ref.is ((ref.doc_word, ref.id_word), (ref.doc_word, ref.id_word))
 
 said_kinds : (lists : CatalogLists) → Kinds lists (λ place text it. Said lists it.what)
@@ -130,7 +130,7 @@ more_terms : (lists : CatalogLists) (some more : List ExpressionReq) → Terms l
 more_terms lists [] more first second = second
 more_terms lists (term ∷ some) more first second = (first.0, more_terms lists some more first.1 second)
 
-terms_said : (lists : CatalogLists) {allowed : Allowed} {rule : Rule} {n : ℕ} {items : List Item} {tree : Tree} {terms : List ExpressionReq} → Reads allowed rule n items tree terms → AllSaid lists items → Terms lists terms
+terms_said : (lists : CatalogLists) {allowed : AllowedForms} {rule : Rule} {n : ℕ} {items : List Item} {tree : ExpressionTree} {terms : List ExpressionReq} → ReadsAs allowed rule n items tree terms → AllSaid lists items → Terms lists terms
 unfolding Said
 terms_said lists (simple n named start end ok) said = (record { item = said.0.0; exception = tt }, tt)
 terms_said lists (simple_with n named name start mid from to last end ok) said = (record { item = said.0.0; exception = said.1.1.0 }, tt)
@@ -142,7 +142,7 @@ terms_said lists (one_conjunction n items tree terms reads) said = terms_said li
 terms_said lists (or n from to before behind left right some more l r) said =
     more_terms lists some more (terms_said lists l (front_said lists before (item Or from to ∷ behind) said)) (terms_said lists r (back_said lists before (item Or from to ∷ behind) said).1)
 
-pub terms_of : (mode : ParseMode) (lists : CatalogLists) (text : List ℕ) (tree : Tree) (terms : List ExpressionReq) → Spells mode lists text tree terms → All (λ term. IsTermOf lists term.req) terms
+pub terms_of : (mode : ParseMode) (lists : CatalogLists) (text : List ℕ) (tree : ExpressionTree) (terms : List ExpressionReq) → Spells mode lists text tree terms → All (λ term. IsTermOf lists term.req) terms
 terms_of mode lists text tree terms spells = All-from_recursion (λ term. IsTermOf lists term.req) terms (terms_said lists spells (all_said mode lists text))
 
 one_said : (lists : CatalogLists) {mode : ParseMode} {items : List Item} {req : LicenseReq} → IsOnePart mode items req → AllSaid lists items → IsTermOf lists req

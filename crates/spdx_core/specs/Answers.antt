@@ -6,21 +6,21 @@ use Rattle.term_core.specs.declared.error.ExprError.{ExprError}
 use Rattle.term_core.specs.declared.error.ExprError.TheVariants.{Parse, Memory}
 use Rattle.term_core.specs.declared.item.Item.{Item}
 use Rattle.term_core.specs.Items.{wanted_after, items_of}
-use Rattle.term_core.specs.Faults.{fault_at, first_fault, has_open, opened_after}
+use Rattle.term_core.specs.Faults.{item_fault, first_fault, has_open, opened_after}
 use Rattle.spdx_core.specs.declared.reader.Reader.{Reader}
 use Rattle.spdx_core.specs.declared.read.Progress.{Progress}
 use Rattle.spdx_core.specs.Machine.{machine_of, no_machine, advanced, run}
 
 -- an item without a fault is taken
-pub record Steps (mode : ParseMode) (old : Progress) (item : Item) (new : Progress) : Type 0 where
-  pub fine : fault_at mode old.wanted (has_open old.opened) item.what item.span ≡ None
+pub record TakesItem (mode : ParseMode) (old : Progress) (item : Item) (new : Progress) : Type 0 where
+  pub fine : item_fault mode old.wanted (has_open old.opened) item.what item.span ≡ None
   pub wanted : new.wanted ≡ wanted_after old.wanted item.what
   pub opened : new.opened ≡ opened_after old.opened item.what item.span
   pub machine : machine_of new.reader ≡ advanced (machine_of old.reader) item.what item.span
 
 abbrev pub StepAnswers : ParseMode → Progress → Item → Progress → Result (Unit {0}) ExprError → Type 0
-StepAnswers mode old item new (Ok done) = Steps mode old item new
-StepAnswers mode old item new (Err (Parse fault)) = fault_at mode old.wanted (has_open old.opened) item.what item.span ≡ Some fault
+StepAnswers mode old item new (Ok done) = TakesItem mode old item new
+StepAnswers mode old item new (Err (Parse fault)) = item_fault mode old.wanted (has_open old.opened) item.what item.span ≡ Some fault
 StepAnswers mode old item new (Err Memory) = Unit {0}
 
 -- the items of a text without a fault are all taken

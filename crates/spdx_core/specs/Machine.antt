@@ -2,26 +2,26 @@
 use Rattle.std.specs.Prelude.{Bool, true, false, List, [], ◌∷◌, ◌++◌, None, length}
 use Rattle.deny_text.specs.declared.span.Span.{Span}
 use Rattle.term_core.specs.declared.term.ExpressionReq.{ExpressionReq}
-use Rattle.term_core.specs.declared.item.What.{What}
-use Rattle.term_core.specs.declared.item.What.TheVariants.{Term, Exception, And, Or, With, Open, Close, Plus, Word, Other}
+use Rattle.term_core.specs.declared.item.ItemKind.{ItemKind}
+use Rattle.term_core.specs.declared.item.ItemKind.TheVariants.{Term, Exception, And, Or, With, Open, Close, Plus, Word, Other}
 use Rattle.term_core.specs.declared.item.Item.{Item}
 use Rattle.spdx_core.specs.declared.node.ExprNode.{ExprNode}
 use Rattle.spdx_core.specs.declared.node.ExprNode.TheVariants.{Term as term_node, And as and_node, Or as or_node}
-use Rattle.spdx_core.specs.declared.reader.Waits.{Waits}
+use Rattle.spdx_core.specs.declared.reader.OpenOperators.{OpenOperators}
 use Rattle.spdx_core.specs.declared.reader.Reader.{Reader}
 use Rattle.spdx_core.specs.Grammar.{term}
 use Rattle.spdx_core.specs.Reading.{with_exception}
 
 pub record Machine : Type 0 where
-  pub outer : List Waits
-  pub level : Waits
+  pub outer : List OpenOperators
+  pub level : OpenOperators
   pub nodes : List ExprNode
   pub terms : List ExpressionReq
 
 abbrev pub machine_of : Reader → Machine
 machine_of reader = record { outer = reader.outer; level = reader.level; nodes = reader.nodes.items; terms = reader.terms.items }
 
-abbrev pub nothing_waits : Waits
+abbrev pub nothing_waits : OpenOperators
 nothing_waits = record { or = false; and = false }
 
 abbrev pub no_machine : Machine
@@ -41,11 +41,11 @@ after_or m = record { outer = m.outer; level = record { or = true; and = false }
 abbrev pub after_open : Machine → Machine
 after_open m = record { outer = m.level ∷ m.outer; level = nothing_waits; nodes = m.nodes; terms = m.terms }
 
-abbrev pub after_close : List Waits → Machine → Machine
+abbrev pub after_close : List OpenOperators → Machine → Machine
 after_close [] m = m
 after_close (last ∷ outer) m = after_part (record { outer = outer; level = last; nodes = written m.level.or or_node m.nodes; terms = m.terms })
 
-abbrev pub advanced : Machine → What → Span → Machine
+abbrev pub advanced : Machine → ItemKind → Span → Machine
 advanced m (Term named) span =
     after_part (record { outer = m.outer; level = m.level; nodes = m.nodes ++ term_node (length m.terms) ∷ []; terms = m.terms ++ term named.item None span.start span.end ∷ [] })
 advanced m (Exception name) span = record { outer = m.outer; level = m.level; nodes = m.nodes; terms = with_exception m.terms name span.end }

@@ -12,7 +12,7 @@ use Rattle.term_core.specs.declared.term.ExpressionReq.{ExpressionReq}
 use Rattle.term_core.specs.Licensee.{IsLicensee}
 use Rattle.term_core.specs.Terms.{req_text}
 use Rattle.term_core.specs.Tokens.{one_of}
-use Rattle.spdx_core.specs.Grammar.{Tree, leaf, both, Spells}
+use Rattle.spdx_core.specs.Grammar.{ExpressionTree, leaf, both, Spells}
 
 -- ---- printed terms
 
@@ -58,7 +58,7 @@ PrintedReadsBack = (lists : CatalogLists) (req : LicenseReq) → IsCatalog lists
 
 -- the terms of an expression are terms over its catalogue, and so are licensees
 abbrev pub TermsAreOfCatalog : Type 0
-TermsAreOfCatalog = (mode : ParseMode) (lists : CatalogLists) (text : List ℕ) (tree : Tree) (terms : List ExpressionReq)
+TermsAreOfCatalog = (mode : ParseMode) (lists : CatalogLists) (text : List ℕ) (tree : ExpressionTree) (terms : List ExpressionReq)
     → Spells mode lists text tree terms → All (λ term. IsTermOf lists term.req) terms
 
 abbrev pub LicenseesAreOfCatalog : Type 0
@@ -84,7 +84,7 @@ abbrev pub joined_names : List ℕ → List (List ℕ) → List ℕ
 joined_names first names = first ++ next_names names
 
 -- a tree with a further part for each name, whose places are counted from a number on
-abbrev pub with_names : Tree → ℕ → List (List ℕ) → Tree
+abbrev pub with_names : ExpressionTree → ℕ → List (List ℕ) → ExpressionTree
 with_names tree n [] = tree
 with_names tree n (name ∷ names) = with_names (both tree (leaf n)) (n + 1) names
 

@@ -6,43 +6,43 @@ use Rattle.term_core.specs.declared.mode.ParseMode.{ParseMode}
 use Rattle.spdx_core.specs.declared.node.ExprNode.{ExprNode}
 use Rattle.spdx_core.specs.declared.node.ExprNode.TheVariants.{Term as term_node, And as and_node, Or as or_node}
 use Rattle.term_core.specs.declared.term.ExpressionReq.{ExpressionReq}
-use Rattle.term_core.specs.declared.item.What.{What}
-use Rattle.term_core.specs.declared.item.What.TheVariants.{Term, Exception, And, Or, With, Open, Close, Plus, Word, Other}
+use Rattle.term_core.specs.declared.item.ItemKind.{ItemKind}
+use Rattle.term_core.specs.declared.item.ItemKind.TheVariants.{Term, Exception, And, Or, With, Open, Close, Plus, Word, Other}
 use Rattle.term_core.specs.declared.item.Item.{Item}
 use Rattle.catalog_core.specs.Catalog.{CatalogLists}
 use Rattle.term_core.specs.Items.{items_of}
 use Rattle.term_core.specs.Faults.{first_fault}
-use Rattle.spdx_core.specs.Grammar.{Tree, leaf, both, either, term}
+use Rattle.spdx_core.specs.Grammar.{ExpressionTree, leaf, both, either, term}
 
 -- a tree in postfix form
-abbrev pub postfix : Tree → List ExprNode
+abbrev pub postfix : ExpressionTree → List ExprNode
 postfix (leaf place) = term_node place ∷ []
 postfix (both left right) = postfix left ++ postfix right ++ and_node ∷ []
 postfix (either left right) = postfix left ++ postfix right ++ or_node ∷ []
 
 -- an operator joins the last two trees
-abbrev pub join_last : (Tree → Tree → Tree) → List Tree → List Tree
+abbrev pub join_last : (ExpressionTree → ExpressionTree → ExpressionTree) → List ExpressionTree → List ExpressionTree
 join_last join [] = []
 join_last join (right ∷ []) = right ∷ []
 join_last join (right ∷ left ∷ rest) = join left right ∷ rest
 
 -- the trees that nodes leave, the last one first
-abbrev pub trees_after : List Tree → List ExprNode → List Tree
+abbrev pub trees_after : List ExpressionTree → List ExprNode → List ExpressionTree
 trees_after trees [] = trees
 trees_after trees (term_node place ∷ nodes) = trees_after (leaf place ∷ trees) nodes
 trees_after trees (and_node ∷ nodes) = trees_after (join_last both trees) nodes
 trees_after trees (or_node ∷ nodes) = trees_after (join_last either trees) nodes
 
-abbrev pub last_tree : List Tree → Tree
+abbrev pub last_tree : List ExpressionTree → ExpressionTree
 last_tree [] = leaf 0
 last_tree (tree ∷ rest) = tree
 
 -- the tree that nodes in postfix form are
-abbrev pub tree_of : List ExprNode → Tree
+abbrev pub tree_of : List ExprNode → ExpressionTree
 tree_of nodes = last_tree (trees_after [] nodes)
 
 -- the places of a tree follow one another from a number on; behind the last one comes this number
-abbrev pub numbered_from : ℕ → Tree → Option ℕ
+abbrev pub numbered_from : ℕ → ExpressionTree → Option ℕ
 numbered_from n (leaf place) = if place == n then Some (n + 1) else None
 numbered_from n (both left right) = option_and_then (λ m. numbered_from m right) (numbered_from n left)
 numbered_from n (either left right) = option_and_then (λ m. numbered_from m right) (numbered_from n left)
@@ -51,35 +51,35 @@ numbered_from n (either left right) = option_and_then (λ m. numbered_from m rig
 pub record ExpressionView : Type 0 where
   pub text : List ℕ
   pub terms : List ExpressionReq
-  pub tree : Tree
+  pub tree : ExpressionTree
 
 -- what stands between two parentheses so far: what an `OR` stands behind, and the conjunction behind it
-pub record Level : Type 0 where
-  pub sum : Option Tree
-  pub product : Option Tree
+pub record ParenthesisLevel : Type 0 where
+  pub sum : Option ExpressionTree
+  pub product : Option ExpressionTree
 
-abbrev pub nothing : Level
+abbrev pub nothing : ParenthesisLevel
 nothing = record { sum = None; product = None }
 
-abbrev pub joined : Option Tree → Tree → Tree
+abbrev pub joined : Option ExpressionTree → ExpressionTree → ExpressionTree
 joined None tree = tree
 joined (Some left) tree = both left tree
 
-abbrev pub summed : Option Tree → Tree → Tree
+abbrev pub summed : Option ExpressionTree → ExpressionTree → ExpressionTree
 summed None tree = tree
 summed (Some left) tree = either left tree
 
 -- what a level is as a whole
-abbrev pub level_tree : Level → Option Tree
+abbrev pub level_tree : ParenthesisLevel → Option ExpressionTree
 level_tree level = option_map (summed level.sum) level.product
 
 -- a part goes to the conjunction
-abbrev pub with_part : Level → Option Tree → Level
+abbrev pub with_part : ParenthesisLevel → Option ExpressionTree → ParenthesisLevel
 with_part level None = level
 with_part level (Some tree) = record { sum = level.sum; product = Some (joined level.product tree) }
 
 -- an `OR` ends the conjunction
-abbrev pub or_behind : Level → Option Tree → Level
+abbrev pub or_behind : ParenthesisLevel → Option ExpressionTree → ParenthesisLevel
 or_behind level None = level
 or_behind level (Some tree) = record { sum = Some tree; product = None }
 
@@ -93,20 +93,20 @@ with_exception (last ∷ []) name end = excepted last name end ∷ []
 with_exception (first ∷ next ∷ rest) name end = first ∷ with_exception (next ∷ rest) name end
 
 -- what was read so far: the levels of the open parentheses, the last one first, the one at hand, and the terms
-pub record Read : Type 0 where
-  pub outer : List Level
-  pub level : Level
+pub record ReaderState : Type 0 where
+  pub outer : List ParenthesisLevel
+  pub level : ParenthesisLevel
   pub terms : List ExpressionReq
 
-abbrev pub nothing_read : Read
+abbrev pub nothing_read : ReaderState
 nothing_read = record { outer = []; level = nothing; terms = [] }
 
 -- a `)` makes a part of its level
-abbrev pub closed : List Level → Level → List ExpressionReq → Read
+abbrev pub closed : List ParenthesisLevel → ParenthesisLevel → List ExpressionReq → ReaderState
 closed [] level terms = record { outer = []; level = level; terms = terms }
 closed (last ∷ outer) level terms = record { outer = outer; level = with_part last (level_tree level); terms = terms }
 
-abbrev pub after_item : Read → What → Span → Read
+abbrev pub after_item : ReaderState → ItemKind → Span → ReaderState
 after_item read (Term simple) span = record {
   outer = read.outer;
   level = with_part read.level (Some (leaf (length read.terms)));
@@ -122,14 +122,14 @@ after_item read Plus span = read
 after_item read Word span = read
 after_item read Other span = read
 
-abbrev pub after_items : Read → List Item → Read
+abbrev pub after_items : ReaderState → List Item → ReaderState
 after_items read [] = read
 after_items read (item ∷ items) = after_items (after_item read item.what item.span) items
 
-abbrev pub expression_if : Bool → List ℕ → Read → Option ExpressionView
+abbrev pub expression_if : Bool → List ℕ → ReaderState → Option ExpressionView
 expression_if false text read = None
 expression_if true text read = option_map (λ tree. record { text = text; terms = read.terms; tree = tree }) (level_tree read.level)
 
 -- the expression that a text is; none where it has a fault
-abbrev pub expression_of : ParseMode → CatalogLists → List ℕ → Option ExpressionView
-expression_of mode lists text = expression_if (is_none (first_fault mode lists text)) text (after_items nothing_read (items_of mode lists text))
+abbrev pub expression_of_text : ParseMode → CatalogLists → List ℕ → Option ExpressionView
+expression_of_text mode lists text = expression_if (is_none (first_fault mode lists text)) text (after_items nothing_read (items_of mode lists text))

@@ -24,7 +24,7 @@ pub struct Expression {
 impl Model for Expression {
     ghost use Rattle.spdx_core.specs.Reading.{ExpressionView, tree_of};
     ghost use Rattle.spdx_core.specs.ExpressionCode.{expression_code};
-    ghost use Rattle.spdx_core.specs.Expressions.{IsKept};
+    ghost use Rattle.spdx_core.specs.Expressions.{AreNodesKept};
 
     ghost Value = { ExpressionView };
 
@@ -32,7 +32,7 @@ impl Model for Expression {
 
     ghost view = { λ e. record { text = e.text; terms = e.terms.items; tree = tree_of e.nodes.items } };
 
-    ghost invariant = { λ e. IsKept e.text e.terms.items e.nodes.items };
+    ghost invariant = { λ e. AreNodesKept e.text e.terms.items e.nodes.items };
 }
 
 /// Copies of terms, in order.

@@ -9,7 +9,7 @@ use catalog_core::Catalog;
 use deny_text::Span;
 use std::alloc::{AllocError, Global};
 use term_core::fault::{empty_fault, end_fault, item_fault};
-use term_core::item::{Item, Wanted, What};
+use term_core::item::{Item, WantedItem, ItemKind};
 use term_core::items::next_item;
 use term_core::{ExprError, ParseMode};
 
@@ -17,17 +17,17 @@ use term_core::{ExprError, ParseMode};
 #[derive(Drop)]
 pub struct Progress {
     pub reader: Reader,
-    pub wanted: Wanted,
+    pub wanted: WantedItem,
     pub opened: Stack<Span>,
 }
 
 /// The open parentheses behind an item.
-fn note_parens(opened: &mut Stack<Span>, what: &What, span: Span) -> Result<(), AllocError>
+fn note_parens(opened: &mut Stack<Span>, what: &ItemKind, span: Span) -> Result<(), AllocError>
     ensures { OnOk result (opened.new ≡ opened_after opened.old what.now span) }
 {
     match what {
-        What::Open => opened.push(span),
-        What::Close => {
+        ItemKind::Open => opened.push(span),
+        ItemKind::Close => {
             let _last = opened.pop();
             Ok(())
         }
@@ -62,7 +62,7 @@ pub fn read_text<C: Catalog>(
 {
     let mut progress = Progress {
         reader: Reader::new(alloc),
-        wanted: Wanted::Term,
+        wanted: WantedItem::Term,
         opened: Stack::new(alloc),
     };
     let mut place = 0;

@@ -9,19 +9,19 @@ use crate::node::ExprNode;
 use crate::stack::Stack;
 use deny_text::{Span, Text};
 use std::alloc::{AllocError, Global};
-use term_core::item::{Simple, What};
+use term_core::item::{Simple, ItemKind};
 use term_core::{ExpressionReq, LicenseReq};
 
 /// What waits for its right side between two parentheses.
 #[derive(Clone, Copy)]
-pub struct Waits {
+pub struct OpenOperators {
     pub or: bool,
     /// A part was read, so that the next one goes to it by an `AND`.
     pub and: bool,
 }
 
-impl Waits {
-    const NOTHING: Waits = Waits {
+impl OpenOperators {
+    const NOTHING: OpenOperators = OpenOperators {
         or: false,
         and: false,
     };
@@ -31,8 +31,8 @@ impl Waits {
 /// hand.
 #[derive(Drop)]
 pub struct Reader {
-    pub outer: Stack<Waits>,
-    pub level: Waits,
+    pub outer: Stack<OpenOperators>,
+    pub level: OpenOperators,
     pub nodes: Vec<ExprNode>,
     pub terms: Vec<ExpressionReq>,
 }
@@ -74,7 +74,7 @@ impl Reader {
     {
         Reader {
             outer: Stack::new(alloc),
-            level: Waits::NOTHING,
+            level: OpenOperators::NOTHING,
             nodes: Vec::new(alloc),
             terms: Vec::new(alloc),
         }
@@ -98,7 +98,7 @@ impl Reader {
         if self.level.or {
             self.nodes.push(ExprNode::Or)?;
         }
-        self.level = Waits {
+        self.level = OpenOperators {
             or: true,
             and: false,
         };
@@ -123,7 +123,7 @@ impl Reader {
     }
 
     fn term(&mut self, named: Simple, span: Span) -> Result<(), AllocError>
-        ensures { OnOk result (machine_of self.new ≡ advanced (machine_of self.old) (What.Term named) span) }
+        ensures { OnOk result (machine_of self.new ≡ advanced (machine_of self.old) (ItemKind.Term named) span) }
     {
         let place = self.terms.len();
         self.nodes.push(ExprNode::Term(place))?;
@@ -139,21 +139,21 @@ impl Reader {
         ensures { OnOk result (machine_of self.new ≡ open_after (machine_of self.old)) }
     {
         self.outer.push(self.level)?;
-        self.level = Waits::NOTHING;
+        self.level = OpenOperators::NOTHING;
         Ok(())
     }
 
     /// Takes an item that has no fault.
-    pub fn take(&mut self, what: What, span: Span) -> Result<(), AllocError>
+    pub fn take(&mut self, what: ItemKind, span: Span) -> Result<(), AllocError>
         ensures { OnOk result (machine_of self.new ≡ advanced (machine_of self.old) what span) }
     {
         match what {
-            What::Term(named) => self.term(named, span),
-            What::Exception(name) => except_last(&mut self.terms, name, span.end),
-            What::Or => self.end_conjunction(),
-            What::Open => self.open(),
-            What::Close => self.close(),
-            What::And | What::With | What::Plus | What::Word | What::Other => Ok(()),
+            ItemKind::Term(named) => self.term(named, span),
+            ItemKind::Exception(name) => except_last(&mut self.terms, name, span.end),
+            ItemKind::Or => self.end_conjunction(),
+            ItemKind::Open => self.open(),
+            ItemKind::Close => self.close(),
+            ItemKind::And | ItemKind::With | ItemKind::Plus | ItemKind::Word | ItemKind::Other => Ok(()),
         }
     }
 

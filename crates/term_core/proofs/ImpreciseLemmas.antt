@@ -10,9 +10,9 @@ use Rattle.std.specs.List.{list_any}
 use Rattle.std.specs.Char.{to_ascii_lowercase}
 use Rattle.std.specs.Str.{bytes_eq, str_eq_ignore_ascii_case, str_to_ascii_lowercase}
 use Rattle.catalog_core.specs.declared.catalog.Imprecise.{Imprecise}
-use Rattle.catalog_core.specs.Catalog.{CatalogLists, IsCatalog, IsLongestImprecise, BeginsNone, Begins, names_of, all_distinct}
+use Rattle.catalog_core.specs.Catalog.{CatalogLists, IsCatalog, IsLongestImprecise, BeginsNone, BeginsText, names_of, all_distinct}
 use Rattle.catalog_core.specs.Words.{ends_word}
-use Rattle.term_core.specs.Items.{begins, longest, longer, found_of}
+use Rattle.term_core.specs.Items.{begins, longest, longer, imprecise_of}
 
 abbrev pub Pairs : Type 0
 Pairs = List (List ℕ × List ℕ)
@@ -24,10 +24,10 @@ both_true false b h = absurd (false≢true h)
 pub and_true : (a b : Bool) → a ≡ true → b ≡ true → (a && b) ≡ true
 and_true a b p q = ap (λ x. x && b) p ∙ q
 
-begins_from : (imprecise text : List ℕ) → Begins imprecise text → begins imprecise text ≡ true
+begins_from : (imprecise text : List ℕ) → BeginsText imprecise text → begins imprecise text ≡ true
 begins_from imprecise text h = and_true _ _ h.letters h.ends
 
-pub to_begins : (imprecise text : List ℕ) → begins imprecise text ≡ true → Begins imprecise text
+pub to_begins : (imprecise text : List ℕ) → begins imprecise text ≡ true → BeginsText imprecise text
 to_begins imprecise text h =
     let parts = both_true (str_eq_ignore_ascii_case imprecise (take (length imprecise) text)) (ends_word (drop (length imprecise) text)) h in
     record { letters = parts.0; ends = parts.1 }
@@ -141,7 +141,7 @@ longest_is_there (first ∷ rest) text one (suc k, inside, is) begun apart least
 -- what a catalogue answers is the longest text that begins the text
 pub longest_is : (lists : CatalogLists) → IsCatalog lists → (text : List ℕ) (found : Option Imprecise)
     → IfSome found (λ f. IsLongestImprecise lists.imprecise text f.len f.name.now) → IfNone found (BeginsNone lists.imprecise text)
-    → option_map found_of found ≡ longest lists.imprecise text
+    → option_map imprecise_of found ≡ longest lists.imprecise text
 longest_is lists laws text None some none = sym (none_longest lists.imprecise text (longest lists.imprecise text) refl none)
 longest_is lists laws text (Some found) some none =
     ap (λ n. Some (n, found.name.now)) (sym some.is_len)

@@ -18,9 +18,9 @@ use Rattle.catalog_core.specs.Words.{is_word_byte, is_word, is_space, is_impreci
 use Rattle.term_core.specs.declared.mode.ParseMode.{ParseMode}
 use Rattle.term_core.specs.declared.item.Token.{Token}
 use Rattle.term_core.specs.declared.item.Token.TheVariants.{Word as a_word, Plus as a_plus, Open as an_open, Close as a_close, Slash as a_slash, Other as another}
-use Rattle.term_core.specs.declared.item.Wanted.{Wanted}
-use Rattle.term_core.specs.declared.item.Wanted.TheVariants.{Term as wants_term, Exception as wants_exception, AfterTerm, AfterPart}
-use Rattle.term_core.specs.declared.item.What.{What}
+use Rattle.term_core.specs.declared.item.WantedItem.{WantedItem}
+use Rattle.term_core.specs.declared.item.WantedItem.TheVariants.{Term as wants_term, Exception as wants_exception, AfterTerm, AfterPart}
+use Rattle.term_core.specs.declared.item.ItemKind.{ItemKind}
 use Rattle.term_core.specs.declared.item.Item.{Item}
 use Rattle.term_core.specs.declared.term.LicenseItem.{LicenseItem}
 use Rattle.deny_text.specs.Character.{goes_on}
@@ -45,7 +45,7 @@ FitsIf place text (Some it) = FitsAt place text it
 pub word_byte_ascii : (b : ℕ) → in_word b ≡ true → b < 128
 word_byte_ascii b h = grind (arith, nat_tests)
 
-fits_item : (what : What) (place len : ℕ) (text : List ℕ) → 0 < len → IsCharBoundary text len → FitsAt place text (item_at what place len)
+fits_item : (what : ItemKind) (place len : ℕ) (text : List ℕ) → 0 < len → IsCharBoundary text len → FitsAt place text (item_at what place len)
 fits_item what place len text some border = record { start = refl; len = len; end = refl; some = some; border = border }
 
 fits_term_by : (plus : Bool) (item : LicenseItem) (later deprecated gnu : Bool) (place len : ℕ) (text : List ℕ) → 0 < len → IsCharBoundary text len → (plus ≡ true → IsCharBoundary text (len + 1))
@@ -191,7 +191,7 @@ fits_plain lists place text len utf8 some border =
     (fits_licence lists (take len text) place text len (entry_of lists.licences (take len text)) utf8 some border))
     (fits_item (operator_of (take len text)) place len text some border)
 
-fits_word : (mode : ParseMode) (lists : CatalogLists) → IsCatalog lists → (wanted : Wanted) (place : ℕ) (text : List ℕ) (len : ℕ) → IsUtf8 text → 0 < len → IsCharBoundary text len
+fits_word : (mode : ParseMode) (lists : CatalogLists) → IsCatalog lists → (wanted : WantedItem) (place : ℕ) (text : List ℕ) (len : ℕ) → IsUtf8 text → 0 < len → IsCharBoundary text len
     → FitsAt place text (word_item mode lists wanted place text len)
 fits_word mode lists laws wants_term place text len utf8 some border =
     fits_unwrap place text (imprecise_if mode.allow_imprecise_license_names lists place text len) (plain_item lists place text len)
@@ -272,7 +272,7 @@ token_border another b rest utf8 first = char_border b rest
 pub first_border : (slash : Bool) (b : ℕ) (rest : List ℕ) → IsUtf8 (b ∷ rest) → IsCharBoundary (b ∷ rest) (1 + rest_len (token_of slash b) rest)
 first_border slash b rest utf8 = token_border (token_of slash b) b rest utf8 (token_first slash b)
 
-fits_token : (mode : ParseMode) (lists : CatalogLists) → IsCatalog lists → (wanted : Wanted) (place : ℕ) (text : List ℕ) (len : ℕ) (token : Token) → IsUtf8 text → 0 < len → IsCharBoundary text len
+fits_token : (mode : ParseMode) (lists : CatalogLists) → IsCatalog lists → (wanted : WantedItem) (place : ℕ) (text : List ℕ) (len : ℕ) (token : Token) → IsUtf8 text → 0 < len → IsCharBoundary text len
     → FitsAt place text (token_item mode lists wanted place text len token)
 fits_token mode lists laws wanted place text len a_word utf8 some border = fits_word mode lists laws wanted place text len utf8 some border
 fits_token mode lists laws wanted place text len a_plus utf8 some border = fits_item _ place len text some border
@@ -282,7 +282,7 @@ fits_token mode lists laws wanted place text len a_slash utf8 some border = fits
 fits_token mode lists laws wanted place text len another utf8 some border = fits_item _ place len text some border
 
 -- the item at the start of a text
-pub first_fits : (mode : ParseMode) (lists : CatalogLists) → IsCatalog lists → (wanted : Wanted) (place b : ℕ) (rest : List ℕ) → IsUtf8 (b ∷ rest) → FitsAt place (b ∷ rest) (first_item mode lists wanted place b rest)
+pub first_fits : (mode : ParseMode) (lists : CatalogLists) → IsCatalog lists → (wanted : WantedItem) (place b : ℕ) (rest : List ℕ) → IsUtf8 (b ∷ rest) → FitsAt place (b ∷ rest) (first_item mode lists wanted place b rest)
 first_fits mode lists laws wanted place b rest utf8 =
     let token = token_of mode.allow_slash_as_or_operator b in
     fits_token mode lists laws wanted place (b ∷ rest) (1 + rest_len token rest) token utf8 (omega arith) (first_border mode.allow_slash_as_or_operator b rest utf8)
@@ -291,7 +291,7 @@ pub white_ascii : (b : ℕ) → is_white b ≡ true → b < 128
 white_ascii b h = grind (arith, nat_tests)
 
 -- white space is passed over
-pub step_white : (mode : ParseMode) (lists : CatalogLists) (wanted : Wanted) (place b : ℕ) (rest : List ℕ) → is_white b ≡ true
+pub step_white : (mode : ParseMode) (lists : CatalogLists) (wanted : WantedItem) (place b : ℕ) (rest : List ℕ) → is_white b ≡ true
     → items_from mode lists wanted place place (b ∷ rest) ≡ items_from mode lists wanted (place + 1) (place + 1) rest
 step_white mode lists wanted place b rest white =
     items_at mode lists wanted place b rest
@@ -299,7 +299,7 @@ step_white mode lists wanted place b rest white =
     ∙ unused mode lists wanted (place + 1) place rest (omega arith)
 
 -- an item is read, and what it uses is passed over
-pub step_item : (mode : ParseMode) (lists : CatalogLists) → IsCatalog lists → (wanted : Wanted) (place b : ℕ) (rest : List ℕ) → IsUtf8 (b ∷ rest) → is_white b ≡ false
+pub step_item : (mode : ParseMode) (lists : CatalogLists) → IsCatalog lists → (wanted : WantedItem) (place b : ℕ) (rest : List ℕ) → IsUtf8 (b ∷ rest) → is_white b ≡ false
     → (let it = first_item mode lists wanted place b rest in
     items_from mode lists wanted place place (b ∷ rest) ≡ it ∷ items_from mode lists (wanted_after wanted it.what) it.span.end it.span.end (drop (it.span.end - place) (b ∷ rest)))
 step_item mode lists laws wanted place b rest utf8 dark =
@@ -324,7 +324,7 @@ border_behind text place len inside border =
     (omega arith, λ below high. subst (λ b. 192 ≤ b) at (border.1 (omega arith) (subst (λ b. 128 ≤ b) (sym at) high)))
 
 -- a step of the reader at white space
-pub white_step : (mode : ParseMode) (lists : CatalogLists) (wanted : Wanted) (place : ℕ) (text : List ℕ) → place < length text → is_white (get_or text place 0) ≡ true
+pub white_step : (mode : ParseMode) (lists : CatalogLists) (wanted : WantedItem) (place : ℕ) (text : List ℕ) → place < length text → is_white (get_or text place 0) ≡ true
     → items_from mode lists wanted place place (drop place text) ≡ items_from mode lists wanted (place + 1) (place + 1) (drop (place + 1) text)
 white_step mode lists wanted place text inside white =
     let next : suc place ≡ place + 1 = omega arith in
@@ -336,7 +336,7 @@ pub white_border : (text : List ℕ) (place : ℕ) → IsUtf8 text → place < l
 white_border text place utf8 inside white = IsCharBoundary-after_ascii text place utf8 inside (white_ascii (get_or text place 0) white)
 
 -- a step at an item
-step_there : (mode : ParseMode) (lists : CatalogLists) → IsCatalog lists → (wanted : Wanted) (place : ℕ) (text : List ℕ) (b : ℕ) (rest : List ℕ) → IsUtf8 (b ∷ rest) → place < length text → drop place text ≡ b ∷ rest
+step_there : (mode : ParseMode) (lists : CatalogLists) → IsCatalog lists → (wanted : WantedItem) (place : ℕ) (text : List ℕ) (b : ℕ) (rest : List ℕ) → IsUtf8 (b ∷ rest) → place < length text → drop place text ≡ b ∷ rest
     → is_white b ≡ false → StandsNext mode lists wanted place text (first_item mode lists wanted place b rest)
 step_there mode lists laws wanted place text b rest utf8 inside is dark =
     let it = first_item mode lists wanted place b rest in
@@ -355,7 +355,7 @@ step_there mode lists laws wanted place text b rest utf8 inside is dark =
           (ap (drop (it.span.end - place)) (sym is) ∙ drop-drop (it.span.end - place) place text ∙ ap (λ k. drop k text) back);
     }
 
-pub item_step : (mode : ParseMode) (lists : CatalogLists) → IsCatalog lists → (wanted : Wanted) (place : ℕ) (text : List ℕ) → IsUtf8 text → IsCharBoundary text place → place < length text
+pub item_step : (mode : ParseMode) (lists : CatalogLists) → IsCatalog lists → (wanted : WantedItem) (place : ℕ) (text : List ℕ) → IsUtf8 text → IsCharBoundary text place → place < length text
     → is_white (get_or text place 0) ≡ false → (it : Item) → it ≡ first_item mode lists wanted place (get_or text place 0) (drop 1 (drop place text)) → StandsNext mode lists wanted place text it
 item_step mode lists laws wanted place text utf8 border inside dark it is =
     let b : ℕ = get_or text place 0 in

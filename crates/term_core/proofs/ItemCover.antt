@@ -6,8 +6,8 @@ use Rattle.std.proofs.lemmas.Str.{IsCharBoundary-start, IsUtf8-drop}
 use Rattle.std.specs.Str.{IsUtf8}
 use Rattle.catalog_core.specs.Catalog.{CatalogLists, IsCatalog}
 use Rattle.term_core.specs.declared.mode.ParseMode.{ParseMode}
-use Rattle.term_core.specs.declared.item.Wanted.{Wanted}
-use Rattle.term_core.specs.declared.item.Wanted.TheVariants.{Term as wants_term}
+use Rattle.term_core.specs.declared.item.WantedItem.{WantedItem}
+use Rattle.term_core.specs.declared.item.WantedItem.TheVariants.{Term as wants_term}
 use Rattle.term_core.specs.declared.item.Item.{Item}
 use Rattle.term_core.specs.Spans.{IsWhite, WhiteBetween}
 use Rattle.term_core.specs.Tokens.{is_white}
@@ -43,7 +43,7 @@ end_white text used place is so_far k from to =
 nothing_white : (text : List ℕ) (start end : ℕ) → end ≤ start → IsWhite text start end
 nothing_white text start end le k from to = absurd (omega arith)
 
-covers : (mode : ParseMode) (lists : CatalogLists) → IsCatalog lists → (text : List ℕ) → IsUtf8 text → (wanted : Wanted) (place used : ℕ) (bytes : List ℕ) → drop place text ≡ bytes → Stands text place used
+covers : (mode : ParseMode) (lists : CatalogLists) → IsCatalog lists → (text : List ℕ) → IsUtf8 text → (wanted : WantedItem) (place used : ℕ) (bytes : List ℕ) → drop place text ≡ bytes → Stands text place used
     → IsWhite text used place → WhiteBetween text used (spans (items_from mode lists wanted place used bytes))
 covers mode lists laws text utf8 wanted place used [] is s white = end_white text used place is white
 covers mode lists laws text utf8 wanted place used (b ∷ rest) is s so_far =

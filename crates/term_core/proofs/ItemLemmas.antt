@@ -2,7 +2,7 @@
 use Rattle.std.proofs.Common.{◌≡◌, ◌∙◌, refl, sym, ap, ℕ, ◌+◌, ◌-◌, ◌<◌, ◌≤◌, zero, suc, Bool, true, false, ◌||◌, nat_lt, List, [], ◌∷◌, length, drop, arith}
 use Rattle.std.proofs.lemmas.Bool.Decides.{nat_tests}
 use Rattle.term_core.specs.declared.mode.ParseMode.{ParseMode}
-use Rattle.term_core.specs.declared.item.Wanted.{Wanted}
+use Rattle.term_core.specs.declared.item.WantedItem.{WantedItem}
 use Rattle.term_core.specs.declared.item.Item.{Item}
 use Rattle.catalog_core.specs.Catalog.{CatalogLists}
 use Rattle.term_core.specs.Tokens.{is_white}
@@ -15,7 +15,7 @@ below : (m n : ℕ) → m < n → nat_lt m n ≡ true
 below m n h = grind (arith, nat_tests)
 
 -- at a place that nothing has used
-pub items_at : (mode : ParseMode) (lists : CatalogLists) (wanted : Wanted) (place : ℕ) (b : ℕ) (rest : List ℕ)
+pub items_at : (mode : ParseMode) (lists : CatalogLists) (wanted : WantedItem) (place : ℕ) (b : ℕ) (rest : List ℕ)
     → items_from mode lists wanted place place (b ∷ rest)
     ≡ (let found = item_here (is_white b) mode lists wanted place b rest in with_item found (items_from mode lists (wanted_behind wanted found) (place + 1) (used_behind place found) rest))
 items_at mode lists wanted place b rest =
@@ -28,7 +28,7 @@ nothing_left [] (suc k) h = refl
 nothing_left (b ∷ rest) k h = absurd (omega arith)
 
 -- what was used is passed over
-pub passed : (mode : ParseMode) (lists : CatalogLists) (wanted : Wanted) (place used : ℕ) (text : List ℕ) → place ≤ used → used ≤ place + length text
+pub passed : (mode : ParseMode) (lists : CatalogLists) (wanted : WantedItem) (place used : ℕ) (text : List ℕ) → place ≤ used → used ≤ place + length text
     → items_from mode lists wanted place used text ≡ items_from mode lists wanted used used (drop (used - place) text)
 passed mode lists wanted place used [] from to = ap (λ text. items_from mode lists wanted used used text) (sym (nothing_left [] (used - place) refl))
 passed mode lists wanted place used (b ∷ rest) from to =
@@ -52,7 +52,7 @@ at_most : (m n : ℕ) → n ≤ m → nat_lt m n ≡ false
 at_most m n h = grind (arith, nat_tests)
 
 -- what was used before a place uses nothing behind it
-pub unused : (mode : ParseMode) (lists : CatalogLists) (wanted : Wanted) (place used : ℕ) (text : List ℕ) → used ≤ place
+pub unused : (mode : ParseMode) (lists : CatalogLists) (wanted : WantedItem) (place used : ℕ) (text : List ℕ) → used ≤ place
     → items_from mode lists wanted place used text ≡ items_from mode lists wanted place place text
 unused mode lists wanted place used [] before = refl
 unused mode lists wanted place used (b ∷ rest) before =

@@ -10,8 +10,8 @@ use Rattle.catalog_core.specs.Catalog.{CatalogLists, IsCatalog}
 use Rattle.term_core.specs.declared.mode.ParseMode.{ParseMode}
 use Rattle.term_core.specs.declared.item.Token.{Token}
 use Rattle.term_core.specs.declared.item.Token.TheVariants.{Word as a_word, Plus as a_plus, Open as an_open, Close as a_close, Slash as a_slash, Other as another}
-use Rattle.term_core.specs.declared.item.Wanted.{Wanted}
-use Rattle.term_core.specs.declared.item.Wanted.TheVariants.{Term as wants_term, Exception as wants_exception, AfterTerm, AfterPart}
+use Rattle.term_core.specs.declared.item.WantedItem.{WantedItem}
+use Rattle.term_core.specs.declared.item.WantedItem.TheVariants.{Term as wants_term, Exception as wants_exception, AfterTerm, AfterPart}
 use Rattle.term_core.specs.declared.item.Item.{Item}
 use Rattle.term_core.specs.Spans.{Rise}
 use Rattle.term_core.specs.Tokens.{is_white, in_word, token_of, rest_len}
@@ -72,9 +72,9 @@ item_stands text place b rest it is fits =
       inside = end_border.0;
     }
 
-rises_at : (mode : ParseMode) (lists : CatalogLists) → IsCatalog lists → (text : List ℕ) → IsUtf8 text → (wanted : Wanted) (place used b : ℕ) (rest : List ℕ) → drop place text ≡ b ∷ rest → used ≤ place → Stands text place used
+rises_at : (mode : ParseMode) (lists : CatalogLists) → IsCatalog lists → (text : List ℕ) → IsUtf8 text → (wanted : WantedItem) (place used b : ℕ) (rest : List ℕ) → drop place text ≡ b ∷ rest → used ≤ place → Stands text place used
     → FitsAt place (b ∷ rest) (first_item mode lists wanted place b rest)
-    → ((wanted : Wanted) (used : ℕ) → Stands text (place + 1) used → Rise text used (spans (items_from mode lists wanted (place + 1) used rest)) (length text))
+    → ((wanted : WantedItem) (used : ℕ) → Stands text (place + 1) used → Rise text used (spans (items_from mode lists wanted (place + 1) used rest)) (length text))
     → Rise text used (spans (first_item mode lists wanted place b rest ∷ items_from mode lists (wanted_after wanted (first_item mode lists wanted place b rest).what) (place + 1) (first_item mode lists wanted place b rest).span.end rest)) (length text)
 rises_at mode lists laws text utf8 wanted place used b rest is le s fits later =
     let it : Item = first_item mode lists wanted place b rest in
@@ -88,7 +88,7 @@ rises_at mode lists laws text utf8 wanted place used b rest is le s fits later =
       later (wanted_after wanted it.what) it.span.end stands,
     )
 
-rises : (mode : ParseMode) (lists : CatalogLists) → IsCatalog lists → (text : List ℕ) → IsUtf8 text → (wanted : Wanted) (place used : ℕ) (bytes : List ℕ) → drop place text ≡ bytes → Stands text place used
+rises : (mode : ParseMode) (lists : CatalogLists) → IsCatalog lists → (text : List ℕ) → IsUtf8 text → (wanted : WantedItem) (place used : ℕ) (bytes : List ℕ) → drop place text ≡ bytes → Stands text place used
     → Rise text used (spans (items_from mode lists wanted place used bytes)) (length text)
 rises mode lists laws text utf8 wanted place used [] is s = s.inside
 rises mode lists laws text utf8 wanted place used (b ∷ rest) is s =
@@ -121,7 +121,7 @@ items_rise mode lists laws text utf8 =
 token_same : (b : ℕ) → nat_eq b 47 ≡ false → token_of true b ≡ token_of false b
 token_same b h = ap (λ t. cond (in_word b) a_word (cond (nat_eq b 43) a_plus (cond (nat_eq b 40) an_open (cond (nat_eq b 41) a_close (cond t a_slash another))))) h
 
-item_same : (mode : ParseMode) (lists : CatalogLists) (wanted : Wanted) (place : ℕ) (text : List ℕ) (len : ℕ) (token : Token) → token_item (with_slash true mode) lists wanted place text len token ≡ token_item (with_slash false mode) lists wanted place text len token
+item_same : (mode : ParseMode) (lists : CatalogLists) (wanted : WantedItem) (place : ℕ) (text : List ℕ) (len : ℕ) (token : Token) → token_item (with_slash true mode) lists wanted place text len token ≡ token_item (with_slash false mode) lists wanted place text len token
 item_same mode lists wants_term place text len a_word = refl
 item_same mode lists wants_exception place text len a_word = refl
 item_same mode lists AfterTerm place text len a_word = refl
@@ -132,13 +132,13 @@ item_same mode lists wanted place text len a_close = refl
 item_same mode lists wanted place text len a_slash = refl
 item_same mode lists wanted place text len another = refl
 
-first_same : (mode : ParseMode) (lists : CatalogLists) (wanted : Wanted) (place b : ℕ) (rest : List ℕ) → nat_eq b 47 ≡ false
+first_same : (mode : ParseMode) (lists : CatalogLists) (wanted : WantedItem) (place b : ℕ) (rest : List ℕ) → nat_eq b 47 ≡ false
     → first_item (with_slash true mode) lists wanted place b rest ≡ first_item (with_slash false mode) lists wanted place b rest
 first_same mode lists wanted place b rest h =
     ap (λ token. token_item (with_slash true mode) lists wanted place (b ∷ rest) (1 + rest_len token rest) token) (token_same b h)
     ∙ item_same mode lists wanted place (b ∷ rest) (1 + rest_len (token_of false b) rest) (token_of false b)
 
-here_same : (passes : Bool) (mode : ParseMode) (lists : CatalogLists) (wanted : Wanted) (place b : ℕ) (rest : List ℕ) → nat_eq b 47 ≡ false
+here_same : (passes : Bool) (mode : ParseMode) (lists : CatalogLists) (wanted : WantedItem) (place b : ℕ) (rest : List ℕ) → nat_eq b 47 ≡ false
     → item_here passes (with_slash true mode) lists wanted place b rest ≡ item_here passes (with_slash false mode) lists wanted place b rest
 here_same true mode lists wanted place b rest h = refl
 here_same false mode lists wanted place b rest h = ap Some (first_same mode lists wanted place b rest h)
@@ -147,7 +147,7 @@ not_slash : (t : Bool) → not t ≡ true → t ≡ false
 not_slash true h = absurd (false≢true h)
 not_slash false h = refl
 
-from_same : (mode : ParseMode) (lists : CatalogLists) (wanted : Wanted) (place used : ℕ) (text : List ℕ) → has_no_slash text ≡ true
+from_same : (mode : ParseMode) (lists : CatalogLists) (wanted : WantedItem) (place used : ℕ) (text : List ℕ) → has_no_slash text ≡ true
     → items_from (with_slash true mode) lists wanted place used text ≡ items_from (with_slash false mode) lists wanted place used text
 from_same mode lists wanted place used [] h = refl
 from_same mode lists wanted place used (b ∷ rest) h =

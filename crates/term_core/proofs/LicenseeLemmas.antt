@@ -4,13 +4,13 @@ use Rattle.deny_text.specs.declared.span.Span.{Span}
 use Rattle.term_core.specs.declared.error.ParseError.{ParseError}
 use Rattle.term_core.specs.declared.mode.ParseMode.{ParseMode}
 use Rattle.term_core.specs.declared.term.LicenseReq.{LicenseReq}
-use Rattle.term_core.specs.declared.item.Wanted.TheVariants.{Term as wants_term, Exception as wants_exception, AfterTerm, AfterPart}
-use Rattle.term_core.specs.declared.item.What.{What}
-use Rattle.term_core.specs.declared.item.What.TheVariants.{Term, Exception, And, Or, With, Open, Close, Plus, Word, Other}
+use Rattle.term_core.specs.declared.item.WantedItem.TheVariants.{Term as wants_term, Exception as wants_exception, AfterTerm, AfterPart}
+use Rattle.term_core.specs.declared.item.ItemKind.{ItemKind}
+use Rattle.term_core.specs.declared.item.ItemKind.TheVariants.{Term, Exception, And, Or, With, Open, Close, Plus, Word, Other}
 use Rattle.term_core.specs.declared.item.Item.{Item}
 use Rattle.term_core.specs.declared.item.Simple.{Simple}
 use Rattle.term_core.specs.Faults.{licensee_fault_from, licensee_fault_of, licensee_mode, mark_fault, marks_allowed}
-use Rattle.term_core.specs.declared.item.Marks.{Marks}
+use Rattle.term_core.specs.declared.item.LicenseMarks.{LicenseMarks}
 use Rattle.term_core.specs.declared.term.LicenseItem.{LicenseItem}
 use Rattle.term_core.specs.declared.term.LicenseItem.TheVariants.{Spdx, Reference}
 use Rattle.catalog_core.specs.Catalog.{CatalogLists}
@@ -24,10 +24,10 @@ pub record OnePart (mode : ParseMode) (items : List Item) : Type 0 where
   pub is : part_of items ≡ Some req
   pub one : IsOnePart mode items req
 
-abbrev item : What → Span → Item
+abbrev item : ItemKind → Span → Item
 item what span = record { what = what; span = span }
 
-no_item : (mode : ParseMode) (len : ℕ) (what : What) (span : Span) (rest : List Item) → licensee_fault_from mode len AfterPart (item what span ∷ rest) ≡ None → item what span ∷ rest ≡ []
+no_item : (mode : ParseMode) (len : ℕ) (what : ItemKind) (span : Span) (rest : List Item) → licensee_fault_from mode len AfterPart (item what span ∷ rest) ≡ None → item what span ∷ rest ≡ []
 no_item mode len (Term named) span rest h = no h
 no_item mode len (Exception name) span rest h = no h
 no_item mode len And span rest h = no h
@@ -43,7 +43,7 @@ nothing_behind : (mode : ParseMode) (len : ℕ) (rest : List Item) → licensee_
 nothing_behind mode len [] h = refl
 nothing_behind mode len (it ∷ rest) h = no_item mode len it.what it.span rest h
 
-third : (mode : ParseMode) (len : ℕ) (given : Simple) (first second : Span) (ok : IsTrue (marks_allowed mode given.marks)) (what : What) (span : Span) (rest : List Item) → licensee_fault_from mode len wants_exception (item what span ∷ rest) ≡ None → OnePart mode (item (Term given) first ∷ item With second ∷ item what span ∷ rest)
+third : (mode : ParseMode) (len : ℕ) (given : Simple) (first second : Span) (ok : IsTrue (marks_allowed mode given.marks)) (what : ItemKind) (span : Span) (rest : List Item) → licensee_fault_from mode len wants_exception (item what span ∷ rest) ≡ None → OnePart mode (item (Term given) first ∷ item With second ∷ item what span ∷ rest)
 third mode len given first second ok (Term named) span rest h = no h
 third mode len given first second ok (Exception name) span rest h =
     let P : List Item → Type 0 = λ tail. OnePart mode (item (Term given) first ∷ item With second ∷ item (Exception name) span ∷ tail) in
@@ -62,7 +62,7 @@ exception_behind : (mode : ParseMode) (len : ℕ) (named : Simple) (first second
 exception_behind mode len named first second ok [] h = no h
 exception_behind mode len named first second ok (it ∷ rest) h = third mode len named first second ok it.what it.span rest h
 
-second_item : (mode : ParseMode) (len : ℕ) (given : Simple) (first : Span) (ok : IsTrue (marks_allowed mode given.marks)) (what : What) (span : Span) (rest : List Item) → licensee_fault_from mode len AfterTerm (item what span ∷ rest) ≡ None → OnePart mode (item (Term given) first ∷ item what span ∷ rest)
+second_item : (mode : ParseMode) (len : ℕ) (given : Simple) (first : Span) (ok : IsTrue (marks_allowed mode given.marks)) (what : ItemKind) (span : Span) (rest : List Item) → licensee_fault_from mode len AfterTerm (item what span ∷ rest) ≡ None → OnePart mode (item (Term given) first ∷ item what span ∷ rest)
 second_item mode len given first ok (Term named) span rest h = no h
 second_item mode len given first ok (Exception name) span rest h = no h
 second_item mode len given first ok And span rest h = no h
@@ -79,7 +79,7 @@ behind_term : (mode : ParseMode) (len : ℕ) (named : Simple) (first : Span) (ok
 behind_term mode len named first ok [] h = record { req = licensee_req named None; is = refl; one = alone named first ok }
 behind_term mode len named first ok (it ∷ rest) h = second_item mode len named first ok it.what it.span rest h
 
-first_item : (mode : ParseMode) (len : ℕ) (what : What) (span : Span) (rest : List Item) → licensee_fault_from mode len wants_term (item what span ∷ rest) ≡ None → OnePart mode (item what span ∷ rest)
+first_item : (mode : ParseMode) (len : ℕ) (what : ItemKind) (span : Span) (rest : List Item) → licensee_fault_from mode len wants_term (item what span ∷ rest) ≡ None → OnePart mode (item what span ∷ rest)
 first_item mode len (Term named) span rest h =
     let marks = mark_fault mode named span in
     let later = licensee_fault_from mode len AfterTerm rest in
@@ -99,7 +99,7 @@ pub one_part : (mode : ParseMode) (len : ℕ) (items : List Item) → licensee_f
 one_part mode len [] h = no h
 one_part mode len (it ∷ rest) h = first_item mode len it.what it.span rest h
 
-no_plus : (item : LicenseItem) (marks : Marks) → HasNoPlus (without_plus item marks)
+no_plus : (item : LicenseItem) (marks : LicenseMarks) → HasNoPlus (without_plus item marks)
 no_plus (Spdx name family rank later plus) marks = refl
 no_plus (Reference doc id) marks = tt
 

@@ -5,12 +5,12 @@ use Rattle.term_core.specs.declared.mode.ParseMode.{ParseMode}
 use Rattle.term_core.specs.declared.error.ParseReason.{ParseReason}
 use Rattle.term_core.specs.declared.error.ParseReason.TheVariants.{Empty, InvalidCharacters, SeparatedPlus, UnopenedParens, Unexpected, UnknownTerm, UnknownException, DeprecatedId, GplNoPlus, UnclosedParens}
 use Rattle.term_core.specs.declared.error.ParseError.{ParseError}
-use Rattle.term_core.specs.declared.item.Wanted.{Wanted}
-use Rattle.term_core.specs.declared.item.Wanted.TheVariants.{Term as wants_term, Exception as wants_exception, AfterTerm, AfterPart}
-use Rattle.term_core.specs.declared.item.What.{What}
-use Rattle.term_core.specs.declared.item.What.TheVariants.{Term, Exception, And, Or, With, Open, Close, Plus, Word, Other}
+use Rattle.term_core.specs.declared.item.WantedItem.{WantedItem}
+use Rattle.term_core.specs.declared.item.WantedItem.TheVariants.{Term as wants_term, Exception as wants_exception, AfterTerm, AfterPart}
+use Rattle.term_core.specs.declared.item.ItemKind.{ItemKind}
+use Rattle.term_core.specs.declared.item.ItemKind.TheVariants.{Term, Exception, And, Or, With, Open, Close, Plus, Word, Other}
 use Rattle.term_core.specs.declared.item.Item.{Item}
-use Rattle.term_core.specs.declared.item.Marks.{Marks}
+use Rattle.term_core.specs.declared.item.LicenseMarks.{LicenseMarks}
 use Rattle.term_core.specs.declared.item.Simple.{Simple}
 use Rattle.catalog_core.specs.Catalog.{CatalogLists}
 use Rattle.term_core.specs.Items.{items_of, wanted_after}
@@ -24,39 +24,39 @@ fault_over reason span = Some (record { reason = reason; span = span })
 abbrev pub unless : Bool → ParseReason → Span → Option ParseError
 unless fine reason span = if fine then None else fault_over reason span
 
-abbrev pub takes_term : Wanted → Bool
+abbrev pub takes_term : WantedItem → Bool
 takes_term wants_term = true
 takes_term wants_exception = false
 takes_term AfterTerm = false
 takes_term AfterPart = false
 
-abbrev pub takes_exception : Wanted → Bool
+abbrev pub takes_exception : WantedItem → Bool
 takes_exception wants_term = false
 takes_exception wants_exception = true
 takes_exception AfterTerm = false
 takes_exception AfterPart = false
 
-abbrev pub takes_operator : Wanted → Bool
+abbrev pub takes_operator : WantedItem → Bool
 takes_operator wants_term = false
 takes_operator wants_exception = false
 takes_operator AfterTerm = true
 takes_operator AfterPart = true
 
-abbrev pub takes_with : Wanted → Bool
+abbrev pub takes_with : WantedItem → Bool
 takes_with wants_term = false
 takes_with wants_exception = false
 takes_with AfterTerm = true
 takes_with AfterPart = false
 
 -- what a word is called that is neither operator nor what is wanted
-abbrev pub word_reason : Wanted → ParseReason
+abbrev pub word_reason : WantedItem → ParseReason
 word_reason wants_term = UnknownTerm
 word_reason wants_exception = UnknownException
 word_reason AfterTerm = Unexpected
 word_reason AfterPart = Unexpected
 
 -- a mode takes the marks of a term
-abbrev pub marks_allowed : ParseMode → Marks → Bool
+abbrev pub marks_allowed : ParseMode → LicenseMarks → Bool
 marks_allowed mode marks = (mode.allow_deprecated || not marks.deprecated) && (mode.allow_postfix_plus_on_gpl || not (marks.gnu && marks.plus))
 
 -- a mark of a term that the mode refuses
@@ -76,20 +76,20 @@ has_open [] = false
 has_open (last ∷ rest) = true
 
 -- what is wrong with an item, by what is wanted and by whether a parenthesis is open
-abbrev pub fault_at : ParseMode → Wanted → Bool → What → Span → Option ParseError
-fault_at mode wanted opened (Term simple) span = first_of (unless (takes_term wanted) Unexpected span) (mark_fault mode simple span)
-fault_at mode wanted opened (Exception name) span = unless (takes_exception wanted) Unexpected span
-fault_at mode wanted opened And span = unless (takes_operator wanted) Unexpected span
-fault_at mode wanted opened Or span = unless (takes_operator wanted) Unexpected span
-fault_at mode wanted opened With span = unless (takes_with wanted) Unexpected span
-fault_at mode wanted opened Open span = unless (takes_term wanted) Unexpected span
-fault_at mode wanted opened Close span = if opened then unless (takes_operator wanted) Unexpected span else fault_over UnopenedParens span
-fault_at mode wanted opened Plus span = fault_over SeparatedPlus span
-fault_at mode wanted opened Word span = fault_over (word_reason wanted) span
-fault_at mode wanted opened Other span = fault_over InvalidCharacters span
+abbrev pub item_fault : ParseMode → WantedItem → Bool → ItemKind → Span → Option ParseError
+item_fault mode wanted opened (Term simple) span = first_of (unless (takes_term wanted) Unexpected span) (mark_fault mode simple span)
+item_fault mode wanted opened (Exception name) span = unless (takes_exception wanted) Unexpected span
+item_fault mode wanted opened And span = unless (takes_operator wanted) Unexpected span
+item_fault mode wanted opened Or span = unless (takes_operator wanted) Unexpected span
+item_fault mode wanted opened With span = unless (takes_with wanted) Unexpected span
+item_fault mode wanted opened Open span = unless (takes_term wanted) Unexpected span
+item_fault mode wanted opened Close span = if opened then unless (takes_operator wanted) Unexpected span else fault_over UnopenedParens span
+item_fault mode wanted opened Plus span = fault_over SeparatedPlus span
+item_fault mode wanted opened Word span = fault_over (word_reason wanted) span
+item_fault mode wanted opened Other span = fault_over InvalidCharacters span
 
 -- the open parentheses behind an item
-abbrev pub opened_after : List Span → What → Span → List Span
+abbrev pub opened_after : List Span → ItemKind → Span → List Span
 opened_after opened (Term simple) span = opened
 opened_after opened (Exception name) span = opened
 opened_after opened And span = opened
@@ -111,13 +111,13 @@ unclosed_fault None = None
 unclosed_fault (Some last) = fault_over UnclosedParens last
 
 -- what is wrong at the end of a text of so many bytes, by the last open parenthesis
-abbrev pub end_fault : ℕ → Wanted → Option Span → Option ParseError
+abbrev pub end_fault : ℕ → WantedItem → Option Span → Option ParseError
 end_fault len wanted opened = if takes_operator wanted then unclosed_fault opened else fault Unexpected len len
 
-abbrev pub fault_from : ParseMode → ℕ → Wanted → List Span → List Item → Option ParseError
+abbrev pub fault_from : ParseMode → ℕ → WantedItem → List Span → List Item → Option ParseError
 fault_from mode len wanted opened [] = end_fault len wanted (last_open opened)
 fault_from mode len wanted opened (item ∷ items) =
-    first_of (fault_at mode wanted (has_open opened) item.what item.span)
+    first_of (item_fault mode wanted (has_open opened) item.what item.span)
     (fault_from mode len (wanted_after wanted item.what) (opened_after opened item.what item.span) items)
 
 abbrev pub fault_of : ParseMode → ℕ → List Item → Option ParseError
@@ -129,7 +129,7 @@ abbrev pub first_fault : ParseMode → CatalogLists → List ℕ → Option Pars
 first_fault mode lists text = fault_of mode (length text) (items_of mode lists text)
 
 -- an item that no licensee has: a licensee is one part without parentheses
-abbrev pub is_alone : What → Bool
+abbrev pub is_alone : ItemKind → Bool
 is_alone (Term simple) = true
 is_alone (Exception name) = true
 is_alone And = false
@@ -141,10 +141,10 @@ is_alone Plus = true
 is_alone Word = true
 is_alone Other = true
 
-abbrev pub lone_fault : ParseMode → Wanted → What → Span → Option ParseError
-lone_fault mode wanted what span = first_of (unless (is_alone what) Unexpected span) (fault_at mode wanted false what span)
+abbrev pub lone_fault : ParseMode → WantedItem → ItemKind → Span → Option ParseError
+lone_fault mode wanted what span = first_of (unless (is_alone what) Unexpected span) (item_fault mode wanted false what span)
 
-abbrev pub licensee_fault_from : ParseMode → ℕ → Wanted → List Item → Option ParseError
+abbrev pub licensee_fault_from : ParseMode → ℕ → WantedItem → List Item → Option ParseError
 licensee_fault_from mode len wanted [] = end_fault len wanted None
 licensee_fault_from mode len wanted (item ∷ items) =
     first_of (lone_fault mode wanted item.what item.span) (licensee_fault_from mode len (wanted_after wanted item.what) items)

@@ -3,10 +3,10 @@ use Rattle.std.specs.Prelude.{◌≡◌, ℕ, Bool, true, false, List, [], ◌�
 use Rattle.catalog_core.specs.declared.catalog.LicenseEntry.{LicenseEntry}
 use Rattle.catalog_core.specs.Catalog.{CatalogLists}
 use Rattle.term_core.specs.declared.mode.ParseMode.{ParseMode}
-use Rattle.term_core.specs.declared.item.What.{What}
-use Rattle.term_core.specs.declared.item.What.TheVariants.{Term, Exception, And, Or, With, Open, Close, Plus, Word, Other}
+use Rattle.term_core.specs.declared.item.ItemKind.{ItemKind}
+use Rattle.term_core.specs.declared.item.ItemKind.TheVariants.{Term, Exception, And, Or, With, Open, Close, Plus, Word, Other}
 use Rattle.term_core.specs.declared.item.Item.{Item}
-use Rattle.term_core.specs.declared.item.Marks.{Marks}
+use Rattle.term_core.specs.declared.item.LicenseMarks.{LicenseMarks}
 use Rattle.term_core.specs.Items.{items_of}
 use Rattle.term_core.specs.Terms.{item_text}
 
@@ -45,11 +45,11 @@ mode_with imprecise slash = record {
 abbrev pub mark : Bool → List ℕ → List ℕ
 mark is_there name = if is_there then name else []
 
-abbrev pub marks_text : Marks → List ℕ
+abbrev pub marks_text : LicenseMarks → List ℕ
 marks_text marks = mark marks.later (codes " later") ++ (mark marks.deprecated (codes " deprecated") ++ mark marks.gnu (codes " gnu"))
 
 -- what a row calls an item
-abbrev pub what_text : What → List ℕ
+abbrev pub what_text : ItemKind → List ℕ
 what_text (Term simple) = item_text simple.item ++ marks_text simple.marks
 what_text (Exception name) = codes "exception " ++ name
 what_text And = codes "AND"
@@ -65,15 +65,15 @@ abbrev pub told : Item → List ℕ × ℕ × ℕ
 told item = (what_text item.what, item.span.start, item.span.end)
 
 -- a text, and its items with their places
-abbrev pub Row : Type 0
-Row = List ℕ × List (List ℕ × ℕ × ℕ)
+abbrev pub ItemRow : Type 0
+ItemRow = List ℕ × List (List ℕ × ℕ × ℕ)
 
 -- each text has the items of its row
-abbrev pub RowsHold : ParseMode → List Row → Type 0
+abbrev pub RowsHold : ParseMode → List ItemRow → Type 0
 RowsHold mode rows = map (λ row. map told (items_of mode odd row.0)) rows ≡ map (λ row. row.1) rows
 
 -- without imprecise texts and without the slash
-abbrev pub plain_rows : List Row
+abbrev pub plain_rows : List ItemRow
 plain_rows =
     (codes "MIT or MIT", (codes "MIT", 0, 3) ∷ (codes "OR", 4, 6) ∷ (codes "MIT", 7, 10) ∷ [])
     ∷ (codes "mit or ISC", (codes "word", 0, 3) ∷ (codes "OR", 4, 6) ∷ (codes "ISC", 7, 10) ∷ [])
@@ -96,7 +96,7 @@ plain_rows =
     ∷ []
 
 -- with imprecise texts
-abbrev pub imprecise_rows : List Row
+abbrev pub imprecise_rows : List ItemRow
 imprecise_rows =
     (codes "MIT or MIT", (codes "MIT", 0, 6) ∷ (codes "word", 7, 10) ∷ [])
     ∷ (codes "mit or or MIT or", (codes "MIT", 0, 6) ∷ (codes "OR", 7, 9) ∷ (codes "MIT", 10, 16) ∷ [])
@@ -113,7 +113,7 @@ imprecise_rows =
     ∷ []
 
 -- with the slash
-abbrev pub slash_rows : List Row
+abbrev pub slash_rows : List ItemRow
 slash_rows =
     (codes "MIT/ISC", (codes "MIT", 0, 3) ∷ (codes "OR", 3, 4) ∷ (codes "ISC", 4, 7) ∷ [])
     ∷ (codes "mit or/MIT", (codes "word", 0, 3) ∷ (codes "OR", 4, 6) ∷ (codes "OR", 6, 7) ∷ (codes "MIT", 7, 10) ∷ [])
@@ -125,7 +125,7 @@ slash_rows =
     ∷ []
 
 -- with both
-abbrev pub lax_rows : List Row
+abbrev pub lax_rows : List ItemRow
 lax_rows =
     (codes "mit or/MIT or", (codes "MIT", 0, 6) ∷ (codes "OR", 6, 7) ∷ (codes "MIT", 7, 13) ∷ [])
     ∷ (codes "OLD ONE AND mit or", (codes "Old-1.0 deprecated", 0, 7) ∷ (codes "AND", 8, 11) ∷ (codes "MIT", 12, 18) ∷ [])

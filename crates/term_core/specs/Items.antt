@@ -8,12 +8,12 @@ use Rattle.catalog_core.specs.declared.catalog.Imprecise.{Imprecise}
 use Rattle.term_core.specs.declared.mode.ParseMode.{ParseMode}
 use Rattle.term_core.specs.declared.item.Token.{Token}
 use Rattle.term_core.specs.declared.item.Token.TheVariants.{Word as a_word, Plus as a_plus, Open as an_open, Close as a_close, Slash as a_slash, Other as another}
-use Rattle.term_core.specs.declared.item.Wanted.{Wanted}
-use Rattle.term_core.specs.declared.item.Wanted.TheVariants.{Term as wants_term, Exception as wants_exception, AfterTerm, AfterPart}
-use Rattle.term_core.specs.declared.item.What.{What}
-use Rattle.term_core.specs.declared.item.What.TheVariants.{Term, Exception, And, Or, With, Open, Close, Plus, Word, Other}
+use Rattle.term_core.specs.declared.item.WantedItem.{WantedItem}
+use Rattle.term_core.specs.declared.item.WantedItem.TheVariants.{Term as wants_term, Exception as wants_exception, AfterTerm, AfterPart}
+use Rattle.term_core.specs.declared.item.ItemKind.{ItemKind}
+use Rattle.term_core.specs.declared.item.ItemKind.TheVariants.{Term, Exception, And, Or, With, Open, Close, Plus, Word, Other}
 use Rattle.term_core.specs.declared.item.Item.{Item}
-use Rattle.term_core.specs.declared.item.Marks.{Marks}
+use Rattle.term_core.specs.declared.item.LicenseMarks.{LicenseMarks}
 use Rattle.term_core.specs.declared.term.LicenseItem.{LicenseItem}
 use Rattle.term_core.specs.declared.term.LicenseItem.TheVariants.{Spdx}
 use Rattle.catalog_core.specs.Catalog.{CatalogLists, entry_of}
@@ -24,11 +24,11 @@ use Rattle.term_core.specs.Tokens.{is_white, token_of, rest_len, one_of, says_an
 abbrev pub span_at : ℕ → ℕ → Span
 span_at place len = record { start = place; end = place + len }
 
-abbrev pub item_at : What → ℕ → ℕ → Item
+abbrev pub item_at : ItemKind → ℕ → ℕ → Item
 item_at what place len = record { what = what; span = span_at place len }
 
 -- what is wanted behind an item
-abbrev pub wanted_after : Wanted → What → Wanted
+abbrev pub wanted_after : WantedItem → ItemKind → WantedItem
 wanted_after wanted (Term simple) = AfterTerm
 wanted_after wanted (Exception name) = AfterPart
 wanted_after wanted And = wants_term
@@ -41,7 +41,7 @@ wanted_after wanted Word = wanted
 wanted_after wanted Other = wanted
 
 -- an operator, or a word that is none
-abbrev pub operator_of : List ℕ → What
+abbrev pub operator_of : List ℕ → ItemKind
 operator_of word = if says_and word then And else (if says_or word then Or else (if says_with word then With else Word))
 
 abbrev pub is_operator_text : List ℕ → Bool
@@ -52,7 +52,7 @@ abbrev pub plus_behind : List ℕ → ℕ → Bool
 plus_behind text len = unwrap_or (option_map (λ b. b == byte "+") (slice_get text len)) false
 
 -- a term with a `+` or without
-abbrev pub term_of : LicenseItem → Marks → ℕ → ℕ → Item
+abbrev pub term_of : LicenseItem → LicenseMarks → ℕ → ℕ → Item
 term_of item marks place len =
     item_at (Term (record { item = item; marks = marks; name_end = place + len })) place (if marks.plus then len + 1 else len)
 
@@ -85,8 +85,8 @@ longest [] text = None
 longest (one ∷ rest) text = if begins one.0 text then longer (length one.0, one.1) (longest rest text) else longest rest text
 
 -- what a catalogue found at the start of a text: its length and the licence that is meant
-abbrev pub found_of : Imprecise → ℕ × List ℕ
-found_of found = (found.len, found.name.now)
+abbrev pub imprecise_of : Imprecise → ℕ × List ℕ
+imprecise_of found = (found.len, found.name.now)
 
 -- a word has a reading of its own: it is an operator, a reference or a licence name
 abbrev pub has_reading : CatalogLists → List ℕ → Bool
@@ -118,14 +118,14 @@ exception_item lists place word len =
     item_at (if one_of lists.exceptions word then Exception word else operator_of word) place len
 
 -- a word by what is wanted
-abbrev pub word_item : ParseMode → CatalogLists → Wanted → ℕ → List ℕ → ℕ → Item
+abbrev pub word_item : ParseMode → CatalogLists → WantedItem → ℕ → List ℕ → ℕ → Item
 word_item mode lists wants_term place text len = term_item mode lists place text len
 word_item mode lists wants_exception place text len = exception_item lists place (take len text) len
 word_item mode lists AfterTerm place text len = item_at (operator_of (take len text)) place len
 word_item mode lists AfterPart place text len = item_at (operator_of (take len text)) place len
 
 -- the item that begins with a token
-abbrev pub token_item : ParseMode → CatalogLists → Wanted → ℕ → List ℕ → ℕ → Token → Item
+abbrev pub token_item : ParseMode → CatalogLists → WantedItem → ℕ → List ℕ → ℕ → Token → Item
 token_item mode lists wanted place text len a_word = word_item mode lists wanted place text len
 token_item mode lists wanted place text len a_plus = item_at Plus place len
 token_item mode lists wanted place text len an_open = item_at Open place len
@@ -134,13 +134,13 @@ token_item mode lists wanted place text len a_slash = item_at Or place len
 token_item mode lists wanted place text len another = item_at Other place len
 
 -- the item that begins a text whose first byte is no white space
-abbrev pub first_item : ParseMode → CatalogLists → Wanted → ℕ → ℕ → List ℕ → Item
+abbrev pub first_item : ParseMode → CatalogLists → WantedItem → ℕ → ℕ → List ℕ → Item
 first_item mode lists wanted place b rest =
     let token = token_of mode.allow_slash_as_or_operator b in
     token_item mode lists wanted place (b ∷ rest) (1 + rest_len token rest) token
 
 -- the item that begins at a byte, unless it is passed over
-abbrev pub item_here : Bool → ParseMode → CatalogLists → Wanted → ℕ → ℕ → List ℕ → Option Item
+abbrev pub item_here : Bool → ParseMode → CatalogLists → WantedItem → ℕ → ℕ → List ℕ → Option Item
 item_here true mode lists wanted place b rest = None
 item_here false mode lists wanted place b rest = Some (first_item mode lists wanted place b rest)
 
@@ -148,7 +148,7 @@ abbrev pub with_item : Option Item → List Item → List Item
 with_item None items = items
 with_item (Some item) items = item ∷ items
 
-abbrev pub wanted_behind : Wanted → Option Item → Wanted
+abbrev pub wanted_behind : WantedItem → Option Item → WantedItem
 wanted_behind wanted None = wanted
 wanted_behind wanted (Some item) = wanted_after wanted item.what
 
@@ -157,7 +157,7 @@ used_behind used None = used
 used_behind used (Some item) = item.span.end
 
 -- The items of what stands from a place on. White space is passed over, and so is what the item before has used.
-abbrev pub items_from : ParseMode → CatalogLists → Wanted → ℕ → ℕ → List ℕ → List Item
+abbrev pub items_from : ParseMode → CatalogLists → WantedItem → ℕ → ℕ → List ℕ → List Item
 items_from mode lists wanted place used [] = []
 items_from mode lists wanted place used (b ∷ rest) =
     let found = item_here (nat_lt place used || is_white b) mode lists wanted place b rest in

@@ -11,9 +11,9 @@ use Rattle.deny_text.specs.declared.span.Span.{Span}
 use Rattle.term_core.specs.declared.mode.ParseMode.{ParseMode}
 use Rattle.term_core.specs.declared.item.Item.{Item}
 use Rattle.term_core.specs.declared.item.Simple.{Simple}
-use Rattle.term_core.specs.declared.item.Marks.{Marks}
-use Rattle.term_core.specs.declared.item.What.{What}
-use Rattle.term_core.specs.declared.item.What.TheVariants.{Term, Exception, And, Or, With, Open, Close, Plus, Word, Other}
+use Rattle.term_core.specs.declared.item.LicenseMarks.{LicenseMarks}
+use Rattle.term_core.specs.declared.item.ItemKind.{ItemKind}
+use Rattle.term_core.specs.declared.item.ItemKind.TheVariants.{Term, Exception, And, Or, With, Open, Close, Plus, Word, Other}
 use Rattle.term_core.specs.declared.error.ExprError.{ExprError}
 use Rattle.term_core.specs.declared.error.ExprError.TheVariants.{Parse, Memory}
 use Rattle.catalog_core.specs.Catalog.{CatalogLists}
@@ -34,7 +34,7 @@ pub printed_order_total : IsTotalOrder printed_order
 printed_order_total = on_total req_text nat_list_cmp_total
 
 -- what a licensee's text names: its `+` is ignored, so only its name says whether later versions are meant
-abbrev pub without_plus : LicenseItem → Marks → LicenseItem
+abbrev pub without_plus : LicenseItem → LicenseMarks → LicenseItem
 without_plus (Spdx name family rank later plus) marks = Spdx name family rank marks.later false
 without_plus (Reference doc id) marks = Reference doc id
 
@@ -60,24 +60,24 @@ LicenseeAnswers mode lists text (Err (Parse fault)) = licensee_fault mode lists 
 LicenseeAnswers mode lists text (Err Memory) = Unit {0}
 
 -- the exception that stands third, behind a term and `WITH`
-abbrev pub exception_of : What → Option (List ℕ)
-exception_of (Term named) = None
-exception_of (Exception name) = Some name
-exception_of And = None
-exception_of Or = None
-exception_of With = None
-exception_of Open = None
-exception_of Close = None
-exception_of Plus = None
-exception_of Word = None
-exception_of Other = None
+abbrev pub exception_name_of : ItemKind → Option (List ℕ)
+exception_name_of (Term named) = None
+exception_name_of (Exception name) = Some name
+exception_name_of And = None
+exception_name_of Or = None
+exception_name_of With = None
+exception_name_of Open = None
+exception_name_of Close = None
+exception_name_of Plus = None
+exception_name_of Word = None
+exception_name_of Other = None
 
 abbrev pub second_exception : List Item → Option (List ℕ)
 second_exception [] = None
 second_exception (first ∷ []) = None
-second_exception (first ∷ second ∷ rest) = exception_of second.what
+second_exception (first ∷ second ∷ rest) = exception_name_of second.what
 
-abbrev pub named_of : What → Option (List ℕ) → Option LicenseReq
+abbrev pub named_of : ItemKind → Option (List ℕ) → Option LicenseReq
 named_of (Term named) exception = Some (licensee_req named exception)
 named_of (Exception name) exception = None
 named_of And exception = None

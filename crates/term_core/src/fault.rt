@@ -2,20 +2,20 @@
 ghost use Rattle.std.specs.Prelude.{◌≡◌, Some};
 ghost use Rattle.term_core.specs.Faults.{takes_term, takes_exception, takes_operator, takes_with};
 ghost use Rattle.term_core.specs.Faults.{word_reason, fault as fault_between, unless as unless_fine};
-ghost use Rattle.term_core.specs.Faults.{mark_fault as mark_fault_of, fault_at, end_fault as end_fault_at};
+ghost use Rattle.term_core.specs.Faults.{mark_fault as mark_fault_of, item_fault, end_fault as end_fault_at};
 
 use crate::error::{ParseError, ParseReason};
-use crate::item::{Item, Simple, Wanted, What};
+use crate::item::{Item, Simple, WantedItem, ItemKind};
 use crate::mode::ParseMode;
 use deny_text::Span;
 
-impl Wanted {
+impl WantedItem {
     fn is_term(self) -> bool
         ensures { result ≡ takes_term self }
     {
         match self {
-            Wanted::Term => true,
-            Wanted::Exception | Wanted::AfterTerm | Wanted::AfterPart => false,
+            WantedItem::Term => true,
+            WantedItem::Exception | WantedItem::AfterTerm | WantedItem::AfterPart => false,
         }
     }
 
@@ -23,8 +23,8 @@ impl Wanted {
         ensures { result ≡ takes_exception self }
     {
         match self {
-            Wanted::Exception => true,
-            Wanted::Term | Wanted::AfterTerm | Wanted::AfterPart => false,
+            WantedItem::Exception => true,
+            WantedItem::Term | WantedItem::AfterTerm | WantedItem::AfterPart => false,
         }
     }
 
@@ -32,8 +32,8 @@ impl Wanted {
         ensures { result ≡ takes_operator self }
     {
         match self {
-            Wanted::AfterTerm | Wanted::AfterPart => true,
-            Wanted::Term | Wanted::Exception => false,
+            WantedItem::AfterTerm | WantedItem::AfterPart => true,
+            WantedItem::Term | WantedItem::Exception => false,
         }
     }
 
@@ -41,8 +41,8 @@ impl Wanted {
         ensures { result ≡ takes_with self }
     {
         match self {
-            Wanted::AfterTerm => true,
-            Wanted::Term | Wanted::Exception | Wanted::AfterPart => false,
+            WantedItem::AfterTerm => true,
+            WantedItem::Term | WantedItem::Exception | WantedItem::AfterPart => false,
         }
     }
 
@@ -51,9 +51,9 @@ impl Wanted {
         ensures { result ≡ word_reason self }
     {
         match self {
-            Wanted::Term => ParseReason::UnknownTerm,
-            Wanted::Exception => ParseReason::UnknownException,
-            Wanted::AfterTerm | Wanted::AfterPart => ParseReason::Unexpected,
+            WantedItem::Term => ParseReason::UnknownTerm,
+            WantedItem::Exception => ParseReason::UnknownException,
+            WantedItem::AfterTerm | WantedItem::AfterPart => ParseReason::Unexpected,
         }
     }
 }
@@ -89,27 +89,27 @@ fn mark_fault(simple: &Simple, mode: ParseMode, span: Span) -> Option<ParseError
 }
 
 /// What is wrong with an item, by what is wanted and by whether a parenthesis is open.
-pub fn item_fault(item: &Item, mode: ParseMode, wanted: Wanted, is_open: bool) -> Option<ParseError>
-    ensures { result ≡ fault_at mode wanted is_open item.now.what item.now.span }
+pub fn item_fault(item: &Item, mode: ParseMode, wanted: WantedItem, is_open: bool) -> Option<ParseError>
+    ensures { result ≡ item_fault mode wanted is_open item.now.what item.now.span }
 {
     let span = item.span;
     match &item.what {
-        What::Term(simple) if wanted.is_term() => mark_fault(simple, mode, span),
-        What::Term(_) => unless(false, ParseReason::Unexpected, span),
-        What::Exception(_) => unless(wanted.is_exception(), ParseReason::Unexpected, span),
-        What::And | What::Or => unless(wanted.is_operator(), ParseReason::Unexpected, span),
-        What::With => unless(wanted.is_with(), ParseReason::Unexpected, span),
-        What::Open => unless(wanted.is_term(), ParseReason::Unexpected, span),
-        What::Close if is_open => unless(wanted.is_operator(), ParseReason::Unexpected, span),
-        What::Close => unless(false, ParseReason::UnopenedParens, span),
-        What::Plus => unless(false, ParseReason::SeparatedPlus, span),
-        What::Word => unless(false, wanted.reason(), span),
-        What::Other => unless(false, ParseReason::InvalidCharacters, span),
+        ItemKind::Term(simple) if wanted.is_term() => mark_fault(simple, mode, span),
+        ItemKind::Term(_) => unless(false, ParseReason::Unexpected, span),
+        ItemKind::Exception(_) => unless(wanted.is_exception(), ParseReason::Unexpected, span),
+        ItemKind::And | ItemKind::Or => unless(wanted.is_operator(), ParseReason::Unexpected, span),
+        ItemKind::With => unless(wanted.is_with(), ParseReason::Unexpected, span),
+        ItemKind::Open => unless(wanted.is_term(), ParseReason::Unexpected, span),
+        ItemKind::Close if is_open => unless(wanted.is_operator(), ParseReason::Unexpected, span),
+        ItemKind::Close => unless(false, ParseReason::UnopenedParens, span),
+        ItemKind::Plus => unless(false, ParseReason::SeparatedPlus, span),
+        ItemKind::Word => unless(false, wanted.reason(), span),
+        ItemKind::Other => unless(false, ParseReason::InvalidCharacters, span),
     }
 }
 
 /// What is wrong at the end of a text of so many bytes, by the last open parenthesis.
-pub fn end_fault(len: usize, wanted: Wanted, opened: Option<Span>) -> Option<ParseError>
+pub fn end_fault(len: usize, wanted: WantedItem, opened: Option<Span>) -> Option<ParseError>
     ensures { result ≡ end_fault_at len wanted opened }
 {
     if !wanted.is_operator() {

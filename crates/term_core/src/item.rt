@@ -6,7 +6,7 @@ use deny_text::{Span, Text};
 
 /// What the catalogue and the text say of a licence beyond its name. A reference has none of these marks.
 #[derive(Clone, Copy, Debug, PartialEq, Eq)]
-pub struct Marks {
+pub struct LicenseMarks {
     /// The name means this version or any later one.
     pub later: bool,
     /// The name is no longer to be used in expressions.
@@ -21,14 +21,14 @@ pub struct Marks {
 #[derive(Drop)]
 pub struct Simple {
     pub item: LicenseItem,
-    pub marks: Marks,
+    pub marks: LicenseMarks,
     /// The place behind its name, before a `+`.
     pub name_end: usize,
 }
 
 /// What stands at a place of an expression.
 #[derive(Drop)]
-pub enum What {
+pub enum ItemKind {
     Term(Simple),
     /// The name of an exception, where one is wanted.
     Exception(Text),
@@ -49,13 +49,13 @@ pub enum What {
 /// What stands at a place of an expression, and where.
 #[derive(Drop)]
 pub struct Item {
-    pub what: What,
+    pub what: ItemKind,
     pub span: Span,
 }
 
 /// What may stand at a place, by what stands before it.
 #[derive(Clone, Copy, Debug, PartialEq, Eq)]
-pub enum Wanted {
+pub enum WantedItem {
     Term,
     Exception,
     /// An operator or `)`, behind a term without an exception.

@@ -5,13 +5,13 @@ ghost use Rattle.std.specs.Str.{IsCharBoundary};
 ghost use Rattle.term_core.specs.Tokens.{one_of};
 ghost use Rattle.term_core.specs.Items.{wanted_after, operator_of, is_operator_text, plus_behind};
 ghost use Rattle.term_core.specs.Items.{term_of as term_at, item_at, licence_of, licence_at, reference_at};
-ghost use Rattle.term_core.specs.Items.{has_reading as word_has_reading, imprecise_if, longest, found_of};
+ghost use Rattle.term_core.specs.Items.{has_reading as word_has_reading, imprecise_if, longest, imprecise_of};
 ghost use Rattle.term_core.specs.Items.{term_item as term_item_at, plain_item as plain_item_at};
 ghost use Rattle.term_core.specs.Items.{exception_item as exception_item_at, word_item as word_item_at};
 ghost use Rattle.term_core.specs.Items.{first_item as first_item_of, items_of};
 ghost use Rattle.term_core.specs.NextItem.{IsNext};
 
-use crate::item::{Item, Marks, Simple, Token, Wanted, What};
+use crate::item::{Item, LicenseMarks, Simple, Token, WantedItem, ItemKind};
 use crate::mode::ParseMode;
 use crate::term::LicenseItem;
 use crate::words;
@@ -20,33 +20,33 @@ use deny_text::text::copied;
 use deny_text::{ListOf, Span, Text};
 use std::alloc::{AllocError, Global};
 
-impl Wanted {
+impl WantedItem {
     /// What is wanted behind an item.
-    pub fn after(self, what: &What) -> Wanted
+    pub fn after(self, what: &ItemKind) -> WantedItem
         ensures { result ≡ wanted_after self what.now }
     {
         match what {
-            What::Term(_) => Wanted::AfterTerm,
-            What::Exception(_) | What::Close => Wanted::AfterPart,
-            What::And | What::Or | What::Open => Wanted::Term,
-            What::With => Wanted::Exception,
-            What::Plus | What::Word | What::Other => self,
+            ItemKind::Term(_) => WantedItem::AfterTerm,
+            ItemKind::Exception(_) | ItemKind::Close => WantedItem::AfterPart,
+            ItemKind::And | ItemKind::Or | ItemKind::Open => WantedItem::Term,
+            ItemKind::With => WantedItem::Exception,
+            ItemKind::Plus | ItemKind::Word | ItemKind::Other => self,
         }
     }
 }
 
 /// An operator, or a word that is none.
-fn operator(word: &str) -> What
+fn operator(word: &str) -> ItemKind
     ensures { result ≡ operator_of word.now }
 {
     if words::says_and(word) {
-        What::And
+        ItemKind::And
     } else if words::says_or(word) {
-        What::Or
+        ItemKind::Or
     } else if words::says_with(word) {
-        What::With
+        ItemKind::With
     } else {
-        What::Word
+        ItemKind::Word
     }
 }
 
@@ -60,7 +60,7 @@ fn has_plus(text: &str, len: usize) -> bool
     }
 }
 
-fn item(what: What, place: usize, len: usize) -> Item
+fn item(what: ItemKind, place: usize, len: usize) -> Item
     requires { place + len < 2 ^ 64 }
     ensures { result ≡ item_at what place len }
 {
@@ -74,7 +74,7 @@ fn item(what: What, place: usize, len: usize) -> Item
 }
 
 /// A term whose name takes so many bytes, with its `+`.
-fn term(item: LicenseItem, marks: Marks, place: usize, len: usize) -> Item
+fn term(item: LicenseItem, marks: LicenseMarks, place: usize, len: usize) -> Item
     requires { place + len + 1 < 2 ^ 64 }
     ensures { result ≡ term_at item marks place len }
 {
@@ -86,7 +86,7 @@ fn term(item: LicenseItem, marks: Marks, place: usize, len: usize) -> Item
         name_end,
     };
     Item {
-        what: What::Term(simple),
+        what: ItemKind::Term(simple),
         span: Span { start: place, end },
     }
 }
@@ -103,7 +103,7 @@ fn licence(name: Text, entry: LicenseEntry, plus: bool, place: usize, len: usize
         later: plus || entry.later,
         plus,
     };
-    let marks = Marks {
+    let marks = LicenseMarks {
         later: entry.later,
         deprecated: entry.deprecated,
         gnu: entry.gnu,
@@ -148,7 +148,7 @@ fn find_reference(
         Some(parts) => {
             let doc = copied(alloc, parts.doc)?;
             let id = Text::copy(alloc, parts.id)?;
-            let marks = Marks {
+            let marks = LicenseMarks {
                 later: false,
                 deprecated: false,
                 gnu: false,
@@ -172,7 +172,7 @@ fn has_reading<C: Catalog>(word: &str, catalog: &C) -> bool
 
 /// The longest imprecise text that begins a text.
 fn longest_imprecise<'c, C: Catalog>(text: &str, catalog: &'c C) -> Option<Imprecise<'c>>
-    ensures found { option_map found_of result ≡ longest (C.lists catalog.now).imprecise text.now }
+    ensures found { option_map imprecise_of result ≡ longest (C.lists catalog.now).imprecise text.now }
     ensures within { IfSome result (λ found. found.len ≤ length text.now) }
 {
     catalog.imprecise(text)
@@ -266,7 +266,7 @@ fn exception_item<C: Catalog>(
         item ≡ exception_item_at (C.lists catalog.now) place word.now (length word.now)) }
 {
     let what = if is_exception(word, catalog) {
-        What::Exception(Text::copy(alloc, word)?)
+        ItemKind::Exception(Text::copy(alloc, word)?)
     } else {
         operator(word)
     };
@@ -276,7 +276,7 @@ fn exception_item<C: Catalog>(
 /// A word at the start of a text, by what is wanted.
 fn word_item<C: Catalog>(
     alloc: Global,
-    wanted: Wanted,
+    wanted: WantedItem,
     place: usize,
     text: &str,
     len: usize,
@@ -288,9 +288,9 @@ fn word_item<C: Catalog>(
     ensures { IfOk result (λ item. item ≡ word_item_at mode (C.lists catalog.now) wanted place text.now len) }
 {
     match wanted {
-        Wanted::Term => term_item(alloc, place, text, len, mode, catalog),
-        Wanted::Exception => exception_item(alloc, place, text.split_at(len).0, catalog),
-        Wanted::AfterTerm | Wanted::AfterPart => {
+        WantedItem::Term => term_item(alloc, place, text, len, mode, catalog),
+        WantedItem::Exception => exception_item(alloc, place, text.split_at(len).0, catalog),
+        WantedItem::AfterTerm | WantedItem::AfterPart => {
             Ok(item(operator(text.split_at(len).0), place, len))
         }
     }
@@ -299,7 +299,7 @@ fn word_item<C: Catalog>(
 /// The item at the start of a text whose first byte is no white space.
 fn first_item<C: Catalog>(
     alloc: Global,
-    wanted: Wanted,
+    wanted: WantedItem,
     place: usize,
     text: &str,
     first: u8,
@@ -315,11 +315,11 @@ fn first_item<C: Catalog>(
     let len = 1 + token.rest_len(text.as_bytes().split_at(1).1);
     let what = match token {
         Token::Word => return word_item(alloc, wanted, place, text, len, mode, catalog),
-        Token::Plus => What::Plus,
-        Token::Open => What::Open,
-        Token::Close => What::Close,
-        Token::Slash => What::Or,
-        Token::Other => What::Other,
+        Token::Plus => ItemKind::Plus,
+        Token::Open => ItemKind::Open,
+        Token::Close => ItemKind::Close,
+        Token::Slash => ItemKind::Or,
+        Token::Other => ItemKind::Other,
     };
     Ok(item(what, place, len))
 }
@@ -330,7 +330,7 @@ pub fn next_item<C: Catalog>(
     alloc: Global,
     text: &str,
     place: usize,
-    wanted: Wanted,
+    wanted: WantedItem,
     mode: ParseMode,
     catalog: &C,
 ) -> Result<Option<Item>, AllocError>
@@ -373,7 +373,7 @@ pub fn item_vec<C: Catalog>(
     ensures { IfOk result (λ items. items.items ≡ items_of mode (C.lists catalog.now) text.now) }
 {
     let mut items = Vec::new(alloc);
-    let mut wanted = Wanted::Term;
+    let mut wanted = WantedItem::Term;
     let mut place = 0;
     'items: while let Some(found) = next_item(alloc, text, place, wanted, mode, catalog)? {
         wanted = wanted.after(&found.what);

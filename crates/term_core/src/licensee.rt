@@ -7,13 +7,13 @@ ghost use Rattle.std.specs.Cmp.Rules.{comparing};
 ghost use Rattle.term_core.specs.Terms.{req_text};
 ghost use Rattle.term_core.specs.Satisfaction.{Satisfies};
 ghost use Rattle.term_core.specs.Licensee.{HasNoPlus, printed_order, printed_order_total, without_plus};
-ghost use Rattle.term_core.specs.Licensee.{exception_of, part_of, LicenseeAnswers};
+ghost use Rattle.term_core.specs.Licensee.{exception_name_of, part_of, LicenseeAnswers};
 ghost use Rattle.term_core.specs.Faults.{lone_fault as lone_fault_at, licensee_fault_from, licensee_fault_of};
 ghost use Rattle.std.specs.Option.{option_and_then};
 
 use crate::error::{ExprError, ParseError, ParseReason};
 use crate::fault::{empty_fault, end_fault, item_fault};
-use crate::item::{Item, Marks, Wanted, What};
+use crate::item::{Item, LicenseMarks, WantedItem, ItemKind};
 use crate::items::item_vec;
 use crate::mode::ParseMode;
 use crate::term::{LicenseItem, LicenseReq};
@@ -98,11 +98,11 @@ impl Licensee {
 }
 
 /// What is wrong with an item of a licensee's text.
-fn lone_fault(item: &Item, mode: ParseMode, wanted: Wanted) -> Option<ParseError>
+fn lone_fault(item: &Item, mode: ParseMode, wanted: WantedItem) -> Option<ParseError>
     ensures { result ≡ lone_fault_at mode wanted item.now.what item.now.span }
 {
     match item.what {
-        What::And | What::Or | What::Open => Some(ParseError {
+        ItemKind::And | ItemKind::Or | ItemKind::Open => Some(ParseError {
             reason: ParseReason::Unexpected,
             span: item.span,
         }),
@@ -111,7 +111,7 @@ fn lone_fault(item: &Item, mode: ParseMode, wanted: Wanted) -> Option<ParseError
 }
 
 /// The first fault from an item on. Behind three items there is one, so it goes no deeper.
-fn fault_from(items: &[Item], mode: ParseMode, len: usize, wanted: Wanted) -> Option<ParseError>
+fn fault_from(items: &[Item], mode: ParseMode, len: usize, wanted: WantedItem) -> Option<ParseError>
     ensures { result ≡ licensee_fault_from mode len wanted items.now }
 {
     match items.split_first() {
@@ -129,12 +129,12 @@ fn first_fault(items: &[Item], mode: ParseMode, len: usize) -> Option<ParseError
     if items.is_empty() {
         Some(empty_fault(len))
     } else {
-        fault_from(items, mode, len, Wanted::Term)
+        fault_from(items, mode, len, WantedItem::Term)
     }
 }
 
 /// The item of a term, with what its name alone says of later versions.
-fn ignoring_plus(item: LicenseItem, marks: Marks) -> LicenseItem
+fn ignoring_plus(item: LicenseItem, marks: LicenseMarks) -> LicenseItem
     ensures { result ≡ without_plus item marks }
 {
     match item {
@@ -156,10 +156,10 @@ fn ignoring_plus(item: LicenseItem, marks: Marks) -> LicenseItem
 
 /// The name of an exception.
 pub(crate) fn exception_name(item: Option<Item>) -> Option<Text>
-    ensures { result ≡ option_and_then (λ found. exception_of found.what) item }
+    ensures { result ≡ option_and_then (λ found. exception_name_of found.what) item }
 {
     match item?.what {
-        What::Exception(name) => Some(name),
+        ItemKind::Exception(name) => Some(name),
         _ => None,
     }
 }
@@ -173,7 +173,7 @@ fn part(items: Vec<Item>) -> Option<LicenseReq>
     let _with = rest.next();
     let exception = exception_name(rest.next());
     match first.what {
-        What::Term(named) => Some(LicenseReq {
+        ItemKind::Term(named) => Some(LicenseReq {
             item: ignoring_plus(named.item, named.marks),
             exception,
         }),

@@ -2,17 +2,17 @@
 //! are made in their order, and the same lines are told with what was seen. Paths alone have escapes.
 use case_files::cases::wanted;
 use case_files::escapes::unescaped;
-use case_files::told::Unread;
-use case_files::{Case, Shown};
+use case_files::told::UnreadLine;
+use case_files::{Case, AnswerText};
 use std::alloc::{AllocError, Global};
 use std::fmt::Display;
 
 /// Whether there was memory for something.
-pub type Made = Result<(), AllocError>;
+pub type MemoryResult = Result<(), AllocError>;
 
 /// A call: a word, and one or two more behind it.
 #[derive(Clone, Copy)]
-pub struct Call<'l> {
+pub struct CallWords<'l> {
     pub verb: &'l str,
     pub path: &'l str,
     pub text: &'l str,
@@ -21,7 +21,7 @@ pub struct Call<'l> {
 /// What calls are made to.
 pub trait Called {
     /// Puts an arrow and what a call answers, or nothing where nothing is to be told.
-    fn put_answer(&mut self, out: &mut Shown, alloc: Global, call: Call<'_>) -> Made;
+    fn put_answer(&mut self, out: &mut AnswerText, alloc: Global, call: CallWords<'_>) -> MemoryResult;
 }
 
 /// A word, of which `''` has no letter.
@@ -30,7 +30,7 @@ pub fn letters_of(word: &str) -> &str {
 }
 
 /// Puts a value that was made.
-pub fn put_made<D: Display + Drop>(out: &mut Shown, made: Result<D, AllocError>) {
+pub fn put_made<D: Display + Drop>(out: &mut AnswerText, made: Result<D, AllocError>) {
     match made {
         Ok(value) => write!(out, "{value}"),
         Err(_) => out.want_memory(),
@@ -41,22 +41,22 @@ pub fn number_in(text: &str) -> usize {
     text.parse::<usize>().unwrap_or(0)
 }
 
-fn put_call<C: Called>(out: &mut Shown, alloc: Global, line: &str, called: &mut C) -> Made {
+fn put_call<C: Called>(out: &mut AnswerText, alloc: Global, line: &str, called: &mut C) -> MemoryResult {
     let (verb, rest) = line.split_once(' ').unwrap_or((line, ""));
     let (path, text) = rest.split_once(' ').unwrap_or((rest, ""));
     let text = letters_of(text);
     match &unescaped(alloc, letters_of(path)) {
         Ok(path) => {
             let path = path.as_str();
-            called.put_answer(out, alloc, Call { verb, path, text })
+            called.put_answer(out, alloc, CallWords { verb, path, text })
         }
-        Err(Unread::Line(what)) => Ok(write!(out, " => {what}")),
-        Err(Unread::Memory) => Err(AllocError),
+        Err(UnreadLine::Line(what)) => Ok(write!(out, " => {what}")),
+        Err(UnreadLine::Memory) => Err(AllocError),
     }
 }
 
 /// Puts lines, each with what its call answers.
-pub fn put_answered<C: Called>(out: &mut Shown, alloc: Global, lines: &str, called: &mut C) {
+pub fn put_answered<C: Called>(out: &mut AnswerText, alloc: Global, lines: &str, called: &mut C) {
     for line in lines.lines() {
         let (line, _) = line.split_once(" => ").unwrap_or((line, ""));
         out.put(line);

@@ -1,7 +1,7 @@
 //! Codes and levels of findings, what overrides make of them, and keys that are no longer wanted.
-use crate::calls::{Made, number_in, put_made};
+use crate::calls::{MemoryResult, number_in, put_made};
 use crate::paths::{pair_of, put_option};
-use case_files::Shown;
+use case_files::AnswerText;
 use deny_text::{PathBuf, Span, Text};
 use diag_core::{
     AddError, Check, CodeMap, Deprecated, DeprecationReason, Diag, Diagnostic, DiagnosticCode,
@@ -27,7 +27,7 @@ fn code_named(name: &str) -> Option<DiagnosticCode> {
 }
 
 /// Puts the place of the code of that name, counted from 1, or else the code at that place and what it says.
-fn put_code(out: &mut Shown, text: &str) {
+fn put_code(out: &mut AnswerText, text: &str) {
     let named = code_named(text);
     let mut place: usize = 0;
     for code in DiagnosticCode::iter() {
@@ -66,7 +66,7 @@ fn deprecated(alloc: Global, name: &str) -> Result<Diagnostic, AllocError> {
 }
 
 /// Takes a word that overrides: `CODE=LEVEL`, or `LEVEL>LEVEL`.
-fn take(alloc: Global, overrides: &mut DiagnosticOverrides, word: &str) -> Made {
+fn take(alloc: Global, overrides: &mut DiagnosticOverrides, word: &str) -> MemoryResult {
     if let Some((name, level)) = word.split_once('=') {
         let name = Text::copy(alloc, name)?;
         let _ = overrides
@@ -120,7 +120,7 @@ fn sink_of(alloc: Global, words: &str, findings: &str) -> Result<ErrorSink, Allo
 }
 
 /// Puts how many packs a sink has, and each finding's level.
-fn put_levels(out: &mut Shown, sink: &ErrorSink) {
+fn put_levels(out: &mut AnswerText, sink: &ErrorSink) {
     write!(out, "{}:", sink.packs.items().len());
     for pack in sink.packs.items() {
         for finding in pack.iter() {
@@ -129,7 +129,7 @@ fn put_levels(out: &mut Shown, sink: &ErrorSink) {
     }
 }
 
-fn put_packs(out: &mut Shown, alloc: Global, words: &str, findings: &str) {
+fn put_packs(out: &mut AnswerText, alloc: Global, words: &str, findings: &str) {
     match &sink_of(alloc, words, findings) {
         Ok(sink) => put_levels(out, sink),
         Err(_) => out.want_memory(),
@@ -137,7 +137,7 @@ fn put_packs(out: &mut Shown, alloc: Global, words: &str, findings: &str) {
 }
 
 /// Puts the level that overrides give to a code and a level.
-fn put_level(out: &mut Shown, alloc: Global, words: &str, finding: &str) {
+fn put_level(out: &mut AnswerText, alloc: Global, words: &str, finding: &str) {
     let (name, level) = finding.split_once(' ').unwrap_or((finding, ""));
     match &overrides_of(alloc, words) {
         Ok(overrides) => write!(out, "{:?}", overrides.get(name, severity_named(level))),
@@ -146,7 +146,7 @@ fn put_level(out: &mut Shown, alloc: Global, words: &str, finding: &str) {
 }
 
 /// Puts the level or the code of the finding on a deprecated key.
-fn put_deprecated(out: &mut Shown, alloc: Global, name: &str, is_level: bool) {
+fn put_deprecated(out: &mut AnswerText, alloc: Global, name: &str, is_level: bool) {
     match &deprecated(alloc, name) {
         Ok(finding) if is_level => write!(out, "{:?}", finding.severity),
         Ok(finding) => match &finding.code {
@@ -167,7 +167,7 @@ fn tree_error_named(name: &str) -> TreeError {
 }
 
 /// Adds a file with the first text, and gives it the second one later, where that has letters.
-fn put_file(alloc: Global, files: &mut Files, first: &str, second: &str) -> Made {
+fn put_file(alloc: Global, files: &mut Files, first: &str, second: &str) -> MemoryResult {
     let name = Text::copy(alloc, "named")?;
     files.add_unnamed(name, Text::copy(alloc, first)?)?;
     if !second.is_empty() {
@@ -187,7 +187,7 @@ fn files_of(alloc: Global, text: &str) -> Result<Files, AllocError> {
 }
 
 /// Puts what a file says of the byte or the line of that number, or else its name and its text.
-fn put_place(out: &mut Shown, group: &str, files: &Files, number: usize) {
+fn put_place(out: &mut AnswerText, group: &str, files: &Files, number: usize) {
     match group {
         "line and column" => match files.location(0, number) {
             Ok(place) => write!(out, "{}:{}", place.line, place.column),
@@ -205,7 +205,7 @@ fn put_place(out: &mut Shown, group: &str, files: &Files, number: usize) {
 }
 
 /// Puts what a file says that stands as `NUMBER in TEXT`, or as its text alone.
-fn put_in_file(out: &mut Shown, alloc: Global, group: &str, text: &str) {
+fn put_in_file(out: &mut AnswerText, alloc: Global, group: &str, text: &str) {
     let (number, source) = text.split_once(" in").unwrap_or(("1", text));
     match &files_of(alloc, source.trim_start()) {
         Ok(files) => put_place(out, group, files, number_in(number)),
@@ -224,7 +224,7 @@ fn add(alloc: Global, files: &mut Files, word: &str) -> Result<FileId, AddError>
 }
 
 /// Adds the files of some words, puts what was not added, and returns them.
-fn added(out: &mut Shown, alloc: Global, words: &str) -> Files {
+fn added(out: &mut AnswerText, alloc: Global, words: &str) -> Files {
     let mut files = Files::new(alloc);
     for word in words.split(' ') {
         match &add(alloc, &mut files, word) {
@@ -237,7 +237,7 @@ fn added(out: &mut Shown, alloc: Global, words: &str) -> Files {
 }
 
 /// Adds the files of some words, and puts the text of that with the path behind a bar, where one is looked for.
-fn put_added(out: &mut Shown, alloc: Global, text: &str, is_sought: bool) {
+fn put_added(out: &mut AnswerText, alloc: Global, text: &str, is_sought: bool) {
     let (words, path) = pair_of(text);
     let files = added(out, alloc, words);
     if is_sought {
@@ -245,7 +245,7 @@ fn put_added(out: &mut Shown, alloc: Global, text: &str, is_sought: bool) {
     }
 }
 
-fn put_qualified(out: &mut Shown, alloc: Global, name: &str) {
+fn put_qualified(out: &mut AnswerText, alloc: Global, name: &str) {
     match code_named(name) {
         Some(code) => put_made(out, code.qualified_str(alloc)),
         None => out.put("none"),
@@ -253,7 +253,7 @@ fn put_qualified(out: &mut Shown, alloc: Global, name: &str) {
 }
 
 /// Puts what a text comes to in a group of codes and levels, and returns whether there is such a group.
-fn put_of_codes(out: &mut Shown, alloc: Global, group: &str, text: &str) -> bool {
+fn put_of_codes(out: &mut AnswerText, alloc: Global, group: &str, text: &str) -> bool {
     let (one, other) = pair_of(text);
     match group {
         "codes in their order" | "place of a code" => put_code(out, text),
@@ -272,7 +272,7 @@ fn put_of_codes(out: &mut Shown, alloc: Global, group: &str, text: &str) -> bool
 }
 
 /// Puts what a text comes to in a group, and returns whether there is such a group.
-pub fn put(out: &mut Shown, alloc: Global, group: &str, text: &str) -> bool {
+pub fn put(out: &mut AnswerText, alloc: Global, group: &str, text: &str) -> bool {
     let (one, other) = pair_of(text);
     match group {
         "why a key is deprecated" => write!(out, "{}", reason_named(text)),

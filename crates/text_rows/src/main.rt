@@ -9,7 +9,7 @@ mod printing;
 mod trees;
 mod words;
 
-use case_files::{Answered, Case, Cases, Rows, Shown, compare_cases, compare_rows, exit_code};
+use case_files::{KeyAnswer, Case, Cases, Rows, AnswerText, compare_cases, compare_rows, exit_code};
 use printing::Printing;
 use std::alloc::Global;
 use std::process::ExitCode;
@@ -23,7 +23,7 @@ enum Subject {
 }
 
 impl Rows for Subject {
-    fn answer(&self, alloc: Global, group: &str, text: &str, out: &mut Shown) -> bool {
+    fn answer(&self, alloc: Global, group: &str, text: &str, out: &mut AnswerText) -> bool {
         match self {
             Subject::Paths => paths::put(out, alloc, group, text),
             Subject::Findings => findings::put(out, alloc, group, text),
@@ -40,11 +40,11 @@ impl Cases for Help {
         key == "words"
     }
 
-    fn told(&self, alloc: Global, case: &Case<'_>, key: &str, out: &mut Shown) -> Answered {
+    fn told(&self, alloc: Global, case: &Case<'_>, key: &str, out: &mut AnswerText) -> KeyAnswer {
         if Subject::Words.answer(alloc, key, case.word("words"), out) {
-            Answered::Yes
+            KeyAnswer::Yes
         } else {
-            Answered::NoSuchKey
+            KeyAnswer::NoSuchKey
         }
     }
 }

@@ -1,6 +1,6 @@
 //! Paths, the folders above them, home folders, texts in normal form, and hashes.
 use crate::calls::{number_in, put_made};
-use case_files::Shown;
+use case_files::AnswerText;
 use deny_text::ancestors::ancestors;
 use deny_text::hash::hash;
 use deny_text::home::{cargo_home, home};
@@ -16,21 +16,21 @@ pub fn pair_of(text: &str) -> (&str, &str) {
 }
 
 /// Puts a text in quotes, or `none`.
-pub fn put_option(out: &mut Shown, text: Option<&str>) {
+pub fn put_option(out: &mut AnswerText, text: Option<&str>) {
     match text {
         Some(text) => write!(out, "{text:?}"),
         None => out.put("none"),
     }
 }
 
-fn put_parts(out: &mut Shown, path: &str) {
+fn put_parts(out: &mut AnswerText, path: &str) {
     for part in components(path) {
         write!(out, "{part:?}; ");
     }
     out.put("end");
 }
 
-fn put_ancestors(out: &mut Shown, path: &str) {
+fn put_ancestors(out: &mut AnswerText, path: &str) {
     for path in ancestors(path) {
         write!(out, "{path:?}; ");
     }
@@ -66,7 +66,7 @@ fn environment(alloc: Global, words: &str) -> Result<HomeEnv, AllocError> {
     Ok(HomeEnv { home, cargo_home })
 }
 
-fn put_home(out: &mut Shown, alloc: Global, group: &str, words: &str) {
+fn put_home(out: &mut AnswerText, alloc: Global, group: &str, words: &str) {
     match folder(alloc, group, words) {
         Ok(path) => write!(out, "{path}"),
         Err(error) => write!(out, "{error}"),
@@ -82,7 +82,7 @@ fn folder(alloc: Global, group: &str, words: &str) -> Result<PathBuf, HomeError>
     }
 }
 
-fn put_sample(out: &mut Shown, alloc: Global, length: usize) {
+fn put_sample(out: &mut AnswerText, alloc: Global, length: usize) {
     match &sample(alloc, length) {
         Ok(bytes) => write!(out, "{:08x}", hash(bytes)),
         Err(_) => out.want_memory(),
@@ -90,7 +90,7 @@ fn put_sample(out: &mut Shown, alloc: Global, length: usize) {
 }
 
 /// Puts what a text comes to in a group, and returns whether there is such a group.
-pub fn put(out: &mut Shown, alloc: Global, group: &str, text: &str) -> bool {
+pub fn put(out: &mut AnswerText, alloc: Global, group: &str, text: &str) -> bool {
     let (one, other) = pair_of(text);
     match group {
         "join" => put_made(out, join(alloc, one, other)),

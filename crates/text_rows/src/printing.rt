@@ -4,11 +4,11 @@ ghost use Rattle.tree_core.specs.Faults.{Gained};
 ghost use Rattle.print_core.specs.Places.{LabelsAreInside};
 ghost use Rattle.print_core.specs.Printed.{printed_at};
 
-use crate::calls::{Call, Called, Made, lines_of, number_in, put_answered};
+use crate::calls::{CallWords, Called, MemoryResult, lines_of, number_in, put_answered};
 use crate::findings::severity_named;
 use case_files::cases::{is_among, wanted};
 use case_files::tree::number;
-use case_files::{Answered, Case, Cases, Entry, Shown};
+use case_files::{KeyAnswer, Case, Cases, CaseEntry, AnswerText};
 use deny_text::{PathBuf, Span, Text};
 use diag_core::{
     AddError, Check, Coord, Diag, Diagnostic, Files, Label, LevelFilter, Pack, Severity,
@@ -29,12 +29,12 @@ const GIVEN: [&str; 10] = [
 pub struct Printing;
 
 /// The text below a key.
-fn text_of(entry: &Entry) -> &str {
+fn text_of(entry: &CaseEntry) -> &str {
     str::from_utf8(&entry.text).unwrap_or("no UTF-8")
 }
 
 /// A label in a file, which stands by its number before the bytes; `place` is a place that becomes a label.
-fn label_of(alloc: Global, entry: &Entry) -> Result<Label, AllocError> {
+fn label_of(alloc: Global, entry: &CaseEntry) -> Result<Label, AllocError> {
     let (style, place) = entry.word.as_str().split_once(' ').unwrap_or(("", ""));
     let (file, span) = place.split_once(' ').unwrap_or((place, ""));
     let (file, span) = (number_in(file), span_of(span));
@@ -54,7 +54,7 @@ fn span_of(word: &str) -> Span {
 }
 
 /// A finding with what an entry adds to it.
-fn with_entry(alloc: Global, finding: Diagnostic, entry: &Entry) -> Result<Diagnostic, AllocError> {
+fn with_entry(alloc: Global, finding: Diagnostic, entry: &CaseEntry) -> Result<Diagnostic, AllocError> {
     match entry.key.as_str() {
         "code" => finding.with_code(wanted(entry)),
         "message" => finding.with_message(wanted(entry)),
@@ -65,7 +65,7 @@ fn with_entry(alloc: Global, finding: Diagnostic, entry: &Entry) -> Result<Diagn
 }
 
 /// Takes a finding, or what the last one has.
-fn take(alloc: Global, findings: &mut Vec<Diagnostic>, entry: &Entry) -> Made {
+fn take(alloc: Global, findings: &mut Vec<Diagnostic>, entry: &CaseEntry) -> MemoryResult {
     if entry.key.as_str() == "finding" {
         let severity = severity_named(entry.word.as_str());
         return Ok(findings.push(Diagnostic::new(alloc, severity))?);
@@ -104,7 +104,7 @@ fn pack_of(alloc: Global, case: &Case<'_>) -> Result<Pack, AllocError> {
     Ok(pack)
 }
 
-fn put_file(alloc: Global, files: &mut Files, entry: &Entry) -> Result<(), AddError> {
+fn put_file(alloc: Global, files: &mut Files, entry: &CaseEntry) -> Result<(), AddError> {
     let path = PathBuf::copy(alloc, entry.word.as_str())?;
     files.add(path, Text::copy(alloc, text_of(entry))?)?;
     Ok(())
@@ -179,7 +179,7 @@ fn print(
 
 /// Whether a label lies in its file.
 impl Called for Files {
-    fn put_answer(&mut self, out: &mut Shown, alloc: Global, call: Call<'_>) -> Made {
+    fn put_answer(&mut self, out: &mut AnswerText, alloc: Global, call: CallWords<'_>) -> MemoryResult {
         let label = Label::primary(alloc, number_in(call.verb), span_of(call.path));
         let finding = Diagnostic::new(alloc, Severity::Note).with_label(label)?;
         write!(out, " => {}", labels_are_inside(&finding, self));
@@ -187,7 +187,7 @@ impl Called for Files {
     }
 }
 
-fn put_finding(out: &mut Shown, finding: &Diag) {
+fn put_finding(out: &mut AnswerText, finding: &Diag) {
     let diag = &finding.diag;
     write!(
         out,
@@ -200,36 +200,36 @@ fn put_finding(out: &mut Shown, finding: &Diag) {
 }
 
 /// Puts how many findings a pack has, whether it is empty, and what each has that is taken out of it.
-fn put_kept(out: &mut Shown, alloc: Global, case: &Case<'_>) -> Result<Answered, AddError> {
+fn put_kept(out: &mut AnswerText, alloc: Global, case: &Case<'_>) -> Result<KeyAnswer, AddError> {
     let pack = pack_of(alloc, case)?;
     write!(out, "{} {}", pack.len(), pack.is_empty());
     for finding in pack {
         put_finding(out, &finding);
     }
-    Ok(Answered::Yes)
+    Ok(KeyAnswer::Yes)
 }
 
 /// Puts what a call that prints answers, or what is written.
 fn put_answer(
-    out: &mut Shown,
+    out: &mut AnswerText,
     key: &str,
     answer: &Option<Result<(), PrintError>>,
     written: &[u8],
-) -> Answered {
+) -> KeyAnswer {
     match answer {
-        None => return Answered::CantBeTried,
+        None => return KeyAnswer::CantBeTried,
         Some(answer) if key == "answer" => write!(out, "{answer:?}"),
         Some(_) => out.put(str::from_utf8(written).unwrap_or("no UTF-8")),
     }
-    Answered::Yes
+    KeyAnswer::Yes
 }
 
 fn put_printed(
-    out: &mut Shown,
+    out: &mut AnswerText,
     alloc: Global,
     case: &Case<'_>,
     key: &str,
-) -> Result<Answered, AddError> {
+) -> Result<KeyAnswer, AddError> {
     let files = files_of(alloc, case)?;
     let pack = pack_of(alloc, case)?;
     let room = number(case.word("room")).unwrap_or(1024);
@@ -238,10 +238,10 @@ fn put_printed(
     Ok(put_answer(out, key, &answer, sink.written()))
 }
 
-fn put_inside(out: &mut Shown, alloc: Global, case: &Case<'_>) -> Result<Answered, AddError> {
+fn put_inside(out: &mut AnswerText, alloc: Global, case: &Case<'_>) -> Result<KeyAnswer, AddError> {
     let mut files = files_of(alloc, case)?;
     put_answered(out, alloc, lines_of(case, "inside"), &mut files);
-    Ok(Answered::Yes)
+    Ok(KeyAnswer::Yes)
 }
 
 impl Cases for Printing {
@@ -249,13 +249,13 @@ impl Cases for Printing {
         is_among(key, &GIVEN)
     }
 
-    fn told(&self, alloc: Global, case: &Case<'_>, key: &str, out: &mut Shown) -> Answered {
+    fn told(&self, alloc: Global, case: &Case<'_>, key: &str, out: &mut AnswerText) -> KeyAnswer {
         let put = match key {
             "inside" => put_inside(out, alloc, case),
             "kept" => put_kept(out, alloc, case),
             "written" | "answer" => put_printed(out, alloc, case, key),
-            _ => Ok(Answered::NoSuchKey),
+            _ => Ok(KeyAnswer::NoSuchKey),
         };
-        put.unwrap_or(Answered::CantBeTried)
+        put.unwrap_or(KeyAnswer::CantBeTried)
     }
 }

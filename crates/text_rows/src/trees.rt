@@ -1,6 +1,6 @@
 //! Trees of files, in memory and real, and sinks: what is put into them, and what their calls answer.
-use crate::calls::{Call, Called, Made, lines_of, number_in, put_answered};
-use case_files::{Answered, Case, Cases, Shown};
+use crate::calls::{CallWords, Called, MemoryResult, lines_of, number_in, put_answered};
+use case_files::{KeyAnswer, Case, Cases, AnswerText};
 use deny_text::path::parent;
 use std::alloc::{AllocError, Global};
 use std::fs::{File, OpenFile};
@@ -38,14 +38,14 @@ fn are_many(entries: &[Entry]) -> bool {
 }
 
 /// Puts bytes as a text, or how many there are.
-fn put_text(out: &mut Shown, bytes: &[u8]) {
+fn put_text(out: &mut AnswerText, bytes: &[u8]) {
     match str::from_utf8(bytes) {
         Ok(text) => write!(out, "{text:?}"),
         Err(_) => write!(out, "{} bytes", bytes.len()),
     }
 }
 
-fn put_bytes(out: &mut Shown, alloc: Global, bytes: &[u8]) {
+fn put_bytes(out: &mut AnswerText, alloc: Global, bytes: &[u8]) {
     let length = bytes.len();
     if length <= 100 {
         return put_text(out, bytes);
@@ -57,7 +57,7 @@ fn put_bytes(out: &mut Shown, alloc: Global, bytes: &[u8]) {
     }
 }
 
-fn put_read<T: Tree>(out: &mut Shown, alloc: Global, tree: &mut T, path: &str, is_length: bool) {
+fn put_read<T: Tree>(out: &mut AnswerText, alloc: Global, tree: &mut T, path: &str, is_length: bool) {
     match &tree.read(alloc, path) {
         Ok(bytes) if is_length => write!(out, "{}", bytes.items().len()),
         Ok(bytes) => put_bytes(out, alloc, bytes.items()),
@@ -66,7 +66,7 @@ fn put_read<T: Tree>(out: &mut Shown, alloc: Global, tree: &mut T, path: &str, i
 }
 
 /// Puts the names of entries, each folder with a slash behind it.
-fn put_entries(out: &mut Shown, entries: &[Entry]) {
+fn put_entries(out: &mut AnswerText, entries: &[Entry]) {
     if are_many(entries) {
         return out.put("all 300");
     }
@@ -81,21 +81,21 @@ fn put_entries(out: &mut Shown, entries: &[Entry]) {
     out.put("]");
 }
 
-fn put_list<T: Tree>(out: &mut Shown, alloc: Global, tree: &mut T, path: &str) {
+fn put_list<T: Tree>(out: &mut AnswerText, alloc: Global, tree: &mut T, path: &str) {
     match &tree.list(alloc, path) {
         Ok(entries) => put_entries(out, entries.items()),
         Err(error) => write!(out, "{error:?}"),
     }
 }
 
-fn put_whether(out: &mut Shown, whether: Result<bool, TreeError>) {
+fn put_whether(out: &mut AnswerText, whether: Result<bool, TreeError>) {
     match whether {
         Ok(is_so) => write!(out, "{is_so}"),
         Err(error) => write!(out, "{error:?}"),
     }
 }
 
-fn put_one<T: Tree>(out: &mut Shown, alloc: Global, tree: &mut T, verb: &str, path: &str) {
+fn put_one<T: Tree>(out: &mut AnswerText, alloc: Global, tree: &mut T, verb: &str, path: &str) {
     match verb {
         "read" => put_read(out, alloc, tree, path, false),
         "length" => put_read(out, alloc, tree, path, true),
@@ -108,7 +108,7 @@ fn put_one<T: Tree>(out: &mut Shown, alloc: Global, tree: &mut T, verb: &str, pa
 }
 
 /// Puts what a call of any tree answers, or several of them.
-fn put_asked<T: Tree>(out: &mut Shown, alloc: Global, tree: &mut T, call: Call<'_>) {
+fn put_asked<T: Tree>(out: &mut AnswerText, alloc: Global, tree: &mut T, call: CallWords<'_>) {
     let verbs = match call.verb {
         "look" => "read is_file exists",
         "all" => "read list is_file exists",
@@ -140,7 +140,7 @@ enum Store<'r> {
 
 impl<'r> Store<'r> {
     /// Puts a file, and tells why it can't be.
-    fn put(&mut self, out: &mut Shown, path: &str, bytes: &[u8]) {
+    fn put(&mut self, out: &mut AnswerText, path: &str, bytes: &[u8]) {
         match self {
             Store::Memory(tree) => match tree.put(path, bytes) {
                 Ok(()) => (),
@@ -154,7 +154,7 @@ impl<'r> Store<'r> {
     }
 
     /// Makes or removes something real, and returns whether the call does so.
-    fn is_made(&self, call: Call<'_>) -> io::Result<bool> {
+    fn is_made(&self, call: CallWords<'_>) -> io::Result<bool> {
         let Store::Folder(rt, _) = self else {
             return Ok(false);
         };
@@ -169,7 +169,7 @@ impl<'r> Store<'r> {
     }
 
     /// Puts the files of the folder with 300 entries, in another order than that of their names.
-    fn put_many(&mut self, out: &mut Shown, alloc: Global) -> Made {
+    fn put_many(&mut self, out: &mut AnswerText, alloc: Global) -> MemoryResult {
         for step in 0..300 {
             let path = path_among_many(alloc, step * 7 % 300)?;
             self.put(out, path.as_str(), b"many");
@@ -177,7 +177,7 @@ impl<'r> Store<'r> {
         Ok(())
     }
 
-    fn ask(&mut self, out: &mut Shown, alloc: Global, call: Call<'_>) -> Made {
+    fn ask(&mut self, out: &mut AnswerText, alloc: Global, call: CallWords<'_>) -> MemoryResult {
         match self {
             Store::Memory(tree) if call.verb == "fail" => {
                 return tree.fail_call((number_in(call.path) as u64).max(1));
@@ -190,7 +190,7 @@ impl<'r> Store<'r> {
 }
 
 impl<'r> Called for Store<'r> {
-    fn put_answer(&mut self, out: &mut Shown, alloc: Global, call: Call<'_>) -> Made {
+    fn put_answer(&mut self, out: &mut AnswerText, alloc: Global, call: CallWords<'_>) -> MemoryResult {
         match call.verb {
             "put" => self.put(out, call.path, call.text.as_bytes()),
             "counted" => self.put(out, call.path, &counted(alloc, number_in(call.text))?),
@@ -206,7 +206,7 @@ impl<'r> Called for Store<'r> {
 }
 
 impl Called for MemSink {
-    fn put_answer(&mut self, out: &mut Shown, _: Global, call: Call<'_>) -> Made {
+    fn put_answer(&mut self, out: &mut AnswerText, _: Global, call: CallWords<'_>) -> MemoryResult {
         let bytes = call.path.as_bytes();
         match call.verb {
             "write" => write!(out, " => {:?}", self.write(bytes)),
@@ -236,7 +236,7 @@ impl<'r> Cases for Trees<'r> {
         key == "sink"
     }
 
-    fn told(&self, alloc: Global, case: &Case<'_>, key: &str, out: &mut Shown) -> Answered {
+    fn told(&self, alloc: Global, case: &Case<'_>, key: &str, out: &mut AnswerText) -> KeyAnswer {
         let lines = lines_of(case, key);
         match key {
             "memory" => put_answered(out, alloc, lines, &mut Store::Memory(MemTree::new(alloc))),
@@ -248,8 +248,8 @@ impl<'r> Cases for Trees<'r> {
                 Ok(mut sink) => put_answered(out, alloc, lines, &mut sink),
                 Err(_) => out.want_memory(),
             },
-            _ => return Answered::NoSuchKey,
+            _ => return KeyAnswer::NoSuchKey,
         }
-        Answered::Yes
+        KeyAnswer::Yes
     }
 }

@@ -1,11 +1,11 @@
 //! The words of a command line, what they are answered with, and the names that options list.
-use crate::calls::{Made, letters_of};
-use case_files::Shown;
+use crate::calls::{MemoryResult, letters_of};
+use case_files::AnswerText;
 use deny_text::{PathBuf, Texts};
 use diag_core::LevelFilter;
 use print_core::{Color, Format};
-use request_core::options::{OptionRow, Values, check_rows, list_rows, main_rows};
-use request_core::read::{Given, read};
+use request_core::options::{OptionRow, OptionValues, check_rows, list_rows, main_rows};
+use request_core::read::{CliAnswer, read};
 use request_core::{
     ArgsError, CodeOrLevel, CodeOrLevels, FromWord, KrateContext, Layout, OutputFormat, Request,
     Subcommand, WhichCheck, check, list,
@@ -26,52 +26,52 @@ fn words_of(alloc: Global, name: &str, text: &str) -> Result<Vec<String>, AllocE
 }
 
 /// The answer to the words of a text in the folder `/w`.
-fn given(alloc: Global, name: &str, text: &str) -> Result<Given, AllocError> {
+fn given(alloc: Global, name: &str, text: &str) -> Result<CliAnswer, AllocError> {
     let words = words_of(alloc, name, text)?;
     read(alloc, &words, "/w")
 }
 
 /// Puts what words are answered with, or the text of it.
-fn put_answer(out: &mut Shown, given: &Result<Given, AllocError>, is_text: bool) {
+fn put_answer(out: &mut AnswerText, given: &Result<CliAnswer, AllocError>, is_text: bool) {
     match given {
-        Ok(Given::Asked(request)) => put_request(out, request),
-        Ok(Given::Shown(text) | Given::Usage(text)) if is_text => out.put(text.as_str()),
-        Ok(Given::Shown(text)) if text.as_str() == "cargo-deny 0.20.2\n" => out.put("version"),
-        Ok(Given::Shown(_)) => out.put("help"),
-        Ok(Given::Usage(_)) => out.put("usage"),
+        Ok(CliAnswer::Asked(request)) => put_request(out, request),
+        Ok(CliAnswer::Shown(text) | CliAnswer::Usage(text)) if is_text => out.put(text.as_str()),
+        Ok(CliAnswer::Shown(text)) if text.as_str() == "cargo-deny 0.20.2\n" => out.put("version"),
+        Ok(CliAnswer::Shown(_)) => out.put("help"),
+        Ok(CliAnswer::Usage(_)) => out.put("usage"),
         Err(_) => out.want_memory(),
     }
 }
 
-fn put_given(out: &mut Shown, alloc: Global, name: &str, text: &str, is_text: bool) {
+fn put_given(out: &mut AnswerText, alloc: Global, name: &str, text: &str, is_text: bool) {
     put_answer(out, &given(alloc, name, text), is_text);
 }
 
-fn put_path(out: &mut Shown, name: &str, path: &Option<PathBuf>) {
+fn put_path(out: &mut AnswerText, name: &str, path: &Option<PathBuf>) {
     if let Some(path) = path {
         write!(out, " {name}({path})");
     }
 }
 
-fn put_texts(out: &mut Shown, name: &str, texts: &Texts) {
+fn put_texts(out: &mut AnswerText, name: &str, texts: &Texts) {
     for text in texts.items() {
         write!(out, " {name}({text})");
     }
 }
 
-fn put_codes(out: &mut Shown, name: &str, codes: &CodeOrLevels) {
+fn put_codes(out: &mut AnswerText, name: &str, codes: &CodeOrLevels) {
     for code in codes.items() {
         write!(out, " {name}({code:?})");
     }
 }
 
-fn put_flag(out: &mut Shown, name: &str, is_set: bool) {
+fn put_flag(out: &mut AnswerText, name: &str, is_set: bool) {
     if is_set {
         write!(out, " {name}");
     }
 }
 
-fn put_check(out: &mut Shown, args: &check::Args) {
+fn put_check(out: &mut AnswerText, args: &check::Args) {
     out.put(" check");
     put_path(out, "graph", &args.graph);
     put_flag(out, "hide", args.hide_inclusion_graph);
@@ -88,7 +88,7 @@ fn put_check(out: &mut Shown, args: &check::Args) {
     }
 }
 
-fn put_context(out: &mut Shown, context: &KrateContext) {
+fn put_context(out: &mut AnswerText, context: &KrateContext) {
     put_path(out, "metadata", &context.metadata_path);
     put_path(out, "config", &context.config_path);
     put_texts(out, "exclude", &context.exclude);
@@ -105,7 +105,7 @@ fn put_context(out: &mut Shown, context: &KrateContext) {
 }
 
 /// Puts level, format, colour and manifest of a request, and then what it has beside the defaults.
-fn put_request(out: &mut Shown, request: &Request) {
+fn put_request(out: &mut AnswerText, request: &Request) {
     let (log, context) = (&request.log_ctx, &request.krate_ctx);
     write!(out, "{:?} {:?}", log.log_level, log.format);
     write!(out, " {:?} {}", log.color, context.manifest_path);
@@ -118,7 +118,7 @@ fn put_request(out: &mut Shown, request: &Request) {
     }
 }
 
-fn put_list(out: &mut Shown, parsed: &Result<list::Args, ArgsError>) {
+fn put_list(out: &mut AnswerText, parsed: &Result<list::Args, ArgsError>) {
     match parsed {
         Ok(args) => write!(
             out,
@@ -130,7 +130,7 @@ fn put_list(out: &mut Shown, parsed: &Result<list::Args, ArgsError>) {
     }
 }
 
-fn put_listing(out: &mut Shown, alloc: Global, text: &str) -> Made {
+fn put_listing(out: &mut AnswerText, alloc: Global, text: &str) -> MemoryResult {
     let words = words_of(alloc, "cargo-deny", text)?;
     match list::Args::cmd(alloc)?.try_get_matches_from(&words) {
         Ok(matches) => put_list(out, &list::Args::parse(alloc, &matches)),
@@ -140,10 +140,10 @@ fn put_listing(out: &mut Shown, alloc: Global, text: &str) -> Made {
 }
 
 /// Puts how many names an option lists, and how many of them are read as a value.
-fn put_names<T: FromWord + Drop>(out: &mut Shown, rows: &[OptionRow], option: &str) {
+fn put_names<T: FromWord + Drop>(out: &mut AnswerText, rows: &[OptionRow], option: &str) {
     for row in rows {
         if row.name == option
-            && let Values::Names(names) = row.values
+            && let OptionValues::Names(names) = row.values
         {
             let read = count_read::<T>(names);
             write!(out, "{read} of {}", names.len());
@@ -161,7 +161,7 @@ fn count_read<T: FromWord + Drop>(names: &[&str]) -> usize {
     count
 }
 
-fn put_option(out: &mut Shown, option: &str) {
+fn put_option(out: &mut AnswerText, option: &str) {
     match option {
         "log-level" => put_names::<LevelFilter>(out, main_rows(), option),
         "format" => put_names::<Format>(out, main_rows(), option),
@@ -174,7 +174,7 @@ fn put_option(out: &mut Shown, option: &str) {
 }
 
 /// Puts what a text comes to in a group, and returns whether there is such a group.
-pub fn put(out: &mut Shown, alloc: Global, group: &str, text: &str) -> bool {
+pub fn put(out: &mut AnswerText, alloc: Global, group: &str, text: &str) -> bool {
     match group {
         "words" => put_given(out, alloc, "cargo-deny", text, false),
         "words without the program's name" => put_given(out, alloc, "", text, false),

@@ -9,8 +9,8 @@ use Rattle.std.specs.Str.{IsCharBoundary, IsUtf8}
 use Rattle.deny_text.specs.Character.{goes_on}
 use Rattle.toml_subset.specs.Bytes.{backslash, hash, is_blank, is_bare, is_run, may_stand}
 use Rattle.toml_subset.specs.Numbers.{is_digit_in, digit_value}
-use Rattle.toml_subset.specs.Places.{stands, run_end, after_blanks, after_comment, after_blanks_and_comment, lines_over, after_lines_of, after_space, line_end, next_line, char_end}
-use Rattle.toml_subset.specs.Strings.{Quoting, basic, literal, long_basic, long_literal, Part, piece, closing, broken, mark_of, is_long, has_escapes, marks_at, escaped_piece, plain_piece, scalar_of, letter_escape, scalar_escape, trimming_escape, escape_by, escape_at, mark_at, plain_at, part_at}
+use Rattle.toml_subset.specs.Places.{stands, run_end, after_blanks, after_comment, after_blanks_and_comment, lines_over, after_lines_of, after_space, behind_line_end, next_line, char_end}
+use Rattle.toml_subset.specs.Strings.{Quoting, basic, literal, long_basic, long_literal, StringPart, piece, closing, broken, mark_of, is_long, has_escapes, marks_in_row, escaped_piece, plain_piece, scalar_of, letter_escape, scalar_escape, trimming_escape, escape_by, escape_at, mark_at, plain_at, part_at}
 use Rattle.toml_subset.proofs.Escapes.{behind_byte, letter_ascii, digit_ascii}
 use Rattle.toml_subset.proofs.Law.Basics.{is_some, if_is}
 use Rattle.toml_subset.proofs.Law.Fronts.{passes_inside}
@@ -111,7 +111,7 @@ module _ (text : List ℕ) (utf8 : IsUtf8 text) where
   pub gap_border : (i : ℕ) → IsCharBoundary text i → IsCharBoundary text (after_blanks_and_comment text i)
   gap_border i at = comment_border (after_blanks text i) (blanks_border i at)
 
-  pub line_border : (i next : ℕ) → line_end text i ≡ Some next → IsCharBoundary text next
+  pub line_border : (i next : ℕ) → behind_line_end text i ≡ Some next → IsCharBoundary text next
   line_border i next e =
       ⊎_elim (λ h. subst (IsCharBoundary text) (is_some (i + 1) next h.1) (behind_byte text utf8 i 10 (omega arith) h.0).1)
       (λ h.
@@ -128,7 +128,7 @@ module _ (text : List ℕ) (utf8 : IsUtf8 text) where
       → IsCharBoundary text (lines_over over n text i)
   lines_border over keeps zero i at = at
   lines_border over keeps (suc n) i at =
-      elim (line_end text (over text i)) as (λ o. line_end text (over text i) ≡ o → IsCharBoundary text (elim o [ Some next ↦ lines_over over n text next | None ↦ i ])) [
+      elim (behind_line_end text (over text i)) as (λ o. behind_line_end text (over text i) ≡ o → IsCharBoundary text (elim o [ Some next ↦ lines_over over n text next | None ↦ i ])) [
         | Some next ↦ λ is. lines_border over keeps n next (line_border (over text i) next is)
         | None ↦ λ is. at
       ] refl
@@ -144,16 +144,16 @@ module _ (text : List ℕ) (utf8 : IsUtf8 text) where
   next_border i next e =
       let j = after_comment text (after_blanks text i) in
       ⊎_elim (λ h. let at = eqb-true j (length text) h.0 in subst (IsCharBoundary text) (sym at ∙ is_some j next h.1) (IsCharBoundary-end text))
-      (λ h. line_border j next h.1) (if_is (eqb j (length text)) (Some j) (line_end text j) (Some next) e)
+      (λ h. line_border j next h.1) (if_is (eqb j (length text)) (Some j) (behind_line_end text j) (Some next) e)
 
   -- strings end behind a mark
 
-  abbrev ClosesAt : Part → Type 0
+  abbrev ClosesAt : StringPart → Type 0
   ClosesAt (piece p k) = Unit {0}
   ClosesAt (closing k) = IsCharBoundary text k
   ClosesAt broken = Unit {0}
 
-  closes_if : (b : Bool) (x y : Part) → (b ≡ true → ClosesAt x) → ClosesAt y → ClosesAt (cond b x y)
+  closes_if : (b : Bool) (x y : StringPart) → (b ≡ true → ClosesAt x) → ClosesAt y → ClosesAt (cond b x y)
   closes_if true x y first second = first refl
   closes_if false x y first second = second
 
@@ -170,7 +170,7 @@ module _ (text : List ℕ) (utf8 : IsUtf8 text) where
       (closes_if (eqb c 85) _ _ (λ h. scalar_closes 8 i)
       (elim (letter_escape c) as (λ o. ClosesAt (elim o [ Some byte ↦ escaped_piece (byte ∷ []) (i + 2) | None ↦ trimming_escape kind text i ])) [
         | Some byte ↦ tt
-        | None ↦ closes_if (is_long kind && option_is_some (line_end text (after_blanks text (i + 1)))) _ broken (λ h. tt) tt
+        | None ↦ closes_if (is_long kind && option_is_some (behind_line_end text (after_blanks text (i + 1)))) _ broken (λ h. tt) tt
       ]))
 
   escape_at_closes : (kind : Quoting) (i : ℕ) → ClosesAt (escape_at kind text i)
@@ -183,15 +183,15 @@ module _ (text : List ℕ) (utf8 : IsUtf8 text) where
   plain_closes : (kind : Quoting) (i : ℕ) → ClosesAt (plain_at kind text i)
   plain_closes kind i =
       elim (slice_get text i) as (λ o. ClosesAt (elim o [
-        | Some c ↦ cond (may_stand c || (is_long kind && option_is_some (line_end text i))) (plain_piece (c ∷ []) (i + 1)) broken
+        | Some c ↦ cond (may_stand c || (is_long kind && option_is_some (behind_line_end text i))) (plain_piece (c ∷ []) (i + 1)) broken
         | None ↦ broken
       ])) [
-        | Some c ↦ closes_if (may_stand c || (is_long kind && option_is_some (line_end text i))) (plain_piece (c ∷ []) (i + 1)) broken (λ h. tt) tt
+        | Some c ↦ closes_if (may_stand c || (is_long kind && option_is_some (behind_line_end text i))) (plain_piece (c ∷ []) (i + 1)) broken (λ h. tt) tt
         | None ↦ tt
       ]
 
   -- so many marks in a row have a border behind each of them
-  pub marks_border : (kind : Quoting) (i n : ℕ) → n < marks_at (mark_of kind) text i → IsCharBoundary text (i + n + 1)
+  pub marks_border : (kind : Quoting) (i n : ℕ) → n < marks_in_row (mark_of kind) text i → IsCharBoundary text (i + n + 1)
   marks_border kind i n within =
       let least = prefix_len-le-length (λ c. eqb c (mark_of kind)) (drop i text) in
       let rest = length-drop i text in
@@ -204,12 +204,12 @@ module _ (text : List ℕ) (utf8 : IsUtf8 text) where
   mark_closes kind i h =
       closes_if (is_long kind) _ _
       (λ long.
-      closes_if (eqb (marks_at (mark_of kind) text i) 3) _ _
+      closes_if (eqb (marks_in_row (mark_of kind) text i) 3) _ _
       (λ three.
-      let count = eqb-true (marks_at (mark_of kind) text i) 3 three in
+      let count = eqb-true (marks_in_row (mark_of kind) text i) 3 three in
       let back : i + 2 + 1 ≡ i + 3 = omega arith in
       subst (IsCharBoundary text) back (marks_border kind i 2 (omega arith)))
-      (closes_if (nat_le (marks_at (mark_of kind) text i) 5) (plain_piece (mark_of kind ∷ []) (i + 1)) broken (λ few. tt) tt))
+      (closes_if (nat_le (marks_in_row (mark_of kind) text i) 5) (plain_piece (mark_of kind ∷ []) (i + 1)) broken (λ few. tt) tt))
       (behind_byte text utf8 i (mark_of kind) (mark_low kind) h).1
 
   part_closes : (kind : Quoting) (i : ℕ) → ClosesAt (part_at kind text i)

@@ -2,7 +2,7 @@
 use Rattle.std.proofs.Common.{◌≡◌, ℕ, zero, suc, ◌+◌, ◌<◌, ◌≤◌, ⊎_elim, true, eqb, nat_lt, List, [], ◌∷◌, length, take, Some, Ok, Err, ap, sym, subst, ◌∙◌, arith, length-take}
 use Rattle.std.proofs.lemmas.Bool.Decides.{nat_tests}
 use Rattle.std.specs.Str.{IsCharBoundary, IsUtf8}
-use Rattle.toml_subset.specs.Answer.{Read, then_read}
+use Rattle.toml_subset.specs.Answer.{TomlReading, then_read}
 use Rattle.toml_subset.specs.Bytes.{line_feed, is_blank}
 use Rattle.toml_subset.specs.Data.{Toml, depth_limit}
 use Rattle.toml_subset.specs.Faults.{IsFirstFault}
@@ -57,10 +57,10 @@ module _ (text : List ℕ) (m : ℕ) (ends : Ends text m) where
             ∙ rest.1,
       )
 
-err_same : (a b : SyntaxError) → ◌≡◌ {A = Read Toml} (Err a) (Err b) → ◌≡◌ {A = Read Document} (Err a) (Err b)
+err_same : (a b : SyntaxError) → ◌≡◌ {A = TomlReading Toml} (Err a) (Err b) → ◌≡◌ {A = TomlReading Document} (Err a) (Err b)
 err_same a b e = let same : a ≡ b = cc in ap (λ (f : SyntaxError). Err f) same
 
-lines_fault : (text : List ℕ) (fault : SyntaxError) (o : Read Document) → then_read (λ (document : Document). Ok (whole text document)) o ≡ Err fault → o ≡ Err fault
+lines_fault : (text : List ℕ) (fault : SyntaxError) (o : TomlReading Document) → then_read (λ (document : Document). Ok (whole text document)) o ≡ Err fault → o ≡ Err fault
 lines_fault text fault (Ok document) e = absurd (not_ok fault (whole text document) (sym e))
 lines_fault text fault (Err other) e = err_same other fault e
 

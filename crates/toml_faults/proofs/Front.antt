@@ -8,9 +8,9 @@ use Rattle.toml_subset.specs.Bytes.{quote, apostrophe, backslash, dot, equals, h
 use Rattle.toml_subset.specs.Keys.{IsKey, AreKeys}
 use Rattle.toml_subset.specs.Lines.{Statement, blank_line, pair, table_header, array_header, IsStatement, IsLine}
 use Rattle.toml_subset.specs.Numbers.{Class, integer, decimal, class_of}
-use Rattle.toml_subset.specs.Places.{from_to, front_is, passes_at, stands, run_end, run_at, after_blanks, after_comment, after_blanks_and_comment, lines_over, after_lines_of, after_space, after_white, line_end, next_line}
+use Rattle.toml_subset.specs.Places.{from_to, front_is, passes_at, stands, run_end, run_at, after_blanks, after_comment, after_blanks_and_comment, lines_over, after_lines_of, after_space, after_white, behind_line_end, next_line}
 use Rattle.toml_subset.specs.Raw.{Raw, RawItems, RawEntries, raw_text, raw_integer, raw_decimal, raw_boolean, raw_array, raw_table, raw_none, raw_item, raw_empty, raw_entry, IsNumber, IsWord, IsPairOf, IsValue, AreItems, AreItemsBehind, AreEntries, AreEntriesBehind, word_of}
-use Rattle.toml_subset.specs.Strings.{Quoting, basic, literal, long_basic, long_literal, Piece, Part, piece, closing, broken, mark_of, is_long, has_escapes, marks_at, opening, opening_of, escaped_piece, plain_piece, scalar_of, letter_escape, scalar_escape, trimming_escape, escape_by, escape_at, mark_at, plain_at, part_at, ArePieces, IsString}
+use Rattle.toml_subset.specs.Strings.{Quoting, basic, literal, long_basic, long_literal, StringPiece, StringPart, piece, closing, broken, mark_of, is_long, has_escapes, marks_in_row, opening, opening_of, escaped_piece, plain_piece, scalar_of, letter_escape, scalar_escape, trimming_escape, escape_by, escape_at, mark_at, plain_at, part_at, ArePieces, IsString}
 use Rattle.toml_subset.specs.declared.string.Key.{Key}
 use Rattle.toml_subset.proofs.Law.Basics.{if_true, if_false}
 use Rattle.toml_subset.proofs.Law.Forward.{Past, line_end_past, comment_goes, space_goes, pieces_go, keys_go, piece_goes, closing_goes, opening_goes, value_goes, items_go, behind_goes, entries_go, entries_behind_go}
@@ -59,7 +59,7 @@ get_same (suc n) i [] inside = refl
 get_same (suc n) zero (x ∷ xs) inside = refl
 get_same (suc n) (suc i) (x ∷ xs) inside = get_same n i xs (omega arith)
 
-past_line : (s : List ℕ) (j next : ℕ) → line_end s j ≡ Some next → j < next
+past_line : (s : List ℕ) (j next : ℕ) → behind_line_end s j ≡ Some next → j < next
 past_line s j next is = subst (Past j) is (line_end_past s j)
 
 last_of_both : (a b : Bool) → (a && b) ≡ true → b ≡ true
@@ -164,9 +164,9 @@ module _ (text : List ℕ) (m : ℕ) (ends : Ends text m) where
 
   -- line ends and gaps
 
-  pub line_same : (i : ℕ) → i ≤ m → line_end front i ≡ line_end text i
+  pub line_same : (i : ℕ) → i ≤ m → behind_line_end front i ≡ behind_line_end text i
   line_same i le =
-      elim (stands front i carriage_return) as (λ b. stands front i carriage_return ≡ b → line_end front i ≡ line_end text i) [
+      elim (stands front i carriage_return) as (λ b. stands front i carriage_return ≡ b → behind_line_end front i ≡ behind_line_end text i) [
         | true ↦ λ is.
             let before = before_last (λ b. eqb b carriage_return) i refl is in
             ap (λ (b : Bool). cond b (Some (i + 1)) (cond (stands front i carriage_return && stands front (i + 1) line_feed) (Some (i + 2)) None)) (stands_same i line_feed le)
@@ -208,8 +208,8 @@ module _ (text : List ℕ) (m : ℕ) (ends : Ends text m) where
       let whole = front_length in
       let front_goes : eqb j (length front) ≡ false = grind (arith, nat_tests) in
       let text_goes : eqb j (length text) ≡ false = grind (arith, nat_tests) in
-      ap (λ (k : ℕ). cond (eqb k (length front)) (Some k) (line_end front k)) gap.0 ∙ if_false (eqb j (length front)) (Some j) (line_end front j) front_goes ∙ line_same j gap.1
-      ∙ sym (if_false (eqb j (length text)) (Some j) (line_end text j) text_goes)
+      ap (λ (k : ℕ). cond (eqb k (length front)) (Some k) (behind_line_end front k)) gap.0 ∙ if_false (eqb j (length front)) (Some j) (behind_line_end front j) front_goes ∙ line_same j gap.1
+      ∙ sym (if_false (eqb j (length text)) (Some j) (behind_line_end text j) text_goes)
 
   -- lines that a gap goes over: `over` agrees on both, and so does the whole gap where it ends before the front does
   abbrev Agrees : (List ℕ → ℕ → ℕ) → Type 0
@@ -218,13 +218,13 @@ module _ (text : List ℕ) (m : ℕ) (ends : Ends text m) where
   lines_go_on : (over : List ℕ → ℕ → ℕ) → ((s : List ℕ) (k : ℕ) → k ≤ over s k) → (s : List ℕ) (f i : ℕ) → i ≤ lines_over over f s i
   lines_go_on over goes s zero i = omega arith
   lines_go_on over goes s (suc f) i =
-      elim (line_end s (over s i)) as (λ o. line_end s (over s i) ≡ o → i ≤ elim o [ Some next ↦ lines_over over f s next | None ↦ i ]) [
+      elim (behind_line_end s (over s i)) as (λ o. behind_line_end s (over s i) ≡ o → i ≤ elim o [ Some next ↦ lines_over over f s next | None ↦ i ]) [
         | Some next ↦ λ is. let past = past_line s (over s i) next is in let le = goes s i in let rest = lines_go_on over goes s f next in omega arith
         | None ↦ λ is. omega arith
       ] refl
 
-  lines_by : (over : List ℕ → ℕ → ℕ) (f g i : ℕ) (o : Option ℕ) → line_end front (over front i) ≡ o
-      → ((next : ℕ) → line_end front (over front i) ≡ Some next → lines_over over f front next ≤ m → lines_over over g text next ≡ lines_over over f front next)
+  lines_by : (over : List ℕ → ℕ → ℕ) (f g i : ℕ) (o : Option ℕ) → behind_line_end front (over front i) ≡ o
+      → ((next : ℕ) → behind_line_end front (over front i) ≡ Some next → lines_over over f front next ≤ m → lines_over over g text next ≡ lines_over over f front next)
       → elim o [ Some next ↦ lines_over over f front next | None ↦ i ] ≤ m
       → ◌≡◌ {A = ℕ} (elim o [ Some next ↦ lines_over over g text next | None ↦ i ]) (elim o [ Some next ↦ lines_over over f front next | None ↦ i ])
   lines_by over f g i (Some next) is rest le = rest next is le
@@ -238,9 +238,9 @@ module _ (text : List ℕ) (m : ℕ) (ends : Ends text m) where
   lines_same over goes agrees (suc f) (suc g) i enough more within =
       let start = lines_go_on over goes front (suc f) i in
       let here = agrees i (omega arith) in
-      let same : line_end text (over text i) ≡ line_end front (over front i) = sym (ap (line_end front) here.0 ∙ line_same (over text i) here.1) in
+      let same : behind_line_end text (over text i) ≡ behind_line_end front (over front i) = sym (ap (behind_line_end front) here.0 ∙ line_same (over text i) here.1) in
       ap (λ o. elim o [ Some next ↦ lines_over over g text next | None ↦ i ]) same
-      ∙ lines_by over f g i (line_end front (over front i)) refl
+      ∙ lines_by over f g i (behind_line_end front (over front i)) refl
       (λ next is le.
       let past = past_line front (over front i) next is in
       let on = goes front i in
@@ -270,7 +270,7 @@ module _ (text : List ℕ) (m : ℕ) (ends : Ends text m) where
 
   -- parts of strings
 
-  marks_same : (kind : Quoting) (i : ℕ) → i ≤ m → marks_at (mark_of kind) front i ≡ marks_at (mark_of kind) text i
+  marks_same : (kind : Quoting) (i : ℕ) → i ≤ m → marks_in_row (mark_of kind) front i ≡ marks_in_row (mark_of kind) text i
   marks_same basic i le = len_same (λ c. eqb c quote) i refl le
   marks_same literal i le = len_same (λ c. eqb c apostrophe) i refl le
   marks_same long_basic i le = len_same (λ c. eqb c quote) i refl le
@@ -282,21 +282,21 @@ module _ (text : List ℕ) (m : ℕ) (ends : Ends text m) where
 
   plain_same : (kind : Quoting) (i : ℕ) → i ≤ m → plain_at kind front i ≡ plain_at kind text i
   plain_same kind i le =
-      ap (λ o. elim o [ Some c ↦ cond (may_stand c || (is_long kind && option_is_some (line_end front i))) (plain_piece (c ∷ []) (i + 1)) broken | None ↦ broken ]) (get_same n i text (omega arith))
+      ap (λ o. elim o [ Some c ↦ cond (may_stand c || (is_long kind && option_is_some (behind_line_end front i))) (plain_piece (c ∷ []) (i + 1)) broken | None ↦ broken ]) (get_same n i text (omega arith))
       ∙ ap (λ (l : Option ℕ). elim (slice_get text i) [ Some c ↦ cond (may_stand c || (is_long kind && option_is_some l)) (plain_piece (c ∷ []) (i + 1)) broken | None ↦ broken ]) (line_same i le)
 
   -- what a part of the front ends at before the front's last byte stands in the text as well
-  abbrev PartSame : Part → Part → Type 0
+  abbrev PartSame : StringPart → StringPart → Type 0
   PartSame (piece p k) other = k ≤ m → other ≡ piece p k
   PartSame (closing k) other = k ≤ m → other ≡ closing k
   PartSame broken other = Unit {0}
 
-  same_part : (q other : Part) → other ≡ q → PartSame q other
+  same_part : (q other : StringPart) → other ≡ q → PartSame q other
   same_part (piece p k) other e = λ le. e
   same_part (closing k) other e = λ le. e
   same_part broken other e = tt
 
-  part_if : (b c : Bool) (x y u v : Part) → b ≡ c → (b ≡ true → PartSame x u) → (b ≡ false → PartSame y v) → PartSame (cond b x y) (cond c u v)
+  part_if : (b c : Bool) (x y u v : StringPart) → b ≡ c → (b ≡ true → PartSame x u) → (b ≡ false → PartSame y v) → PartSame (cond b x y) (cond c u v)
   part_if true true x y u v same first second = first refl
   part_if true false x y u v same first second = absurd (true≢false same)
   part_if false true x y u v same first second = absurd (true≢false (sym same))
@@ -316,9 +316,9 @@ module _ (text : List ℕ) (m : ℕ) (ends : Ends text m) where
 
   trimming_same : (kind : Quoting) (i : ℕ) → i < m → PartSame (trimming_escape kind front i) (trimming_escape kind text i)
   trimming_same kind i before =
-      let line : line_end front (after_blanks front (i + 1)) ≡ line_end text (after_blanks text (i + 1)) =
-      ap (line_end front) (blanks_same (i + 1) (omega arith)) ∙ line_same (after_blanks text (i + 1)) (blanks_within (i + 1) (omega arith)) in
-      part_if (is_long kind && option_is_some (line_end front (after_blanks front (i + 1)))) (is_long kind && option_is_some (line_end text (after_blanks text (i + 1))))
+      let line : behind_line_end front (after_blanks front (i + 1)) ≡ behind_line_end text (after_blanks text (i + 1)) =
+      ap (behind_line_end front) (blanks_same (i + 1) (omega arith)) ∙ line_same (after_blanks text (i + 1)) (blanks_within (i + 1) (omega arith)) in
+      part_if (is_long kind && option_is_some (behind_line_end front (after_blanks front (i + 1)))) (is_long kind && option_is_some (behind_line_end text (after_blanks text (i + 1))))
       (escaped_piece [] (after_white front (i + 1))) broken (escaped_piece [] (after_white text (i + 1))) broken
       (ap (λ (o : Option ℕ). is_long kind && option_is_some o) line) (λ h le. ap (escaped_piece []) (white_same (i + 1) le)) (λ h. tt)
 
@@ -347,13 +347,13 @@ module _ (text : List ℕ) (m : ℕ) (ends : Ends text m) where
       (λ k. escape_at_same kind i (before_last (λ b. eqb b backslash) i refl (last_of_both (has_escapes kind) (stands front i backslash) k)))
       (λ k. same_part (plain_at kind front i) (plain_at kind text i) (sym (plain_same kind i le))))
 
-  piece_same : (kind : Quoting) (i : ℕ) (p : Piece) (k : ℕ) → k ≤ m → part_at kind front i ≡ piece p k → part_at kind text i ≡ piece p k
+  piece_same : (kind : Quoting) (i : ℕ) (p : StringPiece) (k : ℕ) → k ≤ m → part_at kind front i ≡ piece p k → part_at kind text i ≡ piece p k
   piece_same kind i p k le e = let goes = piece_goes kind front i p k e in subst (λ q. PartSame q (part_at kind text i)) e (part_same kind i (omega arith)) le
 
   closing_same : (kind : Quoting) (i k : ℕ) → k ≤ m → part_at kind front i ≡ closing k → part_at kind text i ≡ closing k
   closing_same kind i k le e = let goes = closing_goes kind front i k e in subst (λ q. PartSame q (part_at kind text i)) e (part_same kind i (omega arith)) le
 
-  pub pieces_same : (kind : Quoting) (i : ℕ) (ps : List Piece) (close next : ℕ) → next ≤ m → ArePieces kind front i ps close next → ArePieces kind text i ps close next
+  pub pieces_same : (kind : Quoting) (i : ℕ) (ps : List StringPiece) (close next : ℕ) → next ≤ m → ArePieces kind front i ps close next → ArePieces kind text i ps close next
   pieces_same kind i [] close next le is = (closing_same kind i next le is.0, is.1)
   pieces_same kind i (p ∷ ps) close next le is =
       let goes = pieces_go kind front is.0 ps close next is.2 in (is.0, piece_same kind i p is.0 (omega arith) is.1, pieces_same kind is.0 ps close next le is.2)
@@ -361,11 +361,11 @@ module _ (text : List ℕ) (m : ℕ) (ends : Ends text m) where
   opening_of_same : (short long : Quoting) (mark i : ℕ) → eqb line_feed mark ≡ false → i ≤ m → opening_of short long mark front i ≡ opening_of short long mark text i
   opening_of_same short long mark i fails le =
       let within = run_within (λ c. eqb c mark) i fails le in
-      ap (λ (k : ℕ). cond (nat_le 3 k) (long, unwrap_or (line_end front (i + 3)) (i + 3)) (short, i + 1)) (len_same (λ c. eqb c mark) i fails le)
-      ∙ elim (nat_le 3 (marks_at mark text i)) as (λ b. nat_le 3 (marks_at mark text i) ≡ b
-      → ◌≡◌ {A = Quoting × ℕ} (cond b (long, unwrap_or (line_end front (i + 3)) (i + 3)) (short, i + 1)) (cond b (long, unwrap_or (line_end text (i + 3)) (i + 3)) (short, i + 1))) [
+      ap (λ (k : ℕ). cond (nat_le 3 k) (long, unwrap_or (behind_line_end front (i + 3)) (i + 3)) (short, i + 1)) (len_same (λ c. eqb c mark) i fails le)
+      ∙ elim (nat_le 3 (marks_in_row mark text i)) as (λ b. nat_le 3 (marks_in_row mark text i) ≡ b
+      → ◌≡◌ {A = Quoting × ℕ} (cond b (long, unwrap_or (behind_line_end front (i + 3)) (i + 3)) (short, i + 1)) (cond b (long, unwrap_or (behind_line_end text (i + 3)) (i + 3)) (short, i + 1))) [
         | true ↦ λ is.
-            let three : 3 ≤ marks_at mark text i = grind (arith, nat_tests) in
+            let three : 3 ≤ marks_in_row mark text i = grind (arith, nat_tests) in
             ap {B = Quoting × ℕ} (λ (o : Option ℕ). (long, unwrap_or o (i + 3))) (line_same (i + 3) (omega arith))
         | false ↦ λ is. refl
       ] refl
@@ -543,12 +543,12 @@ module _ (text : List ℕ) (m : ℕ) (ends : Ends text m) where
 
   -- what stands in the front ends before its last byte, a line feed, does
 
-  abbrev ClosesBefore : Part → Type 0
+  abbrev ClosesBefore : StringPart → Type 0
   ClosesBefore (piece p k) = Unit {0}
   ClosesBefore (closing k) = k ≤ m
   ClosesBefore broken = Unit {0}
 
-  closes_if : (b : Bool) (x y : Part) → (b ≡ true → ClosesBefore x) → ClosesBefore y → ClosesBefore (cond b x y)
+  closes_if : (b : Bool) (x y : StringPart) → (b ≡ true → ClosesBefore x) → ClosesBefore y → ClosesBefore (cond b x y)
   closes_if true x y first second = first refl
   closes_if false x y first second = second
 
@@ -563,13 +563,13 @@ module _ (text : List ℕ) (m : ℕ) (ends : Ends text m) where
       let before = before_last (λ b. eqb b (mark_of kind)) i (mark_no_line kind) h in
       closes_if (is_long kind) _ _
       (λ long.
-      closes_if (eqb (marks_at (mark_of kind) front i) 3) _ _
+      closes_if (eqb (marks_in_row (mark_of kind) front i) 3) _ _
       (λ three.
-      let count = eqb-true (marks_at (mark_of kind) front i) 3 three in
+      let count = eqb-true (marks_in_row (mark_of kind) front i) 3 three in
       let same = marks_same kind i (omega arith) in
       let within = run_within (λ c. eqb c (mark_of kind)) i (mark_no_line kind) (omega arith) in
       omega arith)
-      (closes_if (nat_le (marks_at (mark_of kind) front i) 5) (plain_piece (mark_of kind ∷ []) (i + 1)) broken (λ few. tt) tt))
+      (closes_if (nat_le (marks_in_row (mark_of kind) front i) 5) (plain_piece (mark_of kind ∷ []) (i + 1)) broken (λ few. tt) tt))
       (omega arith)
 
   scalar_closes : (digits i : ℕ) → ClosesBefore (scalar_escape digits front i)
@@ -585,7 +585,7 @@ module _ (text : List ℕ) (m : ℕ) (ends : Ends text m) where
       (closes_if (eqb c 85) _ _ (λ h. scalar_closes 8 i)
       (elim (letter_escape c) as (λ o. ClosesBefore (elim o [ Some byte ↦ escaped_piece (byte ∷ []) (i + 2) | None ↦ trimming_escape kind front i ])) [
         | Some byte ↦ tt
-        | None ↦ closes_if (is_long kind && option_is_some (line_end front (after_blanks front (i + 1)))) _ broken (λ h. tt) tt
+        | None ↦ closes_if (is_long kind && option_is_some (behind_line_end front (after_blanks front (i + 1)))) _ broken (λ h. tt) tt
       ]))
 
   part_closes : (kind : Quoting) (i : ℕ) → ClosesBefore (part_at kind front i)
@@ -594,14 +594,14 @@ module _ (text : List ℕ) (m : ℕ) (ends : Ends text m) where
       (closes_if (has_escapes kind && stands front i backslash) _ _
       (λ h. elim (slice_get front (i + 1)) as (λ o. ClosesBefore (elim o [ Some c ↦ escape_by kind front i c | None ↦ broken ])) [ Some c ↦ escape_closes kind i c | None ↦ tt ])
       (elim (slice_get front i) as (λ o. ClosesBefore (elim o [
-        | Some c ↦ cond (may_stand c || (is_long kind && option_is_some (line_end front i))) (plain_piece (c ∷ []) (i + 1)) broken
+        | Some c ↦ cond (may_stand c || (is_long kind && option_is_some (behind_line_end front i))) (plain_piece (c ∷ []) (i + 1)) broken
         | None ↦ broken
       ])) [
-        | Some c ↦ closes_if (may_stand c || (is_long kind && option_is_some (line_end front i))) (plain_piece (c ∷ []) (i + 1)) broken (λ h. tt) tt
+        | Some c ↦ closes_if (may_stand c || (is_long kind && option_is_some (behind_line_end front i))) (plain_piece (c ∷ []) (i + 1)) broken (λ h. tt) tt
         | None ↦ tt
       ]))
 
-  pieces_last : (kind : Quoting) (i : ℕ) (ps : List Piece) (close next : ℕ) → ArePieces kind front i ps close next → next ≤ m
+  pieces_last : (kind : Quoting) (i : ℕ) (ps : List StringPiece) (close next : ℕ) → ArePieces kind front i ps close next → next ≤ m
   pieces_last kind i [] close next is = subst ClosesBefore is.0 (part_closes kind i)
   pieces_last kind i (p ∷ ps) close next is = pieces_last kind is.0 ps close next is.2
 

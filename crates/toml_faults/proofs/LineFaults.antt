@@ -3,12 +3,12 @@ use Rattle.std.proofs.Common.{◌≡◌, ℕ, zero, suc, ◌+◌, ◌-◌, ◌<�
 use Rattle.std.proofs.lemmas.Bool.Decides.{nat_tests}
 use Rattle.std.proofs.lemmas.Str.{IsCharBoundary-start}
 use Rattle.std.specs.Str.{IsCharBoundary, IsUtf8}
-use Rattle.toml_subset.specs.Answer.{Read, fault_at, stuck, then_read, unless}
+use Rattle.toml_subset.specs.Answer.{TomlReading, fault_at, stuck, then_read, unless}
 use Rattle.toml_subset.specs.Bytes.{hash, open_bracket, close_bracket, line_feed, carriage_return, may_stand}
-use Rattle.toml_subset.specs.Faults.{LineBegins, IsFault}
+use Rattle.toml_subset.specs.Faults.{LineBegins, IsSyntaxFault}
 use Rattle.toml_subset.specs.Lines.{Document, no_lines}
-use Rattle.toml_subset.specs.Places.{stands, run_end, after_blanks, after_comment, line_end, next_line}
-use Rattle.toml_subset.specs.Reading.{Found, LineFound, enough, value_at, section_of, line_rest, with_root, pair_put, pair_from, header_from, array_header_from, is_blank_line, line_from, read_lines, whole, read_text}
+use Rattle.toml_subset.specs.Places.{stands, run_end, after_blanks, after_comment, behind_line_end, next_line}
+use Rattle.toml_subset.specs.Reading.{ValueFound, LineFound, enough, value_at, section_of, line_rest, with_root, pair_put, pair_from, header_from, array_header_from, is_blank_line, line_from, read_lines, whole, read_text}
 use Rattle.toml_subset.specs.StringReading.{KeysFound, keys_at, read_left}
 use Rattle.toml_subset.specs.TableFaults.{put_fault, header_fault, array_header_fault}
 use Rattle.toml_subset.specs.Tables.{Branches}
@@ -36,7 +36,7 @@ not_so true h = absurd (true≢false h)
 not_so false h = refl
 
 -- behind a line's end a line begins
-ends_line : (text : List ℕ) (j next : ℕ) → line_end text j ≡ Some next → LineBegins text next
+ends_line : (text : List ℕ) (j next : ℕ) → behind_line_end text j ≡ Some next → LineBegins text next
 ends_line text j next e =
     ⊎_elim (λ h. let at : suc j ≡ next = (let same = is_some (j + 1) next h.1 in omega arith) in subst (LineBegins text) at h.0)
     (λ h.
@@ -50,28 +50,28 @@ next_begins : (text : List ℕ) (i next : ℕ) → next_line text i ≡ Some nex
 next_begins text i next e inside =
     let j = after_comment text (after_blanks text i) in
     ⊎_elim (λ h. let at = eqb-true j (length text) h.0 in let same = is_some j next h.1 in absurd (omega arith)) (λ h. ends_line text j next h.1)
-    (if_is (eqb j (length text)) (Some j) (line_end text j) (Some next) e)
+    (if_is (eqb j (length text)) (Some j) (behind_line_end text j) (Some next) e)
 
 module _ (text : List ℕ) (utf8 : IsUtf8 text) where
   -- A line that is read leads to the next one, or has its fault.
-  abbrev pub Line : ℕ → Read LineFound → Type 0
+  abbrev pub Line : ℕ → TomlReading LineFound → Type 0
   Line from (Ok r) = (from ≤ r.1) × IsCharBoundary text r.1 × (r.1 < length text → LineBegins text r.1)
-  Line from (Err fault) = IsFault text from fault
+  Line from (Err fault) = IsSyntaxFault text from fault
 
-  line_later : (from later : ℕ) (o : Read LineFound) → from ≤ later → Line later o → Line from o
+  line_later : (from later : ℕ) (o : TomlReading LineFound) → from ≤ later → Line later o → Line from o
   line_later from later (Ok r) le is = (let past = is.0 in omega arith, is.1, is.2)
   line_later from later (Err fault) le is = fault_from text utf8 from later fault le is
 
-  then_line : {A : Type 0} (end : A → ℕ) (from : ℕ) (f : A → Read LineFound) (o : Read A) → Fine text utf8 end from o
+  then_line : {A : Type 0} (end : A → ℕ) (from : ℕ) (f : A → TomlReading LineFound) (o : TomlReading A) → Fine text utf8 end from o
       → ((x : A) → o ≡ Ok x → from ≤ end x → IsCharBoundary text (end x) → Line from (f x)) → Line from (then_read f o)
   then_line end from f (Ok x) here further = further x refl here.0 here.1
   then_line end from f (Err fault) here further = here
 
-  if_line : (from : ℕ) (b : Bool) (x y : Read LineFound) → (b ≡ true → Line from x) → (b ≡ false → Line from y) → Line from (cond b x y)
+  if_line : (from : ℕ) (b : Bool) (x y : TomlReading LineFound) → (b ≡ true → Line from x) → (b ≡ false → Line from y) → Line from (cond b x y)
   if_line from true x y first second = first refl
   if_line from false x y first second = second refl
 
-  unless_line : (from : ℕ) (fault : Option SyntaxError) (o : Read LineFound) → SomeFault text utf8 from fault → Line from o → Line from (unless fault o)
+  unless_line : (from : ℕ) (fault : Option SyntaxError) (o : TomlReading LineFound) → SomeFault text utf8 from fault → Line from o → Line from (unless fault o)
   unless_line from (Some fault) o here further = here
   unless_line from None o here further = further
 
@@ -85,7 +85,7 @@ module _ (text : List ℕ) (utf8 : IsUtf8 text) where
   not_whole : (i : ℕ) → next_line text i ≡ None → eqb (after_comment text (after_blanks text i)) (length text) ≡ false
   not_whole i is =
       let j = after_comment text (after_blanks text i) in
-      false_from (eqb j (length text)) (λ h. let here = sym (if_true (eqb j (length text)) (Some j) (line_end text j) h) ∙ is in absurd (cc))
+      false_from (eqb j (length text)) (λ h. let here = sym (if_true (eqb j (length text)) (Some j) (behind_line_end text j) h) ∙ is in absurd (cc))
 
   -- the rest of a line
 
@@ -117,7 +117,7 @@ module _ (text : List ℕ) (utf8 : IsUtf8 text) where
               start_border = border;
               end_border = behind_low text utf8 j inside (control_ascii (get_or text j 0) (not_so (may_stand (get_or text j 0)) fails));
               there = (
-                inr (record { place = b; begins = h; ends = comment; cut = sym (if_false (eqb j (length text)) (Some j) (line_end text j) differs) ∙ is }),
+                inr (record { place = b; begins = h; ends = comment; cut = sym (if_false (eqb j (length text)) (Some j) (behind_line_end text j) differs) ∙ is }),
                 passes_is (λ c. not (may_stand c)) text j inside ∙ not_so (may_stand (get_or text j 0)) fails,
                 refl,
               );
@@ -138,8 +138,8 @@ module _ (text : List ℕ) (utf8 : IsUtf8 text) where
       let here = section_of document.section document.root 0 in
       let stood = left_sound text i left is_left in
       unless_line i (put_fault left.0 here.0 here.1) _ (put_is text utf8 i i stood.0 left.0 (omega arith) stood.1 stood.2 here.0 here.1)
-      (then_line (λ (v : Found). v.2) i (pair_put text left.0 document) (value_at text (here.1 + (length left.0 - 1)) left.1)
-      (weaker text utf8 (λ (v : Found). v.2) i left.1 (value_at text (here.1 + (length left.0 - 1)) left.1) past (value_fine text utf8 (enough text) (here.1 + (length left.0 - 1)) left.1 border))
+      (then_line (λ (v : ValueFound). v.2) i (pair_put text left.0 document) (value_at text (here.1 + (length left.0 - 1)) left.1)
+      (weaker text utf8 (λ (v : ValueFound). v.2) i left.1 (value_at text (here.1 + (length left.0 - 1)) left.1) past (value_fine text utf8 (enough text) (here.1 + (length left.0 - 1)) left.1 border))
       (λ v is on_to at_end. root_line i v.2 on_to at.0 at_end document.section _)))
 
   module _ (line : ℕ) (begins : LineBegins text line) (border : IsCharBoundary text line) where
@@ -204,20 +204,20 @@ module _ (text : List ℕ) (utf8 : IsUtf8 text) where
 
   -- all lines from one on
 
-  abbrev pub Lines : {A : Type 0} → ℕ → Read A → Type 0
+  abbrev pub Lines : {A : Type 0} → ℕ → TomlReading A → Type 0
   Lines from (Ok x) = Unit {0}
-  Lines from (Err fault) = IsFault text from fault
+  Lines from (Err fault) = IsSyntaxFault text from fault
 
-  lines_later : {A : Type 0} (from later : ℕ) (o : Read A) → from ≤ later → Lines later o → Lines from o
+  lines_later : {A : Type 0} (from later : ℕ) (o : TomlReading A) → from ≤ later → Lines later o → Lines from o
   lines_later from later (Ok x) le is = tt
   lines_later from later (Err fault) le is = fault_from text utf8 from later fault le is
 
-  lines_on : (i n : ℕ) (o : Read LineFound) → Line i o → ((r : LineFound) → IsCharBoundary text r.1 → (r.1 < length text → LineBegins text r.1) → Lines r.1 (read_lines n text r.1 r.0))
+  lines_on : (i n : ℕ) (o : TomlReading LineFound) → Line i o → ((r : LineFound) → IsCharBoundary text r.1 → (r.1 < length text → LineBegins text r.1) → Lines r.1 (read_lines n text r.1 r.0))
       → Lines i (then_read (λ (r : LineFound). read_lines n text r.1 r.0) o)
   lines_on i n (Ok r) is further = lines_later i r.1 (read_lines n text r.1 r.0) is.0 (further r is.1 is.2)
   lines_on i n (Err fault) is further = is
 
-  lines_if : {A : Type 0} (from : ℕ) (b : Bool) (x y : Read A) → (b ≡ true → Lines from x) → (b ≡ false → Lines from y) → Lines from (cond b x y)
+  lines_if : {A : Type 0} (from : ℕ) (b : Bool) (x y : TomlReading A) → (b ≡ true → Lines from x) → (b ≡ false → Lines from y) → Lines from (cond b x y)
   lines_if from true x y first second = first refl
   lines_if from false x y first second = second refl
 
@@ -230,11 +230,11 @@ module _ (text : List ℕ) (utf8 : IsUtf8 text) where
       lines_on i n (line_from text document (after_blanks text i)) (a_line i (begins inside) at document) (λ r border more. lines_are n r.1 r.0 border more))
       (λ h. tt)
 
-  whole_lines : (o : Read Document) → Lines 0 o → Lines 0 (then_read (λ (document : Document). Ok (whole text document)) o)
+  whole_lines : (o : TomlReading Document) → Lines 0 o → Lines 0 (then_read (λ (document : Document). Ok (whole text document)) o)
   whole_lines (Ok document) is = tt
   whole_lines (Err fault) is = is
 
-  pub text_fault : (fault : SyntaxError) → read_text text ≡ Err fault → IsFault text 0 fault
+  pub text_fault : (fault : SyntaxError) → read_text text ≡ Err fault → IsSyntaxFault text 0 fault
   text_fault fault e =
       let all = lines_are (suc (length text)) 0 no_lines (IsCharBoundary-start text utf8) (λ inside. tt) in
       subst (Lines 0) e (whole_lines (read_lines (suc (length text)) text 0 no_lines) all)

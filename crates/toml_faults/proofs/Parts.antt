@@ -5,13 +5,13 @@ use Rattle.std.specs.Str.{IsCharBoundary, IsUtf8}
 use Rattle.deny_text.specs.declared.span.Span.{Span}
 use Rattle.toml_subset.specs.Bytes.{quote, apostrophe, dot, equals, is_bare}
 use Rattle.toml_subset.specs.Data.{depth_limit}
-use Rattle.toml_subset.specs.Faults.{Role, of_pair, of_header, of_array_header, IsKeyOf, IsKeyPart, IsLastPart, IsTablePart, IsFault}
+use Rattle.toml_subset.specs.Faults.{Role, of_pair, of_header, of_array_header, IsKeyOf, IsKeyPart, IsLastPart, IsTablePart, IsSyntaxFault}
 use Rattle.toml_subset.specs.Keys.{IsKey, AreKeys}
 use Rattle.toml_subset.specs.Places.{passes_at, stands, after_blanks}
 use Rattle.toml_subset.specs.StringReading.{StringFound, read_string, begins_long, KeyFound, bare_key, quoted_key, read_key, KeysFound, keys_behind, read_keys, keys_at, equals_behind, read_left}
-use Rattle.toml_subset.specs.StringViews.{is_plain}
-use Rattle.toml_subset.specs.Strings.{Quoting, basic, literal, marks_at, Piece, ArePieces, IsString}
-use Rattle.toml_subset.specs.TableFaults.{Inside, node_at, inside_any, inside_dotted, refused, way_fault, new_key_fault, put_fault, taken_over_fault, open_table_fault, header_fault, appended_fault, open_array_fault, array_header_fault}
+use Rattle.toml_subset.specs.StringViews.{is_plain_part}
+use Rattle.toml_subset.specs.Strings.{Quoting, basic, literal, marks_in_row, StringPiece, ArePieces, IsString}
+use Rattle.toml_subset.specs.TableFaults.{Inside, table_node_at, inside_any, inside_dotted, refused, way_fault, new_key_fault, put_fault, taken_over_fault, open_table_fault, header_fault, appended_fault, open_array_fault, array_header_fault}
 use Rattle.toml_subset.specs.Tables.{Node, Branches, by_header, implicit, dotted, closed, growing, tables, unbranched, has_key}
 use Rattle.toml_subset.specs.declared.error.SyntaxError.{SyntaxError}
 use Rattle.toml_subset.specs.declared.error.SyntaxReason.{SyntaxReason}
@@ -32,7 +32,7 @@ either true b h = inl refl
 either false b h = inr h
 
 -- the pieces up to the closing, in order
-pieces_order : (kind : Quoting) (text : List ℕ) (i : ℕ) (ps : List Piece) (close next : ℕ) → ArePieces kind text i ps close next → (i ≤ close) × (close < next)
+pieces_order : (kind : Quoting) (text : List ℕ) (i : ℕ) (ps : List StringPiece) (close next : ℕ) → ArePieces kind text i ps close next → (i ≤ close) × (close < next)
 pieces_order kind text i [] close next is = let at = is.1 in let goes = closing_goes kind text i next is.0 in (omega arith, omega arith)
 pieces_order kind text i (p ∷ ps) close next is =
     let goes = piece_goes kind text i p is.0 is.1 in let rest = pieces_order kind text is.0 ps close next is.2 in let le = rest.0 in (omega arith, rest.1)
@@ -45,14 +45,14 @@ module _ (text : List ℕ) (utf8 : IsUtf8 text) where
     pub start_border : IsCharBoundary text span.start
     pub end_border : IsCharBoundary text span.end
 
-  close_border : (kind : Quoting) (i : ℕ) (ps : List Piece) (close next : ℕ) → ArePieces kind text i ps close next → IsCharBoundary text close
+  close_border : (kind : Quoting) (i : ℕ) (ps : List StringPiece) (close next : ℕ) → ArePieces kind text i ps close next → IsCharBoundary text close
   close_border kind i [] close next is =
       let goes = closing_goes kind text i next is.0 in
       let inside = pieces_in kind text i [] close next is in
-      subst (IsCharBoundary text) (sym is.1) (plain_border kind text i (omega arith) (ap is_plain is.0))
+      subst (IsCharBoundary text) (sym is.1) (plain_border kind text i (omega arith) (ap is_plain_part is.0))
   close_border kind i (p ∷ ps) close next is = close_border kind is.0 ps close next is.2
 
-  end_border_of : (kind : Quoting) (i : ℕ) (ps : List Piece) (close next : ℕ) → ArePieces kind text i ps close next → IsCharBoundary text next
+  end_border_of : (kind : Quoting) (i : ℕ) (ps : List StringPiece) (close next : ℕ) → ArePieces kind text i ps close next → IsCharBoundary text next
   end_border_of kind i [] close next is = closing_border text utf8 kind i next is.0
   end_border_of kind i (p ∷ ps) close next is = end_border_of kind is.0 ps close next is.2
 
@@ -106,9 +106,9 @@ module _ (text : List ℕ) (utf8 : IsUtf8 text) where
       (λ inside.
       let back : i + 1 + 1 ≡ i + 2 = omega arith in
       ⊎_elim
-      (λ q. let three : 3 ≤ marks_at quote text i = grind (arith, nat_tests) in subst (IsCharBoundary text) back (marks_border text utf8 basic i 1 (omega arith)))
-      (λ q. let three : 3 ≤ marks_at apostrophe text i = grind (arith, nat_tests) in subst (IsCharBoundary text) back (marks_border text utf8 literal i 1 (omega arith)))
-      (either (nat_le 3 (marks_at quote text i)) (nat_le 3 (marks_at apostrophe text i)) k)))
+      (λ q. let three : 3 ≤ marks_in_row quote text i = grind (arith, nat_tests) in subst (IsCharBoundary text) back (marks_border text utf8 basic i 1 (omega arith)))
+      (λ q. let three : 3 ≤ marks_in_row apostrophe text i = grind (arith, nat_tests) in subst (IsCharBoundary text) back (marks_border text utf8 literal i 1 (omega arith)))
+      (either (nat_le 3 (marks_in_row quote text i)) (nat_le 3 (marks_in_row apostrophe text i)) k)))
       (λ k. then_fine text utf8 (λ (r : StringFound). r.2) (λ (r : KeyFound). r.1) i _ (read_string text i) (string_fine text utf8 i at) (λ x e past border. (past, border))))
 
   keys_fine : (n i : ℕ) → IsCharBoundary text i → Fine text utf8 (λ (r : KeysFound). r.1) i (read_keys n text i)
@@ -144,7 +144,7 @@ module _ (text : List ℕ) (utf8 : IsUtf8 text) where
 
   module _ (role : Role) (from place next : ℕ) (all : List Key) (le : from ≤ place) (are : AreKeys text place all next) (role_is : IsKeyOf role text place next) where
     abbrev pub PartFault : SyntaxReason → Key → Type 0
-    PartFault reason key = IsFault text from (record { reason = reason; span = key.span })
+    PartFault reason key = IsSyntaxFault text from (record { reason = reason; span = key.span })
 
     pub a_part : (before : List Key) (key : Key) (behind : List Key) → all ≡ before ++ key ∷ behind → IsKeyPart role behind text key.span
     a_part before key behind is =
@@ -182,7 +182,7 @@ module _ (text : List ℕ) (utf8 : IsUtf8 text) where
     way_is inside end middle ends before (key ∷ x ∷ more) is branches above =
         let there = middle before key x more is in
         let on : all ≡ (before ++ key ∷ []) ++ x ∷ more = is ∙ sym (append_assoc before (key ∷ []) (x ∷ more)) in
-        elim (node_at key branches) as (λ o. SomeFault text utf8 from (elim o [
+        elim (table_node_at key branches) as (λ o. SomeFault text utf8 from (elim o [
           | Some node ↦ elim (inside node) [ Some found ↦ way_fault inside end (x ∷ more) found.0 (above + found.1) | None ↦ refused RedefinedTable key ]
           | None ↦ cond (eqb above depth_limit) (refused TooDeep key) (way_fault inside end (x ∷ more) unbranched (above + 1))
         ])) [
@@ -218,7 +218,7 @@ module _ (text : List ℕ) (utf8 : IsUtf8 text) where
 
     open_is : (before : List Key) (key : Key) → keys ≡ before ++ key ∷ [] → (branches : Branches) (above : ℕ) → SomeFault text utf8 from (open_table_fault key branches above)
     open_is before key is branches above =
-        elim (node_at key branches) as (λ o. SomeFault text utf8 from (elim o [ Some node ↦ taken_over_fault key node | None ↦ cond (eqb above depth_limit) (refused TooDeep key) None ])) [
+        elim (table_node_at key branches) as (λ o. SomeFault text utf8 from (elim o [ Some node ↦ taken_over_fault key node | None ↦ cond (eqb above depth_limit) (refused TooDeep key) None ])) [
           | Some node ↦ taken_is before key is node
           | None ↦ some_fault of_header from place next keys le are role_is (eqb above depth_limit) (refused TooDeep key) None
               (λ h. deep of_header from place next keys le are role_is before key [] is (header_part before key [] is)) (λ h. tt)
@@ -240,7 +240,7 @@ module _ (text : List ℕ) (utf8 : IsUtf8 text) where
 
     open_array_is : (before : List Key) (key : Key) → keys ≡ before ++ key ∷ [] → (branches : Branches) (above : ℕ) → SomeFault text utf8 from (open_array_fault key branches above)
     open_array_is before key is branches above =
-        elim (node_at key branches) as (λ o. SomeFault text utf8 from (elim o [ Some node ↦ appended_fault key node | None ↦ cond (nat_lt (above + 1) depth_limit) None (refused TooDeep key) ])) [
+        elim (table_node_at key branches) as (λ o. SomeFault text utf8 from (elim o [ Some node ↦ appended_fault key node | None ↦ cond (nat_lt (above + 1) depth_limit) None (refused TooDeep key) ])) [
           | Some node ↦ appended_is before key is node
           | None ↦ some_fault of_array_header from place next keys le are role_is (nat_lt (above + 1) depth_limit) None (refused TooDeep key) (λ h. tt)
               (λ h. deep of_array_header from place next keys le are role_is before key [] is (array_part before key [] is))

@@ -6,11 +6,11 @@ use Rattle.std.specs.List.{list_all}
 use Rattle.std.specs.Str.{IsCharBoundary, IsUtf8}
 use Rattle.toml_subset.specs.Bytes.{quote, apostrophe, hash, comma, open_bracket, close_bracket, open_brace, close_brace, line_feed, carriage_return, is_run, may_stand}
 use Rattle.toml_subset.specs.Data.{depth_limit}
-use Rattle.toml_subset.specs.Faults.{begins_number, IsFault}
+use Rattle.toml_subset.specs.Faults.{begins_number, IsSyntaxFault}
 use Rattle.toml_subset.specs.Numbers.{Class, unsupported, number_form, number_range, integer, decimal, class_of}
-use Rattle.toml_subset.specs.Places.{stands, run_end, run_at, after_blanks, after_blanks_and_comment, lines_over, after_lines_of, after_space, in_comment, line_end}
+use Rattle.toml_subset.specs.Places.{stands, run_end, run_at, after_blanks, after_blanks_and_comment, lines_over, after_lines_of, after_space, in_comment, behind_line_end}
 use Rattle.toml_subset.specs.Raw.{word_of}
-use Rattle.toml_subset.specs.Reading.{Found, ItemsFound, EntriesFound, number_read, shared_len, word_read, read_scalar, cut_in_comment, space_fault, items_behind, made, entries_behind, entry_put, array_read, table_read, table_from, read_value, read_items, read_entries}
+use Rattle.toml_subset.specs.Reading.{ValueFound, ItemsFound, EntriesFound, number_read, shared_len, word_read, read_scalar, cut_in_comment, space_fault, array_items_behind, made, entries_behind, entry_put, array_read, table_read, table_from, read_value, read_items, read_entries}
 use Rattle.toml_subset.specs.StringReading.{StringFound, KeysFound, read_string, read_left}
 use Rattle.toml_subset.specs.TableFaults.{put_fault}
 use Rattle.toml_subset.specs.Tables.{Branches, closed, unbranched, put}
@@ -61,29 +61,29 @@ shared_least [] s = omega arith
 shared_least (c ∷ cs) [] = omega arith
 shared_least (c ∷ cs) (d ∷ ds) = elim (eqb c d) as (λ b. cond b (suc (shared_len cs ds)) 0 ≤ suc (length ds)) [ true ↦ (let rest = shared_least cs ds in omega arith) | false ↦ omega arith ]
 
-no_line_past : (text : List ℕ) (i : ℕ) → length text ≤ i → line_end text i ≡ None
+no_line_past : (text : List ℕ) (i : ℕ) → length text ≤ i → behind_line_end text i ≡ None
 no_line_past text i past =
     let lf : stands text i line_feed ≡ false = false_from (stands text i line_feed) (λ h. let inside = passes_inside (λ b. eqb b line_feed) text i h in absurd (omega arith)) in
     let cr : stands text i carriage_return ≡ false = false_from (stands text i carriage_return) (λ h. let inside = passes_inside (λ b. eqb b carriage_return) text i h in absurd (omega arith)) in
     ap (λ (b : Bool). cond b (Some (i + 1)) (cond (stands text i carriage_return && stands text (i + 1) line_feed) (Some (i + 2)) None)) lf
     ∙ ap (λ (b : Bool). cond (b && stands text (i + 1) line_feed) (Some (i + 2)) None) cr
 
-past_of : (text : List ℕ) (i next : ℕ) → line_end text (after_blanks_and_comment text i) ≡ Some next → after_blanks_and_comment text i < next
+past_of : (text : List ℕ) (i next : ℕ) → behind_line_end text (after_blanks_and_comment text i) ≡ Some next → after_blanks_and_comment text i < next
 past_of text i next is = subst (Past (after_blanks_and_comment text i)) is (line_end_past text (after_blanks_and_comment text i))
 
 -- the last line of a gap has no end that the gap goes over
 lines_stop : (text : List ℕ) (n i : ℕ) → length text ≤ i + n
-    → line_end text (after_blanks_and_comment text (lines_over after_blanks_and_comment n text i)) ≡ None
+    → behind_line_end text (after_blanks_and_comment text (lines_over after_blanks_and_comment n text i)) ≡ None
 lines_stop text zero i past = no_line_past text (after_blanks_and_comment text i) (let goes = comment_goes text i in omega arith)
 lines_stop text (suc n) i past =
-    elim (line_end text (after_blanks_and_comment text i)) as (λ o. line_end text (after_blanks_and_comment text i) ≡ o
-    → line_end text (after_blanks_and_comment text (elim o [ Some next ↦ lines_over after_blanks_and_comment n text next | None ↦ i ])) ≡ None) [
+    elim (behind_line_end text (after_blanks_and_comment text i)) as (λ o. behind_line_end text (after_blanks_and_comment text i) ≡ o
+    → behind_line_end text (after_blanks_and_comment text (elim o [ Some next ↦ lines_over after_blanks_and_comment n text next | None ↦ i ])) ≡ None) [
       | Some next ↦ λ is. lines_stop text n next (let goes = comment_goes text i in let further = past_of text i next is in omega arith)
       | None ↦ λ is. is
     ] refl
 
 module _ (text : List ℕ) (utf8 : IsUtf8 text) where
-  abbrev value_end : Found → ℕ
+  abbrev value_end : ValueFound → ℕ
   value_end v = v.2
 
   number_fine : (i : ℕ) → IsCharBoundary text i → begins_number text i ≡ true → (class : Class) → class_of (run_at is_run text i) ≡ class
@@ -131,7 +131,7 @@ module _ (text : List ℕ) (utf8 : IsUtf8 text) where
 
   -- behind the space in an array
 
-  space_is : (i : ℕ) → IsCharBoundary text i → IsFault text i (space_fault text i)
+  space_is : (i : ℕ) → IsCharBoundary text i → IsSyntaxFault text i (space_fault text i)
   space_is i at =
       let j = after_space text i in
       let line = after_lines_of after_blanks_and_comment text i in
@@ -212,7 +212,7 @@ module _ (text : List ℕ) (utf8 : IsUtf8 text) where
         let border = space_border text utf8 i at in
         if_fine text utf8 items_end i (cut_in_comment text i) _ _ (λ cut. space_is i at)
         (λ go_on. if_fine text utf8 items_end i (stands text j close_bracket) _ _ (λ closed_here. (omega arith, (behind_byte text utf8 j close_bracket (omega arith) closed_here).1))
-        (λ further. then_fine text utf8 value_end items_end i (items_behind (read_items n text above) text) (read_value n text above j)
+        (λ further. then_fine text utf8 value_end items_end i (array_items_behind (read_items n text above) text) (read_value n text above j)
         (weaker text utf8 value_end i j (read_value n text above j) goes (value_fine n above j border))
         (λ v is past at_end.
         let k = after_space text v.2 in

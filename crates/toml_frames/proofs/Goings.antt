@@ -1,11 +1,11 @@
 -- What reading owes of a frame is the definition, read on from it.
 use Rattle.std.proofs.Common.{◌≡◌, ℕ, suc, ◌+◌, ◌-◌, ◌<◌, ◌≤◌, Bool, true, false, cond, eqb, max, ◌||◌, List, length, Option, Some, None, Ok, Err, refl, ap, sym, ◌∙◌, arith}
-use Rattle.toml_subset.specs.Answer.{Read, fault_at, then_read, unless}
+use Rattle.toml_subset.specs.Answer.{TomlReading, fault_at, then_read, unless}
 use Rattle.toml_subset.specs.Bytes.{comma, open_bracket, close_bracket, open_brace, close_brace}
 use Rattle.toml_subset.specs.Data as «data»
 use Rattle.toml_subset.specs.Data.{Items, depth_of, items_depth, depth_limit}
 use Rattle.toml_subset.specs.Places.{stands, after_blanks, after_space}
-use Rattle.toml_subset.specs.Reading.{Found, ItemsFound, read_scalar, space_fault, cut_in_comment, items_behind, items_from, entry_put, entries_from, array_read, table_read, table_from, value_from, enough, value_at}
+use Rattle.toml_subset.specs.Reading.{ValueFound, ItemsFound, read_scalar, space_fault, cut_in_comment, array_items_behind, array_items_from, entry_put, entries_from, array_read, table_read, table_from, value_from, enough, value_at}
 use Rattle.toml_subset.specs.StringReading.{KeysFound, read_left}
 use Rattle.toml_subset.specs.TableFaults.{put_fault}
 use Rattle.toml_subset.specs.Tables.{Branches, unbranched, closed, put, entries_of}
@@ -22,7 +22,7 @@ use Rattle.toml_subset.proofs.Law.Ways.{put_below, put_room}
 use Rattle.toml_frames.specs.declared.between.Next.{Next}
 use Rattle.toml_frames.specs.declared.between.Next.TheVariants.{Closed, Further}
 use Rattle.toml_frames.specs.Between.{item_place, behind_item, entry_place, behind_entry}
-use Rattle.toml_frames.specs.Frames.{Frame, in_array, in_table, inside, IsShallow, items_at, entries_at, joined, with_last, joined_found, on_with, array_on, entry_on, table_on}
+use Rattle.toml_frames.specs.Frames.{Frame, in_array, in_table, inside, IsShallowFrame, items_at, entries_at, joined, with_last, joined_found, on_with, array_on, entry_on, table_on}
 
 -- the definition, one call opened
 
@@ -30,7 +30,7 @@ pub value_on : (text : List ℕ) (above i : ℕ) → above ≤ depth_limit
     → value_at text above i ≡ value_from (items_at text (above + 1)) (entries_at text (above + 1) unbranched) text above i
 value_on text above i low = value_steady (enough text) (suc (enough text)) text above i low (omega arith) (omega arith)
 
-items_on : (text : List ℕ) (above i : ℕ) → above ≤ depth_limit → items_at text above i ≡ items_from (value_at text above) (items_at text above) text i
+items_on : (text : List ℕ) (above i : ℕ) → above ≤ depth_limit → items_at text above i ≡ array_items_from (value_at text above) (items_at text above) text i
 items_on text above i low = items_steady (enough text) (suc (enough text)) text above i low (omega arith) (omega arith)
 
 entries_on : (text : List ℕ) (above : ℕ) (branches : Branches) (i : ℕ) → above + depth branches ≤ depth_limit
@@ -39,26 +39,26 @@ entries_on text above branches i low = entries_steady (enough text) (suc (enough
 
 -- reading on behind an answer
 
-then_then : {A B C : Type 0} (g : B → Read C) (f : A → Read B) (o : Read A) → then_read g (then_read f o) ≡ then_read (λ x. then_read g (f x)) o
+then_then : {A B C : Type 0} (g : B → TomlReading C) (f : A → TomlReading B) (o : TomlReading A) → then_read g (then_read f o) ≡ then_read (λ x. then_read g (f x)) o
 then_then g f (Ok x) = refl
 then_then g f (Err fault) = refl
 
-then_same : {A B : Type 0} (f g : A → Read B) (o : Read A) → ((x : A) → f x ≡ g x) → then_read f o ≡ then_read g o
+then_same : {A B : Type 0} (f g : A → TomlReading B) (o : TomlReading A) → ((x : A) → f x ≡ g x) → then_read f o ≡ then_read g o
 then_same f g (Ok x) same = same x
 then_same f g (Err fault) same = refl
 
-then_unless : {A B : Type 0} (f : A → Read B) (fault : Option SyntaxError) (o : Read A) → then_read f (unless fault o) ≡ unless fault (then_read f o)
+then_unless : {A B : Type 0} (f : A → TomlReading B) (fault : Option SyntaxError) (o : TomlReading A) → then_read f (unless fault o) ≡ unless fault (then_read f o)
 then_unless f (Some fault) o = refl
 then_unless f None o = refl
 
 -- two tests in a row, on both sides
-first_place : {A : Type 0} (f : Next → Read A) (b c : Bool) (fault : SyntaxError) (x y : Next)
+first_place : {A : Type 0} (f : Next → TomlReading A) (b c : Bool) (fault : SyntaxError) (x y : Next)
     → cond b (Err fault) (cond c (f x) (f y)) ≡ then_read f (cond b (Err fault) (cond c (Ok x) (Ok y)))
 first_place f true c fault x y = refl
 first_place f false true fault x y = refl
 first_place f false false fault x y = refl
 
-next_place : {A B : Type 0} (f : A → Read B) (g : Next → Read B) (b c : Bool) (fault : SyntaxError) (x : A) (n : Next) (o : Read A) (p : Read Next)
+next_place : {A B : Type 0} (f : A → TomlReading B) (g : Next → TomlReading B) (b c : Bool) (fault : SyntaxError) (x : A) (n : Next) (o : TomlReading A) (p : TomlReading Next)
     → f x ≡ g n → then_read f o ≡ then_read g p
     → then_read f (cond b (Ok x) (cond c o (Err fault))) ≡ then_read g (cond b (Ok n) (cond c p (Err fault)))
 next_place f g true c fault x n o p first second = first
@@ -67,15 +67,15 @@ next_place f g false false fault x n o p first second = refl
 
 -- items in a row
 
-joined_last : (items : Items) (v : Found) (more : Items) → joined (with_last items v) more ≡ joined items (data.item v.0 v.1 more)
+joined_last : (items : Items) (v : ValueFound) (more : Items) → joined (with_last items v) more ≡ joined items (data.item v.0 v.1 more)
 joined_last data.no_item v more = refl
 joined_last (data.item span content rest) v more = ap (data.item span content) (joined_last rest v more)
 
-joined_none : (o : Read ItemsFound) → then_read (joined_found data.no_item) o ≡ o
+joined_none : (o : TomlReading ItemsFound) → then_read (joined_found data.no_item) o ≡ o
 joined_none (Ok r) = refl
 joined_none (Err fault) = refl
 
-joined_more : (items : Items) (v : Found) (o : Read ItemsFound)
+joined_more : (items : Items) (v : ValueFound) (o : TomlReading ItemsFound)
     → then_read (joined_found items) (then_read (λ (r : ItemsFound). Ok (data.item v.0 v.1 r.0, r.1)) o) ≡ then_read (joined_found (with_last items v)) o
 joined_more items v (Ok r) = ap (λ (all : Items). Ok (all, r.1)) (sym (joined_last items v r.0))
 joined_more items v (Err fault) = refl
@@ -86,9 +86,9 @@ joined_depth (data.item span content rest) b = let more = joined_depth rest b in
 
 -- an array
 
-items_by : List ℕ → ℕ → Next → Read ItemsFound
+items_by : List ℕ → ℕ → Next → TomlReading ItemsFound
 items_by text above (Closed next) = Ok (data.no_item, next)
-items_by text above (Further i) = then_read (items_behind (items_at text above) text) (value_at text above i)
+items_by text above (Further i) = then_read (array_items_behind (items_at text above) text) (value_at text above i)
 
 items_placed : (text : List ℕ) (above i : ℕ) → above ≤ depth_limit → items_at text above i ≡ then_read (items_by text above) (item_place text i)
 unfolding items_by
@@ -102,22 +102,22 @@ array_first : (text : List ℕ) (start above : ℕ) (next : Next)
 unfolding items_by
 array_first text start above (Closed next) = refl
 array_first text start above (Further i) =
-    let behind = items_behind (items_at text (above + 1)) text in
+    let behind = array_items_behind (items_at text (above + 1)) text in
     then_then (array_read start) behind (value_at text (above + 1) i)
     ∙ then_same _ _ (value_at text (above + 1) i) (λ v. ap (then_read (array_read start)) (sym (joined_none (behind v))))
 
-array_next : (text : List ℕ) (start above : ℕ) (items : Items) (v : Found) (next : Next)
+array_next : (text : List ℕ) (start above : ℕ) (items : Items) (v : ValueFound) (next : Next)
     → then_read (array_read start) (then_read (joined_found items) (then_read (λ (r : ItemsFound). Ok (data.item v.0 v.1 r.0, r.1)) (items_by text (above + 1) next)))
     ≡ array_on text start above (with_last items v) next
 unfolding items_by
 array_next text start above items v (Closed next) = refl
 array_next text start above items v (Further i) =
-    let behind = items_behind (items_at text (above + 1)) text in
+    let behind = array_items_behind (items_at text (above + 1)) text in
     let value = value_at text (above + 1) i in
     ap (then_read (array_read start)) (joined_more items v (then_read behind value) ∙ then_then (joined_found (with_last items v)) behind value)
     ∙ then_then (array_read start) (λ w. then_read (joined_found (with_last items v)) (behind w)) value
 
-pub array_goes_on : (text : List ℕ) (start above : ℕ) (items : Items) (v : Found) → above + 1 ≤ depth_limit
+pub array_goes_on : (text : List ℕ) (start above : ℕ) (items : Items) (v : ValueFound) → above + 1 ≤ depth_limit
     → on_with text (in_array start above items) v ≡ then_read (array_on text start above (with_last items v)) (behind_item text v.2)
 array_goes_on text start above items v low =
     let j = after_space text v.2 in
@@ -127,19 +127,19 @@ array_goes_on text start above items v low =
     let placed = items_placed text (above + 1) (j + 1) low in
     let by = items_by text (above + 1) in
     let place = item_place text (j + 1) in
-    then_then (array_read start) (joined_found items) (items_behind (items_at text (above + 1)) text v)
+    then_then (array_read start) (joined_found items) (array_items_behind (items_at text (above + 1)) text v)
     ∙ next_place whole (array_on text start above (with_last items v)) (stands text j close_bracket) (stands text j comma) (space_fault text v.2)
     (data.item v.0 v.1 data.no_item, j + 1) (Closed (j + 1)) (then_read further rest) place refl
     (sym (then_then (array_read start) (joined_found items) (then_read further rest))
-    ∙ ap (λ (o : Read ItemsFound). then_read (array_read start) (then_read (joined_found items) (then_read further o))) placed
-    ∙ ap (λ (o : Read ItemsFound). then_read (array_read start) (then_read (joined_found items) o)) (then_then further by place)
+    ∙ ap (λ (o : TomlReading ItemsFound). then_read (array_read start) (then_read (joined_found items) (then_read further o))) placed
+    ∙ ap (λ (o : TomlReading ItemsFound). then_read (array_read start) (then_read (joined_found items) o)) (then_then further by place)
     ∙ ap (then_read (array_read start)) (then_then (joined_found items) (λ n. then_read further (by n)) place)
     ∙ then_then (array_read start) (λ n. then_read (joined_found items) (then_read further (by n))) place
     ∙ then_same _ _ place (array_next text start above items v))
 
 -- an inline table
 
-unless_same : {A : Type 0} (fault : Option SyntaxError) (x y : Read A) → x ≡ y → unless fault x ≡ unless fault y
+unless_same : {A : Type 0} (fault : Option SyntaxError) (x y : TomlReading A) → x ≡ y → unless fault x ≡ unless fault y
 unless_same fault x y same = ap (unless fault) same
 
 table_entry : (text : List ℕ) (start above : ℕ) (branches : Branches) (i : ℕ) → above + 1 + depth branches ≤ depth_limit
@@ -156,7 +156,7 @@ table_entry text start above branches i low =
     then_unless (table_read start) (put_fault left.0 branches (above + 1)) (then_read (entry_put rest text left.0 branches) value)
     ∙ ap (unless (put_fault left.0 branches (above + 1))) (then_then (table_read start) (entry_put rest text left.0 branches) value))
 
-pub table_goes_on : (text : List ℕ) (start above : ℕ) (branches : Branches) (keys : List Key) (v : Found) (new : Branches)
+pub table_goes_on : (text : List ℕ) (start above : ℕ) (branches : Branches) (keys : List Key) (v : ValueFound) (new : Branches)
     → put keys (closed v.0 v.1) branches ≡ Some new → above + 1 + depth new ≤ depth_limit
     → on_with text (in_table start above branches keys) v ≡ then_read (table_on text start above new) (behind_entry text v.2)
 table_goes_on text start above branches keys v new is low =
@@ -204,22 +204,22 @@ table_begins text above i opens low table shallow =
 
 -- depths, and where values end
 
-pub items_shallow : (start above : ℕ) (items : Items) (v : Found) → IsShallow (in_array start above items) → above + 1 + depth_of v.1 ≤ depth_limit
+pub items_shallow : (start above : ℕ) (items : Items) (v : ValueFound) → IsShallowFrame (in_array start above items) → above + 1 + depth_of v.1 ≤ depth_limit
     → above + depth_of (data.array (with_last items v)) ≤ depth_limit
 items_shallow start above items v low room = let both = joined_depth items (data.item v.0 v.1 data.no_item) in omega arith
 
-pub entries_shallow : (start above : ℕ) (branches : Branches) (keys : List Key) (v : Found) (new : Branches) → IsShallow (in_table start above branches keys)
+pub entries_shallow : (start above : ℕ) (branches : Branches) (keys : List Key) (v : ValueFound) (new : Branches) → IsShallowFrame (in_table start above branches keys)
     → above + 1 + (length keys - 1) + depth_of v.1 ≤ depth_limit → put keys (closed v.0 v.1) branches ≡ Some new
     → above + depth_of (data.table (entries_of new)) ≤ depth_limit
 entries_shallow start above branches keys v new low room is =
     let held = low.0 in
     let below = put_below keys (closed v.0 v.1) branches new (above + 1) low.1 is room (omega arith) in omega arith
 
-pub inside_shallow : (frame : Frame) → IsShallow frame → inside frame ≤ depth_limit
+pub inside_shallow : (frame : Frame) → IsShallowFrame frame → inside frame ≤ depth_limit
 inside_shallow (in_array start above items) low = omega arith
 inside_shallow (in_table start above branches keys) low = let held = low.0 in put_room keys branches (above + 1) low.1 (omega arith)
 
-pub found_goes : (text : List ℕ) (above i : ℕ) (v : Found) → above ≤ depth_limit → value_at text above i ≡ Ok v → (i < v.2) × (v.2 ≤ length text)
+pub found_goes : (text : List ℕ) (above i : ℕ) (v : ValueFound) → above ≤ depth_limit → value_at text above i ≡ Ok v → (i < v.2) × (v.2 ≤ length text)
 found_goes text above i v low is =
     let stood = value_sound (enough text) text above i v low is in
     (value_goes text i v.0 stood.0 v.2 stood.1, value_in text i v.0 stood.0 v.2 stood.1)

@@ -3,11 +3,11 @@ use Rattle.std.proofs.Common.{◌≡◌, ℕ, zero, suc, ◌+◌, ◌-◌, ◌<�
 use Rattle.std.proofs.lemmas.Bool.Decides.{nat_tests}
 use Rattle.std.proofs.lemmas.Slice.Eq.{bytes_eq-Decides}
 use Rattle.deny_text.specs.declared.span.Span.{Span}
-use Rattle.toml_subset.specs.Answer.{Read, then_read, unless}
+use Rattle.toml_subset.specs.Answer.{TomlReading, then_read, unless}
 use Rattle.toml_subset.specs.Data.{depth_limit}
 use Rattle.toml_subset.specs.Lines.{Document}
-use Rattle.toml_subset.specs.Reading.{Found as Found_, section_of, line_rest, with_root as with_root_at, pair_put}
-use Rattle.toml_subset.specs.TableFaults.{Inside, put_fault, node_at, last_of, inside_any, refused, way_fault, taken_over_fault, open_table_fault, header_fault, appended_fault, open_array_fault, array_header_fault}
+use Rattle.toml_subset.specs.Reading.{ValueFound, section_of, line_rest, with_root as with_root_at, pair_put}
+use Rattle.toml_subset.specs.TableFaults.{Inside, put_fault, table_node_at, last_of, inside_any, refused, way_fault, taken_over_fault, open_table_fault, header_fault, appended_fault, open_array_fault, array_header_fault}
 use Rattle.toml_subset.specs.Tables.{Mark, by_header, implicit, dotted, Node, Branches, Bodies, closed, growing, tables, unbranched, branch, last, body, same_key, has_key, added, changed, in_last, through_any, along, take_over, open_table, with_table, append_to, open_array, put, within}
 use Rattle.toml_subset.specs.declared.error.SyntaxError.{SyntaxError}
 use Rattle.toml_subset.specs.declared.error.SyntaxReason.TheVariants.{RedefinedTable, TooDeep}
@@ -16,9 +16,9 @@ use Rattle.toml_subset.proofs.Law.Basics.{map_some, is_some, is_ok, not_ok, if_i
 use Rattle.toml_subset.proofs.Law.Depths.{depth, node_depth, bodies_depth, node_at_depth, any_inner}
 use Rattle.toml_subset.proofs.Law.Headers.{header_below, array_header_below, is_within, section_inner}
 use Rattle.toml_subset.proofs.Law.Ways.{put_below, node_fault, inside_fault, way_step, along_by, along_step, new_table}
-use Rattle.toml_frames.specs.Levels.{Around, alone, behind, steps_in, bodies_to, around_node, Level, hole, replaced, found_at, size, plugged, all_plugged, steps, Cursor, at_root, before_last, last_place, all_of, opened, fresh, refusal, further, into_old, into_new, into_found, into_part, into_parts, into_header, Lead, IsWay, IsOpened}
-use Rattle.toml_frames.specs.declared.part.Part.{Part}
-use Rattle.toml_frames.specs.declared.part.Part.TheVariants.{Through, Table, Array}
+use Rattle.toml_frames.specs.Levels.{Around, alone, behind, steps_in, bodies_to, around_node, TableLevel, hole, replaced, found_at, size, plugged, all_plugged, steps, Cursor, at_root, before_last, last_place, all_of, opened, fresh, refusal, further, into_old, into_new, into_found, into_part, into_parts, into_header, Lead, IsWay, IsOpened}
+use Rattle.toml_frames.specs.declared.part.HeaderPart.{HeaderPart}
+use Rattle.toml_frames.specs.declared.part.HeaderPart.TheVariants.{Through, Table, Array}
 
 map_twice : {A B C : Type 0} (g : B → C) (f : A → B) (o : Option A) → option_map g (option_map f o) ≡ option_map (λ x. g (f x)) o
 map_twice g f None = refl
@@ -42,7 +42,7 @@ abbrev up : ℕ × Node → ℕ × Node
 up f = (suc f.0, f.1)
 
 pub record Found (key : Key) (table : Branches) (i : ℕ) (node : Node) : Type 0 where
-  pub there : node_at key table ≡ Some node
+  pub there : table_node_at key table ≡ Some node
   pub has : has_key key table ≡ true
   pub change : (f : Node → Option Node) → changed f key table ≡ option_map (λ new. replaced i new table) (f node)
   pub again : (new : Node) → found_at key (replaced i new table) ≡ Some (i, new)
@@ -53,7 +53,7 @@ is_found key unbranched i node e = absurd (cc)
 is_found key (branch other here more) i node e =
     ⊎_elim
     (λ h. subst (λ (x : ℕ × Node). Found key (branch other here more) x.0 x.1) (is_some (0, here) (i, node) h.1) (record {
-      there = if_true (same_key key other) (Some here) (node_at key more) h.0;
+      there = if_true (same_key key other) (Some here) (table_node_at key more) h.0;
       has = if_true (same_key key other) true (has_key key more) h.0;
       change = λ f. if_true (same_key key other) (option_map (λ new. branch other new more) (f here)) (option_map (branch other here) (changed f key more)) h.0;
       again = λ new. if_true (same_key key other) (Some (0, new)) (option_map up (found_at key more)) h.0;
@@ -63,7 +63,7 @@ is_found key (branch other here more) i node e =
     let rest = map_some up (found_at key more) (i, node) h.1 in
     let inner = is_found key more rest.0.0 rest.0.1 rest.1 in
     subst (λ (x : ℕ × Node). Found key (branch other here more) x.0 x.1) rest.2 (record {
-      there = if_false (same_key key other) (Some here) (node_at key more) h.0 ∙ inner.there;
+      there = if_false (same_key key other) (Some here) (table_node_at key more) h.0 ∙ inner.there;
       has = if_false (same_key key other) true (has_key key more) h.0 ∙ inner.has;
       change = λ f. if_false (same_key key other) (option_map (λ new. branch other new more) (f here)) (option_map (branch other here) (changed f key more)) h.0
           ∙ ap (option_map (branch other here)) (inner.change f)
@@ -74,7 +74,7 @@ is_found key (branch other here more) i node e =
     (if_is (same_key key other) (Some (0, here)) (option_map up (found_at key more)) (Some (i, node)) e)
 
 pub record Missing (key : Key) (table : Branches) : Type 0 where
-  pub there : node_at key table ≡ None
+  pub there : table_node_at key table ≡ None
   pub has : has_key key table ≡ false
   pub again : (new : Node) → found_at key (added key new table) ≡ Some (size table, new)
   pub back : (a b : Node) → replaced (size table) b (added key a table) ≡ added key b table
@@ -94,7 +94,7 @@ is_missing key (branch other here more) e =
     (λ h.
     let rest = is_missing key more (map_none up (found_at key more) h.1) in
     record {
-      there = if_false (same_key key other) (Some here) (node_at key more) h.0 ∙ rest.there;
+      there = if_false (same_key key other) (Some here) (table_node_at key more) h.0 ∙ rest.there;
       has = if_false (same_key key other) true (has_key key more) h.0 ∙ rest.has;
       again = λ new. if_false (same_key key other) (Some (0, here)) (option_map up (found_at key (added key new more))) h.0 ∙ ap (option_map up) (rest.again new);
       back = λ a b. ap (branch other here) (rest.back a b);
@@ -185,78 +185,78 @@ appends_none at key (tables span bodies) e = absurd (cc)
 
 -- the end of a way
 
-abbrev pub IsLast : Part → Type 0
+abbrev pub IsLast : HeaderPart → Type 0
 IsLast Through = ⊥
 IsLast (Table at) = Unit {0}
 IsLast (Array at) = Unit {0}
 
-abbrev pub end_fault : Part → Key → Branches → ℕ → Option SyntaxError
+abbrev pub end_fault : HeaderPart → Key → Branches → ℕ → Option SyntaxError
 end_fault Through key branches above = None
 end_fault (Table at) key branches above = open_table_fault key branches above
 end_fault (Array at) key branches above = open_array_fault key branches above
 
-abbrev pub end_edit : Part → Key → Branches → Option Branches
+abbrev pub end_edit : HeaderPart → Key → Branches → Option Branches
 end_edit Through key branches = None
 end_edit (Table at) key branches = open_table at key branches
 end_edit (Array at) key branches = open_array at key branches
 
 -- of a node that stands there, and where none does
-abbrev node_end : Part → Key → Node → Option SyntaxError
+abbrev node_end : HeaderPart → Key → Node → Option SyntaxError
 node_end Through key node = None
 node_end (Table at) key node = taken_over_fault key node
 node_end (Array at) key node = appended_fault key node
 
-abbrev none_end : Part → Key → ℕ → Option SyntaxError
+abbrev none_end : HeaderPart → Key → ℕ → Option SyntaxError
 none_end Through key above = None
 none_end (Table at) key above = cond (eqb above depth_limit) (refused TooDeep key) None
 none_end (Array at) key above = cond (nat_lt (above + 1) depth_limit) None (refused TooDeep key)
 
-abbrev node_edit : Part → Node → Option Node
+abbrev node_edit : HeaderPart → Node → Option Node
 node_edit Through node = None
 node_edit (Table at) node = take_over at node
 node_edit (Array at) node = append_to at node
 
-abbrev new_node : Part → Node
+abbrev new_node : HeaderPart → Node
 new_node Through = tables (record { start = 0; end = 0 }) (last (record { start = 0; end = 0 }) unbranched)
 new_node (Table at) = growing at by_header unbranched
 new_node (Array at) = tables at (last at unbranched)
 
-abbrev fault_by : Part → Key → ℕ → Option Node → Option SyntaxError
+abbrev fault_by : HeaderPart → Key → ℕ → Option Node → Option SyntaxError
 fault_by part key above (Some node) = node_end part key node
 fault_by part key above None = none_end part key above
 
-fault_is : (part : Part) → IsLast part → (key : Key) (branches : Branches) (above : ℕ) → end_fault part key branches above ≡ fault_by part key above (node_at key branches)
+fault_is : (part : HeaderPart) → IsLast part → (key : Key) (branches : Branches) (above : ℕ) → end_fault part key branches above ≡ fault_by part key above (table_node_at key branches)
 fault_is Through never key branches above = absurd never
 fault_is (Table at) is key branches above =
-    elim (node_at key branches) as (λ o. elim o [ Some node ↦ taken_over_fault key node | None ↦ cond (eqb above depth_limit) (refused TooDeep key) None ]
+    elim (table_node_at key branches) as (λ o. elim o [ Some node ↦ taken_over_fault key node | None ↦ cond (eqb above depth_limit) (refused TooDeep key) None ]
     ≡ fault_by (Table at) key above o) [ Some node ↦ refl | None ↦ refl ]
 fault_is (Array at) is key branches above =
-    elim (node_at key branches) as (λ o. elim o [ Some node ↦ appended_fault key node | None ↦ cond (nat_lt (above + 1) depth_limit) None (refused TooDeep key) ]
+    elim (table_node_at key branches) as (λ o. elim o [ Some node ↦ appended_fault key node | None ↦ cond (nat_lt (above + 1) depth_limit) None (refused TooDeep key) ]
     ≡ fault_by (Array at) key above o) [ Some node ↦ refl | None ↦ refl ]
 
-abbrev edit_by : Part → Key → Branches → Bool → Option Branches
+abbrev edit_by : HeaderPart → Key → Branches → Bool → Option Branches
 edit_by part key branches b = cond b (changed (node_edit part) key branches) (Some (added key (new_node part) branches))
 
-edit_is : (part : Part) → IsLast part → (key : Key) (branches : Branches) → end_edit part key branches ≡ edit_by part key branches (has_key key branches)
+edit_is : (part : HeaderPart) → IsLast part → (key : Key) (branches : Branches) → end_edit part key branches ≡ edit_by part key branches (has_key key branches)
 edit_is Through never key branches = absurd never
 edit_is (Table at) is key branches = refl
 edit_is (Array at) is key branches = refl
 
-node_opens : (part : Part) → IsLast part → (key : Key) (node : Node) (found : Around × Branches) → opened part node ≡ Some found
+node_opens : (part : HeaderPart) → IsLast part → (key : Key) (node : Node) (found : Around × Branches) → opened part node ≡ Some found
     → (node_end part key node ≡ None) × (node_edit part node ≡ Some (around_node found.0 found.1))
 node_opens Through never key node found e = absurd never
 node_opens (Table at) is key node found e = takes at key node found e
 node_opens (Array at) is key node found e = appends at key node found e
 
-node_refuses : (part : Part) → IsLast part → (key : Key) (node : Node) → opened part node ≡ None → node_end part key node ≡ refused RedefinedTable key
+node_refuses : (part : HeaderPart) → IsLast part → (key : Key) (node : Node) → opened part node ≡ None → node_end part key node ≡ refused RedefinedTable key
 node_refuses Through never key node e = absurd never
 node_refuses (Table at) is key node e = takes_none at key node e
 node_refuses (Array at) is key node e = appends_none at key node e
 
-abbrev MakesNew : Part → Key → ℕ → Around → Type 0
+abbrev MakesNew : HeaderPart → Key → ℕ → Around → Type 0
 MakesNew part key above around = (none_end part key above ≡ None) × (new_node part ≡ around_node around unbranched)
 
-makes_new : (part : Part) → IsLast part → (key : Key) (above : ℕ) (around : Around) → fresh part key above ≡ Some around → MakesNew part key above around
+makes_new : (part : HeaderPart) → IsLast part → (key : Key) (above : ℕ) (around : Around) → fresh part key above ≡ Some around → MakesNew part key above around
 makes_new Through never key above around e = absurd never
 makes_new (Table at) is key above around e =
     ⊎_elim (λ h. let never : None ≡ Some around = h.1 in absurd (cc))
@@ -268,7 +268,7 @@ makes_new (Array at) is key above around e =
     (λ h. let never : None ≡ Some around = h.1 in absurd (cc))
     (if_is (nat_lt (above + 1) depth_limit) (Some (behind at [] at)) None (Some around) e)
 
-makes_none : (part : Part) → IsLast part → (key : Key) (above : ℕ) → fresh part key above ≡ None → none_end part key above ≡ refused TooDeep key
+makes_none : (part : HeaderPart) → IsLast part → (key : Key) (above : ℕ) → fresh part key above ≡ None → none_end part key above ≡ refused TooDeep key
 makes_none Through never key above e = absurd never
 makes_none (Table at) is key above e =
     ⊎_elim (λ h. if_true (eqb above depth_limit) (refused TooDeep key) None h.0) (λ h. let never : Some (alone at by_header) ≡ None = h.1 in absurd (cc))
@@ -280,19 +280,19 @@ makes_none (Array at) is key above e =
 -- what a way came to: its fault, or the edit at its end, put together from the tables that were taken out
 pub record Went (fault : Option SyntaxError) (edit : Option Branches) (keys : List Key) (c new : Cursor) : Type 0 where
   pub free : fault ≡ None
-  pub levels : List Level
+  pub levels : List TableLevel
   pub around : new.around ≡ c.around ++ levels
   pub is : edit ≡ Some (all_plugged levels new.here)
   pub leads : Lead keys levels
   pub deep : new.above ≡ c.above + steps levels
 
-abbrev pub Goes : Option SyntaxError → Option Branches → List Key → Cursor → Read Cursor → Type 0
+abbrev pub Goes : Option SyntaxError → Option Branches → List Key → Cursor → TomlReading Cursor → Type 0
 Goes fault edit keys c (Ok new) = Went fault edit keys c new
 Goes fault edit keys c (Err refusal) = fault ≡ Some refusal
 
 -- the last part
-module _ (part : Part) (is : IsLast part) (key : Key) (c : Cursor) where
-  abbrev Ends : Read Cursor → Type 0
+module _ (part : HeaderPart) (is : IsLast part) (key : Key) (c : Cursor) where
+  abbrev Ends : TomlReading Cursor → Type 0
   Ends = Goes (end_fault part key c.here c.above) (end_edit part key c.here) (key ∷ []) c
 
   old_ends : (i : ℕ) (node : Node) → found_at key c.here ≡ Some (i, node) → (o : Option (Around × Branches)) → opened part node ≡ o → Ends (into_old key c i o)
@@ -338,7 +338,7 @@ module _ (part : Part) (is : IsLast part) (key : Key) (c : Cursor) where
 
 -- a part before the last
 
-step_on : (fault under : Option SyntaxError) (edit inner : Option Branches) (level : Level) (key : Key) (more : List Key) (c next : Cursor) (answer : Read Cursor)
+step_on : (fault under : Option SyntaxError) (edit inner : Option Branches) (level : TableLevel) (key : Key) (more : List Key) (c next : Cursor) (answer : TomlReading Cursor)
     → fault ≡ under → edit ≡ option_map (plugged level) inner → (node : Node) → found_at key level.table ≡ Some (level.place, node)
     → next.around ≡ c.around ++ level ∷ [] → next.above ≡ c.above + steps_in level.around → Goes under inner more next answer → Goes fault edit (key ∷ more) c answer
 step_on fault under edit inner level key more c next (Ok new) same_fault same_edit node leads around above rest = record {
@@ -351,7 +351,7 @@ step_on fault under edit inner level key more c next (Ok new) same_fault same_ed
 }
 step_on fault under edit inner level key more c next (Err refusal) same_fault same_edit node leads around above rest = same_fault ∙ rest
 
-module _ (part : Part) (is : IsLast part) (key next : Key) (more : List Key) (c : Cursor) where
+module _ (part : HeaderPart) (is : IsLast part) (key next : Key) (more : List Key) (c : Cursor) where
   abbrev wanted : Option SyntaxError
   wanted = way_fault inside_any (end_fault part) (key ∷ next ∷ more) c.here c.above
 
@@ -361,13 +361,13 @@ module _ (part : Part) (is : IsLast part) (key next : Key) (more : List Key) (c 
   abbrev whole_edit : Option Branches
   whole_edit = along implicit through_any (end_edit part) (key ∷ next ∷ more) c.here
 
-  abbrev Steps : Read Cursor → Type 0
+  abbrev Steps : TomlReading Cursor → Type 0
   Steps = Goes wanted whole_edit (key ∷ next ∷ more) c
 
   abbrev Further : Type 0
   Further = (d : Cursor) → Goes (way_fault inside_any (end_fault part) (next ∷ more) d.here d.above) (tail d.here) (next ∷ more) d (into_parts part (next ∷ more) d)
 
-  fault_step : (o : Option Node) → node_at key c.here ≡ o → wanted ≡ node_fault inside_any (end_fault part) key next more c.above o
+  fault_step : (o : Option Node) → table_node_at key c.here ≡ o → wanted ≡ node_fault inside_any (end_fault part) key next more c.above o
   fault_step o e = way_step inside_any (end_fault part) key next more c.here c.above ∙ ap (node_fault inside_any (end_fault part) key next more c.above) e
 
   edit_step : (b : Bool) → has_key key c.here ≡ b → whole_edit ≡ along_by implicit through_any (end_edit part) key next more c.here b
@@ -378,7 +378,7 @@ module _ (part : Part) (is : IsLast part) (key next : Key) (more : List Key) (c 
   old_steps rest i node there (Some found) e =
       let at = is_found key c.here i node there in
       let into = opens node found e in
-      let level : Level = record { table = replaced i (hole key) c.here; place = i; around = found.0 } in
+      let level : TableLevel = record { table = replaced i (hole key) c.here; place = i; around = found.0 } in
       let d = further c (replaced i (hole key) c.here) i found.0 found.1 in
       step_on wanted (way_fault inside_any (end_fault part) (next ∷ more) found.1 (c.above + steps_in found.0)) whole_edit (tail found.1) level key (next ∷ more) c d
       (into_parts part (next ∷ more) d)
@@ -400,7 +400,7 @@ module _ (part : Part) (is : IsLast part) (key next : Key) (more : List Key) (c 
       (λ h.
       let same : alone key.span implicit ≡ around = is_some (alone key.span implicit) around h.1 in
       subst (λ a. Steps (then_read (into_parts part (next ∷ more)) (into_new key c (Some a)))) same
-      (let level : Level = record { table = added key (hole key) c.here; place = size c.here; around = alone key.span implicit } in
+      (let level : TableLevel = record { table = added key (hole key) c.here; place = size c.here; around = alone key.span implicit } in
       let d = further c (added key (hole key) c.here) (size c.here) (alone key.span implicit) unbranched in
       step_on wanted (way_fault inside_any (end_fault part) (next ∷ more) unbranched (c.above + 1)) whole_edit (tail unbranched) level key (next ∷ more) c d
       (into_parts part (next ∷ more) d)
@@ -421,7 +421,7 @@ module _ (part : Part) (is : IsLast part) (key next : Key) (more : List Key) (c 
   found_steps rest None e = new_steps rest e (fresh Through key c.above) refl
 
 -- all parts
-pub parts_go : (part : Part) → IsLast part → (keys : List Key) (c : Cursor) → 0 < length keys
+pub parts_go : (part : HeaderPart) → IsLast part → (keys : List Key) (c : Cursor) → 0 < length keys
     → Goes (way_fault inside_any (end_fault part) keys c.here c.above) (along implicit through_any (end_edit part) keys c.here) keys c (into_parts part keys c)
 parts_go part is [] c some = absurd (omega arith)
 parts_go part is (key ∷ []) c some = part_ends part is key c
@@ -430,7 +430,7 @@ parts_go part is (key ∷ next ∷ more) c some =
 
 -- a pair needs the open table alone
 
-pub within_way : (keys : List Key) (levels : List Level) (here : Branches) (edit : Branches → Option Branches) → Lead keys levels
+pub within_way : (keys : List Key) (levels : List TableLevel) (here : Branches) (edit : Branches → Option Branches) → Lead keys levels
     → within keys edit (all_plugged levels here) ≡ option_map (all_plugged levels) (edit here)
 within_way [] [] here edit leads = map_own (edit here)
 within_way [] (level ∷ levels) here edit leads = absurd leads
@@ -457,9 +457,9 @@ abbrev node_section : List Key → ℕ → Option Node → Inside
 node_section more above (Some node) = inside_section more above (inside_any node)
 node_section more above None = (unbranched, above)
 
-section_step : (key : Key) (more : List Key) (root : Branches) (above : ℕ) → section_of (key ∷ more) root above ≡ node_section more above (node_at key root)
+section_step : (key : Key) (more : List Key) (root : Branches) (above : ℕ) → section_of (key ∷ more) root above ≡ node_section more above (table_node_at key root)
 section_step key more root above =
-    elim (node_at key root) as (λ o. elim o [
+    elim (table_node_at key root) as (λ o. elim o [
       | Some node ↦ elim (inside_any node) [ Some found ↦ section_of more found.0 (above + found.1) | None ↦ (unbranched, above) ]
       | None ↦ (unbranched, above)
     ] ≡ node_section more above o) [
@@ -471,7 +471,7 @@ section_step key more root above =
 pub more_above : (here : Branches) (a b : ℕ) → a ≡ b → ◌≡◌ {A = Inside} (here, a) (here, b)
 more_above here a b e = ap (λ (n : ℕ). (here, n)) e
 
-pub section_way : (keys : List Key) (levels : List Level) (here : Branches) (above : ℕ) → Lead keys levels
+pub section_way : (keys : List Key) (levels : List TableLevel) (here : Branches) (above : ℕ) → Lead keys levels
     → section_of keys (all_plugged levels here) above ≡ (here, above + steps levels)
 section_way [] [] here above leads = more_above here above (above + 0) (omega arith)
 section_way [] (level ∷ levels) here above leads = absurd leads
@@ -486,7 +486,7 @@ section_way (key ∷ keys) (level ∷ levels) here above leads =
     ∙ section_way keys levels here (above + steps_in level.around) leads.1
     ∙ more_above here (above + steps_in level.around + steps levels) (above + (steps_in level.around + steps levels)) (omega arith)
 
-pub plugged_last : (levels : List Level) (level : Level) (inner : Branches) → all_plugged (levels ++ level ∷ []) inner ≡ all_plugged levels (plugged level inner)
+pub plugged_last : (levels : List TableLevel) (level : TableLevel) (inner : Branches) → all_plugged (levels ++ level ∷ []) inner ≡ all_plugged levels (plugged level inner)
 plugged_last [] level inner = refl
 plugged_last (x ∷ xs) level inner = ap (plugged x) (plugged_last xs level inner)
 
@@ -508,7 +508,7 @@ module _ (document : Document) (c : Cursor) (way : IsWay document c) where
 
   opened_way : (fault : Option SyntaxError) (edit : Option Branches) (keys : List Key)
       → ((made : Branches) → fault ≡ None → edit ≡ Some made → depth made ≤ depth_limit)
-      → (answer : Read Cursor) → Goes fault edit keys root_cursor answer → IsOpened fault edit keys answer
+      → (answer : TomlReading Cursor) → Goes fault edit keys root_cursor answer → IsOpened fault edit keys answer
   opened_way fault edit keys low (Ok new) went =
       let levels : went.levels ≡ new.around = sym went.around in
       let made : edit ≡ Some (all_plugged new.around new.here) = went.is ∙ ap (λ ls. Some (all_plugged ls new.here)) levels in (
@@ -548,7 +548,7 @@ bodies_some (body span branches more) = omega arith
 abbrev Deeper : Node → Around × Branches → Type 0
 Deeper node found = steps_in found.0 + depth found.1 ≤ node_depth node
 
-opened_inner : (part : Part) (node : Node) (found : Around × Branches) → opened part node ≡ Some found → Deeper node found
+opened_inner : (part : HeaderPart) (node : Node) (found : Around × Branches) → opened part node ≡ Some found → Deeper node found
 opened_inner Through node found e = any_inner node (found.1, steps_in found.0) (opens node found e).0
 opened_inner (Table at) (closed span content) found e = absurd (cc)
 opened_inner (Table at) (growing span by_header inner) found e = absurd (cc)
@@ -564,7 +564,7 @@ opened_inner (Array at) (tables span bodies) found e =
 abbrev Room : ℕ → Around → Type 0
 Room above around = above + steps_in around ≤ depth_limit
 
-pub fresh_room : (part : Part) (key : Key) (above : ℕ) (around : Around) → above ≤ depth_limit → fresh part key above ≡ Some around → Room above around
+pub fresh_room : (part : HeaderPart) (key : Key) (above : ℕ) (around : Around) → above ≤ depth_limit → fresh part key above ≡ Some around → Room above around
 fresh_room Through key above around low e =
     ⊎_elim (λ h. let never : None ≡ Some around = h.1 in absurd (cc))
     (λ h. subst (Room above) (is_some (alone key.span implicit) around h.1) (grind (arith, nat_tests)))
@@ -579,7 +579,7 @@ fresh_room (Array at) key above around low e =
     (if_is (nat_lt (above + 1) depth_limit) (Some (behind at [] at)) None (Some around) e)
 
 -- a table that stands there has room for what a part opens in it
-pub old_room : (part : Part) (key : Key) (c : Cursor) (i : ℕ) (node : Node) (found : Around × Branches) → c.above + depth c.here ≤ depth_limit
+pub old_room : (part : HeaderPart) (key : Key) (c : Cursor) (i : ℕ) (node : Node) (found : Around × Branches) → c.above + depth c.here ≤ depth_limit
     → found_at key c.here ≡ Some (i, node) → opened part node ≡ Some found → c.above + (steps_in found.0 + depth found.1) ≤ depth_limit
 old_room part key c i node found low there e =
     let at = is_found key c.here i node there in
@@ -590,7 +590,7 @@ old_room part key c i node found low there e =
 abbrev IsLow : Cursor → Type 0
 IsLow c = c.above + depth c.here ≤ depth_limit
 
-module _ (part : Part) (key : Key) (c new : Cursor) (low : IsLow c) where
+module _ (part : HeaderPart) (key : Key) (c new : Cursor) (low : IsLow c) where
   old_low : (i : ℕ) (node : Node) → found_at key c.here ≡ Some (i, node) → (o : Option (Around × Branches)) → opened part node ≡ o → into_old key c i o ≡ Ok new → IsLow new
   old_low i node there (Some found) e is =
       subst IsLow (is_ok (further c (replaced i (hole key) c.here) i found.0 found.1) new is)
@@ -637,13 +637,13 @@ module _ (document : Document) (c : Cursor) (way : IsWay document c) (keys : Lis
       let whole_low = inside.below depth_limit (omega arith) (omega arith) in
       omega arith
 
-pub pair_put_is : (text : List ℕ) (document : Document) (c : Cursor) (keys : List Key) (v : Found_) (new : Branches) → IsWay document c
+pub pair_put_is : (text : List ℕ) (document : Document) (c : Cursor) (keys : List Key) (v : ValueFound) (new : Branches) → IsWay document c
     → put keys (closed v.0 v.1) c.here ≡ Some new
     → pair_put text keys document v ≡ line_rest text v.2 (with_root (all_plugged c.around new) document.section)
 pair_put_is text document c keys v new way is =
     ap (with_root_at text v.2 document.section) (pair_edit document c way keys (closed v.0 v.1) new is)
 
-pub header_line_is : (text : List ℕ) (i : ℕ) (keys : List Key) (fault : Option SyntaxError) (made : Option Branches) (answer : Read Cursor) → IsOpened fault made keys answer
+pub header_line_is : (text : List ℕ) (i : ℕ) (keys : List Key) (fault : Option SyntaxError) (made : Option Branches) (answer : TomlReading Cursor) → IsOpened fault made keys answer
     → unless fault (with_root_at text i keys made)
     ≡ then_read (λ (c : Cursor). line_rest text i (with_root (all_plugged c.around c.here) keys)) answer
 header_line_is text i keys fault made (Ok c) is = ap (λ f. unless f (with_root_at text i keys made)) is.0 ∙ ap (with_root_at text i keys) is.1

@@ -1,7 +1,7 @@
 -- Lines, one after another.
 use Rattle.std.proofs.Common.{◌≡◌, ℕ, zero, suc, ◌+◌, ◌<◌, ◌≤◌, true, false, nat_lt, List, length, Ok, Err, refl, ap, sym, ◌∙◌, arith}
 use Rattle.std.proofs.lemmas.Bool.Decides.{nat_tests}
-use Rattle.toml_subset.specs.Answer.{Read, then_read}
+use Rattle.toml_subset.specs.Answer.{TomlReading, then_read}
 use Rattle.toml_subset.specs.Lines.{Document, no_lines}
 use Rattle.toml_subset.specs.Places.{after_blanks}
 use Rattle.toml_subset.specs.Reading.{LineFound, line_from, read_lines, whole, read_text}
@@ -9,10 +9,10 @@ use Rattle.toml_subset.specs.declared.error.SyntaxError.{SyntaxError}
 use Rattle.toml_subset.proofs.Law.Basics.{if_true, if_false}
 use Rattle.toml_subset.proofs.Law.Whole.{line_forward}
 use Rattle.toml_frames.specs.Levels.{Cursor, at_start, IsWay}
-use Rattle.toml_frames.specs.LinesRead.{AreRead}
+use Rattle.toml_frames.specs.LinesRead.{AreLinesRead}
 use Rattle.toml_frames.proofs.Levels.{start_way}
 
-pub lines_begin : (text : List ℕ) → AreRead text at_start 0
+pub lines_begin : (text : List ℕ) → AreLinesRead text at_start 0
 lines_begin text = record {
   document = no_lines;
   left = suc (length text);
@@ -23,10 +23,10 @@ lines_begin text = record {
 }
 
 module _ (text : List ℕ) (i : ℕ) (document : Document) where
-  abbrev line : Read LineFound
+  abbrev line : TomlReading LineFound
   line = line_from text document (after_blanks text i)
 
-  abbrev further : ℕ → LineFound → Read Document
+  abbrev further : ℕ → LineFound → TomlReading Document
   further n r = read_lines n text r.1 r.0
 
   reads_line : (n : ℕ) → i < length text → read_lines (suc n) text i document ≡ then_read (further n) line
@@ -35,7 +35,7 @@ module _ (text : List ℕ) (i : ℕ) (document : Document) where
       if_true (nat_lt i (length text)) (then_read (further n) line) (Ok document) less
 
   goes_by : (n : ℕ) (c : Cursor) (new : Document) (next : ℕ) → read_lines (suc (length text)) text 0 no_lines ≡ read_lines n text i document → length text < i + n
-      → i < length text → i < next → next ≤ length text → line ≡ Ok (new, next) → IsWay new c → AreRead text c next
+      → i < length text → i < next → next ≤ length text → line ≡ Ok (new, next) → IsWay new c → AreLinesRead text c next
   goes_by zero c new next is room inside goes within read way = absurd (omega arith)
   goes_by (suc n) c new next is room inside goes within read way = record {
     document = new;
@@ -59,19 +59,19 @@ module _ (text : List ℕ) (i : ℕ) (document : Document) where
       is ∙ if_false (nat_lt i (length text)) (then_read (further n) line) (Ok document) past
 
 -- a further line
-pub line_goes_on : (text : List ℕ) (c d : Cursor) (i next : ℕ) (are : AreRead text c i) → i < length text → next ≤ length text
-    → (new : Document) → line_from text are.document (after_blanks text i) ≡ Ok (new, next) → IsWay new d → AreRead text d next
+pub line_goes_on : (text : List ℕ) (c d : Cursor) (i next : ℕ) (are : AreLinesRead text c i) → i < length text → next ≤ length text
+    → (new : Document) → line_from text are.document (after_blanks text i) ≡ Ok (new, next) → IsWay new d → AreLinesRead text d next
 line_goes_on text c d i next are inside within new read way =
     goes_by text i are.document are.left d new next are.is are.room inside (line_forward text i are.document (new, next) inside are.way.low read) within read way
 
 -- a line with a fault
-pub line_refused : (text : List ℕ) (c : Cursor) (i : ℕ) (fault : SyntaxError) (are : AreRead text c i) → i < length text
+pub line_refused : (text : List ℕ) (c : Cursor) (i : ℕ) (fault : SyntaxError) (are : AreLinesRead text c i) → i < length text
     → line_from text are.document (after_blanks text i) ≡ Err fault → read_text text ≡ Err fault
 line_refused text c i fault are inside read =
     ap (then_read (λ (d : Document). Ok (whole text d))) (refused_by text i are.document are.left fault are.is are.room inside read)
 
 -- the text's end
-pub lines_end : (text : List ℕ) (c : Cursor) (i : ℕ) (are : AreRead text c i) → length text ≤ i → read_text text ≡ Ok (whole text are.document)
+pub lines_end : (text : List ℕ) (c : Cursor) (i : ℕ) (are : AreLinesRead text c i) → length text ≤ i → read_text text ≡ Ok (whole text are.document)
 lines_end text c i are past =
     let within = are.within in
     ap (then_read (λ (d : Document). Ok (whole text d))) (ended_by text i are.document are.left are.is are.room (omega arith))

@@ -1,23 +1,23 @@
 -- Where an array and an inline table go on: closed, up to a place, or with a further item or entry at a place.
 use Rattle.std.specs.Prelude.{ℕ, ◌+◌, if◌then◌else◌, List, Ok, Err}
-use Rattle.toml_subset.specs.Answer.{Read, stuck}
+use Rattle.toml_subset.specs.Answer.{TomlReading, stuck}
 use Rattle.toml_subset.specs.Bytes.{comma, close_bracket, close_brace}
 use Rattle.toml_subset.specs.Places.{stands, after_blanks, after_space}
 use Rattle.toml_subset.specs.Reading.{cut_in_comment, space_fault}
 use Rattle.toml_frames.specs.declared.between.Next.{Next}
 use Rattle.toml_frames.specs.declared.between.Next.TheVariants.{Closed, Further}
 
-abbrev pub place_of : Next → ℕ
-place_of (Closed i) = i
-place_of (Further i) = i
+abbrev pub next_place : Next → ℕ
+next_place (Closed i) = i
+next_place (Further i) = i
 
 -- behind an array's opening or a comma in it
-abbrev pub item_place : List ℕ → ℕ → Read Next
+abbrev pub item_place : List ℕ → ℕ → TomlReading Next
 item_place text i =
     let j = after_space text i in
     if cut_in_comment text i then Err (space_fault text i) else (if stands text j close_bracket then Ok (Closed (j + 1)) else Ok (Further j))
 
-abbrev pub behind_item : List ℕ → ℕ → Read Next
+abbrev pub behind_item : List ℕ → ℕ → TomlReading Next
 behind_item text i =
     let j = after_space text i in
     if stands text j close_bracket then Ok (Closed (j + 1))
@@ -27,7 +27,7 @@ behind_item text i =
 abbrev pub entry_place : List ℕ → ℕ → Next
 entry_place text i = let j = after_blanks text i in if stands text j close_brace then Closed (j + 1) else Further j
 
-abbrev pub behind_entry : List ℕ → ℕ → Read Next
+abbrev pub behind_entry : List ℕ → ℕ → TomlReading Next
 behind_entry text i =
     let j = after_blanks text i in
     if stands text j close_brace then Ok (Closed (j + 1))

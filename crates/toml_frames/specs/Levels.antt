@@ -2,7 +2,7 @@
 -- next lines fill.
 use Rattle.std.specs.Prelude.{◌≡◌, ℕ, zero, suc, ◌+◌, ◌≤◌, ◌==◌, nat_lt, false, if◌then◌else◌, List, [], ◌∷◌, ◌++◌, Option, Some, None, Ok, Err, option_map, ⊤}
 use Rattle.deny_text.specs.declared.span.Span.{Span}
-use Rattle.toml_subset.specs.Answer.{Read, then_read}
+use Rattle.toml_subset.specs.Answer.{TomlReading, then_read}
 use Rattle.toml_subset.specs.Data as «data»
 use Rattle.toml_subset.specs.Data.{depth_limit, entries_depth}
 use Rattle.toml_subset.specs.Lines.{Document}
@@ -12,8 +12,8 @@ use Rattle.toml_subset.specs.declared.error.SyntaxError.{SyntaxError}
 use Rattle.toml_subset.specs.declared.error.SyntaxReason.{SyntaxReason}
 use Rattle.toml_subset.specs.declared.error.SyntaxReason.TheVariants.{RedefinedTable, TooDeep}
 use Rattle.toml_subset.specs.declared.string.Key.{Key}
-use Rattle.toml_frames.specs.declared.part.Part.{Part}
-use Rattle.toml_frames.specs.declared.part.Part.TheVariants.{Through, Table, Array}
+use Rattle.toml_frames.specs.declared.part.HeaderPart.{HeaderPart}
+use Rattle.toml_frames.specs.declared.part.HeaderPart.TheVariants.{Through, Table, Array}
 
 -- What a table that was taken out is where it stands: a table of its own, or the last one of an array of tables, with the
 -- array's place, the tables before and its own place.
@@ -37,7 +37,7 @@ around_node (alone span mark) inner = growing span mark inner
 around_node (behind span before at) inner = tables span (bodies_to before at inner)
 
 -- a table without the one that was taken out of it, and the place of its key
-pub record Level : Type 0 where
+pub record TableLevel : Type 0 where
   pub table : Branches
   pub place : ℕ
   pub around : Around
@@ -63,21 +63,21 @@ size unbranched = 0
 size (branch key node more) = suc (size more)
 
 -- the table with the one that was taken out, as it is now, put back
-abbrev pub plugged : Level → Branches → Branches
+abbrev pub plugged : TableLevel → Branches → Branches
 plugged level inner = replaced level.place (around_node level.around inner) level.table
 
 -- all of them put back, the outermost first
-abbrev pub all_plugged : List Level → Branches → Branches
+abbrev pub all_plugged : List TableLevel → Branches → Branches
 all_plugged [] inner = inner
 all_plugged (level ∷ more) inner = plugged level (all_plugged more inner)
 
-abbrev pub steps : List Level → ℕ
+abbrev pub steps : List TableLevel → ℕ
 steps [] = 0
 steps (level ∷ more) = steps_in level.around + steps more
 
 -- the open table, what it was taken out of, and how many tables and arrays stand around its entries
 pub record Cursor : Type 0 where
-  pub around : List Level
+  pub around : List TableLevel
   pub here : Branches
   pub above : ℕ
 
@@ -103,7 +103,7 @@ all_of (body span branches more) = (span, branches) ∷ all_of more
 
 -- What a part of a header opens of what stands at it. A part before the last goes into any table but an inline one, and
 -- into the last table of an array; the last one takes over an implicit table, or goes behind the tables of an array.
-abbrev pub opened : Part → Node → Option (Around × Branches)
+abbrev pub opened : HeaderPart → Node → Option (Around × Branches)
 opened Through (closed span content) = None
 opened Through (growing span mark inner) = Some (alone span mark, inner)
 opened Through (tables span bodies) = Some (behind span (before_last bodies) (last_place bodies), last_of bodies)
@@ -117,7 +117,7 @@ opened (Array at) (growing span mark inner) = None
 opened (Array at) (tables span bodies) = Some (behind span (all_of bodies) at, unbranched)
 
 -- what it makes where nothing stands, unless that is too deep
-abbrev pub fresh : Part → Key → ℕ → Option Around
+abbrev pub fresh : HeaderPart → Key → ℕ → Option Around
 fresh Through key above = if above == depth_limit then None else Some (alone key.span implicit)
 fresh (Table at) key above = if above == depth_limit then None else Some (alone at by_header)
 fresh (Array at) key above = if nat_lt (above + 1) depth_limit then Some (behind at [] at) else None
@@ -133,34 +133,34 @@ further c table place around inner = record {
   above = c.above + steps_in around;
 }
 
-abbrev pub into_old : Key → Cursor → ℕ → Option (Around × Branches) → Read Cursor
+abbrev pub into_old : Key → Cursor → ℕ → Option (Around × Branches) → TomlReading Cursor
 into_old key c i (Some found) = Ok (further c (replaced i (hole key) c.here) i found.0 found.1)
 into_old key c i None = Err (refusal RedefinedTable key)
 
-abbrev pub into_new : Key → Cursor → Option Around → Read Cursor
+abbrev pub into_new : Key → Cursor → Option Around → TomlReading Cursor
 into_new key c (Some around) = Ok (further c (added key (hole key) c.here) (size c.here) around unbranched)
 into_new key c None = Err (refusal TooDeep key)
 
-abbrev pub into_found : Part → Key → Cursor → Option (ℕ × Node) → Read Cursor
+abbrev pub into_found : HeaderPart → Key → Cursor → Option (ℕ × Node) → TomlReading Cursor
 into_found part key c (Some found) = into_old key c found.0 (opened part found.1)
 into_found part key c None = into_new key c (fresh part key c.above)
 
 -- a part of a header
-abbrev pub into_part : Part → Key → Cursor → Read Cursor
+abbrev pub into_part : HeaderPart → Key → Cursor → TomlReading Cursor
 into_part part key c = into_found part key c (found_at key c.here)
 
 -- all parts of a header, of which the last opens its table
-abbrev pub into_parts : Part → List Key → Cursor → Read Cursor
+abbrev pub into_parts : HeaderPart → List Key → Cursor → TomlReading Cursor
 into_parts part [] c = Ok c
 into_parts part (key ∷ []) c = into_part part key c
 into_parts part (key ∷ next ∷ more) c = then_read (into_parts part (next ∷ more)) (into_part Through key c)
 
 -- a header, from wherever the lines before it left the way
-abbrev pub into_header : Part → List Key → Cursor → Read Cursor
+abbrev pub into_header : HeaderPart → List Key → Cursor → TomlReading Cursor
 into_header part keys c = into_parts part keys (at_root c)
 
 -- these keys lead from table to table
-abbrev pub Lead : List Key → List Level → Type 0
+abbrev pub Lead : List Key → List TableLevel → Type 0
 Lead [] [] = ⊤
 Lead [] (level ∷ levels) = ⊥
 Lead (key ∷ keys) [] = ⊥
@@ -175,7 +175,7 @@ pub record IsWay (document : Document) (c : Cursor) : Type 0 where
   pub low : entries_depth (entries_of document.root) ≤ depth_limit
 
 -- What a header came to on a way: its fault, or the tree with its table, whose keys the next lines fill.
-abbrev pub IsOpened : Option SyntaxError → Option Branches → List Key → Read Cursor → Type 0
+abbrev pub IsOpened : Option SyntaxError → Option Branches → List Key → TomlReading Cursor → Type 0
 IsOpened fault made keys (Ok c) =
     (fault ≡ None) × (made ≡ Some (all_plugged c.around c.here))
     × IsWay (record { root = all_plugged c.around c.here; section = keys }) c

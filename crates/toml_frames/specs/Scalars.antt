@@ -4,7 +4,7 @@ use Rattle.deny_text.specs.declared.span.Span.{Span}
 use Rattle.toml_subset.specs.Classes.{content_by}
 use Rattle.toml_subset.specs.Data as «data»
 use Rattle.toml_subset.specs.Data.{Content}
-use Rattle.toml_subset.specs.Reading.{Found}
+use Rattle.toml_subset.specs.Reading.{ValueFound}
 use Rattle.toml_frames.specs.declared.scalar.Scalar.{Scalar}
 use Rattle.toml_frames.specs.declared.scalar.Scalar.TheVariants.{String, Number, Boolean}
 
@@ -13,5 +13,5 @@ scalar_content (String s) = data.string s
 scalar_content (Number n) = content_by n
 scalar_content (Boolean b) = data.boolean b
 
-abbrev pub scalar_found : Scalar × Span × ℕ → Found
+abbrev pub scalar_found : Scalar × Span × ℕ → ValueFound
 scalar_found found = (found.1, scalar_content found.0, found.2)

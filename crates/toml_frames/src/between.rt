@@ -1,7 +1,7 @@
 //! Where an array and an inline table go on.
 ghost use Rattle.std.specs.Prelude.{◌≡◌, ◌≤◌, ◌<◌, ◌&&◌, nat_lt, length, IfOk};
 ghost use Rattle.toml_subset.specs.Reading.{cut_in_comment, space_fault as fault_of_space};
-ghost use Rattle.toml_frames.specs.Between.{place_of, item_place as item_at, behind_item as on_behind_item};
+ghost use Rattle.toml_frames.specs.Between.{next_place, item_place as item_at, behind_item as on_behind_item};
 ghost use Rattle.toml_frames.specs.Between.{entry_place as entry_at, behind_entry as on_behind_entry};
 
 use toml_subset::{Space, SyntaxError, after_blanks, control_character, space_from, stands, stuck};
@@ -40,8 +40,8 @@ fn space_fault(text: &str, place: usize) -> SyntaxError
 pub fn item_place(text: &str, place: usize) -> Result<Next, SyntaxError>
     requires { place ≤ length text.now }
     ensures next { result ≡ item_at text.now place }
-    ensures goes { IfOk result (λ next. place ≤ place_of next) }
-    ensures within { IfOk result (λ next. place_of next ≤ length text.now) }
+    ensures goes { IfOk result (λ next. place ≤ next_place next) }
+    ensures within { IfOk result (λ next. next_place next ≤ length text.now) }
 {
     let bytes = text.as_bytes();
     let space = space_from(bytes, place);
@@ -59,8 +59,8 @@ pub fn item_place(text: &str, place: usize) -> Result<Next, SyntaxError>
 pub fn behind_item(text: &str, place: usize) -> Result<Next, SyntaxError>
     requires { place ≤ length text.now }
     ensures next { result ≡ on_behind_item text.now place }
-    ensures goes { IfOk result (λ next. place < place_of next) }
-    ensures within { IfOk result (λ next. place_of next ≤ length text.now) }
+    ensures goes { IfOk result (λ next. place < next_place next) }
+    ensures within { IfOk result (λ next. next_place next ≤ length text.now) }
 {
     let bytes = text.as_bytes();
     let end = space_from(bytes, place).end;
@@ -77,8 +77,8 @@ pub fn behind_item(text: &str, place: usize) -> Result<Next, SyntaxError>
 pub fn entry_place(text: &str, place: usize) -> Next
     requires { place ≤ length text.now }
     ensures next { result ≡ entry_at text.now place }
-    ensures goes { place ≤ place_of result }
-    ensures within { place_of result ≤ length text.now }
+    ensures goes { place ≤ next_place result }
+    ensures within { next_place result ≤ length text.now }
 {
     let bytes = text.as_bytes();
     let end = after_blanks(bytes, place);
@@ -93,8 +93,8 @@ pub fn entry_place(text: &str, place: usize) -> Next
 pub fn behind_entry(text: &str, place: usize) -> Result<Next, SyntaxError>
     requires { place ≤ length text.now }
     ensures next { result ≡ on_behind_entry text.now place }
-    ensures goes { IfOk result (λ next. place < place_of next) }
-    ensures within { IfOk result (λ next. place_of next ≤ length text.now) }
+    ensures goes { IfOk result (λ next. place < next_place next) }
+    ensures within { IfOk result (λ next. next_place next ≤ length text.now) }
 {
     let bytes = text.as_bytes();
     let end = after_blanks(bytes, place);

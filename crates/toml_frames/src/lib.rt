@@ -8,5 +8,5 @@ mod part;
 mod scalar;
 
 pub use between::{Next, behind_entry, behind_item, entry_place, item_place};
-pub use part::Part;
+pub use part::HeaderPart;
 pub use scalar::{Scalar, read_scalar};

@@ -1,6 +1,6 @@
 //! Values that are no arrays and no tables.
 ghost use Rattle.std.specs.Prelude.{◌≡◌, ◌≤◌, length};
-ghost use Rattle.toml_subset.specs.Answer.{Answers, Gives};
+ghost use Rattle.toml_subset.specs.Answer.{AnswersToml, AnswersSyntax};
 ghost use Rattle.toml_subset.specs.Raw.{word_of};
 ghost use Rattle.toml_subset.specs.Reading.{shared_len as shared_count, word_read, read_scalar as scalar_at};
 ghost use Rattle.toml_frames.specs.Scalars.{scalar_found};
@@ -47,7 +47,7 @@ fn read_word(
     value: bool,
 ) -> Result<(Scalar<'_>, Span, usize), SyntaxError>
     requires { place ≤ length text.now }
-    ensures { Gives scalar_found (word_read value text.now place) result }
+    ensures { AnswersSyntax scalar_found (word_read value text.now place) result }
 {
     let word = word(value);
     let end = place + shared_len(word, text.as_bytes().split_at(place).1);
@@ -65,7 +65,7 @@ pub fn read_scalar(
     place: usize,
 ) -> Result<(Scalar<'_>, Span, usize), TomlError>
     requires { place ≤ length text.now }
-    ensures { Answers scalar_found (scalar_at text.now place) result }
+    ensures { AnswersToml scalar_found (scalar_at text.now place) result }
 {
     let bytes = text.as_bytes();
     if begins_number(text, place) {
@@ -89,7 +89,7 @@ pub fn read_scalar(
 
 fn word_at(text: &str, place: usize, value: bool) -> Result<(Scalar<'_>, Span, usize), TomlError>
     requires { place ≤ length text.now }
-    ensures { Answers scalar_found (word_read value text.now place) result }
+    ensures { AnswersToml scalar_found (word_read value text.now place) result }
 {
     match read_word(text, place, value) {
         Ok(found) => Ok(found),

@@ -3,11 +3,11 @@ use Rattle.std.specs.Prelude.{◌≡◌, ℕ, false, List, slice_range, ⊤}
 use Rattle.deny_text.specs.Spans.{LiesBetween}
 use Rattle.deny_text.specs.declared.span.Span.{Span}
 use Rattle.toml_subset.specs.Data.{Content, Items, Entries, Toml, string, integer, decimal, boolean, array, table, no_item, item, no_entry, entry}
-use Rattle.toml_subset.specs.Written.{Written}
+use Rattle.toml_subset.specs.Written.{WrittenString}
 use Rattle.toml_subset.specs.declared.string.Key.{Key}
 
 -- what was written without an escape is the text at its span
-abbrev pub IsSpelled : List ℕ → Span → Written → Type 0
+abbrev pub IsSpelled : List ℕ → Span → WrittenString → Type 0
 IsSpelled text span written = written.escaped ≡ false → written.text ≡ slice_range text span.start span.end
 
 abbrev pub IsKeyPlaced : List ℕ → Key → Type 0

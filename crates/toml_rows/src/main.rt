@@ -10,12 +10,12 @@ mod typed;
 use case_files::{compare_rows, exit_code};
 use specs::Specs;
 use std::process::ExitCode;
-use texts::Toml;
+use texts::TomlRows;
 
 fn main(rt: HostRuntime) -> ExitCode {
-    let tokens = compare_rows(&rt, "tokens.txt", &Toml);
-    let toml = compare_rows(&rt, "toml.txt", &Toml);
-    let typed = compare_rows(&rt, "typed.txt", &Toml);
+    let tokens = compare_rows(&rt, "tokens.txt", &TomlRows);
+    let toml = compare_rows(&rt, "toml.txt", &TomlRows);
+    let typed = compare_rows(&rt, "typed.txt", &TomlRows);
     let specs = compare_rows(&rt, "specs.txt", &Specs);
     exit_code(tokens && toml && typed && specs)
 }

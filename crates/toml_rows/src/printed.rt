@@ -1,5 +1,5 @@
 //! Values of TOML and faults as rows show them: each value with its place behind an `@`.
-use case_files::Shown;
+use case_files::AnswerText;
 use deny_text::{Span, Texts};
 use std::alloc::Global;
 use toml_shapes::DeserError;
@@ -9,18 +9,18 @@ use toml_value::{Entries, Value, ValueInner};
 /// How deep the values of most rows are put.
 pub const DEPTH: u32 = 50;
 
-pub fn put_span(out: &mut Shown, before: &str, span: Span) {
+pub fn put_span(out: &mut AnswerText, before: &str, span: Span) {
     let Span { start, end } = span;
     write!(out, "{before}{start}..{end}");
 }
 
-pub fn put_fault(out: &mut Shown, fault: &SyntaxError) {
+pub fn put_fault(out: &mut AnswerText, fault: &SyntaxError) {
     let reason = fault.reason;
     write!(out, "{reason:?}");
     put_span(out, " ", fault.span);
 }
 
-pub fn put_error(out: &mut Shown, error: &TomlError) {
+pub fn put_error(out: &mut AnswerText, error: &TomlError) {
     match error {
         TomlError::Syntax(fault) => put_fault(out, fault),
         TomlError::Memory => out.want_memory(),
@@ -28,7 +28,7 @@ pub fn put_error(out: &mut Shown, error: &TomlError) {
 }
 
 /// The faults of a shape in order, each behind its place.
-pub fn put_faults(out: &mut Shown, error: &DeserError) {
+pub fn put_faults(out: &mut AnswerText, error: &DeserError) {
     match error {
         DeserError::Faults(errors) => {
             let mut between = "";
@@ -43,7 +43,7 @@ pub fn put_faults(out: &mut Shown, error: &DeserError) {
 }
 
 /// A string between these, behind a mark where it was written with escapes.
-pub fn put_string(out: &mut Shown, string: &Str<'_>, quote: &str) {
+pub fn put_string(out: &mut AnswerText, string: &Str<'_>, quote: &str) {
     if string.has_escapes() {
         out.put("!");
     }
@@ -52,14 +52,14 @@ pub fn put_string(out: &mut Shown, string: &Str<'_>, quote: &str) {
     out.put(quote);
 }
 
-pub fn put_key(out: &mut Shown, key: &Key<'_>) {
+pub fn put_key(out: &mut AnswerText, key: &Key<'_>) {
     put_string(out, &key.name, "");
     put_span(out, "@", key.span);
     out.put(": ");
 }
 
 /// A scalar, or which other kind a value is of.
-pub fn put_inner(out: &mut Shown, inner: &ValueInner<'_>) {
+pub fn put_inner(out: &mut AnswerText, inner: &ValueInner<'_>) {
     match inner {
         ValueInner::String(string) => put_string(out, string, "'"),
         ValueInner::Integer(number) => write!(out, "{number}"),
@@ -71,7 +71,7 @@ pub fn put_inner(out: &mut Shown, inner: &ValueInner<'_>) {
 }
 
 /// A value with what stands in it down to a depth, and with its place.
-pub fn put_value(alloc: Global, out: &mut Shown, depth: u32, value: &mut Value<'_>) {
+pub fn put_value(alloc: Global, out: &mut AnswerText, depth: u32, value: &mut Value<'_>) {
     let span = value.span();
     if depth == 0 {
         return put_span(out, "@", span);
@@ -106,7 +106,7 @@ pub fn put_value(alloc: Global, out: &mut Shown, depth: u32, value: &mut Value<'
 }
 
 /// The names of the keys of a table, in order.
-pub fn names_of(alloc: Global, out: &mut Shown, table: &Entries<'_>) -> Texts {
+pub fn names_of(alloc: Global, out: &mut AnswerText, table: &Entries<'_>) -> Texts {
     match table.names(alloc) {
         Ok(names) => names,
         Err(_) => {

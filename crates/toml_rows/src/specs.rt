@@ -3,7 +3,7 @@ ghost use Rattle.std.specs.Prelude.{◌≤◌, length};
 
 use crate::printed::{put_error, put_faults, put_span};
 use crate::typed::put_table;
-use case_files::{Rows, Shown};
+use case_files::{Rows, AnswerText};
 use deny_text::{PathBuf, Span, Spanned, Text, TextMap, Texts};
 use graph_core::Krate;
 use policy_spec::{PackageSpec, PackageSpecOrExtended, SpecIndex, match_krate};
@@ -15,7 +15,7 @@ use toml_value::read_value;
 pub struct Specs;
 
 impl Rows for Specs {
-    fn answer(&self, alloc: Global, group: &str, text: &str, out: &mut Shown) -> bool {
+    fn answer(&self, alloc: Global, group: &str, text: &str, out: &mut AnswerText) -> bool {
         match group {
             "specs in strings" => match format!(in alloc; "         \"{text}\"") {
                 Ok(text) => put_read(alloc, out, group, text.as_str(), 9),
@@ -36,7 +36,7 @@ impl Rows for Specs {
 }
 
 /// What a group reads of the value at a place.
-fn put_read(alloc: Global, out: &mut Shown, group: &str, text: &str, place: usize)
+fn put_read(alloc: Global, out: &mut AnswerText, group: &str, text: &str, place: usize)
     requires { place ≤ length text.now }
 {
     match read_value(alloc, text, 0, place) {
@@ -54,7 +54,7 @@ fn put_read(alloc: Global, out: &mut Shown, group: &str, text: &str, place: usiz
 }
 
 /// A spec with the place of its name.
-fn put_spec(alloc: Global, out: &mut Shown, value: &mut Value<'_>) {
+fn put_spec(alloc: Global, out: &mut AnswerText, value: &mut Value<'_>) {
     match <PackageSpec as Deserialize<()>>::deserialize(alloc, value, &()) {
         Ok(spec) => {
             let name = &spec.name.value;
@@ -68,7 +68,7 @@ fn put_spec(alloc: Global, out: &mut Shown, value: &mut Value<'_>) {
 type TwoSpecs = PackageSpecOrExtended<PackageSpec>;
 
 /// A spec, and a second one where other keys are there.
-fn put_extended(alloc: Global, out: &mut Shown, value: &mut Value<'_>) {
+fn put_extended(alloc: Global, out: &mut AnswerText, value: &mut Value<'_>) {
     match <TwoSpecs as Deserialize<()>>::deserialize(alloc, value, &()) {
         Ok(extended) => {
             let spec = &extended.spec;
@@ -102,7 +102,7 @@ fn specs_of(alloc: Global, text: &str) -> Result<Vec<PackageSpec>, AllocError> {
 }
 
 /// What comes of a number, or of a list of specs and a spec or a crate behind a bar.
-fn put_made(alloc: Global, out: &mut Shown, group: &str, text: &str) -> Result<(), AllocError> {
+fn put_made(alloc: Global, out: &mut AnswerText, group: &str, text: &str) -> Result<(), AllocError> {
     let (text, behind) = text.split_once(" | ").unwrap_or((text, ""));
     match group {
         "widened" | "narrowed" => put_converted(alloc, out, text),
@@ -112,7 +112,7 @@ fn put_made(alloc: Global, out: &mut Shown, group: &str, text: &str) -> Result<(
 }
 
 /// A number beside a spec, converted to a smaller type and back.
-fn put_converted(alloc: Global, out: &mut Shown, text: &str) -> Result<(), AllocError> {
+fn put_converted(alloc: Global, out: &mut AnswerText, text: &str) -> Result<(), AllocError> {
     let inner = text.parse::<u32>().ok();
     let spec = spec_at(alloc, "a", 3)?;
     match (PackageSpecOrExtended { spec, inner }).try_convert::<u8, _>() {
@@ -122,7 +122,7 @@ fn put_converted(alloc: Global, out: &mut Shown, text: &str) -> Result<(), Alloc
     Ok(())
 }
 
-fn put_number(out: &mut Shown, wide: &PackageSpecOrExtended<u32>) {
+fn put_number(out: &mut AnswerText, wide: &PackageSpecOrExtended<u32>) {
     let spec = &wide.spec;
     let place = spec.name.span.start;
     let number = wide.inner;
@@ -130,7 +130,7 @@ fn put_number(out: &mut Shown, wide: &PackageSpecOrExtended<u32>) {
 }
 
 /// A spec, or how two specs compare, both ways, and whether they are equal.
-fn put_compared(alloc: Global, out: &mut Shown, one: &str, other: &str) -> Result<(), AllocError> {
+fn put_compared(alloc: Global, out: &mut AnswerText, one: &str, other: &str) -> Result<(), AllocError> {
     let one = spec_at(alloc, one, 3)?;
     if other.is_empty() {
         write!(out, "{one}");
@@ -167,7 +167,7 @@ fn krate_of(alloc: Global, text: &str) -> Result<Krate, AllocError> {
 /// What a list of specs finds for a crate.
 fn put_found(
     alloc: Global,
-    out: &mut Shown,
+    out: &mut AnswerText,
     group: &str,
     specs: &str,
     krate: &str,
@@ -187,7 +187,7 @@ fn put_found(
 /// The places of the specs that match a crate, and the first of them.
 fn put_places(
     alloc: Global,
-    out: &mut Shown,
+    out: &mut AnswerText,
     specs: &[PackageSpec],
     krate: &Krate,
 ) -> Result<(), AllocError> {

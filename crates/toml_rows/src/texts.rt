@@ -2,15 +2,15 @@
 use crate::printed::{DEPTH, names_of, put_error, put_inner, put_span, put_value};
 use crate::tokens;
 use crate::typed::{FIVE, put_at_a, put_table};
-use case_files::{Rows, Shown};
+use case_files::{Rows, AnswerText};
 use std::alloc::Global;
 use toml_value::{Value, parse};
 
 /// Tokens, values, whole texts, and the types that are read from them.
-pub struct Toml;
+pub struct TomlRows;
 
-impl Rows for Toml {
-    fn answer(&self, alloc: Global, group: &str, text: &str, out: &mut Shown) -> bool {
+impl Rows for TomlRows {
+    fn answer(&self, alloc: Global, group: &str, text: &str, out: &mut AnswerText) -> bool {
         tokens::put(alloc, out, group, text) || put(alloc, out, group, text)
     }
 }
@@ -24,7 +24,7 @@ fn parts_of<'t>(group: &str, text: &'t str) -> (&'t str, &'t str) {
 }
 
 /// Puts what a group makes of a text.
-fn put(alloc: Global, out: &mut Shown, group: &str, text: &str) -> bool {
+fn put(alloc: Global, out: &mut AnswerText, group: &str, text: &str) -> bool {
     let (text, word) = parts_of(group, text);
     match parse(alloc, text) {
         Ok(mut root) => put_root(alloc, out, group, word, &mut root),
@@ -35,7 +35,7 @@ fn put(alloc: Global, out: &mut Shown, group: &str, text: &str) -> bool {
     }
 }
 
-fn put_root(alloc: Global, out: &mut Shown, group: &str, word: &str, root: &mut Value<'_>) -> bool {
+fn put_root(alloc: Global, out: &mut AnswerText, group: &str, word: &str, root: &mut Value<'_>) -> bool {
     match group {
         "texts" | "texts with faults" | "examples" | "examples with faults" | "refused keys" => {
             put_value(alloc, out, DEPTH, root)
@@ -69,7 +69,7 @@ fn put_root(alloc: Global, out: &mut Shown, group: &str, word: &str, root: &mut 
 }
 
 /// What stands at each path: the text of a string, and the place.
-fn put_paths(out: &mut Shown, root: &Value<'_>, paths: &str) {
+fn put_paths(out: &mut AnswerText, root: &Value<'_>, paths: &str) {
     let mut is_behind = false;
     for path in paths.split_whitespace() {
         out.put(if is_behind { " " } else { "" });
@@ -78,7 +78,7 @@ fn put_paths(out: &mut Shown, root: &Value<'_>, paths: &str) {
     }
 }
 
-fn put_at_path(out: &mut Shown, root: &Value<'_>, path: &str) {
+fn put_at_path(out: &mut AnswerText, root: &Value<'_>, path: &str) {
     let Some(value) = root.pointer(path) else {
         return out.put("none");
     };
@@ -88,7 +88,7 @@ fn put_at_path(out: &mut Shown, root: &Value<'_>, path: &str) {
     put_span(out, "@", value.span());
 }
 
-fn put_names(alloc: Global, out: &mut Shown, root: &mut Value<'_>) {
+fn put_names(alloc: Global, out: &mut AnswerText, root: &mut Value<'_>) {
     if let Some(table) = root.take_table() {
         let names = names_of(alloc, out, &table);
         for name in names.items() {
@@ -98,7 +98,7 @@ fn put_names(alloc: Global, out: &mut Shown, root: &mut Value<'_>) {
 }
 
 /// Takes a value out, and puts what it was and whether it had keys.
-fn put_taken(out: &mut Shown, value: &mut Value<'_>) {
+fn put_taken(out: &mut AnswerText, value: &mut Value<'_>) {
     let keys = if value.has_keys() { "keys" } else { "no keys" };
     put_inner(out, &value.take());
     write!(out, " with {keys};");

@@ -2,7 +2,7 @@
 ghost use Rattle.std.specs.Prelude.{◌≤◌, length};
 
 use crate::printed::{DEPTH, put_error, put_fault, put_key, put_span, put_string, put_value};
-use case_files::Shown;
+use case_files::AnswerText;
 use deny_text::Span;
 use std::alloc::Global;
 use std::fmt;
@@ -25,7 +25,7 @@ fn placed(text: &str) -> (&str, usize)
 }
 
 /// Puts what a group reads at a place, and returns whether there is such a group.
-pub fn put(alloc: Global, out: &mut Shown, group: &str, text: &str) -> bool {
+pub fn put(alloc: Global, out: &mut AnswerText, group: &str, text: &str) -> bool {
     let (text, place) = placed(text);
     match group {
         "numbers" => put_seen(out, Ok(classify(text.as_bytes()))),
@@ -47,7 +47,7 @@ pub fn put(alloc: Global, out: &mut Shown, group: &str, text: &str) -> bool {
 }
 
 /// The place that a scanner comes to from a place. Returns whether there is such a scanner.
-fn put_scanned(out: &mut Shown, group: &str, text: &str, place: usize) -> bool
+fn put_scanned(out: &mut AnswerText, group: &str, text: &str, place: usize) -> bool
     requires { place ≤ length text.now }
 {
     let bytes = text.as_bytes();
@@ -65,21 +65,21 @@ fn put_scanned(out: &mut Shown, group: &str, text: &str, place: usize) -> bool
     true
 }
 
-fn put_seen<T: fmt::Debug + Drop>(out: &mut Shown, seen: Result<T, SyntaxError>) {
+fn put_seen<T: fmt::Debug + Drop>(out: &mut AnswerText, seen: Result<T, SyntaxError>) {
     match seen {
         Ok(seen) => write!(out, "{seen:?}"),
         Err(fault) => put_fault(out, &fault),
     }
 }
 
-fn put_number(out: &mut Shown, read: Result<(Number, usize), SyntaxError>) {
+fn put_number(out: &mut AnswerText, read: Result<(Number, usize), SyntaxError>) {
     match read {
         Ok((number, end)) => write!(out, "{number:?} to {end}"),
         Err(fault) => put_fault(out, &fault),
     }
 }
 
-fn put_keys(out: &mut Shown, read: &Result<(Keys<'_>, usize), TomlError>) {
+fn put_keys(out: &mut AnswerText, read: &Result<(Keys<'_>, usize), TomlError>) {
     match read {
         Ok((keys, end)) => {
             for key in keys.items() {
@@ -94,7 +94,7 @@ fn put_keys(out: &mut Shown, read: &Result<(Keys<'_>, usize), TomlError>) {
 type ReadString<'de> = Result<(Str<'de>, Span, usize), TomlError>;
 
 /// A string, and its place.
-fn put_first_string(out: &mut Shown, read: &ReadString<'_>) {
+fn put_first_string(out: &mut AnswerText, read: &ReadString<'_>) {
     match read {
         Ok((string, span, _)) => {
             put_string(out, string, "'");
@@ -107,7 +107,7 @@ fn put_first_string(out: &mut Shown, read: &ReadString<'_>) {
 type ReadScalar<'de> = Result<(Scalar<'de>, Span, usize), TomlError>;
 
 /// A scalar, its place, and the place behind it.
-fn put_scalar(out: &mut Shown, read: &ReadScalar<'_>) {
+fn put_scalar(out: &mut AnswerText, read: &ReadScalar<'_>) {
     match read {
         Ok((scalar, span, next)) => {
             match scalar {
@@ -126,7 +126,7 @@ fn put_scalar(out: &mut Shown, read: &ReadScalar<'_>) {
 type ReadValue<'de> = Result<(Value<'de>, usize), TomlError>;
 
 /// A value, and the place behind it. Of a deep value the place alone is put.
-fn put_first(alloc: Global, out: &mut Shown, group: &str, read: ReadValue<'_>) {
+fn put_first(alloc: Global, out: &mut AnswerText, group: &str, read: ReadValue<'_>) {
     let depth = if group == "deep values" { 0 } else { DEPTH };
     match read {
         Ok((mut value, next)) => {

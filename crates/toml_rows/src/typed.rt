@@ -1,6 +1,6 @@
 //! Types that are read from values, key by key.
 use crate::printed::{put_faults, put_span, put_string};
-use case_files::Shown;
+use case_files::AnswerText;
 use deny_text::{Spanned, Text, Texts};
 use policy_toml::{DeserError, Deserialize, Hundredths, TableHelper, Value, deserialize_name};
 use std::alloc::Global;
@@ -16,7 +16,7 @@ static LEVELS: [(&str, u32); 3] = [("allow", 0), ("warn", 1), ("deny", 2)];
 /// What a group reads of the value at the key `a`. Returns whether there is such a group.
 pub fn put_at_a(
     alloc: Global,
-    out: &mut Shown,
+    out: &mut AnswerText,
     group: &str,
     kind: &str,
     root: &mut Value<'_>,
@@ -44,7 +44,7 @@ fn taken_a<'de>(alloc: Global, root: &mut Value<'de>) -> Option<Value<'de>> {
 }
 
 /// Whether a value is of a kind, or its faults.
-fn put_kind(alloc: Global, out: &mut Shown, kind: &str, value: &mut Value<'_>) {
+fn put_kind(alloc: Global, out: &mut AnswerText, kind: &str, value: &mut Value<'_>) {
     match kind {
         "bool" => put_whether::<bool>(alloc, out, value),
         "Text" => put_whether::<Text>(alloc, out, value),
@@ -56,7 +56,7 @@ fn put_kind(alloc: Global, out: &mut Shown, kind: &str, value: &mut Value<'_>) {
     }
 }
 
-fn put_whether<T: Deserialize<()> + Drop>(alloc: Global, out: &mut Shown, value: &mut Value<'_>) {
+fn put_whether<T: Deserialize<()> + Drop>(alloc: Global, out: &mut AnswerText, value: &mut Value<'_>) {
     match T::deserialize(alloc, value, &()) {
         Ok(_) => out.put("read"),
         Err(error) => put_faults(out, &error),
@@ -64,8 +64,8 @@ fn put_whether<T: Deserialize<()> + Drop>(alloc: Global, out: &mut Shown, value:
 }
 
 /// What the keys of a table are, which are read in this order, or what is wrong with it. A last `..` gives others back.
-pub fn put_table(alloc: Global, out: &mut Shown, value: &mut Value<'_>, keys: &[&str]) {
-    let mut read = Shown::new(alloc);
+pub fn put_table(alloc: Global, out: &mut AnswerText, value: &mut Value<'_>, keys: &[&str]) {
+    let mut read = AnswerText::new(alloc);
     match put_keys(alloc, &mut read, value, keys) {
         Ok(()) => match read.into_text() {
             Ok(text) => out.put(text.as_str()),
@@ -75,9 +75,9 @@ pub fn put_table(alloc: Global, out: &mut Shown, value: &mut Value<'_>, keys: &[
     }
 }
 
-type Read = Result<(), DeserError>;
+type TypedRead = Result<(), DeserError>;
 
-fn put_keys(alloc: Global, out: &mut Shown, value: &mut Value<'_>, keys: &[&str]) -> Read {
+fn put_keys(alloc: Global, out: &mut AnswerText, value: &mut Value<'_>, keys: &[&str]) -> TypedRead {
     let mut table = TableHelper::new(alloc, value)?;
     for key in keys {
         if *key == ".." {
@@ -89,7 +89,7 @@ fn put_keys(alloc: Global, out: &mut Shown, value: &mut Value<'_>, keys: &[&str]
 }
 
 /// What a key is. A word that is none stands for itself.
-fn put_key(alloc: Global, out: &mut Shown, table: &mut TableHelper<'_>, key: &str) -> Read {
+fn put_key(alloc: Global, out: &mut AnswerText, table: &mut TableHelper<'_>, key: &str) -> TypedRead {
     match key {
         "count" => put_optional::<u32>(alloc, out, table, "count"),
         "level" => put_optional::<i32>(alloc, out, table, "level"),
@@ -109,16 +109,16 @@ fn put_key(alloc: Global, out: &mut Shown, table: &mut TableHelper<'_>, key: &st
 
 fn put_optional<T: Deserialize<()> + fmt::Debug + Drop>(
     alloc: Global,
-    out: &mut Shown,
+    out: &mut AnswerText,
     table: &mut TableHelper<'_>,
     key: &'static str,
-) -> Read {
+) -> TypedRead {
     let read: Option<T> = table.optional(alloc, key, &())?;
     write!(out, "{read:?}");
     Ok(())
 }
 
-fn put_required(alloc: Global, out: &mut Shown, table: &mut TableHelper<'_>, key: &str) -> Read {
+fn put_required(alloc: Global, out: &mut AnswerText, table: &mut TableHelper<'_>, key: &str) -> TypedRead {
     if key == "on" {
         let flag: bool = table.required(alloc, "on", &())?;
         write!(out, "{flag}");
@@ -129,7 +129,7 @@ fn put_required(alloc: Global, out: &mut Shown, table: &mut TableHelper<'_>, key
     Ok(())
 }
 
-fn put_name(alloc: Global, out: &mut Shown, table: &mut TableHelper<'_>) -> Read {
+fn put_name(alloc: Global, out: &mut AnswerText, table: &mut TableHelper<'_>) -> TypedRead {
     let name: Option<Spanned<Text>> = table.optional_s(alloc, "name", &())?;
     match &name {
         Some(name) => {
@@ -144,10 +144,10 @@ fn put_name(alloc: Global, out: &mut Shown, table: &mut TableHelper<'_>) -> Read
 /// The texts of a list, and of `tags` the place too.
 fn put_texts(
     alloc: Global,
-    out: &mut Shown,
+    out: &mut AnswerText,
     table: &mut TableHelper<'_>,
     key: &'static str,
-) -> Read {
+) -> TypedRead {
     let read: Option<Spanned<Texts>> = table.optional_s(alloc, key, &())?;
     if let Some(texts) = &read {
         for text in texts.value.items() {
@@ -161,7 +161,7 @@ fn put_texts(
 }
 
 /// What is read of each item of a list.
-fn put_list(alloc: Global, out: &mut Shown, value: &mut Value<'_>) {
+fn put_list(alloc: Global, out: &mut AnswerText, value: &mut Value<'_>) {
     if let Some(values) = value.take_array() {
         for mut item in values.into_items() {
             out.put("[");
@@ -172,7 +172,7 @@ fn put_list(alloc: Global, out: &mut Shown, value: &mut Value<'_>) {
 }
 
 /// A string, what is told where it is taken again, and where it is to be a table.
-fn put_string_twice(alloc: Global, out: &mut Shown, value: &mut Value<'_>) {
+fn put_string_twice(alloc: Global, out: &mut AnswerText, value: &mut Value<'_>) {
     for _ in 0..2u32 {
         out.put("[");
         match value.take_string(alloc, "a crate spec") {
@@ -186,7 +186,7 @@ fn put_string_twice(alloc: Global, out: &mut Shown, value: &mut Value<'_>) {
     out.put("]");
 }
 
-fn put_level(alloc: Global, out: &mut Shown, value: &mut Value<'_>) {
+fn put_level(alloc: Global, out: &mut AnswerText, value: &mut Value<'_>) {
     match deserialize_name(alloc, value, "LintLevel", &LEVELS) {
         Ok(level) => write!(out, "{level}"),
         Err(error) => put_faults(out, &error),

@@ -1,9 +1,9 @@
 -- The words for the kinds of values.
 use Rattle.std.specs.Prelude.{ℕ, List, codes}
-use Rattle.toml_shapes.specs.declared.shape.Kind.{Kind}
-use Rattle.toml_shapes.specs.declared.shape.Kind.TheVariants.{String, Integer, Decimal, Boolean, Array, Table}
+use Rattle.toml_shapes.specs.declared.shape.ValueKind.{ValueKind}
+use Rattle.toml_shapes.specs.declared.shape.ValueKind.TheVariants.{String, Integer, Decimal, Boolean, Array, Table}
 
-abbrev pub kind_word : Kind → List ℕ
+abbrev pub kind_word : ValueKind → List ℕ
 kind_word String = codes "a string"
 kind_word Integer = codes "an integer"
 kind_word Decimal = codes "a decimal"

@@ -1,10 +1,10 @@
 -- What the faults of the program stand for. Two texts that are equal may be two for the program; here they are one.
-use Rattle.toml_shapes.specs.Shapes.{Reason, Fault, wanted, missing, unexpected_keys, unexpected_value, custom, out_of_range}
+use Rattle.toml_shapes.specs.Shapes.{ShapeReason, Fault, wanted, missing, unexpected_keys, unexpected_value, custom, out_of_range}
 use Rattle.toml_shapes.specs.declared.shape.ErrorKind.{ErrorKind}
 use Rattle.toml_shapes.specs.declared.shape.ErrorKind.TheVariants.{Wanted, MissingField, UnexpectedKeys, UnexpectedValue, Custom, OutOfRange}
 use Rattle.toml_shapes.specs.declared.shape.ShapeError.{ShapeError}
 
-abbrev pub reason_of : ErrorKind → Reason
+abbrev pub reason_of : ErrorKind → ShapeReason
 reason_of (Wanted expected found) = wanted expected.now found.now
 reason_of (MissingField name) = missing name.now
 reason_of (UnexpectedKeys names) = unexpected_keys names

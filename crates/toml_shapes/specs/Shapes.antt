@@ -3,21 +3,21 @@ use Rattle.std.specs.Prelude.{ℕ, List, [], ◌∷◌, ◌++◌, codes}
 use Rattle.std.specs.List.{join_by, flat_map}
 use Rattle.deny_text.specs.declared.span.Span.{Span}
 
-pub data Reason : Type 0 where
+pub data ShapeReason : Type 0 where
   -- what was wanted, and what was found
-  wanted : List ℕ → List ℕ → Reason
-  missing : List ℕ → Reason
-  unexpected_keys : List (List ℕ) → Reason
-  unexpected_value : List (List ℕ) → Reason
-  custom : List ℕ → Reason
-  out_of_range : List ℕ → Reason
+  wanted : List ℕ → List ℕ → ShapeReason
+  missing : List ℕ → ShapeReason
+  unexpected_keys : List (List ℕ) → ShapeReason
+  unexpected_value : List (List ℕ) → ShapeReason
+  custom : List ℕ → ShapeReason
+  out_of_range : List ℕ → ShapeReason
 
 pub record Fault : Type 0 where
-  pub reason : Reason
+  pub reason : ShapeReason
   pub span : Span
 
 -- one fault by itself
-abbrev pub fault_alone : Reason → Span → List Fault
+abbrev pub fault_alone : ShapeReason → Span → List Fault
 fault_alone reason span = record { reason = reason; span = span } ∷ []
 
 -- names with commas between
@@ -25,7 +25,7 @@ abbrev pub names_text : List (List ℕ) → List ℕ
 names_text names = join_by (λ name. name) (codes ", ") names
 
 -- what is said of a fault
-abbrev pub reason_text : Reason → List ℕ
+abbrev pub reason_text : ShapeReason → List ℕ
 reason_text (wanted expected found) = codes "expected " ++ expected ++ codes ", found " ++ found
 reason_text (missing name) = codes "missing field '" ++ name ++ codes "'"
 reason_text (unexpected_keys names) = codes "unexpected keys: " ++ names_text names

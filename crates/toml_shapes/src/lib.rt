@@ -3,4 +3,4 @@
 
 pub mod shape;
 
-pub use shape::{DeserError, ErrorKind, Kind, ShapeError, ShapeErrors, answer, one_fault, refuse};
+pub use shape::{DeserError, ErrorKind, ValueKind, ShapeError, ShapeErrors, answer, one_fault, refuse};

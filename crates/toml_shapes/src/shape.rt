@@ -2,7 +2,7 @@
 ghost use Rattle.std.specs.Prelude.{◌≡◌, [], ◌∷◌, ◌++◌, map, Some, Err, OnOk, OnErr};
 ghost use Rattle.toml_shapes.specs.DeserText.{deser_text};
 ghost use Rattle.toml_shapes.specs.Kinds.{kind_word};
-ghost use Rattle.toml_shapes.specs.Shaped.{Gives, IsToldBy, answer_of};
+ghost use Rattle.toml_shapes.specs.Shaped.{AnswersShape, IsToldBy, shaped_of};
 ghost use Rattle.toml_shapes.specs.Shapes.{fault_alone, names_text, reason_text, faults_text};
 ghost use Rattle.toml_shapes.specs.ShapeViews.{reason_of, fault_of};
 
@@ -13,7 +13,7 @@ use std::marker::Model;
 
 /// The kinds of values.
 #[derive(Clone, Copy)]
-pub enum Kind {
+pub enum ValueKind {
     String,
     Integer,
     Decimal,
@@ -22,18 +22,18 @@ pub enum Kind {
     Table,
 }
 
-impl Kind {
+impl ValueKind {
     /// The words for a value of the kind.
     pub fn word(self) -> &'static str
         ensures { result.now ≡ kind_word self }
     {
         match self {
-            Kind::String => "a string",
-            Kind::Integer => "an integer",
-            Kind::Decimal => "a decimal",
-            Kind::Boolean => "a boolean",
-            Kind::Array => "an array",
-            Kind::Table => "a table",
+            ValueKind::String => "a string",
+            ValueKind::Integer => "an integer",
+            ValueKind::Decimal => "a decimal",
+            ValueKind::Boolean => "a boolean",
+            ValueKind::Array => "an array",
+            ValueKind::Table => "a table",
         }
     }
 }
@@ -149,14 +149,14 @@ pub fn one_fault(alloc: Global, kind: ErrorKind, span: Span) -> DeserError
 
 /// An answer that is one fault.
 pub fn refuse<T>(alloc: Global, kind: ErrorKind, span: Span) -> Result<T, DeserError>
-    ensures { Gives (Err (fault_alone (reason_of kind) span)) result }
+    ensures { AnswersShape (Err (fault_alone (reason_of kind) span)) result }
 {
     Err(one_fault(alloc, kind, span))
 }
 
 /// The value, or the faults where there are some.
 pub fn answer<T: Drop>(errors: ShapeErrors, value: T) -> Result<T, DeserError>
-    ensures { Gives (answer_of errors value) result }
+    ensures { AnswersShape (shaped_of errors value) result }
 {
     if errors.items().is_empty() {
         Ok(value)
@@ -167,11 +167,11 @@ pub fn answer<T: Drop>(errors: ShapeErrors, value: T) -> Result<T, DeserError>
 
 /// Names, printed with commas between.
 #[derive(Drop)]
-struct Listed<'n> {
+struct NameList<'n> {
     names: &'n [Text],
 }
 
-impl fmt::Display for Listed<'_> {
+impl fmt::Display for NameList<'_> {
     ghost output = { λ list. Some (names_text list.names.now) };
 
     fn fmt<W: fmt::Write>(&self, f: &mut fmt::Formatter<W>) -> fmt::Result {
@@ -197,11 +197,11 @@ impl fmt::Display for ErrorKind {
             ErrorKind::MissingField(name) => write!(f, "missing field '{name}'"),
             ErrorKind::UnexpectedKeys(keys) => {
                 let names = keys.items();
-                write!(f, "unexpected keys: {}", Listed { names })
+                write!(f, "unexpected keys: {}", NameList { names })
             }
             ErrorKind::UnexpectedValue(expected) => {
                 let names = expected.items();
-                write!(f, "unexpected value, expected one of: {}", Listed { names })
+                write!(f, "unexpected value, expected one of: {}", NameList { names })
             }
             ErrorKind::Custom(text) => write!(f, "{text}"),
             ErrorKind::OutOfRange(name) => write!(f, "out of range of {name}"),

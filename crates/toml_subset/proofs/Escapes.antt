@@ -9,11 +9,11 @@ use Rattle.std.specs.Prelude.{IsTrue, encode_utf8}
 use Rattle.std.specs.Str.{IsCharBoundary, IsUtf8}
 use Rattle.toml_subset.specs.Bytes.{quote, apostrophe, is_blank, line_feed, carriage_return, is_letter, is_digit}
 use Rattle.toml_subset.specs.Numbers.{is_digit_in, digit_value, count}
-use Rattle.toml_subset.specs.Places.{stands, after_blanks, lines_over, after_lines_of, after_white, line_end}
+use Rattle.toml_subset.specs.Places.{stands, after_blanks, lines_over, after_lines_of, after_white, behind_line_end}
 use Rattle.toml_subset.specs.StringViews.{EndsOnBorder, GoesOn}
 use Rattle.toml_subset.specs.declared.strings.Special.{Special}
 use Rattle.toml_subset.specs.declared.strings.Special.TheVariants.{Closing, Escape, Broken}
-use Rattle.toml_subset.specs.Strings.{Quoting, basic, literal, long_basic, long_literal, is_scalar, scalar_of, letter_escape, marks_at, opening, opening_of}
+use Rattle.toml_subset.specs.Strings.{Quoting, basic, literal, long_basic, long_literal, is_scalar, scalar_of, letter_escape, marks_in_row, opening, opening_of}
 use Rattle.toml_subset.proofs.PlainRuns.{prefix_take}
 use Rattle.toml_subset.proofs.Runs.{byte_passes, run_end_passes}
 use Rattle.toml_subset.proofs.Law.Basics.{is_some, if_is}
@@ -144,7 +144,7 @@ line_feed_border text utf8 i h =
     let same = eqb-true (get_or text i 0) line_feed here.1 in
     IsCharBoundary-after_ascii text i utf8 here.0 (omega arith)
 
-line_end_border : (text : List ℕ) → IsUtf8 text → (i next : ℕ) → line_end text i ≡ Some next → IsCharBoundary text next
+line_end_border : (text : List ℕ) → IsUtf8 text → (i next : ℕ) → behind_line_end text i ≡ Some next → IsCharBoundary text next
 line_end_border text utf8 i next e =
     ⊎_elim (λ h. subst (IsCharBoundary text) (is_some (i + 1) next h.1) (line_feed_border text utf8 i h.0))
     (λ h.
@@ -160,7 +160,7 @@ line_end_border text utf8 i next e =
 lines_border : (text : List ℕ) → IsUtf8 text → (n i : ℕ) → IsCharBoundary text i → IsCharBoundary text (lines_over after_blanks n text i)
 lines_border text utf8 zero i at = at
 lines_border text utf8 (suc n) i at =
-    elim (line_end text (after_blanks text i)) as (λ o. line_end text (after_blanks text i) ≡ o
+    elim (behind_line_end text (after_blanks text i)) as (λ o. behind_line_end text (after_blanks text i) ≡ o
     → IsCharBoundary text (elim o [ Some next ↦ lines_over after_blanks n text next | None ↦ i ])) [
       | Some next ↦ λ is. lines_border text utf8 n next (line_end_border text utf8 (after_blanks text i) next is)
       | None ↦ λ is. at
@@ -208,7 +208,7 @@ behind_byte text utf8 i c low h =
 
 -- an opening ends where a character begins
 
-or_line_end : (text : List ℕ) → IsUtf8 text → (i : ℕ) → IsCharBoundary text i → (o : Option ℕ) → line_end text i ≡ o → IsCharBoundary text (unwrap_or o i)
+or_line_end : (text : List ℕ) → IsUtf8 text → (i : ℕ) → IsCharBoundary text i → (o : Option ℕ) → behind_line_end text i ≡ o → IsCharBoundary text (unwrap_or o i)
 or_line_end text utf8 i at (Some next) is = line_end_border text utf8 i next is
 or_line_end text utf8 i at None is = at
 
@@ -217,7 +217,7 @@ opening_of_border : (text : List ℕ) → IsUtf8 text → (short long : Quoting)
 opening_of_border text utf8 short long mark i o low here e =
     ⊎_elim
     (λ h.
-    let many : 3 ≤ marks_at mark text i = grind (arith, nat_tests, h.0) in
+    let many : 3 ≤ marks_in_row mark text i = grind (arith, nat_tests, h.0) in
     let least = prefix_len-le-length (λ c. eqb c mark) (drop i text) in
     let rest = length-drop i text in
     let inside : i + 2 < length text = omega arith in
@@ -225,9 +225,9 @@ opening_of_border text utf8 short long mark i o low here e =
     let same = eqb-true (get_or text (i + 2) 0) mark third in
     let three : i + 2 + 1 ≡ i + 3 = omega arith in
     let border = subst (IsCharBoundary text) three (IsCharBoundary-after_ascii text (i + 2) utf8 inside (omega arith)) in
-    subst (λ (x : Quoting × ℕ). IsCharBoundary text x.1) h.1 (or_line_end text utf8 (i + 3) border (line_end text (i + 3)) refl))
+    subst (λ (x : Quoting × ℕ). IsCharBoundary text x.1) h.1 (or_line_end text utf8 (i + 3) border (behind_line_end text (i + 3)) refl))
     (λ h. subst (λ (x : Quoting × ℕ). IsCharBoundary text x.1) h.1 (behind_byte text utf8 i mark low here).1)
-    (if_is (nat_le 3 (marks_at mark text i)) (long, unwrap_or (line_end text (i + 3)) (i + 3)) (short, i + 1) o e)
+    (if_is (nat_le 3 (marks_in_row mark text i)) (long, unwrap_or (behind_line_end text (i + 3)) (i + 3)) (short, i + 1) o e)
 
 pub opening_border : (text : List ℕ) → IsUtf8 text → (i : ℕ) (o : Quoting × ℕ) → opening text i ≡ Some o → IsCharBoundary text o.1
 opening_border text utf8 i o e =

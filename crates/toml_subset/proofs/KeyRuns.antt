@@ -4,7 +4,7 @@ use Rattle.std.proofs.lemmas.Bool.Decides.{nat_tests}
 use Rattle.std.proofs.lemmas.List.Sums.{prefix_len-le-length}
 use Rattle.std.proofs.lemmas.Str.{IsCharBoundary-before_ascii, IsCharBoundary-after_ascii}
 use Rattle.std.specs.Str.{IsCharBoundary, IsUtf8}
-use Rattle.toml_subset.specs.Answer.{Read, then_read, Answers}
+use Rattle.toml_subset.specs.Answer.{TomlReading, then_read, AnswersToml}
 use Rattle.toml_subset.specs.Bytes.{dot, is_bare}
 use Rattle.toml_subset.specs.Places.{passes_at, stands, run_end, after_blanks}
 use Rattle.toml_subset.specs.StringReading.{KeyFound, KeysFound, read_key, keys_behind, read_keys, keys_at}
@@ -34,7 +34,7 @@ bare_borders text utf8 i begins =
     let back : end - 1 + 1 ≡ end = omega arith in
     (omega arith, IsCharBoundary-before_ascii text i (omega arith) first, subst (IsCharBoundary text) back (IsCharBoundary-after_ascii text (end - 1) utf8 (omega arith) last))
 
-abbrev pub onto_keys : List Key → KeysFound → Read KeysFound
+abbrev pub onto_keys : List Key → KeysFound → TomlReading KeysFound
 onto_keys before r = Ok (before ++ r.0, r.1)
 
 -- the parts of a key up to a place
@@ -43,14 +43,14 @@ pub record AreRead (text : List ℕ) (start : ℕ) (before : List Key) (i : ℕ)
   pub room : length text < i + left
   pub is : keys_at text start ≡ then_read (onto_keys before) (read_keys left text i)
 
-onto_none : (r : Read KeysFound) → r ≡ then_read (onto_keys []) r
+onto_none : (r : TomlReading KeysFound) → r ≡ then_read (onto_keys []) r
 onto_none (Ok r) = refl
 onto_none (Err fault) = refl
 
 pub none_read : (text : List ℕ) (start : ℕ) → AreRead text start [] start
 none_read text start = record { left = suc (length text); room = omega arith; is = onto_none (keys_at text start) }
 
-onto_key : (before : List Key) (key : Key) (r : Read KeysFound)
+onto_key : (before : List Key) (key : Key) (r : TomlReading KeysFound)
     → then_read (onto_keys before) (then_read (λ (x : KeysFound). Ok (key ∷ x.0, x.1)) r) ≡ then_read (onto_keys (before ++ key ∷ [])) r
 onto_key before key (Err fault) = refl
 onto_key before key (Ok r) = ap (λ (x : List Key). Ok (x, r.1)) (sym (append_assoc before (key ∷ []) r.0))
@@ -99,6 +99,6 @@ key_more text start before i key end inside are e some =
 
 -- the same as the program answers it
 pub key_refused_so : (text : List ℕ) (start : ℕ) (before : List Key) (i : ℕ) → i ≤ length text → AreRead text start before i → (error : TomlError)
-    → Answers {A = KeyFound} {B = KeyFound} (λ found. found) (read_key text i) (Err error) → Answers {A = KeysFound} {B = KeysFound} (λ found. found) (keys_at text start) (Err error)
+    → AnswersToml {A = KeyFound} {B = KeyFound} (λ found. found) (read_key text i) (Err error) → AnswersToml {A = KeysFound} {B = KeysFound} (λ found. found) (keys_at text start) (Err error)
 key_refused_so text start before i inside are (Syntax fault) e = key_refused text start before i fault inside are e
 key_refused_so text start before i inside are Memory e = tt

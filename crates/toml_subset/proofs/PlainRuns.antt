@@ -7,12 +7,12 @@ use Rattle.std.proofs.lemmas.List.Sums.{prefix_len-le-length}
 use Rattle.std.proofs.lemmas.Option.{slice_get_past}
 use Rattle.std.specs.List.{prefix_len, list_any}
 use Rattle.std.specs.Str.{IsCharBoundary}
-use Rattle.toml_subset.specs.Answer.{Read, then_read}
+use Rattle.toml_subset.specs.Answer.{TomlReading, then_read}
 use Rattle.toml_subset.specs.Bytes.{backslash, may_stand}
-use Rattle.toml_subset.specs.Places.{front_is, from_to, passes_at, stands, line_end}
+use Rattle.toml_subset.specs.Places.{front_is, from_to, passes_at, stands, behind_line_end}
 use Rattle.toml_subset.specs.StringReading.{Pieces, after_part, part_fault, read_pieces, string_from}
-use Rattle.toml_subset.specs.StringViews.{is_plain, IsPlainRun, onto, IsRead}
-use Rattle.toml_subset.specs.Strings.{Quoting, basic, literal, long_basic, long_literal, written_of, mark_of, is_long, has_escapes, marks_at, Piece, Part, piece, closing, broken, plain_piece, escape_at, mark_at, plain_at, part_at, text_of}
+use Rattle.toml_subset.specs.StringViews.{is_plain_part, IsPlainRun, onto, IsStringRead}
+use Rattle.toml_subset.specs.Strings.{Quoting, basic, literal, long_basic, long_literal, written_of, mark_of, is_long, has_escapes, marks_in_row, StringPiece, StringPart, piece, closing, broken, plain_piece, escape_at, mark_at, plain_at, part_at, pieces_text}
 use Rattle.toml_subset.proofs.Runs.{byte_passes}
 use Rattle.toml_subset.proofs.Law.Basics.{if_false}
 use Rattle.toml_subset.proofs.Law.Forward.{piece_goes}
@@ -52,7 +52,7 @@ not_true : (b : Bool) → not b ≡ true → b ≡ false
 not_true true h = absurd (true≢false (sym h))
 not_true false h = refl
 
-plain_of : (text : List ℕ) (i : ℕ) (q : Part) → Stays text i q → is_plain q ≡ true → (p : Piece) × (q ≡ piece p (i + 1)) × (p.means ≡ take 1 (drop i text)) × (p.escape ≡ false)
+plain_of : (text : List ℕ) (i : ℕ) (q : StringPart) → Stays text i q → is_plain_part q ≡ true → (p : StringPiece) × (q ≡ piece p (i + 1)) × (p.means ≡ take 1 (drop i text)) × (p.escape ≡ false)
 plain_of text i (piece p next) stays h =
     let plain : p.escape ≡ false = not_true p.escape h in
     let both = stays plain in
@@ -61,8 +61,8 @@ plain_of text i (closing next) stays h = absurd (true≢false (sym h))
 plain_of text i broken stays h = absurd (true≢false (sym h))
 
 -- a plain piece is the byte at its place
-pub plain_is : (kind : Quoting) (text : List ℕ) (i : ℕ) → is_plain (part_at kind text i) ≡ true
-    → (p : Piece) × (part_at kind text i ≡ piece p (i + 1)) × (p.means ≡ take 1 (drop i text)) × (p.escape ≡ false)
+pub plain_is : (kind : Quoting) (text : List ℕ) (i : ℕ) → is_plain_part (part_at kind text i) ≡ true
+    → (p : StringPiece) × (part_at kind text i ≡ piece p (i + 1)) × (p.means ≡ take 1 (drop i text)) × (p.escape ≡ false)
 plain_is kind text i h = plain_of text i (part_at kind text i) (part_stays kind text i) h
 
 -- reading on
@@ -75,44 +75,44 @@ or_assoc : (a b c : Bool) → (a || (b || c)) ≡ ((a || b) || c)
 or_assoc true b c = refl
 or_assoc false b c = refl
 
-onto_piece : (before : List Piece) (p : Piece) (r : Read Pieces)
+onto_piece : (before : List StringPiece) (p : StringPiece) (r : TomlReading Pieces)
     → then_read (onto before) (then_read (λ (x : Pieces). Ok (p ∷ x.0, x.1, x.2)) r) ≡ then_read (onto (before ++ p ∷ [])) r
 onto_piece before p (Err fault) = refl
-onto_piece before p (Ok r) = ap (λ (x : List Piece). Ok (x, r.1, r.2)) (sym (append_assoc before (p ∷ []) r.0))
+onto_piece before p (Ok r) = ap (λ (x : List StringPiece). Ok (x, r.1, r.2)) (sym (append_assoc before (p ∷ []) r.0))
 
-text_of-append : (before : List Piece) (p : Piece) → text_of (before ++ p ∷ []) ≡ text_of before ++ p.means
+text_of-append : (before : List StringPiece) (p : StringPiece) → pieces_text (before ++ p ∷ []) ≡ pieces_text before ++ p.means
 text_of-append [] p = append-nil p.means
-text_of-append (q ∷ qs) p = ap (λ x. q.means ++ x) (text_of-append qs p) ∙ sym (append_assoc q.means (text_of qs) p.means)
+text_of-append (q ∷ qs) p = ap (λ x. q.means ++ x) (text_of-append qs p) ∙ sym (append_assoc q.means (pieces_text qs) p.means)
 
-any-append : (before : List Piece) (p : Piece) → list_any (λ (x : Piece). x.escape) (before ++ p ∷ []) ≡ (list_any (λ (x : Piece). x.escape) before || p.escape)
+any-append : (before : List StringPiece) (p : StringPiece) → list_any (λ (x : StringPiece). x.escape) (before ++ p ∷ []) ≡ (list_any (λ (x : StringPiece). x.escape) before || p.escape)
 any-append [] p = or_none p.escape
-any-append (q ∷ qs) p = ap (λ x. q.escape || x) (any-append qs p) ∙ or_assoc q.escape (list_any (λ (x : Piece). x.escape) qs) p.escape
+any-append (q ∷ qs) p = ap (λ x. q.escape || x) (any-append qs p) ∙ or_assoc q.escape (list_any (λ (x : StringPiece). x.escape) qs) p.escape
 
-read_more : (kind : Quoting) (text : List ℕ) (first : ℕ) (means : List ℕ) (escaped : Bool) (i : ℕ) (p : Piece) (next left : ℕ) (is : IsRead kind text first means escaped i) → i ≤ length text
+read_more : (kind : Quoting) (text : List ℕ) (first : ℕ) (means : List ℕ) (escaped : Bool) (i : ℕ) (p : StringPiece) (next left : ℕ) (is : IsStringRead kind text first means escaped i) → i ≤ length text
     → part_at kind text i ≡ piece p next → length text < i + left
     → read_pieces (suc (length text)) kind text first ≡ then_read (onto is.before) (read_pieces left kind text i)
-    → IsRead kind text first (means ++ p.means) (escaped || p.escape) next
+    → IsStringRead kind text first (means ++ p.means) (escaped || p.escape) next
 read_more kind text first means escaped i p next zero is inside part room e = absurd (omega arith)
 read_more kind text first means escaped i p next (suc n) is inside part room e = record {
   before = is.before ++ p ∷ [];
   left = n;
   room = let goes = piece_goes kind text i p next part in omega arith;
-  is = e ∙ ap (λ (q : Part). then_read (onto is.before) (after_part kind text i (read_pieces n kind text) q)) part ∙ onto_piece is.before p (read_pieces n kind text next);
+  is = e ∙ ap (λ (q : StringPart). then_read (onto is.before) (after_part kind text i (read_pieces n kind text) q)) part ∙ onto_piece is.before p (read_pieces n kind text next);
   text_so_far = text_of-append is.before p ∙ ap (λ x. x ++ p.means) is.text_so_far;
   escapes_so_far = any-append is.before p ∙ ap (λ x. x || p.escape) is.escapes_so_far;
 }
 
 -- a further piece was read
-pub read_piece : (kind : Quoting) (text : List ℕ) (first : ℕ) (means : List ℕ) (escaped : Bool) (i : ℕ) (p : Piece) (next : ℕ) → i ≤ length text
-    → IsRead kind text first means escaped i → part_at kind text i ≡ piece p next → IsRead kind text first (means ++ p.means) (escaped || p.escape) next
+pub read_piece : (kind : Quoting) (text : List ℕ) (first : ℕ) (means : List ℕ) (escaped : Bool) (i : ℕ) (p : StringPiece) (next : ℕ) → i ≤ length text
+    → IsStringRead kind text first means escaped i → part_at kind text i ≡ piece p next → IsStringRead kind text first (means ++ p.means) (escaped || p.escape) next
 read_piece kind text first means escaped i p next inside is part = read_more kind text first means escaped i p next is.left is inside part is.room is.is
 
-onto_none : (r : Read Pieces) → r ≡ then_read (onto []) r
+onto_none : (r : TomlReading Pieces) → r ≡ then_read (onto []) r
 onto_none (Ok r) = refl
 onto_none (Err fault) = refl
 
 -- nothing was read
-pub read_nothing : (kind : Quoting) (text : List ℕ) (first : ℕ) → IsRead kind text first [] false first
+pub read_nothing : (kind : Quoting) (text : List ℕ) (first : ℕ) → IsStringRead kind text first [] false first
 read_nothing kind text first = record {
   before = [];
   left = suc (length text);
@@ -127,16 +127,16 @@ drop_next i s = drop-drop 1 i s
 
 -- the plain bytes up to a place were read
 read_run_of : (n : ℕ) (kind : Quoting) (text : List ℕ) (first : ℕ) (means : List ℕ) (escaped : Bool) (i : ℕ) → i + n ≤ length text
-    → IsRead kind text first means escaped i → ((k : ℕ) → i ≤ k → k < i + n → is_plain (part_at kind text k) ≡ true)
-    → IsRead kind text first (means ++ take n (drop i text)) escaped (i + n)
+    → IsStringRead kind text first means escaped i → ((k : ℕ) → i ≤ k → k < i + n → is_plain_part (part_at kind text k) ≡ true)
+    → IsStringRead kind text first (means ++ take n (drop i text)) escaped (i + n)
 read_run_of zero kind text first means escaped i inside is plain =
     let same : i ≡ i + 0 = omega arith in
-    subst (λ k. IsRead kind text first (means ++ []) escaped k) same (subst (λ m. IsRead kind text first m escaped i) (sym (append-nil means)) is)
+    subst (λ k. IsStringRead kind text first (means ++ []) escaped k) same (subst (λ m. IsStringRead kind text first m escaped i) (sym (append-nil means)) is)
 read_run_of (suc n) kind text first means escaped i inside is plain =
     let here = plain_is kind text i (plain i (omega arith) (omega arith)) in
     let one = read_piece kind text first means escaped i here.0 (i + 1) (omega arith) is here.1 in
     let kept : (escaped || here.0.escape) ≡ escaped = ap (λ b. escaped || b) here.3 ∙ or_none escaped in
-    let start : IsRead kind text first (means ++ here.0.means) escaped (i + 1) = subst (λ b. IsRead kind text first (means ++ here.0.means) b (i + 1)) kept one in
+    let start : IsStringRead kind text first (means ++ here.0.means) escaped (i + 1) = subst (λ b. IsStringRead kind text first (means ++ here.0.means) b (i + 1)) kept one in
     let rest = read_run_of n kind text first (means ++ here.0.means) escaped (i + 1) (omega arith) start (λ k from before. plain k (omega arith) (omega arith)) in
     let size : suc n ≡ 1 + n = omega arith in
     let whole : (means ++ here.0.means) ++ take n (drop (i + 1) text) ≡ means ++ take (suc n) (drop i text) =
@@ -145,47 +145,47 @@ read_run_of (suc n) kind text first means escaped i inside is plain =
     ∙ ap (λ (x : List ℕ). means ++ (take 1 (drop i text) ++ take n x)) (sym (drop_next i text))
     ∙ ap (λ (x : List ℕ). means ++ x) (sym (take-add 1 n (drop i text))) ∙ ap (λ k. means ++ take k (drop i text)) (sym size) in
     let place : i + 1 + n ≡ i + suc n = omega arith in
-    subst (λ k. IsRead kind text first (means ++ take (suc n) (drop i text)) escaped k) place
-    (subst (λ m. IsRead kind text first m escaped (i + 1 + n)) whole rest)
+    subst (λ k. IsStringRead kind text first (means ++ take (suc n) (drop i text)) escaped k) place
+    (subst (λ m. IsStringRead kind text first m escaped (i + 1 + n)) whole rest)
 
 pub read_run : (kind : Quoting) (text : List ℕ) (first : ℕ) (means : List ℕ) (escaped : Bool) (i j : ℕ) → j ≤ length text
-    → IsRead kind text first means escaped i → IsPlainRun kind text i j → IsRead kind text first (means ++ take (j - i) (drop i text)) escaped j
+    → IsStringRead kind text first means escaped i → IsPlainRun kind text i j → IsStringRead kind text first (means ++ take (j - i) (drop i text)) escaped j
 read_run kind text first means escaped i j inside is run =
     let ordered = run.ordered in
     let back : i + (j - i) ≡ j = omega arith in
-    subst (λ k. IsRead kind text first (means ++ take (j - i) (drop i text)) escaped k) back
+    subst (λ k. IsStringRead kind text first (means ++ take (j - i) (drop i text)) escaped k) back
     (read_run_of (j - i) kind text first means escaped i (omega arith) is (λ k from before. run.plain k from (omega arith)))
 
 -- the string is closed, or broken
 
-closed_by : (kind : Quoting) (text : List ℕ) (first : ℕ) (means : List ℕ) (escaped : Bool) (i next left : ℕ) (is : IsRead kind text first means escaped i) → i ≤ length text
+closed_by : (kind : Quoting) (text : List ℕ) (first : ℕ) (means : List ℕ) (escaped : Bool) (i next left : ℕ) (is : IsStringRead kind text first means escaped i) → i ≤ length text
     → part_at kind text i ≡ closing next → length text < i + left
     → read_pieces (suc (length text)) kind text first ≡ then_read (onto is.before) (read_pieces left kind text i)
     → string_from text (kind, first) ≡ Ok (record { text = means; escaped = escaped }, from_to first i, next)
 closed_by kind text first means escaped i next zero is inside part room e = absurd (omega arith)
 closed_by kind text first means escaped i next (suc n) is inside part room e =
     ap (then_read (λ (r : Pieces). Ok (written_of r.0, from_to first r.1, r.2)))
-    (e ∙ ap (λ (q : Part). then_read (onto is.before) (after_part kind text i (read_pieces n kind text) q)) part)
-    ∙ ap (λ (ps : List Piece). Ok (written_of ps, from_to first i, next)) (append-nil is.before)
-    ∙ ap (λ (s : List ℕ). Ok (record { text = s; escaped = list_any (λ (p : Piece). p.escape) is.before }, from_to first i, next)) is.text_so_far
+    (e ∙ ap (λ (q : StringPart). then_read (onto is.before) (after_part kind text i (read_pieces n kind text) q)) part)
+    ∙ ap (λ (ps : List StringPiece). Ok (written_of ps, from_to first i, next)) (append-nil is.before)
+    ∙ ap (λ (s : List ℕ). Ok (record { text = s; escaped = list_any (λ (p : StringPiece). p.escape) is.before }, from_to first i, next)) is.text_so_far
     ∙ ap (λ (b : Bool). Ok (record { text = means; escaped = b }, from_to first i, next)) is.escapes_so_far
 
 pub string_closed : (kind : Quoting) (text : List ℕ) (first : ℕ) (means : List ℕ) (escaped : Bool) (i next : ℕ) → i ≤ length text
-    → IsRead kind text first means escaped i → part_at kind text i ≡ closing next
+    → IsStringRead kind text first means escaped i → part_at kind text i ≡ closing next
     → string_from text (kind, first) ≡ Ok (record { text = means; escaped = escaped }, from_to first i, next)
 string_closed kind text first means escaped i next inside is part = closed_by kind text first means escaped i next is.left is inside part is.room is.is
 
-broken_by : (kind : Quoting) (text : List ℕ) (first : ℕ) (means : List ℕ) (escaped : Bool) (i left : ℕ) (is : IsRead kind text first means escaped i) → i ≤ length text
+broken_by : (kind : Quoting) (text : List ℕ) (first : ℕ) (means : List ℕ) (escaped : Bool) (i left : ℕ) (is : IsStringRead kind text first means escaped i) → i ≤ length text
     → part_at kind text i ≡ broken → length text < i + left
     → read_pieces (suc (length text)) kind text first ≡ then_read (onto is.before) (read_pieces left kind text i)
     → string_from text (kind, first) ≡ Err (part_fault kind text i)
 broken_by kind text first means escaped i zero is inside part room e = absurd (omega arith)
 broken_by kind text first means escaped i (suc n) is inside part room e =
     ap (then_read (λ (r : Pieces). Ok (written_of r.0, from_to first r.1, r.2)))
-    (e ∙ ap (λ (q : Part). then_read (onto is.before) (after_part kind text i (read_pieces n kind text) q)) part)
+    (e ∙ ap (λ (q : StringPart). then_read (onto is.before) (after_part kind text i (read_pieces n kind text) q)) part)
 
 pub string_broken : (kind : Quoting) (text : List ℕ) (first : ℕ) (means : List ℕ) (escaped : Bool) (i : ℕ) → i ≤ length text
-    → IsRead kind text first means escaped i → part_at kind text i ≡ broken → string_from text (kind, first) ≡ Err (part_fault kind text i)
+    → IsStringRead kind text first means escaped i → part_at kind text i ≡ broken → string_from text (kind, first) ≡ Err (part_fault kind text i)
 string_broken kind text first means escaped i inside is part = broken_by kind text first means escaped i is.left is inside part is.room is.is
 
 -- what is not plain
@@ -213,37 +213,37 @@ and_no false b h = refl
 may_high : (c : ℕ) → 128 ≤ c → may_stand c ≡ true
 may_high c high = grind (arith, nat_tests)
 
-abbrev plain_by : Quoting → List ℕ → ℕ → Option ℕ → Part
-plain_by kind text i (Some c) = cond (may_stand c || (is_long kind && option_is_some (line_end text i))) (plain_piece (c ∷ []) (i + 1)) broken
+abbrev plain_by : Quoting → List ℕ → ℕ → Option ℕ → StringPart
+plain_by kind text i (Some c) = cond (may_stand c || (is_long kind && option_is_some (behind_line_end text i))) (plain_piece (c ∷ []) (i + 1)) broken
 plain_by kind text i None = broken
 
 plain_step : (kind : Quoting) (text : List ℕ) (i : ℕ) → plain_at kind text i ≡ plain_by kind text i (slice_get text i)
 plain_step kind text i =
     elim (slice_get text i) as (λ o. elim o [
-      | Some c ↦ cond (may_stand c || (is_long kind && option_is_some (line_end text i))) (plain_piece (c ∷ []) (i + 1)) broken
+      | Some c ↦ cond (may_stand c || (is_long kind && option_is_some (behind_line_end text i))) (plain_piece (c ∷ []) (i + 1)) broken
       | None ↦ broken
     ] ≡ plain_by kind text i o) [ Some c ↦ refl | None ↦ refl ]
 
-high_plain : (kind : Quoting) (text : List ℕ) (i : ℕ) → i < length text → 128 ≤ get_or text i 0 → is_plain (part_at kind text i) ≡ true
+high_plain : (kind : Quoting) (text : List ℕ) (i : ℕ) → i < length text → 128 ≤ get_or text i 0 → is_plain_part (part_at kind text i) ≡ true
 high_plain kind text i inside high =
     let c = get_or text i 0 in
-    ap is_plain (
+    ap is_plain_part (
     if_false (stands text i (mark_of kind)) (mark_at kind text i) (cond (has_escapes kind && stands text i backslash) (escape_at kind text i) (plain_at kind text i))
     (other_byte text i (mark_of kind) inside high (mark_ascii kind))
     ∙ if_false (has_escapes kind && stands text i backslash) (escape_at kind text i) (plain_at kind text i)
     (and_no (has_escapes kind) (stands text i backslash) (other_byte text i backslash inside high (omega arith)))
     ∙ plain_step kind text i ∙ ap (plain_by kind text i) (byte_there text i inside)
-    ∙ ap (λ b. cond (b || (is_long kind && option_is_some (line_end text i))) (plain_piece (c ∷ []) (i + 1)) broken) (may_high c high)
+    ∙ ap (λ b. cond (b || (is_long kind && option_is_some (behind_line_end text i))) (plain_piece (c ∷ []) (i + 1)) broken) (may_high c high)
     )
 
 -- plain bytes end where a character begins
-pub plain_border : (kind : Quoting) (text : List ℕ) (i : ℕ) → i ≤ length text → is_plain (part_at kind text i) ≡ false → IsCharBoundary text i
+pub plain_border : (kind : Quoting) (text : List ℕ) (i : ℕ) → i ≤ length text → is_plain_part (part_at kind text i) ≡ false → IsCharBoundary text i
 plain_border kind text i inside stops = (inside, λ within high. absurd (true≢false (sym (high_plain kind text i within high) ∙ stops)))
 
-plain_by_broken : (kind : Quoting) (text : List ℕ) (i : ℕ) (o : Option ℕ) → is_plain (plain_by kind text i o) ≡ false → plain_by kind text i o ≡ broken
+plain_by_broken : (kind : Quoting) (text : List ℕ) (i : ℕ) (o : Option ℕ) → is_plain_part (plain_by kind text i o) ≡ false → plain_by kind text i o ≡ broken
 plain_by_broken kind text i None h = refl
 plain_by_broken kind text i (Some c) h =
-    elim (may_stand c || (is_long kind && option_is_some (line_end text i))) as (λ b. is_plain (cond b (plain_piece (c ∷ []) (i + 1)) broken) ≡ false
+    elim (may_stand c || (is_long kind && option_is_some (behind_line_end text i))) as (λ b. is_plain_part (cond b (plain_piece (c ∷ []) (i + 1)) broken) ≡ false
     → cond b (plain_piece (c ∷ []) (i + 1)) broken ≡ broken) [
       | true ↦ λ e. absurd (true≢false e)
       | false ↦ λ e. refl
@@ -251,12 +251,12 @@ plain_by_broken kind text i (Some c) h =
 
 -- no mark and no backslash, and not plain
 pub broken_there : (kind : Quoting) (text : List ℕ) (i : ℕ) → stands text i (mark_of kind) ≡ false → (has_escapes kind && stands text i backslash) ≡ false
-    → is_plain (part_at kind text i) ≡ false → part_at kind text i ≡ broken
+    → is_plain_part (part_at kind text i) ≡ false → part_at kind text i ≡ broken
 broken_there kind text i mark escape h =
     let here : part_at kind text i ≡ plain_by kind text i (slice_get text i) =
     if_false (stands text i (mark_of kind)) (mark_at kind text i) (cond (has_escapes kind && stands text i backslash) (escape_at kind text i) (plain_at kind text i)) mark
     ∙ if_false (has_escapes kind && stands text i backslash) (escape_at kind text i) (plain_at kind text i) escape ∙ plain_step kind text i in
-    here ∙ plain_by_broken kind text i (slice_get text i) (sym (ap is_plain here) ∙ h)
+    here ∙ plain_by_broken kind text i (slice_get text i) (sym (ap is_plain_part here) ∙ h)
 
 stands_out : (p : ℕ → Bool) (text : List ℕ) (i : ℕ) → length text ≤ i → passes_at p text i ≡ false
 stands_out p text i past = false_from (passes_at p text i) (λ h. let inside = passes_inside p text i h in absurd (omega arith))
@@ -270,26 +270,26 @@ end_broken kind text i past =
     ∙ plain_step kind text i ∙ ap (plain_by kind text i) (slice_get_past text i past)
 
 -- a plain byte stands in the text
-pub plain_inside : (kind : Quoting) (text : List ℕ) (i : ℕ) → is_plain (part_at kind text i) ≡ true → i < length text
+pub plain_inside : (kind : Quoting) (text : List ℕ) (i : ℕ) → is_plain_part (part_at kind text i) ≡ true → i < length text
 plain_inside kind text i h =
     elim (nat_lt i (length text)) as (λ b. nat_lt i (length text) ≡ b → i < length text) [
       | true ↦ λ is. grind (arith, nat_tests)
-      | false ↦ λ is. let past : length text ≤ i = grind (arith, nat_tests) in absurd (true≢false (sym h ∙ ap is_plain (end_broken kind text i past)))
+      | false ↦ λ is. let past : length text ≤ i = grind (arith, nat_tests) in absurd (true≢false (sym h ∙ ap is_plain_part (end_broken kind text i past)))
     ] refl
 
 -- a further plain byte
-pub run_extended : (kind : Quoting) (text : List ℕ) (i j : ℕ) → IsPlainRun kind text i j → is_plain (part_at kind text j) ≡ true → IsPlainRun kind text i (j + 1)
+pub run_extended : (kind : Quoting) (text : List ℕ) (i j : ℕ) → IsPlainRun kind text i j → is_plain_part (part_at kind text j) ≡ true → IsPlainRun kind text i (j + 1)
 run_extended kind text i j run h =
     let ordered = run.ordered in
     record {
       ordered = omega arith;
       plain = λ k from before.
-          elim (eqb k j) as (λ b. eqb k j ≡ b → is_plain (part_at kind text k) ≡ true) [
-            | true ↦ λ is. subst (λ x. is_plain (part_at kind text x) ≡ true) (sym (eqb-true k j is)) h
+          elim (eqb k j) as (λ b. eqb k j ≡ b → is_plain_part (part_at kind text k) ≡ true) [
+            | true ↦ λ is. subst (λ x. is_plain_part (part_at kind text x) ≡ true) (sym (eqb-true k j is)) h
             | false ↦ λ is. let less : k < j = grind (arith, nat_tests) in run.plain k from less
           ] refl;
     }
 
 -- marks stand in the text
-pub marks_inside : (mark : ℕ) (text : List ℕ) (i : ℕ) → i ≤ length text → i + marks_at mark text i ≤ length text
+pub marks_inside : (mark : ℕ) (text : List ℕ) (i : ℕ) → i ≤ length text → i + marks_in_row mark text i ≤ length text
 marks_inside mark text i inside = let least = prefix_len-le-length (λ c. eqb c mark) (drop i text) in let rest = length-drop i text in omega arith

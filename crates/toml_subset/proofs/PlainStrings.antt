@@ -5,17 +5,17 @@ use Rattle.std.proofs.lemmas.List.{drop-drop}
 use Rattle.std.specs.List.{list_any}
 use Rattle.deny_text.specs.declared.span.Span.{Span}
 use Rattle.toml_subset.specs.Bytes.{backslash, may_stand}
-use Rattle.toml_subset.specs.Places.{front_is, stands, line_end, after_blanks, after_white}
-use Rattle.toml_subset.specs.Strings.{Quoting, Piece, Part, piece, closing, broken, mark_of, is_long, has_escapes, marks_at, scalar_of, letter_escape, escaped_piece, plain_piece, scalar_escape, trimming_escape, escape_by, escape_at, mark_at, plain_at, part_at, ArePieces, IsString, text_of}
-use Rattle.toml_subset.specs.Written.{Written}
+use Rattle.toml_subset.specs.Places.{front_is, stands, behind_line_end, after_blanks, after_white}
+use Rattle.toml_subset.specs.Strings.{Quoting, StringPiece, StringPart, piece, closing, broken, mark_of, is_long, has_escapes, marks_in_row, scalar_of, letter_escape, escaped_piece, plain_piece, scalar_escape, trimming_escape, escape_by, escape_at, mark_at, plain_at, part_at, ArePieces, IsString, pieces_text}
+use Rattle.toml_subset.specs.Written.{WrittenString}
 
 -- a piece that is no escape is the byte at its place
-abbrev pub Stays : List ℕ → ℕ → Part → Type 0
+abbrev pub Stays : List ℕ → ℕ → StringPart → Type 0
 Stays text i (piece p k) = p.escape ≡ false → (k ≡ i + 1) × (p.means ≡ take 1 (drop i text))
 Stays text i (closing k) = Unit {0}
 Stays text i broken = Unit {0}
 
-stays_if : (b : Bool) (text : List ℕ) (i : ℕ) (x y : Part) → (b ≡ true → Stays text i x) → Stays text i y → Stays text i (cond b x y)
+stays_if : (b : Bool) (text : List ℕ) (i : ℕ) (x y : StringPart) → (b ≡ true → Stays text i x) → Stays text i y → Stays text i (cond b x y)
 stays_if true text i x y p q = p refl
 stays_if false text i x y p q = q
 
@@ -40,7 +40,7 @@ scalar_stays digits text i =
 
 trimming_stays : (kind : Quoting) (text : List ℕ) (i : ℕ) → Stays text i (trimming_escape kind text i)
 trimming_stays kind text i =
-    stays_if (is_long kind && is_some (line_end text (after_blanks text (i + 1)))) text i (escaped_piece [] (after_white text (i + 1))) broken
+    stays_if (is_long kind && is_some (behind_line_end text (after_blanks text (i + 1)))) text i (escaped_piece [] (after_white text (i + 1))) broken
     (λ h. escape_stays text i [] (after_white text (i + 1))) tt
 
 escape_by_stays : (kind : Quoting) (text : List ℕ) (i c : ℕ) → Stays text i (escape_by kind text i c)
@@ -63,16 +63,16 @@ mark_stays : (kind : Quoting) (text : List ℕ) (i : ℕ) → stands text i (mar
 mark_stays kind text i h =
     let byte = front_byte (mark_of kind) (drop i text) h in
     stays_if (is_long kind) text i _ _ (λ long.
-    stays_if (eqb (marks_at (mark_of kind) text i) 3) text i _ _ (λ three. tt)
-    (stays_if (nat_le (marks_at (mark_of kind) text i) 5) text i (plain_piece (mark_of kind ∷ []) (i + 1)) broken (λ few. λ plain. (refl, byte)) tt)) tt
+    stays_if (eqb (marks_in_row (mark_of kind) text i) 3) text i _ _ (λ three. tt)
+    (stays_if (nat_le (marks_in_row (mark_of kind) text i) 5) text i (plain_piece (mark_of kind ∷ []) (i + 1)) broken (λ few. λ plain. (refl, byte)) tt)) tt
 
 plain_stays : (kind : Quoting) (text : List ℕ) (i : ℕ) → Stays text i (plain_at kind text i)
 plain_stays kind text i =
     elim (slice_get text i) as (λ o. slice_get text i ≡ o → Stays text i (elim o [
-      | Some c ↦ cond (may_stand c || (is_long kind && is_some (line_end text i))) (plain_piece (c ∷ []) (i + 1)) broken
+      | Some c ↦ cond (may_stand c || (is_long kind && is_some (behind_line_end text i))) (plain_piece (c ∷ []) (i + 1)) broken
       | None ↦ broken
     ])) [
-      | Some c ↦ λ at. stays_if (may_stand c || (is_long kind && is_some (line_end text i))) text i (plain_piece (c ∷ []) (i + 1)) broken
+      | Some c ↦ λ at. stays_if (may_stand c || (is_long kind && is_some (behind_line_end text i))) text i (plain_piece (c ∷ []) (i + 1)) broken
           (λ may. λ plain. (refl, byte_taken text i c at)) tt
       | None ↦ λ at. tt
     ] refl
@@ -90,14 +90,14 @@ drop_next : (i : ℕ) (s : List ℕ) → drop 1 (drop i s) ≡ drop (i + 1) s
 drop_next i s = drop-drop 1 i s
 
 -- pieces without an escape stand in the text from the first one's place up to the closing
-pub plain_slice : (kind : Quoting) (text : List ℕ) (i : ℕ) (ps : List Piece) (close next : ℕ) → ArePieces kind text i ps close next
-    → list_any (λ (p : Piece). p.escape) ps ≡ false → (i ≤ close) × (text_of ps ≡ take (close - i) (drop i text))
+pub plain_slice : (kind : Quoting) (text : List ℕ) (i : ℕ) (ps : List StringPiece) (close next : ℕ) → ArePieces kind text i ps close next
+    → list_any (λ (p : StringPiece). p.escape) ps ≡ false → (i ≤ close) × (pieces_text ps ≡ take (close - i) (drop i text))
 plain_slice kind text i [] close next is plain =
     let at = is.1 in
     let none : close - i ≡ 0 = omega arith in
     (omega arith, ap (λ n. take n (drop i text)) (sym none))
 plain_slice kind text i (p ∷ ps) close next is plain =
-    let both = none_of p.escape (list_any (λ (q : Piece). q.escape) ps) plain in
+    let both = none_of p.escape (list_any (λ (q : StringPiece). q.escape) ps) plain in
     let here = subst (Stays text i) is.1 (part_stays kind text i) both.0 in
     let rest = plain_slice kind text is.0 ps close next is.2 both.1 in
     let step = here.0 in
@@ -106,11 +106,11 @@ plain_slice kind text i (p ∷ ps) close next is plain =
     let whole : take (close - i) (drop i text) ≡ take 1 (drop i text) ++ take (close - is.0) (drop is.0 text) =
     ap (λ n. take n (drop i text)) size ∙ take-add 1 (close - is.0) (drop i text)
     ∙ ap (λ s. take 1 (drop i text) ++ take (close - is.0) s) (drop_next i text ∙ ap (λ n. drop n text) (sym step)) in
-    (omega arith, ap (λ s. s ++ text_of ps) here.1 ∙ ap (λ s. take 1 (drop i text) ++ s) rest.1 ∙ sym whole)
+    (omega arith, ap (λ s. s ++ pieces_text ps) here.1 ∙ ap (λ s. take 1 (drop i text) ++ s) rest.1 ∙ sym whole)
 
-pub plain_string : (text : List ℕ) (i : ℕ) (kind : Quoting) (w : Written) (span : Span) (next : ℕ) → IsString text i kind w span next → w.escaped ≡ false
+pub plain_string : (text : List ℕ) (i : ℕ) (kind : Quoting) (w : WrittenString) (span : Span) (next : ℕ) → IsString text i kind w span next → w.escaped ≡ false
     → w.text ≡ slice_range text span.start span.end
 plain_string text i kind w span next is plain =
-    let none : list_any (λ (p : Piece). p.escape) is.pieces ≡ false = ap (λ (x : Written). x.escaped) (sym is.stands_for) ∙ plain in
+    let none : list_any (λ (p : StringPiece). p.escape) is.pieces ≡ false = ap (λ (x : WrittenString). x.escaped) (sym is.stands_for) ∙ plain in
     let slice = plain_slice kind text is.first is.pieces is.close next is.body none in
-    ap (λ (x : Written). x.text) is.stands_for ∙ slice.1 ∙ ap (λ (x : Span). slice_range text x.start x.end) (sym is.spans)
+    ap (λ (x : WrittenString). x.text) is.stands_for ∙ slice.1 ∙ ap (λ (x : Span). slice_range text x.start x.end) (sym is.spans)

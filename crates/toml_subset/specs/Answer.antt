@@ -7,8 +7,8 @@ use Rattle.toml_subset.specs.declared.error.SyntaxReason.TheVariants.{Unexpected
 use Rattle.toml_subset.specs.declared.error.TomlError.{TomlError}
 use Rattle.toml_subset.specs.declared.error.TomlError.TheVariants.{Syntax, Memory}
 
-abbrev pub Read : Type 0 → Type 0
-Read A = Result A SyntaxError
+abbrev pub TomlReading : Type 0 → Type 0
+TomlReading A = Result A SyntaxError
 
 abbrev pub fault_at : SyntaxReason → ℕ → ℕ → SyntaxError
 fault_at reason i j = record { reason = reason; span = from_to i j }
@@ -19,22 +19,22 @@ stuck text i =
     if nat_lt i (length text) then fault_at Unexpected i (char_end text i) else fault_at UnexpectedEnd (length text) (length text)
 
 -- reading on behind what was read
-abbrev pub then_read : {A B : Type 0} → (A → Read B) → Read A → Read B
+abbrev pub then_read : {A B : Type 0} → (A → TomlReading B) → TomlReading A → TomlReading B
 then_read rest (Ok x) = rest x
 then_read rest (Err fault) = Err fault
 
 -- a fault that is found before anything further is read
-abbrev pub unless : {A : Type 0} → Option SyntaxError → Read A → Read A
+abbrev pub unless : {A : Type 0} → Option SyntaxError → TomlReading A → TomlReading A
 unless (Some fault) answer = Err fault
 unless None answer = answer
 
 -- what the program answers, seen by `view`, is what reading answers
-abbrev pub Gives : {A B : Type 0} → (B → A) → Read A → Result B SyntaxError → Type 0
-Gives view wanted (Ok x) = wanted ≡ Ok (view x)
-Gives view wanted (Err fault) = wanted ≡ Err fault
+abbrev pub AnswersSyntax : {A B : Type 0} → (B → A) → TomlReading A → Result B SyntaxError → Type 0
+AnswersSyntax view wanted (Ok x) = wanted ≡ Ok (view x)
+AnswersSyntax view wanted (Err fault) = wanted ≡ Err fault
 
 -- the same of a call that takes memory, which may end anywhere
-abbrev pub Answers : {A B : Type 0} → (B → A) → Read A → Result B TomlError → Type 0
-Answers view wanted (Ok x) = wanted ≡ Ok (view x)
-Answers view wanted (Err (Syntax fault)) = wanted ≡ Err fault
-Answers view wanted (Err Memory) = ⊤
+abbrev pub AnswersToml : {A B : Type 0} → (B → A) → TomlReading A → Result B TomlError → Type 0
+AnswersToml view wanted (Ok x) = wanted ≡ Ok (view x)
+AnswersToml view wanted (Err (Syntax fault)) = wanted ≡ Err fault
+AnswersToml view wanted (Err Memory) = ⊤

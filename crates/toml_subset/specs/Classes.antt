@@ -4,7 +4,7 @@ use Rattle.toml_subset.specs.Data as «data»
 use Rattle.toml_subset.specs.Data.{Content}
 use Rattle.toml_subset.specs.Numbers.{Class, unsupported, number_form, number_range, integer, decimal}
 use Rattle.toml_subset.specs.Places.{from_to}
-use Rattle.toml_subset.specs.Reading.{Found}
+use Rattle.toml_subset.specs.Reading.{ValueFound}
 use Rattle.toml_subset.specs.declared.error.SyntaxReason.{SyntaxReason}
 use Rattle.toml_subset.specs.declared.error.SyntaxReason.TheVariants.{Unsupported, NumberForm, NumberRange}
 use Rattle.toml_subset.specs.declared.number.Number.{Number}
@@ -23,5 +23,5 @@ content_by (Integer z) = data.integer z
 content_by (Decimal z) = data.decimal z
 
 -- a number that begins at a place, and the place behind it
-abbrev pub number_found : ℕ → Number × ℕ → Found
+abbrev pub number_found : ℕ → Number × ℕ → ValueFound
 number_found i found = (from_to i found.1, content_by found.0, found.1)

@@ -2,12 +2,12 @@
 -- these first appear.
 use Rattle.std.specs.Prelude.{ℕ, ◌+◌, max, Bool, ℤ}
 use Rattle.deny_text.specs.declared.span.Span.{Span}
-use Rattle.toml_subset.specs.Written.{Written}
+use Rattle.toml_subset.specs.Written.{WrittenString}
 use Rattle.toml_subset.specs.declared.string.Key.{Key}
 
 mutual
   pub data Content : Type 0 where
-    string : Written → Content
+    string : WrittenString → Content
     integer : ℤ → Content
     -- whole hundredths
     decimal : ℤ → Content

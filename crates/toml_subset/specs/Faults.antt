@@ -7,8 +7,8 @@ use Rattle.toml_subset.specs.Bytes.{line_feed, backslash, equals, hash, open_bra
 use Rattle.toml_subset.specs.Data.{Toml}
 use Rattle.toml_subset.specs.Keys.{AreKeys}
 use Rattle.toml_subset.specs.Numbers.{Class, unsupported, number_form, number_range, class_of, is_special, is_digit_in}
-use Rattle.toml_subset.specs.Places.{from_to, passes_at, stands, run_end, run_at, after_blanks, line_end, char_end}
-use Rattle.toml_subset.specs.Strings.{Quoting, has_escapes, Piece, Part, piece, broken, opening, part_at}
+use Rattle.toml_subset.specs.Places.{from_to, passes_at, stands, run_end, run_at, after_blanks, behind_line_end, char_end}
+use Rattle.toml_subset.specs.Strings.{Quoting, has_escapes, StringPiece, StringPart, piece, broken, opening, part_at}
 use Rattle.toml_subset.specs.Text.{IsText}
 use Rattle.toml_subset.specs.declared.string.Key.{Key}
 use Rattle.toml_subset.specs.declared.error.SyntaxError.{SyntaxError}
@@ -70,7 +70,7 @@ IsTablePart text span =
     ⊎ ((behind : List Key) × (IsKeyPart of_header behind text span ⊎ IsKeyPart of_array_header behind text span))
 
 -- these pieces stand from a place of a string up to another
-abbrev pub ArePiecesTo : Quoting → List ℕ → ℕ → List Piece → ℕ → Type 0
+abbrev pub ArePiecesTo : Quoting → List ℕ → ℕ → List StringPiece → ℕ → Type 0
 ArePiecesTo kind text i [] end = end ≡ i
 ArePiecesTo kind text i (p ∷ ps) end = (k : ℕ) × (part_at kind text i ≡ piece p k) × ArePiecesTo kind text k ps end
 
@@ -78,7 +78,7 @@ ArePiecesTo kind text i (p ∷ ps) end = (k : ℕ) × (part_at kind text i ≡ p
 pub record BreaksOff (kind : Quoting) (text : List ℕ) (i : ℕ) : Type 0 where
   pub place : ℕ
   pub first : ℕ
-  pub pieces : List Piece
+  pub pieces : List StringPiece
   pub opens : opening text place ≡ Some (kind, first)
   pub body : ArePiecesTo kind text first pieces i
   pub breaks : part_at kind text i ≡ broken
@@ -88,7 +88,7 @@ pub record IsCutComment (text : List ℕ) (i : ℕ) : Type 0 where
   pub place : ℕ
   pub begins : IsTrue (stands text place hash)
   pub ends : i ≡ run_end may_stand text (place + 1)
-  pub cut : line_end text i ≡ None
+  pub cut : behind_line_end text i ≡ None
 
 -- where so many hexadecimal digits end that name no scalar value, or behind the first character that is none
 abbrev pub digits_end : ℕ → List ℕ → ℕ → ℕ
@@ -124,7 +124,7 @@ StandsThere RedefinedTable text span = IsTablePart text span
 StandsThere TooDeep text span = IsOpening text span ⊎ IsTablePart text span
 
 -- a fault's span lies in the text from a place on, on character borders, and what its reason says stands there
-pub record IsFault (text : List ℕ) (from : ℕ) (fault : SyntaxError) : Type 0 where
+pub record IsSyntaxFault (text : List ℕ) (from : ℕ) (fault : SyntaxError) : Type 0 where
   pub begins : from ≤ fault.span.start
   pub ordered : fault.span.start ≤ fault.span.end
   pub start_border : IsCharBoundary text fault.span.start
@@ -133,6 +133,6 @@ pub record IsFault (text : List ℕ) (from : ℕ) (fault : SyntaxError) : Type 0
 
 -- The text has no value, and so have all its fronts of whole lines, each ended by LF, that end behind the span's start.
 pub record IsFirstFault (text : List ℕ) (fault : SyntaxError) : Type 0 where
-  pub is_fault : IsFault text 0 fault
+  pub is_fault : IsSyntaxFault text 0 fault
   pub outside : (value : Toml) → IsText text value → ⊥
   pub fronts : (i : ℕ) (value : Toml) → fault.span.start ≤ i → IsTrue (stands text i line_feed) → IsText (take (i + 1) text) value → ⊥

@@ -35,12 +35,12 @@ abbrev pub are_digits : List ℕ → Bool
 are_digits s = not (length s == 0) && list_all is_digit s
 
 -- what grouped digits count behind others that count `high`
-abbrev pub count_behind : ℕ → ℕ → List ℕ → ℕ
-count_behind base high [] = high
-count_behind base high (c ∷ cs) = count_behind base (if c == underscore then high else high * base + digit_value c) cs
+abbrev pub number_behind : ℕ → ℕ → List ℕ → ℕ
+number_behind base high [] = high
+number_behind base high (c ∷ cs) = number_behind base (if c == underscore then high else high * base + digit_value c) cs
 
 abbrev pub count : ℕ → List ℕ → ℕ
-count base = count_behind base 0
+count base = number_behind base 0
 
 -- the run without its sign
 abbrev pub unsigned : List ℕ → List ℕ

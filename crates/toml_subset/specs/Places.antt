@@ -5,8 +5,8 @@ use Rattle.std.specs.List.{prefix_len}
 use Rattle.deny_text.specs.declared.span.Span.{Span}
 use Rattle.deny_text.specs.Character.{goes_on}
 use Rattle.toml_subset.specs.Bytes.{line_feed, carriage_return, hash, is_blank, is_bare, is_run, is_digit, is_point, is_e, may_stand}
-use Rattle.toml_subset.specs.declared.scan.Run.{Run}
-use Rattle.toml_subset.specs.declared.scan.Run.TheVariants as run
+use Rattle.toml_subset.specs.declared.scan.RunKind.{RunKind}
+use Rattle.toml_subset.specs.declared.scan.RunKind.TheVariants as run
 
 -- the places from one up to another
 abbrev pub from_to : ℕ → ℕ → Span
@@ -26,7 +26,7 @@ abbrev pub stands : List ℕ → ℕ → ℕ → Bool
 stands text i c = passes_at (λ b. b == c) text i
 
 -- whether a byte belongs to a run of a kind
-abbrev pub belongs : Run → ℕ → Bool
+abbrev pub belongs : RunKind → ℕ → Bool
 belongs run.Blanks = is_blank
 belongs run.Bare = is_bare
 belongs run.Number = is_run
@@ -48,8 +48,8 @@ abbrev pub after_blanks : List ℕ → ℕ → ℕ
 after_blanks = run_end is_blank
 
 -- the place behind a line end, where one stands: LF, or CR LF
-abbrev pub line_end : List ℕ → ℕ → Option ℕ
-line_end text i =
+abbrev pub behind_line_end : List ℕ → ℕ → Option ℕ
+behind_line_end text i =
     if stands text i line_feed then Some (i + 1)
     else (if stands text i carriage_return && stands text (i + 1) line_feed then Some (i + 2) else None)
 
@@ -62,7 +62,7 @@ after_comment text i = if stands text i hash then run_end may_stand text (i + 1)
 abbrev pub next_line : List ℕ → ℕ → Option ℕ
 next_line text i =
     let j = after_comment text (after_blanks text i) in
-    if j == length text then Some j else line_end text j
+    if j == length text then Some j else behind_line_end text j
 
 -- blanks and a comment, as they may stand before a line's end between the tokens of an array
 abbrev pub after_blanks_and_comment : List ℕ → ℕ → ℕ
@@ -72,7 +72,7 @@ after_blanks_and_comment text i = after_comment text (after_blanks text i)
 -- The number bounds how many lines there are.
 abbrev pub lines_over : (List ℕ → ℕ → ℕ) → ℕ → List ℕ → ℕ → ℕ
 lines_over over zero text i = i
-lines_over over (suc n) text i = elim (line_end text (over text i)) [ Some next ↦ lines_over over n text next | None ↦ i ]
+lines_over over (suc n) text i = elim (behind_line_end text (over text i)) [ Some next ↦ lines_over over n text next | None ↦ i ]
 
 abbrev pub after_lines_of : (List ℕ → ℕ → ℕ) → List ℕ → ℕ → ℕ
 after_lines_of over text = lines_over over (length text) text

@@ -7,12 +7,12 @@ use Rattle.toml_subset.specs.Keys.{AreKeys}
 use Rattle.toml_subset.specs.Numbers.{Class, integer, decimal, class_of}
 use Rattle.toml_subset.specs.Places.{from_to, passes_at, stands, run_end, run_at, after_blanks, after_space}
 use Rattle.toml_subset.specs.Strings.{IsString, Quoting}
-use Rattle.toml_subset.specs.Written.{Written}
+use Rattle.toml_subset.specs.Written.{WrittenString}
 use Rattle.toml_subset.specs.declared.string.Key.{Key}
 
 mutual
   pub data Raw : Type 0 where
-    raw_text : Written → Raw
+    raw_text : WrittenString → Raw
     raw_integer : ℤ → Raw
     raw_decimal : ℤ → Raw
     raw_boolean : Bool → Raw

@@ -1,7 +1,7 @@
 -- A text read from left to right: the value that it stands for, or else its first fault.
 use Rattle.std.specs.Prelude.{ℕ, zero, suc, ◌+◌, ◌-◌, Bool, true, false, ◌||◌, ◌&&◌, ◌==◌, nat_lt, if◌then◌else◌, List, [], ◌∷◌, Option, Some, None, Ok, Err, length, drop}
 use Rattle.deny_text.specs.declared.span.Span.{Span}
-use Rattle.toml_subset.specs.Answer.{Read, fault_at, stuck, then_read, unless}
+use Rattle.toml_subset.specs.Answer.{TomlReading, fault_at, stuck, then_read, unless}
 use Rattle.toml_subset.specs.Bytes.{quote, apostrophe, hash, comma, line_feed, carriage_return, open_bracket, close_bracket, open_brace, close_brace, is_run}
 use Rattle.toml_subset.specs.Data as «data»
 use Rattle.toml_subset.specs.Data.{Content, Items, Toml, depth_limit}
@@ -11,18 +11,18 @@ use Rattle.toml_subset.specs.Numbers.{Class, unsupported, number_form, number_ra
 use Rattle.toml_subset.specs.Places.{from_to, stands, run_end, run_at, after_blanks, after_comment, next_line, after_space, in_comment}
 use Rattle.toml_subset.specs.Raw.{word_of}
 use Rattle.toml_subset.specs.StringReading.{StringFound, KeysFound, read_string, keys_at, read_left}
-use Rattle.toml_subset.specs.TableFaults.{Inside, node_at, inside_any, put_fault, header_fault, array_header_fault}
+use Rattle.toml_subset.specs.TableFaults.{Inside, table_node_at, inside_any, put_fault, header_fault, array_header_fault}
 use Rattle.toml_subset.specs.Tables.{Branches, unbranched, closed, implicit, put, along, within, through_any, open_table, open_array, entries_of}
 use Rattle.toml_subset.specs.declared.error.SyntaxError.{SyntaxError}
 use Rattle.toml_subset.specs.declared.error.SyntaxReason.TheVariants.{ControlCharacter, NumberForm, NumberRange, Unsupported, TooDeep}
 use Rattle.toml_subset.specs.declared.string.Key.{Key}
 
 -- a value, its span first, and the place behind it
-abbrev pub Found : Type 0
-Found = Span × Content × ℕ
+abbrev pub ValueFound : Type 0
+ValueFound = Span × Content × ℕ
 
 -- a number run by its class
-abbrev pub number_read : List ℕ → ℕ → Class → Read Found
+abbrev pub number_read : List ℕ → ℕ → Class → TomlReading ValueFound
 number_read text i unsupported = Err (fault_at Unsupported i (run_end is_run text i))
 number_read text i number_form = Err (fault_at NumberForm i (run_end is_run text i))
 number_read text i number_range = Err (fault_at NumberRange i (run_end is_run text i))
@@ -35,13 +35,13 @@ shared_len [] s = 0
 shared_len (c ∷ cs) [] = 0
 shared_len (c ∷ cs) (d ∷ ds) = if c == d then suc (shared_len cs ds) else 0
 
-abbrev pub word_read : Bool → List ℕ → ℕ → Read Found
+abbrev pub word_read : Bool → List ℕ → ℕ → TomlReading ValueFound
 word_read b text i =
     let shared = shared_len (word_of b) (drop i text) in
     if shared == length (word_of b) then Ok (from_to i (i + shared), data.boolean b, i + shared) else Err (stuck text (i + shared))
 
 -- a value that is no array and no inline table
-abbrev pub read_scalar : List ℕ → ℕ → Read Found
+abbrev pub read_scalar : List ℕ → ℕ → TomlReading ValueFound
 read_scalar text i =
     if begins_number text i then number_read text i (class_of (run_at is_run text i))
     else (if stands text i quote || stands text i apostrophe
@@ -63,57 +63,57 @@ abbrev pub ItemsFound : Type 0
 ItemsFound = Items × ℕ
 
 -- from behind an item on
-abbrev pub items_behind : (ℕ → Read ItemsFound) → List ℕ → Found → Read ItemsFound
-items_behind rest text v =
+abbrev pub array_items_behind : (ℕ → TomlReading ItemsFound) → List ℕ → ValueFound → TomlReading ItemsFound
+array_items_behind rest text v =
     let j = after_space text v.2 in
     if stands text j close_bracket then Ok (data.item v.0 v.1 data.no_item, j + 1)
     else (if stands text j comma then then_read (λ (r : ItemsFound). Ok (data.item v.0 v.1 r.0, r.1)) (rest (j + 1))
     else Err (space_fault text v.2))
 
 -- from behind the opening or a comma on
-abbrev pub items_from : (ℕ → Read Found) → (ℕ → Read ItemsFound) → List ℕ → ℕ → Read ItemsFound
-items_from value rest text i =
+abbrev pub array_items_from : (ℕ → TomlReading ValueFound) → (ℕ → TomlReading ItemsFound) → List ℕ → ℕ → TomlReading ItemsFound
+array_items_from value rest text i =
     let j = after_space text i in
     if cut_in_comment text i then Err (space_fault text i)
-    else (if stands text j close_bracket then Ok (data.no_item, j + 1) else then_read (items_behind rest text) (value j))
+    else (if stands text j close_bracket then Ok (data.no_item, j + 1) else then_read (array_items_behind rest text) (value j))
 
 -- the entries of an inline table, and the place behind it
 abbrev pub EntriesFound : Type 0
 EntriesFound = Branches × ℕ
 
 -- an edit that no fault refuses
-abbrev pub made : {A : Type 0} → List ℕ → Option A → Read A
+abbrev pub made : {A : Type 0} → List ℕ → Option A → TomlReading A
 made text (Some x) = Ok x
 made text None = Err (stuck text (length text))
 
 -- from behind an entry on
-abbrev pub entries_behind : (Branches → ℕ → Read EntriesFound) → List ℕ → ℕ → Branches → Read EntriesFound
+abbrev pub entries_behind : (Branches → ℕ → TomlReading EntriesFound) → List ℕ → ℕ → Branches → TomlReading EntriesFound
 entries_behind rest text i branches =
     let j = after_blanks text i in
     if stands text j close_brace then Ok (branches, j + 1)
     else (if stands text j comma then rest branches (after_blanks text (j + 1)) else Err (stuck text j))
 
-abbrev pub entry_put : (Branches → ℕ → Read EntriesFound) → List ℕ → List Key → Branches → Found → Read EntriesFound
+abbrev pub entry_put : (Branches → ℕ → TomlReading EntriesFound) → List ℕ → List Key → Branches → ValueFound → TomlReading EntriesFound
 entry_put rest text keys branches v = then_read (entries_behind rest text v.2) (made text (put keys (closed v.0 v.1) branches))
 
 -- from an entry's place on, so many tables and arrays standing around the entry
-abbrev pub entries_from : (ℕ → ℕ → Read Found) → (Branches → ℕ → Read EntriesFound) → List ℕ → ℕ → Branches → ℕ → Read EntriesFound
+abbrev pub entries_from : (ℕ → ℕ → TomlReading ValueFound) → (Branches → ℕ → TomlReading EntriesFound) → List ℕ → ℕ → Branches → ℕ → TomlReading EntriesFound
 entries_from value rest text above branches i =
     then_read (λ (left : KeysFound). unless (put_fault left.0 branches above)
     (then_read (entry_put rest text left.0 branches) (value (above + (length left.0 - 1)) left.1))) (read_left text i)
 
-abbrev pub array_read : ℕ → ItemsFound → Read Found
+abbrev pub array_read : ℕ → ItemsFound → TomlReading ValueFound
 array_read i r = Ok (from_to i r.1, data.array r.0, r.1)
 
-abbrev pub table_read : ℕ → EntriesFound → Read Found
+abbrev pub table_read : ℕ → EntriesFound → TomlReading ValueFound
 table_read i r = Ok (from_to i r.1, data.table (entries_of r.0), r.1)
 
 -- an inline table from its opening on: empty, or its entries
-abbrev pub table_from : (ℕ → Read EntriesFound) → List ℕ → ℕ → Read EntriesFound
+abbrev pub table_from : (ℕ → TomlReading EntriesFound) → List ℕ → ℕ → TomlReading EntriesFound
 table_from entries text i =
     let j = after_blanks text (i + 1) in if stands text j close_brace then Ok (unbranched, j + 1) else entries j
 
-abbrev pub value_from : (ℕ → Read ItemsFound) → (ℕ → Read EntriesFound) → List ℕ → ℕ → ℕ → Read Found
+abbrev pub value_from : (ℕ → TomlReading ItemsFound) → (ℕ → TomlReading EntriesFound) → List ℕ → ℕ → ℕ → TomlReading ValueFound
 value_from items entries text above i =
     if stands text i open_bracket || stands text i open_brace
     then (if above == depth_limit then Err (fault_at TooDeep i (i + 1))
@@ -122,15 +122,15 @@ value_from items entries text above i =
 
 -- a value, so many tables and arrays standing around it; the rest of an array; the rest of an inline table
 abbrev mutual
-  pub read_value : ℕ → List ℕ → ℕ → ℕ → Read Found
+  pub read_value : ℕ → List ℕ → ℕ → ℕ → TomlReading ValueFound
   read_value zero text above i = Err (stuck text i)
   read_value (suc n) text above i = value_from (read_items n text (above + 1)) (read_entries n text (above + 1) unbranched) text above i
 
-  pub read_items : ℕ → List ℕ → ℕ → ℕ → Read ItemsFound
+  pub read_items : ℕ → List ℕ → ℕ → ℕ → TomlReading ItemsFound
   read_items zero text above i = Err (stuck text i)
-  read_items (suc n) text above i = items_from (read_value n text above) (read_items n text above) text i
+  read_items (suc n) text above i = array_items_from (read_value n text above) (read_items n text above) text i
 
-  pub read_entries : ℕ → List ℕ → ℕ → Branches → ℕ → Read EntriesFound
+  pub read_entries : ℕ → List ℕ → ℕ → Branches → ℕ → TomlReading EntriesFound
   read_entries zero text above branches i = Err (stuck text i)
   read_entries (suc n) text above branches i = entries_from (read_value n text) (read_entries n text above) text above branches i
 
@@ -138,14 +138,14 @@ abbrev mutual
 abbrev pub enough : List ℕ → ℕ
 enough text = suc (suc (suc (length text + length text)))
 
-abbrev pub value_at : List ℕ → ℕ → ℕ → Read Found
+abbrev pub value_at : List ℕ → ℕ → ℕ → TomlReading ValueFound
 value_at text = read_value (enough text) text
 
 -- the table that a header opened, and how many tables and arrays stand around its entries
 abbrev pub section_of : List Key → Branches → ℕ → Inside
 section_of [] branches above = (branches, above)
 section_of (key ∷ more) branches above =
-    elim (node_at key branches) [
+    elim (table_node_at key branches) [
       | Some node ↦ elim (inside_any node) [ Some found ↦ section_of more found.0 (above + found.1) | None ↦ (unbranched, above) ]
       | None ↦ (unbranched, above)
     ]
@@ -155,7 +155,7 @@ abbrev pub LineFound : Type 0
 LineFound = Document × ℕ
 
 -- the rest of a line: nothing but blanks and a comment
-abbrev pub line_rest : List ℕ → ℕ → Document → Read LineFound
+abbrev pub line_rest : List ℕ → ℕ → Document → TomlReading LineFound
 line_rest text i document =
     elim (next_line text i) [
       | Some next ↦ Ok (document, next)
@@ -163,20 +163,20 @@ line_rest text i document =
           if stands text (after_blanks text i) hash then Err (fault_at ControlCharacter j (j + 1)) else Err (stuck text j))
     ]
 
-abbrev pub with_root : List ℕ → ℕ → List Key → Option Branches → Read LineFound
+abbrev pub with_root : List ℕ → ℕ → List Key → Option Branches → TomlReading LineFound
 with_root text i section root = then_read (λ (r : Branches). line_rest text i (record { root = r; section = section })) (made text root)
 
-abbrev pub pair_put : List ℕ → List Key → Document → Found → Read LineFound
+abbrev pub pair_put : List ℕ → List Key → Document → ValueFound → TomlReading LineFound
 pair_put text keys document v =
     with_root text v.2 document.section (within document.section (put keys (closed v.0 v.1)) document.root)
 
 -- a key and a value, the table rules asked before the value is looked at
-abbrev pub pair_from : List ℕ → Document → KeysFound → Read LineFound
+abbrev pub pair_from : List ℕ → Document → KeysFound → TomlReading LineFound
 pair_from text document left =
     let here = section_of document.section document.root 0 in
     unless (put_fault left.0 here.0 here.1) (then_read (pair_put text left.0 document) (value_at text (here.1 + (length left.0 - 1)) left.1))
 
-abbrev pub header_from : List ℕ → ℕ → Document → KeysFound → Read LineFound
+abbrev pub header_from : List ℕ → ℕ → Document → KeysFound → TomlReading LineFound
 header_from text i document keys =
     let j = after_blanks text keys.1 in
     if stands text j close_bracket
@@ -184,7 +184,7 @@ header_from text i document keys =
     (with_root text (j + 1) keys.0 (along implicit through_any (open_table (from_to i (j + 1))) keys.0 document.root))
     else Err (stuck text j)
 
-abbrev pub array_header_from : List ℕ → ℕ → Document → KeysFound → Read LineFound
+abbrev pub array_header_from : List ℕ → ℕ → Document → KeysFound → TomlReading LineFound
 array_header_from text i document keys =
     let j = after_blanks text keys.1 in
     if stands text j close_bracket
@@ -199,7 +199,7 @@ is_blank_line text i =
     (i == length text) || (stands text i hash || (stands text i line_feed || (stands text i carriage_return && stands text (i + 1) line_feed)))
 
 -- a line, what it says standing at a place behind its blanks
-abbrev pub line_from : List ℕ → Document → ℕ → Read LineFound
+abbrev pub line_from : List ℕ → Document → ℕ → TomlReading LineFound
 line_from text document i =
     if is_blank_line text i then line_rest text i document
     else (if stands text i open_bracket
@@ -208,7 +208,7 @@ line_from text document i =
     else then_read (header_from text i document) (keys_at text (after_blanks text (i + 1))))
     else then_read (pair_from text document) (read_left text i))
 
-abbrev pub read_lines : ℕ → List ℕ → ℕ → Document → Read Document
+abbrev pub read_lines : ℕ → List ℕ → ℕ → Document → TomlReading Document
 read_lines zero text i document = Err (stuck text i)
 read_lines (suc n) text i document =
     if nat_lt i (length text) then then_read (λ (r : LineFound). read_lines n text r.1 r.0) (line_from text document (after_blanks text i))
@@ -218,5 +218,5 @@ abbrev pub whole : List ℕ → Document → Toml
 whole text document = record { content = data.table (entries_of document.root); span = from_to 0 (length text) }
 
 -- the value of a text, or its first fault
-abbrev pub read_text : List ℕ → Read Toml
+abbrev pub read_text : List ℕ → TomlReading Toml
 read_text text = then_read (λ (document : Document). Ok (whole text document)) (read_lines (suc (length text)) text 0 no_lines)

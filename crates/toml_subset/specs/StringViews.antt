@@ -2,11 +2,11 @@
 use Rattle.std.specs.Prelude.{◌≡◌, ℕ, suc, ◌+◌, ◌<◌, ◌≤◌, Bool, true, false, not, ◌||◌, ◌&&◌, List, [], ◌++◌, Option, Some, None, is_some, Ok, slice_get, length, encode_utf8, ⊤}
 use Rattle.std.specs.List.{list_any}
 use Rattle.std.specs.Str.{IsCharBoundary}
-use Rattle.toml_subset.specs.Answer.{Read, then_read}
+use Rattle.toml_subset.specs.Answer.{TomlReading, then_read}
 use Rattle.toml_subset.specs.Bytes.{may_stand}
-use Rattle.toml_subset.specs.Places.{line_end}
+use Rattle.toml_subset.specs.Places.{behind_line_end}
 use Rattle.toml_subset.specs.StringReading.{Pieces, read_pieces}
-use Rattle.toml_subset.specs.Strings.{Quoting, basic, literal, long_basic, long_literal, Piece, Part, piece, closing, broken, escaped_piece, part_at, text_of}
+use Rattle.toml_subset.specs.Strings.{Quoting, basic, literal, long_basic, long_literal, StringPiece, StringPart, piece, closing, broken, escaped_piece, part_at, pieces_text}
 use Rattle.toml_subset.specs.declared.strings.Quotes.{Quotes}
 use Rattle.toml_subset.specs.declared.strings.Quotes.TheVariants.{Basic, Literal, LongBasic, LongLiteral}
 use Rattle.toml_subset.specs.declared.strings.Special.{Special}
@@ -26,16 +26,16 @@ abbrev pub meaning_of : Option ℕ → List ℕ
 meaning_of (Some c) = encode_utf8 c
 meaning_of None = []
 
-abbrev pub part_of : Special → Part
+abbrev pub part_of : Special → StringPart
 part_of (Closing next) = closing next
 part_of (Escape meaning next) = escaped_piece (meaning_of meaning) next
 part_of Broken = broken
 
 -- whether a piece stands there that is no escape
-abbrev pub is_plain : Part → Bool
-is_plain (piece p next) = not p.escape
-is_plain (closing next) = false
-is_plain broken = false
+abbrev pub is_plain_part : StringPart → Bool
+is_plain_part (piece p next) = not p.escape
+is_plain_part (closing next) = false
+is_plain_part broken = false
 
 -- where reading goes on behind a part
 abbrev pub GoesOn : List ℕ → ℕ → Special → Type 0
@@ -56,21 +56,21 @@ ClosesWithin text Broken = ⊤
 
 -- whether a byte that is no mark and no backslash may stand at a place
 abbrev pub kept_at : Bool → List ℕ → ℕ → Bool
-kept_at long text i = elim (slice_get text i) [ Some c ↦ may_stand c || (long && is_some (line_end text i)) | None ↦ false ]
+kept_at long text i = elim (slice_get text i) [ Some c ↦ may_stand c || (long && is_some (behind_line_end text i)) | None ↦ false ]
 
 -- plain bytes stand from a place up to another
 pub record IsPlainRun (kind : Quoting) (text : List ℕ) (i j : ℕ) : Type 0 where
   pub ordered : i ≤ j
-  pub plain : (k : ℕ) → i ≤ k → k < j → is_plain (part_at kind text k) ≡ true
+  pub plain : (k : ℕ) → i ≤ k → k < j → is_plain_part (part_at kind text k) ≡ true
 
-abbrev pub onto : List Piece → Pieces → Read Pieces
+abbrev pub onto : List StringPiece → Pieces → TomlReading Pieces
 onto before r = Ok (before ++ r.0, r.1, r.2)
 
 -- a string was read up to a place, so that its text so far, and whether an escape was read, are these
-pub record IsRead (kind : Quoting) (text : List ℕ) (first : ℕ) (means : List ℕ) (escaped : Bool) (i : ℕ) : Type 0 where
-  pub before : List Piece
+pub record IsStringRead (kind : Quoting) (text : List ℕ) (first : ℕ) (means : List ℕ) (escaped : Bool) (i : ℕ) : Type 0 where
+  pub before : List StringPiece
   pub left : ℕ
   pub room : length text < i + left
   pub is : read_pieces (suc (length text)) kind text first ≡ then_read (onto before) (read_pieces left kind text i)
-  pub text_so_far : text_of before ≡ means
-  pub escapes_so_far : list_any (λ (p : Piece). p.escape) before ≡ escaped
+  pub text_so_far : pieces_text before ≡ means
+  pub escapes_so_far : list_any (λ (p : StringPiece). p.escape) before ≡ escaped

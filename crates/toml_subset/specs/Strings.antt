@@ -4,8 +4,8 @@ use Rattle.std.specs.List.{prefix_len, list_all, list_any}
 use Rattle.deny_text.specs.declared.span.Span.{Span}
 use Rattle.toml_subset.specs.Bytes.{quote, apostrophe, backslash, may_stand}
 use Rattle.toml_subset.specs.Numbers.{is_digit_in, count}
-use Rattle.toml_subset.specs.Places.{from_to, stands, after_blanks, line_end, after_white}
-use Rattle.toml_subset.specs.Written.{Written}
+use Rattle.toml_subset.specs.Places.{from_to, stands, after_blanks, behind_line_end, after_white}
+use Rattle.toml_subset.specs.Written.{WrittenString}
 
 -- `".."`, `'..'`, `"""..."""` and `'''...'''`
 pub data Quoting : Type 0 where
@@ -36,24 +36,24 @@ has_escapes long_basic = true
 has_escapes long_literal = false
 
 -- what a piece of a string stands for, and whether it was written as an escape
-pub record Piece : Type 0 where
+pub record StringPiece : Type 0 where
   pub means : List ℕ
   pub escape : Bool
 
 -- what stands at a place in a string: a piece up to a further place, the closing up to one, or nothing that may
-pub data Part : Type 0 where
-  piece : Piece → ℕ → Part
-  closing : ℕ → Part
-  broken : Part
+pub data StringPart : Type 0 where
+  piece : StringPiece → ℕ → StringPart
+  closing : ℕ → StringPart
+  broken : StringPart
 
 -- how many of these bytes stand here in a row
-abbrev pub marks_at : ℕ → List ℕ → ℕ → ℕ
-marks_at mark text i = prefix_len (λ c. c == mark) (drop i text)
+abbrev pub marks_in_row : ℕ → List ℕ → ℕ → ℕ
+marks_in_row mark text i = prefix_len (λ c. c == mark) (drop i text)
 
 -- the place behind an opening mark, or behind three and the line end that may follow them
 abbrev pub opening_of : Quoting → Quoting → ℕ → List ℕ → ℕ → Quoting × ℕ
 opening_of short long mark text i =
-    if nat_le 3 (marks_at mark text i) then (long, unwrap_or (line_end text (i + 3)) (i + 3)) else (short, i + 1)
+    if nat_le 3 (marks_in_row mark text i) then (long, unwrap_or (behind_line_end text (i + 3)) (i + 3)) else (short, i + 1)
 
 -- the kind of the string that begins at a place, and where its first piece stands
 abbrev pub opening : List ℕ → ℕ → Option (Quoting × ℕ)
@@ -77,75 +77,75 @@ letter_escape c =
     if c == 98 then Some 8 else (if c == 116 then Some 9 else (if c == 110 then Some 10 else (if c == 102 then Some 12
     else (if c == 114 then Some 13 else (if c == quote then Some quote else (if c == backslash then Some backslash else None))))))
 
-abbrev pub escaped_piece : List ℕ → ℕ → Part
+abbrev pub escaped_piece : List ℕ → ℕ → StringPart
 escaped_piece means next = piece (record { means = means; escape = true }) next
 
-abbrev pub plain_piece : List ℕ → ℕ → Part
+abbrev pub plain_piece : List ℕ → ℕ → StringPart
 plain_piece means next = piece (record { means = means; escape = false }) next
 
 -- `\uXXXX` and `\UXXXXXXXX`, the backslash standing at the place
-abbrev pub scalar_escape : ℕ → List ℕ → ℕ → Part
+abbrev pub scalar_escape : ℕ → List ℕ → ℕ → StringPart
 scalar_escape digits text i =
     elim (scalar_of digits (take digits (drop (i + 2) text))) [ Some bytes ↦ escaped_piece bytes (i + 2 + digits) | None ↦ broken ]
 
 -- In a string over lines a backslash at a line's end, with white space behind it alone, drops all white space and line
 -- ends up to the next other character.
-abbrev pub trimming_escape : Quoting → List ℕ → ℕ → Part
+abbrev pub trimming_escape : Quoting → List ℕ → ℕ → StringPart
 trimming_escape kind text i =
-    if is_long kind && is_some (line_end text (after_blanks text (i + 1)))
+    if is_long kind && is_some (behind_line_end text (after_blanks text (i + 1)))
     then escaped_piece [] (after_white text (i + 1)) else broken
 
 -- the escape at the backslash at a place, by the byte behind it
-abbrev pub escape_by : Quoting → List ℕ → ℕ → ℕ → Part
+abbrev pub escape_by : Quoting → List ℕ → ℕ → ℕ → StringPart
 escape_by kind text i c =
     if c == 117 then scalar_escape 4 text i
     else (if c == 85 then scalar_escape 8 text i
     else elim (letter_escape c) [ Some byte ↦ escaped_piece (byte ∷ []) (i + 2) | None ↦ trimming_escape kind text i ])
 
-abbrev pub escape_at : Quoting → List ℕ → ℕ → Part
+abbrev pub escape_at : Quoting → List ℕ → ℕ → StringPart
 escape_at kind text i = elim (slice_get text (i + 1)) [ Some c ↦ escape_by kind text i c | None ↦ broken ]
 
 -- One mark closes a string of one line. Three in a row close one over lines; one or two belong to it, also directly
 -- before the three that close it.
-abbrev pub mark_at : Quoting → List ℕ → ℕ → Part
+abbrev pub mark_at : Quoting → List ℕ → ℕ → StringPart
 mark_at kind text i =
     if is_long kind
-    then (let marks = marks_at (mark_of kind) text i in
+    then (let marks = marks_in_row (mark_of kind) text i in
     if marks == 3 then closing (i + 3)
     else (if nat_le marks 5 then plain_piece (mark_of kind ∷ []) (i + 1) else broken))
     else closing (i + 1)
 
 -- A byte stands for itself unless it is a control character. A line end may stand in a string over lines, and is kept
 -- as it is written.
-abbrev pub plain_at : Quoting → List ℕ → ℕ → Part
+abbrev pub plain_at : Quoting → List ℕ → ℕ → StringPart
 plain_at kind text i =
     elim (slice_get text i) [
-      | Some c ↦ (if may_stand c || (is_long kind && is_some (line_end text i)) then plain_piece (c ∷ []) (i + 1) else broken)
+      | Some c ↦ (if may_stand c || (is_long kind && is_some (behind_line_end text i)) then plain_piece (c ∷ []) (i + 1) else broken)
       | None ↦ broken
     ]
 
 -- what stands at a place in a string
-abbrev pub part_at : Quoting → List ℕ → ℕ → Part
+abbrev pub part_at : Quoting → List ℕ → ℕ → StringPart
 part_at kind text i =
     if stands text i (mark_of kind) then mark_at kind text i
     else (if has_escapes kind && stands text i backslash then escape_at kind text i else plain_at kind text i)
 
 -- these pieces stand from a place up to the closing, which ends before a further place
-abbrev pub ArePieces : Quoting → List ℕ → ℕ → List Piece → ℕ → ℕ → Type 0
+abbrev pub ArePieces : Quoting → List ℕ → ℕ → List StringPiece → ℕ → ℕ → Type 0
 ArePieces kind text i [] close next = (part_at kind text i ≡ closing next) × (close ≡ i)
 ArePieces kind text i (p ∷ ps) close next = (k : ℕ) × (part_at kind text i ≡ piece p k) × ArePieces kind text k ps close next
 
 -- what the pieces stand for one after another, and whether one of them is an escape
-abbrev pub text_of : List Piece → List ℕ
-text_of [] = []
-text_of (p ∷ ps) = p.means ++ text_of ps
+abbrev pub pieces_text : List StringPiece → List ℕ
+pieces_text [] = []
+pieces_text (p ∷ ps) = p.means ++ pieces_text ps
 
-abbrev pub written_of : List Piece → Written
-written_of ps = record { text = text_of ps; escaped = list_any (λ (p : Piece). p.escape) ps }
+abbrev pub written_of : List StringPiece → WrittenString
+written_of ps = record { text = pieces_text ps; escaped = list_any (λ (p : StringPiece). p.escape) ps }
 
 -- A string of a kind stands at a place: its opening, its pieces and its closing. Its span lies between the delimiters.
-pub record IsString (text : List ℕ) (i : ℕ) (kind : Quoting) (w : Written) (span : Span) (next : ℕ) : Type 0 where
-  pub pieces : List Piece
+pub record IsString (text : List ℕ) (i : ℕ) (kind : Quoting) (w : WrittenString) (span : Span) (next : ℕ) : Type 0 where
+  pub pieces : List StringPiece
   pub first : ℕ
   pub close : ℕ
   pub opens : opening text i ≡ Some (kind, first)

@@ -10,9 +10,9 @@ use Rattle.toml_subset.specs.declared.string.Key.{Key}
 abbrev pub refused : SyntaxReason → Key → Option SyntaxError
 refused reason key = Some (record { reason = reason; span = key.span })
 
-abbrev pub node_at : Key → Branches → Option Node
-node_at key unbranched = None
-node_at key (branch other node more) = if same_key key other then Some node else node_at key more
+abbrev pub table_node_at : Key → Branches → Option Node
+table_node_at key unbranched = None
+table_node_at key (branch other node more) = if same_key key other then Some node else table_node_at key more
 
 abbrev pub last_of : Bodies → Branches
 last_of (last span branches) = branches
@@ -42,7 +42,7 @@ abbrev pub way_fault : (Node → Option Inside) → (Key → Branches → ℕ �
 way_fault inside end [] branches above = None
 way_fault inside end (key ∷ []) branches above = end key branches above
 way_fault inside end (key ∷ next ∷ more) branches above =
-    elim (node_at key branches) [
+    elim (table_node_at key branches) [
       | Some node ↦ elim (inside node) [
         | Some found ↦ way_fault inside end (next ∷ more) found.0 (above + found.1)
         | None ↦ refused RedefinedTable key
@@ -67,7 +67,7 @@ taken_over_fault key (tables span bodies) = refused RedefinedTable key
 
 abbrev pub open_table_fault : Key → Branches → ℕ → Option SyntaxError
 open_table_fault key branches above =
-    elim (node_at key branches) [
+    elim (table_node_at key branches) [
       | Some node ↦ taken_over_fault key node
       | None ↦ (if above == depth_limit then refused TooDeep key else None)
     ]
@@ -83,7 +83,7 @@ appended_fault key (tables span bodies) = None
 
 abbrev pub open_array_fault : Key → Branches → ℕ → Option SyntaxError
 open_array_fault key branches above =
-    elim (node_at key branches) [
+    elim (table_node_at key branches) [
       | Some node ↦ appended_fault key node
       | None ↦ (if nat_lt (above + 1) depth_limit then None else refused TooDeep key)
     ]

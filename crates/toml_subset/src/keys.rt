@@ -1,6 +1,6 @@
 //! Keys, part by part.
 ghost use Rattle.std.specs.Prelude.{◌≡◌, ◌<◌, ◌≤◌, length, false, slice_range, IsTrue, IfOk};
-ghost use Rattle.toml_subset.specs.Answer.{Answers};
+ghost use Rattle.toml_subset.specs.Answer.{AnswersToml};
 ghost use Rattle.toml_subset.specs.Bytes.{is_bare as bare};
 ghost use Rattle.toml_subset.specs.Places.{passes_at};
 ghost use Rattle.toml_subset.specs.StringReading.{bare_key as bare_key_at, quoted_key as quoted_key_at};
@@ -9,7 +9,7 @@ ghost use Rattle.toml_subset.specs.StringReading.{read_left as left_at};
 
 use crate::error::TomlError;
 use crate::fault::stuck;
-use crate::scan::{Run, after_blanks, is_bare, run_end, stands};
+use crate::scan::{RunKind, after_blanks, is_bare, run_end, stands};
 use crate::string::{Key, plain_string};
 use crate::strings::{has_three, read_string};
 use deny_text::{ListOf, Span};
@@ -35,7 +35,7 @@ fn bare_key(text: &str, place: usize) -> (Key<'_>, usize)
     ensures key { result ≡ bare_key_at text.now place }
     ensures within { result.1 ≤ length text.now }
 {
-    let end = run_end(text.as_bytes(), place, Run::Bare);
+    let end = run_end(text.as_bytes(), place, RunKind::Bare);
     let name = plain_string(&text[place..end]);
     (
         Key {
@@ -49,7 +49,7 @@ fn bare_key(text: &str, place: usize) -> (Key<'_>, usize)
 /// The quoted key at a place.
 fn quoted_key(alloc: Global, text: &str, place: usize) -> Result<(Key<'_>, usize), TomlError>
     requires { place ≤ length text.now }
-    ensures answer { Answers (λ found. found) (quoted_key_at text.now place) result }
+    ensures answer { AnswersToml (λ found. found) (quoted_key_at text.now place) result }
     ensures within { IfOk result (λ found. found.1 ≤ length text.now) }
 {
     let bytes = text.as_bytes();
@@ -65,7 +65,7 @@ fn quoted_key(alloc: Global, text: &str, place: usize) -> Result<(Key<'_>, usize
 /// The key part at a place, and the place behind it.
 fn read_key(alloc: Global, text: &str, place: usize) -> Result<(Key<'_>, usize), TomlError>
     requires { place ≤ length text.now }
-    ensures answer { Answers (λ found. found) (key_at text.now place) result }
+    ensures answer { AnswersToml (λ found. found) (key_at text.now place) result }
     ensures within { IfOk result (λ found. found.1 ≤ length text.now) }
 {
     if begins_bare(text.as_bytes(), place) {
@@ -78,7 +78,7 @@ fn read_key(alloc: Global, text: &str, place: usize) -> Result<(Key<'_>, usize),
 /// All parts of the key at a place, and the place behind them.
 pub fn read_keys(alloc: Global, text: &str, place: usize) -> Result<(Keys<'_>, usize), TomlError>
     requires { place ≤ length text.now }
-    ensures answer { Answers (λ found. found) (keys_at text.now place) result }
+    ensures answer { AnswersToml (λ found. found) (keys_at text.now place) result }
     ensures within { IfOk result (λ found. found.1 ≤ length text.now) }
     ensures some { IfOk result (λ found. 0 < length found.0) }
 {
@@ -103,7 +103,7 @@ pub fn read_keys(alloc: Global, text: &str, place: usize) -> Result<(Keys<'_>, u
 /// All parts of the key at a place, and the place of the value behind its `=`.
 pub fn read_left(alloc: Global, text: &str, place: usize) -> Result<(Keys<'_>, usize), TomlError>
     requires { place ≤ length text.now }
-    ensures answer { Answers (λ found. found) (left_at text.now place) result }
+    ensures answer { AnswersToml (λ found. found) (left_at text.now place) result }
     ensures within { IfOk result (λ found. found.1 ≤ length text.now) }
     ensures some { IfOk result (λ found. 0 < length found.0) }
 {

@@ -11,7 +11,7 @@ ghost use Rattle.toml_subset.specs.Tables.{Node, Branches, implicit, along, thro
 ghost use Rattle.toml_subset.specs.Tables.{open_array};
 ghost use Rattle.toml_subset.specs.declared.string.Key.{Key};
 ghost use Rattle.toml_subset.specs.Text.{IsText, StandsAs};
-ghost use Rattle.toml_subset.specs.Written.{Written};
+ghost use Rattle.toml_subset.specs.Written.{WrittenString};
 
 /// Reading a text answers a value exactly where the definition has it, so that a text with a fault has none.
 pub fn reading_answers_where_a_value_stands()
@@ -63,7 +63,7 @@ pub fn at_most_one_value()
 
 /// A string that was written without an escape is the text's own slice at its span.
 pub fn plain_strings_stand_in_the_text()
-    ensures { (text : List ℕ) (i : ℕ) (kind : Quoting) (w : Written) (span : Span) (next : ℕ)
+    ensures { (text : List ℕ) (i : ℕ) (kind : Quoting) (w : WrittenString) (span : Span) (next : ℕ)
         → IsString text i kind w span next → w.escaped ≡ false
         → w.text ≡ slice_range text span.start span.end }
 {}

@@ -4,14 +4,14 @@ ghost use Rattle.std.specs.Prelude.{take, drop, option_map};
 ghost use Rattle.std.specs.List.{list_all, position_or_len, before_first, after_first};
 ghost use Rattle.std.specs.Option.{SomeIff, ok_or};
 ghost use Rattle.toml_subset.specs.Bytes.{is_digit as digit};
-ghost use Rattle.toml_subset.specs.Answer.{Gives};
+ghost use Rattle.toml_subset.specs.Answer.{AnswersSyntax};
 ghost use Rattle.toml_subset.specs.Bytes.{is_run as run, begins_run};
 ghost use Rattle.toml_subset.specs.Classes.{class_answer, number_found};
 ghost use Rattle.toml_subset.specs.Faults.{begins_number as number_begins};
 ghost use Rattle.toml_subset.specs.Places.{passes_at, run_at};
 ghost use Rattle.toml_subset.specs.Reading.{number_read};
 ghost use Rattle.toml_subset.specs.Numbers.{digit_value as value_of_digit, is_digit_in as digit_in};
-ghost use Rattle.toml_subset.specs.Numbers.{are_grouped as grouped, are_digits as digits, count_behind};
+ghost use Rattle.toml_subset.specs.Numbers.{are_grouped as grouped, are_digits as digits, number_behind};
 ghost use Rattle.toml_subset.specs.Numbers.{count as counts, unsigned as without_sign};
 ghost use Rattle.toml_subset.specs.Numbers.{is_negative as negative_run, is_whole as whole};
 ghost use Rattle.toml_subset.specs.Numbers.{whole_part as whole_of, fraction as fraction_of, before_e};
@@ -25,7 +25,7 @@ ghost use Rattle.toml_subset.specs.Numbers.{class_of};
 
 use crate::error::{SyntaxError, SyntaxReason};
 use crate::fault::fault_at;
-use crate::scan::{Run, is_digit, is_letter, is_sign, run_end};
+use crate::scan::{RunKind, is_digit, is_letter, is_sign, run_end};
 
 /// A number as it is read.
 #[derive(Clone, Copy, Debug, PartialEq, Eq)]
@@ -139,26 +139,26 @@ pub fn is_whole(run: &[u8]) -> bool
 fn whole_part(run: &[u8]) -> &[u8]
     ensures { result.now ≡ whole_of run.now }
 {
-    run.split_at(run_end(run, 0, Run::Whole)).0
+    run.split_at(run_end(run, 0, RunKind::Whole)).0
 }
 
 /// What stands behind the point.
 fn fraction(run: &[u8]) -> &[u8]
     ensures { result.now ≡ fraction_of run.now }
 {
-    behind(run, run_end(run, 0, Run::Whole))
+    behind(run, run_end(run, 0, RunKind::Whole))
 }
 
 fn mantissa_part(run: &[u8]) -> &[u8]
     ensures { result.now ≡ before_e run.now }
 {
-    run.split_at(run_end(run, 0, Run::Mantissa)).0
+    run.split_at(run_end(run, 0, RunKind::Mantissa)).0
 }
 
 fn exponent_part(run: &[u8]) -> &[u8]
     ensures { result.now ≡ after_e run.now }
 {
-    behind(run, run_end(run, 0, Run::Mantissa))
+    behind(run, run_end(run, 0, RunKind::Mantissa))
 }
 
 /// What stands behind a place, which may be the end.
@@ -200,7 +200,7 @@ fn has_digits_before(run: &[u8], digits: usize, mark: u8) -> bool
         return false;
     }
     let (front, rest) = run.split_at(digits);
-    run_end(front, 0, Run::Digits) == digits && rest[0] == mark
+    run_end(front, 0, RunKind::Digits) == digits && rest[0] == mark
 }
 
 fn begins_date(run: &[u8]) -> bool
@@ -360,11 +360,11 @@ pub fn classify(run: &[u8]) -> Result<Number, SyntaxReason>
 /// The number whose run begins at a place, and the place behind it.
 pub fn read_number(text: &str, place: usize) -> Result<(Number, usize), SyntaxError>
     requires { place ≤ length text.now }
-    ensures { Gives (number_found place) (number_read text.now place (class_of (run_at run text.now place)))
+    ensures { AnswersSyntax (number_found place) (number_read text.now place (class_of (run_at run text.now place)))
         result }
 {
     let bytes = text.as_bytes();
-    let end = run_end(bytes, place, Run::Number);
+    let end = run_end(bytes, place, RunKind::Number);
     match classify(&bytes[place..end]) {
         Ok(number) => Ok((number, end)),
         Err(reason) => Err(fault_at(reason, place, end)),
@@ -377,7 +377,7 @@ pub fn begins_number(text: &str, place: usize) -> bool
     ensures { result ≡ number_begins text.now place }
 {
     let bytes = text.as_bytes();
-    let end = run_end(bytes, place, Run::Number);
+    let end = run_end(bytes, place, RunKind::Number);
     starts_number(bytes, place) || is_special(&bytes[place..end])
 }
 

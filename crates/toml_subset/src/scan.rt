@@ -6,7 +6,7 @@ ghost use Rattle.toml_subset.specs.Bytes.{is_letter as letter, is_sign as sign, 
 ghost use Rattle.toml_subset.specs.Bytes.{is_run as run};
 ghost use Rattle.toml_subset.specs.Gaps.{goes_over};
 ghost use Rattle.toml_subset.specs.Places.{stands as stands_at, belongs, run_end as run_ends};
-ghost use Rattle.toml_subset.specs.Places.{after_blanks as blanks_end, line_end as line_ends};
+ghost use Rattle.toml_subset.specs.Places.{after_blanks as blanks_end, behind_line_end as line_ends};
 ghost use Rattle.toml_subset.specs.Places.{after_comment as comment_end, next_line as line_after};
 ghost use Rattle.toml_subset.specs.Places.{after_lines_of, after_space, in_comment as ends_in_comment};
 ghost use Rattle.toml_subset.specs.Places.{after_white as white_end, char_end as character_end};
@@ -24,7 +24,7 @@ pub enum Gap {
 
 /// What a run is made of.
 #[derive(Clone, Copy)]
-pub enum Run {
+pub enum RunKind {
     /// Spaces and tabs.
     Blanks,
     /// Letters, digits, `_` and `-`.
@@ -42,20 +42,20 @@ pub enum Run {
     Mantissa,
 }
 
-impl Run {
+impl RunKind {
     /// Whether a byte belongs to it.
     pub fn has(self, byte: u8) -> bool
         ensures { result ≡ belongs self byte }
     {
         match self {
-            Run::Blanks => is_blank(byte),
-            Run::Bare => is_bare(byte),
-            Run::Number => is_run(byte),
-            Run::Comment => may_stand(byte),
-            Run::Character => goes_on(byte),
-            Run::Digits => is_digit(byte),
-            Run::Whole => byte != b'.',
-            Run::Mantissa => byte != b'e' && byte != b'E',
+            RunKind::Blanks => is_blank(byte),
+            RunKind::Bare => is_bare(byte),
+            RunKind::Number => is_run(byte),
+            RunKind::Comment => may_stand(byte),
+            RunKind::Character => goes_on(byte),
+            RunKind::Digits => is_digit(byte),
+            RunKind::Whole => byte != b'.',
+            RunKind::Mantissa => byte != b'e' && byte != b'E',
         }
     }
 }
@@ -119,7 +119,7 @@ pub fn stands(text: &[u8], place: usize, byte: u8) -> bool
 }
 
 /// The place behind the longest run from a place on.
-pub fn run_end(text: &[u8], place: usize, run: Run) -> usize
+pub fn run_end(text: &[u8], place: usize, run: RunKind) -> usize
     requires { place ≤ length text.now }
     ensures end { result ≡ run_ends (belongs run) text.now place }
     ensures within { result ≤ length text.now }
@@ -137,7 +137,7 @@ pub fn after_blanks(text: &[u8], place: usize) -> usize
     ensures end { result ≡ blanks_end text.now place }
     ensures within { result ≤ length text.now }
 {
-    run_end(text, place, Run::Blanks)
+    run_end(text, place, RunKind::Blanks)
 }
 
 /// The place behind the line end at a place, where one stands there.
@@ -161,7 +161,7 @@ pub fn after_comment(text: &[u8], place: usize) -> usize
     ensures within { result ≤ length text.now }
 {
     if stands(text, place, b'#') {
-        run_end(text, place + 1, Run::Comment)
+        run_end(text, place + 1, RunKind::Comment)
     } else {
         place
     }
@@ -246,5 +246,5 @@ pub fn char_end(text: &str, place: usize) -> usize
     ensures end { result ≡ character_end text.now place }
     ensures border { IsCharBoundary text.now result }
 {
-    run_end(text.as_bytes(), place + 1, Run::Character)
+    run_end(text.as_bytes(), place + 1, RunKind::Character)
 }

@@ -6,7 +6,7 @@ use std::marker::Model;
 
 /// Where the text of a string is.
 #[derive(Drop)]
-enum Held<'de> {
+enum HeldText<'de> {
     /// In the text that was read, which had no escape there.
     Borrowed(&'de str),
     Owned(Text),
@@ -15,13 +15,13 @@ enum Held<'de> {
 /// A string of the text.
 #[derive(Drop)]
 pub struct Str<'de> {
-    held: Held<'de>,
+    held: HeldText<'de>,
 }
 
 impl<'de> Model for Str<'de> {
-    ghost use Rattle.toml_subset.specs.Written.{Written};
+    ghost use Rattle.toml_subset.specs.Written.{WrittenString};
 
-    ghost Value = { Written };
+    ghost Value = { WrittenString };
 
     ghost use Rattle.toml_subset.specs.StrView.{str_view};
 
@@ -40,7 +40,7 @@ pub fn plain_string(text: &str) -> Str<'_>
     ensures { result ≡ record { text = text.now; escaped = false } }
 {
     Str {
-        held: Held::Borrowed(text),
+        held: HeldText::Borrowed(text),
     }
 }
 
@@ -49,7 +49,7 @@ pub fn escaped_string<'de>(text: Text) -> Str<'de>
     ensures { result ≡ record { text = text; escaped = true } }
 {
     Str {
-        held: Held::Owned(text),
+        held: HeldText::Owned(text),
     }
 }
 
@@ -59,8 +59,8 @@ impl<'de> Str<'de> {
         ensures { result.now ≡ self.now.text }
     {
         match &self.held {
-            Held::Borrowed(text) => text,
-            Held::Owned(text) => text.as_str(),
+            HeldText::Borrowed(text) => text,
+            HeldText::Owned(text) => text.as_str(),
         }
     }
 
@@ -69,8 +69,8 @@ impl<'de> Str<'de> {
         ensures { result ≡ self.now.escaped }
     {
         match &self.held {
-            Held::Borrowed(_) => false,
-            Held::Owned(_) => true,
+            HeldText::Borrowed(_) => false,
+            HeldText::Owned(_) => true,
         }
     }
 }

@@ -5,18 +5,18 @@ ghost use Rattle.std.specs.Prelude.{encode_utf8, IsTrue, IfOk, OnOk};
 ghost use Rattle.std.specs.List.{prefix_len};
 ghost use Rattle.std.specs.Option.{SomeIff};
 ghost use Rattle.std.specs.Str.{IsCharBoundary};
-ghost use Rattle.toml_subset.specs.Answer.{Answers};
+ghost use Rattle.toml_subset.specs.Answer.{AnswersToml};
 ghost use Rattle.toml_subset.specs.Numbers.{is_digit_in as digit_in, count as counts};
-ghost use Rattle.toml_subset.specs.Places.{line_end as line_ends};
+ghost use Rattle.toml_subset.specs.Places.{behind_line_end as line_ends};
 ghost use Rattle.toml_subset.specs.StringReading.{scalar_fault as fault_of_scalar};
 ghost use Rattle.toml_subset.specs.StringReading.{escape_fault as fault_of_escape};
 ghost use Rattle.toml_subset.specs.StringReading.{part_fault as fault_of_part, string_from};
 ghost use Rattle.toml_subset.specs.StringReading.{read_string as string_at};
-ghost use Rattle.toml_subset.specs.StringViews.{kind_of, opened, meaning_of, part_of, is_plain as plain};
+ghost use Rattle.toml_subset.specs.StringViews.{kind_of, opened, meaning_of, part_of, is_plain_part as plain};
 ghost use Rattle.toml_subset.specs.StringViews.{GoesOn, EndsOnBorder, ClosesWithin, kept_at, IsPlainRun};
-ghost use Rattle.toml_subset.specs.StringViews.{IsRead};
+ghost use Rattle.toml_subset.specs.StringViews.{IsStringRead};
 ghost use Rattle.toml_subset.specs.Strings.{mark_of, is_long as long_kind, has_escapes as escapes_in};
-ghost use Rattle.toml_subset.specs.Strings.{marks_at as marks_from, opening as opening_at, is_scalar};
+ghost use Rattle.toml_subset.specs.Strings.{marks_in_row as marks_from, opening as opening_at, is_scalar};
 ghost use Rattle.toml_subset.specs.Strings.{scalar_of, letter_escape as letter_means};
 ghost use Rattle.toml_subset.specs.Strings.{scalar_escape as scalar_part, trimming_escape as trimming_part};
 ghost use Rattle.toml_subset.specs.Strings.{escape_by as escape_of, escape_at as escape_part};
@@ -386,7 +386,7 @@ pub fn read_string(
     place: usize,
 ) -> Result<(Str<'_>, Span, usize), TomlError>
     requires { place ≤ length text.now }
-    ensures answer { Answers (λ found. found) (string_at text.now place) result }
+    ensures answer { AnswersToml (λ found. found) (string_at text.now place) result }
     ensures within { IfOk result (λ found. found.2 ≤ length text.now) }
 {
     match opening(text.as_bytes(), place) {
@@ -403,7 +403,7 @@ fn read_body(
     first: usize,
 ) -> Result<(Str<'_>, Span, usize), TomlError>
     requires { IsCharBoundary text.now first }
-    ensures answer { Answers (λ found. found) (string_from text.now (kind_of quotes, first)) result }
+    ensures answer { AnswersToml (λ found. found) (string_from text.now (kind_of quotes, first)) result }
     ensures within { IfOk result (λ found. found.2 ≤ length text.now) }
 {
     let end = plain_end(text, first, quotes);
@@ -442,8 +442,8 @@ fn read_escaped<'de>(
     place: usize,
 ) -> Result<(Str<'de>, Span, usize), TomlError>
     requires border { IsCharBoundary text.now place }
-    requires left { IsRead (kind_of quotes) text.now first (string_bytes held) true place }
-    ensures answer { Answers (λ found. found) (string_from text.now (kind_of quotes, first)) result }
+    requires left { IsStringRead (kind_of quotes) text.now first (string_bytes held) true place }
+    ensures answer { AnswersToml (λ found. found) (string_from text.now (kind_of quotes, first)) result }
     ensures within { IfOk result (λ found. found.2 ≤ length text.now) }
 {
     let mut held = held;

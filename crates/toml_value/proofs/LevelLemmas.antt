@@ -3,8 +3,8 @@ use Rattle.std.proofs.Common.{◌≡◌, ℕ, zero, suc, ◌+◌, ◌<◌, ◌&&
 use Rattle.std.proofs.lemmas.List.{length-map, map-append}
 use Rattle.std.specs.List.{list_all}
 use Rattle.deny_text.specs.declared.span.Span.{Span}
-use Rattle.key_index.specs.KeyPlaces.{place_of}
-use Rattle.toml_subset.specs.Answer.{Answers, then_read}
+use Rattle.key_index.specs.KeyPlaces.{first_key_place}
+use Rattle.toml_subset.specs.Answer.{AnswersToml, then_read}
 use Rattle.toml_subset.specs.TableFaults.{last_of}
 use Rattle.toml_subset.specs.Tables.{Node, Branches, growing, unbranched, branch, tables, same_key, added}
 use Rattle.toml_subset.specs.declared.error.SyntaxError.{SyntaxError}
@@ -15,8 +15,8 @@ use Rattle.toml_subset.specs.declared.string.Key.{Key}
 use Rattle.toml_subset.proofs.Law.Basics.{map_some, is_some, is_ok, not_ok, if_is}
 use Rattle.toml_frames.proofs.Levels.{plugged_last}
 use Rattle.toml_frames.specs.Levels.{Around, behind, Cursor, replaced, found_at, size, bodies_to, before_last, last_place, all_of, plugged, all_plugged, steps_in, opened, fresh, refusal, further, into_old, into_new, into_found, into_part, into_parts, into_header}
-use Rattle.toml_frames.specs.declared.part.Part.{Part}
-use Rattle.toml_frames.specs.declared.part.Part.TheVariants.{Through, Array}
+use Rattle.toml_frames.specs.declared.part.HeaderPart.{HeaderPart}
+use Rattle.toml_frames.specs.declared.part.HeaderPart.TheVariants.{Through, Array}
 use Rattle.toml_value.specs.AroundViews.{or_redefined}
 use Rattle.toml_value.specs.BranchViews.{mark_of, joined, node_view, branches_view, body_view, is_whole, is_whole_node, is_whole_body}
 use Rattle.toml_value.specs.LevelViews.{level_view}
@@ -24,7 +24,7 @@ use Rattle.toml_value.specs.declared.tree.Mark.{Mark}
 use Rattle.toml_value.specs.declared.tree.Node.{Node as NodeOf, Growing, Tables as TablesOf, the_lemmas}
 use Rattle.toml_value.specs.declared.tree.Body.{Body as BodyOf}
 use Rattle.toml_value.specs.declared.tree.Branches.{Branches as BranchesOf, out-Branches}
-use Rattle.toml_value.specs.declared.tree.levels.Level.{Level as LevelOf}
+use Rattle.toml_value.specs.declared.tree.levels.TableLevel.{TableLevel as LevelOf}
 use Rattle.toml_value.proofs.TreeLemmas.{branches_view-is, AreWhole, opened_whole, whole_closed, are_whole-set, is_within, seen-set, seen-at}
 
 abbrev up : ℕ × Node → ℕ × Node
@@ -35,12 +35,12 @@ up_first None = refl
 up_first (Some f) = refl
 
 pub place_is : (key : Key) (keys : List Key) (nodes : List Node) → length keys ≡ length nodes
-    → place_of key.name.text keys ≡ option_map (λ (f : ℕ × Node). f.0) (found_at key (joined keys nodes))
+    → first_key_place key.name.text keys ≡ option_map (λ (f : ℕ × Node). f.0) (found_at key (joined keys nodes))
 place_is key [] nodes same = refl
 place_is key (k ∷ ks) [] same = absurd (omega arith)
 place_is key (k ∷ ks) (n ∷ ns) same =
     let rest = place_is key ks ns (omega arith) in
-    elim (same_key key k) as (λ b. cond b (Some 0) (option_map suc (place_of key.name.text ks))
+    elim (same_key key k) as (λ b. cond b (Some 0) (option_map suc (first_key_place key.name.text ks))
     ≡ option_map (λ (f : ℕ × Node). f.0) (cond b (Some (0, n)) (option_map up (found_at key (joined ks ns))))) [
       | true ↦ refl
       | false ↦ ap (option_map suc) rest ∙ up_first (found_at key (joined ks ns))
@@ -140,7 +140,7 @@ module _ (table : BranchesOf) (whole : IsTrue (is_whole table)) where
   pub sized : size (branches_view table) ≡ length nodes_in
   sized = ap size (branches_view-is table) ∙ size-joined keys_in (map (λ n. node_view n) nodes_in) as_many ∙ length-map nodes_in (λ n. node_view n)
 
-  pub place_found : (key : Key) → place_of key.name.text keys_in ≡ option_map (λ (f : ℕ × Node). f.0) (found_at key (branches_view table))
+  pub place_found : (key : Key) → first_key_place key.name.text keys_in ≡ option_map (λ (f : ℕ × Node). f.0) (found_at key (branches_view table))
   place_found key =
       place_is key keys_in (map (λ n. node_view n) nodes_in) as_many ∙ ap (λ b. option_map (λ (f : ℕ × Node). f.0) (found_at key b)) (sym (branches_view-is table))
 
@@ -159,7 +159,7 @@ module _ (table : BranchesOf) (whole : IsTrue (is_whole table)) where
 
 -- the steps of a way
 
-pub into_is_old : (part : Part) (key : Key) (c : Cursor) (i : ℕ) (node : Node) (o : Option (Around × Branches)) → found_at key c.here ≡ Some (i, node) → o ≡ opened part node
+pub into_is_old : (part : HeaderPart) (key : Key) (c : Cursor) (i : ℕ) (node : Node) (o : Option (Around × Branches)) → found_at key c.here ≡ Some (i, node) → o ≡ opened part node
     → into_part part key c ≡ into_old key c i o
 into_is_old part key c i node o there is = ap (into_found part key c) there ∙ ap (into_old key c i) (sym is)
 
@@ -178,12 +178,12 @@ old_refused : (key : Key) (c : Cursor) (i : ℕ) (o : Option (Around × Branches
 old_refused key c i (Some found) fault e = absurd (cc)
 old_refused key c i None fault e = let same : refusal RedefinedTable key ≡ fault = cc in ap (λ f. Err f) same
 
-pub old_stops : {B C : Type 0} (view : B → Around × Branches) (see : C → Cursor) (part : Part) (key : Key) (c : Cursor) (i : ℕ) (node : Node) (error : TomlError)
-    → found_at key c.here ≡ Some (i, node) → Answers {B = B} view (or_redefined key (opened part node)) (Err error) → Answers {B = C} see (into_part part key c) (Err error)
+pub old_stops : {B C : Type 0} (view : B → Around × Branches) (see : C → Cursor) (part : HeaderPart) (key : Key) (c : Cursor) (i : ℕ) (node : Node) (error : TomlError)
+    → found_at key c.here ≡ Some (i, node) → AnswersToml {B = B} view (or_redefined key (opened part node)) (Err error) → AnswersToml {B = C} see (into_part part key c) (Err error)
 old_stops view see part key c i node (Syntax fault) there is = into_is_old part key c i node (opened part node) there refl ∙ old_refused key c i (opened part node) fault is
 old_stops view see part key c i node Memory there is = tt
 
-pub into_is_new : (part : Part) (key : Key) (c : Cursor) (o : Option Around) → found_at key c.here ≡ None → o ≡ fresh part key c.above
+pub into_is_new : (part : HeaderPart) (key : Key) (c : Cursor) (o : Option Around) → found_at key c.here ≡ None → o ≡ fresh part key c.above
     → into_part part key c ≡ into_new key c o
 into_is_new part key c o missing is = ap (into_found part key c) missing ∙ ap (into_new key c) (sym is)
 
@@ -220,23 +220,23 @@ further_is c d table seen place at around inner same place_is is =
 
 -- headers, part by part
 
-pub header_step : (last : Part) (keys : List Key) (c d new : Cursor) (key next : Key) (parts rest : List Key)
+pub header_step : (last : HeaderPart) (keys : List Key) (c d new : Cursor) (key next : Key) (parts rest : List Key)
     → into_header last keys c ≡ into_parts last (key ∷ parts) d → parts ≡ next ∷ rest → into_part Through key d ≡ Ok new
     → into_header last keys c ≡ into_parts last (next ∷ rest) new
 header_step last keys c d new key next parts rest is more step =
     is ∙ ap (λ (ks : List Key). into_parts last (key ∷ ks) d) more ∙ ap (then_read (into_parts last (next ∷ rest))) step
 
-pub header_stops : {B : Type 0} (view : B → Cursor) (last : Part) (keys : List Key) (c d : Cursor) (key next : Key) (parts rest : List Key) (error : TomlError)
-    → into_header last keys c ≡ into_parts last (key ∷ parts) d → parts ≡ next ∷ rest → Answers {B = B} view (into_part Through key d) (Err error)
-    → Answers {B = B} view (into_header last keys c) (Err error)
+pub header_stops : {B : Type 0} (view : B → Cursor) (last : HeaderPart) (keys : List Key) (c d : Cursor) (key next : Key) (parts rest : List Key) (error : TomlError)
+    → into_header last keys c ≡ into_parts last (key ∷ parts) d → parts ≡ next ∷ rest → AnswersToml {B = B} view (into_part Through key d) (Err error)
+    → AnswersToml {B = B} view (into_header last keys c) (Err error)
 header_stops view last keys c d key next parts rest (Syntax fault) is more step =
     is ∙ ap (λ (ks : List Key). into_parts last (key ∷ ks) d) more ∙ ap (then_read (into_parts last (next ∷ rest))) step
 header_stops view last keys c d key next parts rest Memory is more step = tt
 
-pub header_last : {B : Type 0} (view : B → Cursor) (last : Part) (keys : List Key) (c d : Cursor) (key : Key) (parts : List Key) (result : Result B TomlError)
-    → into_header last keys c ≡ into_parts last (key ∷ parts) d → parts ≡ [] → Answers view (into_part last key d) result → Answers view (into_header last keys c) result
+pub header_last : {B : Type 0} (view : B → Cursor) (last : HeaderPart) (keys : List Key) (c d : Cursor) (key : Key) (parts : List Key) (result : Result B TomlError)
+    → into_header last keys c ≡ into_parts last (key ∷ parts) d → parts ≡ [] → AnswersToml view (into_part last key d) result → AnswersToml view (into_header last keys c) result
 header_last view last keys c d key parts result is none step =
-    subst (λ r. Answers view r result) (sym (is ∙ ap (λ (ks : List Key). into_parts last (key ∷ ks) d) none)) step
+    subst (λ r. AnswersToml view r result) (sym (is ∙ ap (λ (ks : List Key). into_parts last (key ∷ ks) d) none)) step
 
 -- what a part of a header opens of an array of tables
 

@@ -1,7 +1,7 @@
 -- A value at the end of a dotted key, part by part.
 use Rattle.std.proofs.Common.{◌≡◌, ℕ, suc, ◌<◌, ⊎_elim, Bool, true, false, cond, List, [], ◌∷◌, Option, Some, None, option_map, is_some, refl, ap, sym, subst, ◌∙◌, arith}
 use Rattle.deny_text.specs.declared.span.Span.{Span}
-use Rattle.toml_subset.specs.TableFaults.{node_at, refused, new_key_fault}
+use Rattle.toml_subset.specs.TableFaults.{table_node_at, refused, new_key_fault}
 use Rattle.toml_subset.specs.declared.error.SyntaxReason.TheVariants.{DuplicateKey}
 use Rattle.toml_subset.specs.Tables.{by_header, implicit, dotted, Node, Branches, closed, growing, tables, unbranched, branch, same_key, has_key, added, through_dotted, put_new, put}
 use Rattle.toml_subset.specs.declared.string.Key.{Key}
@@ -13,14 +13,14 @@ use Rattle.toml_value.specs.BelowViews.{LeadsOn, IsTakenOut, HasRoom, placed}
 use Rattle.toml_value.specs.BranchViews.{parts_of_dotted}
 use Rattle.toml_value.proofs.LevelLemmas.{size_replaced}
 
-pub has_is : (key : Key) (table : Branches) → has_key key table ≡ is_some (node_at key table)
+pub has_is : (key : Key) (table : Branches) → has_key key table ≡ is_some (table_node_at key table)
 has_is key unbranched = refl
 has_is key (branch other here more) =
-    elim (same_key key other) as (λ b. cond b true (has_key key more) ≡ is_some (cond b (Some here) (node_at key more))) [ true ↦ refl | false ↦ has_is key more ]
+    elim (same_key key other) as (λ b. cond b true (has_key key more) ≡ is_some (cond b (Some here) (table_node_at key more))) [ true ↦ refl | false ↦ has_is key more ]
 
 -- the last part
 
-pub last_fault : (key : Key) (table : Branches) (above : ℕ) (here : Option Node) → here ≡ node_at key table
+pub last_fault : (key : Key) (table : Branches) (above : ℕ) (here : Option Node) → here ≡ table_node_at key table
     → new_key_fault key table above ≡ cond (is_some here) (refused DuplicateKey key) None
 last_fault key table above here is = ap (λ b. cond b (refused DuplicateKey key) None) (has_is key table ∙ ap is_some (sym is))
 

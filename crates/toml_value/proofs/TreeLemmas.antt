@@ -4,8 +4,8 @@ use Rattle.std.proofs.lemmas.Bool.Decides.{nat_tests}
 use Rattle.std.proofs.lemmas.List.{length-map}
 use Rattle.std.specs.List.{list_all}
 use Rattle.std.specs.Str.{bytes_eq}
-use Rattle.key_index.specs.KeyPlaces.{place_of}
-use Rattle.toml_subset.specs.TableFaults.{node_at}
+use Rattle.key_index.specs.KeyPlaces.{first_key_place}
+use Rattle.toml_subset.specs.TableFaults.{table_node_at}
 use Rattle.deny_text.specs.declared.span.Span.{Span}
 use Rattle.toml_subset.specs.Tables.{Node, growing, dotted, branch, same_key, has_key, added}
 use Rattle.toml_subset.specs.declared.string.Key.{Key}
@@ -99,38 +99,38 @@ seen-at (n ∷ ns) (suc i) d = seen-at ns i d
 
 -- look-ups
 
-pub is_found : (key : Key) (keys : List Key) (nodes : List Node) (i : ℕ) (d : Node) → length keys ≡ length nodes → place_of key.name.text keys ≡ Some i
-    → node_at key (joined keys nodes) ≡ Some (get_or nodes i d)
+pub is_found : (key : Key) (keys : List Key) (nodes : List Node) (i : ℕ) (d : Node) → length keys ≡ length nodes → first_key_place key.name.text keys ≡ Some i
+    → table_node_at key (joined keys nodes) ≡ Some (get_or nodes i d)
 is_found key [] nodes i d same e = absurd (cc)
 is_found key (k ∷ ks) [] i d same e = absurd (omega arith)
 is_found key (k ∷ ks) (n ∷ ns) i d same e =
     ⊎_elim
-    (λ h. subst (λ j. node_at key (joined (k ∷ ks) (n ∷ ns)) ≡ Some (get_or (n ∷ ns) j d)) (is_some 0 i h.1) (if_true (same_key key k) (Some n) (node_at key (joined ks ns)) h.0))
+    (λ h. subst (λ j. table_node_at key (joined (k ∷ ks) (n ∷ ns)) ≡ Some (get_or (n ∷ ns) j d)) (is_some 0 i h.1) (if_true (same_key key k) (Some n) (table_node_at key (joined ks ns)) h.0))
     (λ h.
-    let more = map_some suc (place_of key.name.text ks) i h.1 in
+    let more = map_some suc (first_key_place key.name.text ks) i h.1 in
     let rest = is_found key ks ns more.0 d (omega arith) more.1 in
-    subst (λ j. node_at key (joined (k ∷ ks) (n ∷ ns)) ≡ Some (get_or (n ∷ ns) j d)) more.2 (if_false (same_key key k) (Some n) (node_at key (joined ks ns)) h.0 ∙ rest))
-    (if_is (bytes_eq key.name.text k.name.text) (Some 0) (option_map suc (place_of key.name.text ks)) (Some i) e)
+    subst (λ j. table_node_at key (joined (k ∷ ks) (n ∷ ns)) ≡ Some (get_or (n ∷ ns) j d)) more.2 (if_false (same_key key k) (Some n) (table_node_at key (joined ks ns)) h.0 ∙ rest))
+    (if_is (bytes_eq key.name.text k.name.text) (Some 0) (option_map suc (first_key_place key.name.text ks)) (Some i) e)
 
 map_none : {A B : Type 0} (f : A → B) (o : Option A) → option_map f o ≡ None → o ≡ None
 map_none f None e = refl
 map_none f (Some x) e = absurd (cc)
 
-pub is_missing : (key : Key) (keys : List Key) (nodes : List Node) → place_of key.name.text keys ≡ None → node_at key (joined keys nodes) ≡ None
+pub is_missing : (key : Key) (keys : List Key) (nodes : List Node) → first_key_place key.name.text keys ≡ None → table_node_at key (joined keys nodes) ≡ None
 is_missing key [] nodes e = refl
 is_missing key (k ∷ ks) [] e = refl
 is_missing key (k ∷ ks) (n ∷ ns) e =
     ⊎_elim (λ h. let other : Some 0 ≡ None = h.1 in absurd (cc))
-    (λ h. if_false (same_key key k) (Some n) (node_at key (joined ks ns)) h.0 ∙ is_missing key ks ns (map_none suc (place_of key.name.text ks) h.1))
-    (if_is (bytes_eq key.name.text k.name.text) (Some 0) (option_map suc (place_of key.name.text ks)) None e)
+    (λ h. if_false (same_key key k) (Some n) (table_node_at key (joined ks ns)) h.0 ∙ is_missing key ks ns (map_none suc (first_key_place key.name.text ks) h.1))
+    (if_is (bytes_eq key.name.text k.name.text) (Some 0) (option_map suc (first_key_place key.name.text ks)) None e)
 
 -- a key that its table does not have has no place in it
-pub has_no_place : (key : Key) (keys : List Key) (nodes : List Node) → length keys ≡ length nodes → has_key key (joined keys nodes) ≡ false → place_of key.name.text keys ≡ None
+pub has_no_place : (key : Key) (keys : List Key) (nodes : List Node) → length keys ≡ length nodes → has_key key (joined keys nodes) ≡ false → first_key_place key.name.text keys ≡ None
 has_no_place key [] nodes same e = refl
 has_no_place key (k ∷ ks) [] same e = absurd (omega arith)
 has_no_place key (k ∷ ks) (n ∷ ns) same e =
     ⊎_elim (λ h. let other : true ≡ false = h.1 in absurd (cc))
-    (λ h. if_false (bytes_eq key.name.text k.name.text) (Some 0) (option_map suc (place_of key.name.text ks)) h.0
+    (λ h. if_false (bytes_eq key.name.text k.name.text) (Some 0) (option_map suc (first_key_place key.name.text ks)) h.0
     ∙ ap (option_map suc) (has_no_place key ks ns (omega arith) h.1))
     (if_is (same_key key k) true (has_key key (joined ks ns)) false e)
 
@@ -146,14 +146,14 @@ seen-push [] new = refl
 seen-push (n ∷ ns) new = ap (λ l. node_view n ∷ l) (seen-push ns new)
 
 -- the place of a key is that of a node
-pub is_within : (key : Key) (keys : List Key) (nodes : List NodeOf) (i : ℕ) → length keys ≡ length nodes → place_of key.name.text keys ≡ Some i → i < length nodes
+pub is_within : (key : Key) (keys : List Key) (nodes : List NodeOf) (i : ℕ) → length keys ≡ length nodes → first_key_place key.name.text keys ≡ Some i → i < length nodes
 is_within key [] nodes i same e = absurd (cc)
 is_within key (k ∷ ks) [] i same e = absurd (omega arith)
 is_within key (k ∷ ks) (n ∷ ns) i same e =
     ⊎_elim (λ h. let first = is_some 0 i h.1 in omega arith)
     (λ h.
-    let more = map_some suc (place_of key.name.text ks) i h.1 in
+    let more = map_some suc (first_key_place key.name.text ks) i h.1 in
     let rest = is_within key ks ns more.0 (omega arith) more.1 in
     let next = more.2 in
     omega arith)
-    (if_is (bytes_eq key.name.text k.name.text) (Some 0) (option_map suc (place_of key.name.text ks)) (Some i) e)
+    (if_is (bytes_eq key.name.text k.name.text) (Some 0) (option_map suc (first_key_place key.name.text ks)) (Some i) e)

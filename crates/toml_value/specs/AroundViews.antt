@@ -3,7 +3,7 @@ use Rattle.std.specs.Prelude.{Bool, true, map, Option, Some, None, Ok, Err}
 use Rattle.std.specs.List.{list_all}
 use Rattle.toml_frames.specs.Levels as levels
 use Rattle.toml_frames.specs.Levels.{refusal}
-use Rattle.toml_subset.specs.Answer.{Read}
+use Rattle.toml_subset.specs.Answer.{TomlReading}
 use Rattle.toml_subset.specs.Tables.{Branches}
 use Rattle.toml_subset.specs.declared.error.SyntaxReason.TheVariants.{RedefinedTable}
 use Rattle.toml_subset.specs.declared.string.Key.{Key}
@@ -21,7 +21,7 @@ abbrev pub opened_view : Around × BranchesOf → levels.Around × Branches
 opened_view found = (around_view found.0, branches_view found.1)
 
 -- what a part of a header opens of what stands at its key, or the fault of a key that it may not open
-abbrev pub or_redefined : {A : Type 0} → Key → Option A → Read A
+abbrev pub or_redefined : {A : Type 0} → Key → Option A → TomlReading A
 or_redefined key (Some opened) = Ok opened
 or_redefined key None = Err (refusal RedefinedTable key)
 

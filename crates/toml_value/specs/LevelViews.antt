@@ -2,7 +2,7 @@
 use Rattle.std.specs.Prelude.{◌≡◌, ℕ, ◌+◌, ◌≤◌, List, Option, Some, None, Result, Ok, Err, map}
 use Rattle.toml_subset.specs.Data.{depth_limit, entries_depth}
 use Rattle.toml_subset.specs.Lines.{Document}
-use Rattle.toml_subset.specs.Answer.{Read}
+use Rattle.toml_subset.specs.Answer.{TomlReading}
 use Rattle.toml_subset.specs.Reading.{LineFound}
 use Rattle.toml_subset.specs.Tables.{entries_of}
 use Rattle.toml_subset.specs.declared.error.SyntaxError.{SyntaxError}
@@ -14,11 +14,11 @@ use Rattle.toml_frames.specs.Levels.{Cursor, IsWay}
 use Rattle.toml_value.specs.AroundViews.{around_view}
 use Rattle.toml_value.specs.BranchViews.{branches_view}
 use Rattle.toml_value.specs.TreeViews.{tree_view}
-use Rattle.toml_value.specs.declared.tree.levels.Level.{Level}
+use Rattle.toml_value.specs.declared.tree.levels.TableLevel.{TableLevel}
 use Rattle.toml_value.specs.declared.tree.document.Document.{Document as DocumentOf}
 use Rattle.toml_value.specs.declared.tree.document.Pending.{Pending}
 
-abbrev pub level_view : Level → levels.Level
+abbrev pub level_view : TableLevel → levels.TableLevel
 level_view level = record { table = branches_view level.table; place = level.place; around = around_view level.around }
 
 abbrev pub cursor_view : DocumentOf → Cursor
@@ -43,12 +43,12 @@ IsPending (Some refusal) keys c (Ok pending) = ⊥
 IsPending (Some refusal) keys c (Err fault) = fault ≡ refusal
 
 -- no value below the open table stands too deep
-abbrev pub IsShallow : Cursor → Type 0
-IsShallow c = c.above + entries_depth (entries_of c.here) ≤ depth_limit
+abbrev pub IsShallowCursor : Cursor → Type 0
+IsShallowCursor c = c.above + entries_depth (entries_of c.here) ≤ depth_limit
 
 -- The program's way stands for the document that a line makes, and reading goes on at the same place; or the line has
 -- the fault. Memory may end anywhere.
-abbrev pub IsLineRead : Read LineFound → Result (DocumentOf × ℕ) TomlError → Type 0
+abbrev pub IsLineRead : TomlReading LineFound → Result (DocumentOf × ℕ) TomlError → Type 0
 IsLineRead wanted (Ok found) = (new : Document) × (wanted ≡ Ok (new, found.1)) × IsWay new (cursor_view found.0)
 IsLineRead wanted (Err (Syntax fault)) = wanted ≡ Err fault
 IsLineRead wanted (Err Memory) = Unit {0}

@@ -38,8 +38,8 @@ item_at zero (item span content more) = Some (record { content = content; span =
 item_at (suc i) (item span content more) = item_at i more
 
 -- the place that decimal digits name, with no zero before others
-abbrev pub place_of : List ℕ → Option ℕ
-place_of s =
+abbrev pub index_of_digits : List ℕ → Option ℕ
+index_of_digits s =
     if are_digits s && is_whole s && nat_lt (count 10 s) (2 ^ 64) then Some (count 10 s) else None
 
 -- what one part of a path leads to: a key of a table, or a place of an array
@@ -48,7 +48,7 @@ step_to part (string w) = None
 step_to part (integer z) = None
 step_to part (decimal z) = None
 step_to part (boolean b) = None
-step_to part (array items) = option_and_then (λ i. item_at i items) (place_of part)
+step_to part (array items) = option_and_then (λ i. item_at i items) (index_of_digits part)
 step_to part (table entries) = value_at part entries
 
 abbrev pub steps_to : List (List ℕ) → Toml → Option Toml

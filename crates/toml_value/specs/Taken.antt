@@ -1,15 +1,15 @@
 -- What is taken out of a value, what is left of it then, and that a value of another kind was wanted.
 use Rattle.std.specs.Prelude.{ℕ, Bool, false, if◌then◌else◌, List, [], ◌∷◌, Option, Some, None, Ok, Err}
 use Rattle.toml_subset.specs.Data.{Content, Items, Entries, Toml, string, boolean, array, table, no_item, item}
-use Rattle.toml_subset.specs.Written.{Written}
+use Rattle.toml_subset.specs.Written.{WrittenString}
 use Rattle.toml_shapes.specs.Kinds.{kind_word}
-use Rattle.toml_shapes.specs.Shaped.{Shaped}
+use Rattle.toml_shapes.specs.Shaped.{ShapeReading}
 use Rattle.toml_shapes.specs.Shapes.{Fault, fault_alone, wanted}
 use Rattle.toml_value.specs.Kinds.{kind_of}
 
 -- what a value holds, where it is of the kind
 
-abbrev pub as_string : Content → Option Written
+abbrev pub as_string : Content → Option WrittenString
 as_string (string w) = Some w
 as_string _ = None
 
@@ -26,12 +26,12 @@ abbrev pub wrong_kind : List ℕ → Toml → List Fault
 wrong_kind expected value = fault_alone (wanted expected (kind_word (kind_of value.content))) value.span
 
 -- what was found, or else that fault
-abbrev pub or_wanted : {A : Type 0} → List ℕ → Toml → Option A → Shaped A
+abbrev pub or_wanted : {A : Type 0} → List ℕ → Toml → Option A → ShapeReading A
 or_wanted expected value (Some x) = Ok x
 or_wanted expected value None = Err (wrong_kind expected value)
 
 -- a string where a thing of that name is wanted
-abbrev pub string_of : List ℕ → Toml → Shaped Written
+abbrev pub string_of : List ℕ → Toml → ShapeReading WrittenString
 string_of expected value = or_wanted expected value (as_string value.content)
 
 -- the items of an array as values
@@ -48,7 +48,7 @@ abbrev pub left_where : Bool → Toml → Toml
 left_where taken value = if taken then emptied_value value else value
 
 -- a value that was read is taken out whole; one that was refused stays as it was
-abbrev pub left_by : {A : Type 0} → Shaped A → Toml → Toml
+abbrev pub left_by : {A : Type 0} → ShapeReading A → Toml → Toml
 left_by (Ok x) value = emptied_value value
 left_by (Err faults) value = value
 

@@ -4,10 +4,10 @@ use Rattle.toml_subset.specs.Tables.{Branches}
 use Rattle.toml_subset.specs.declared.error.SyntaxError.{SyntaxError}
 use Rattle.toml_subset.specs.declared.string.Key.{Key}
 use Rattle.toml_value.specs.BranchViews.{branches_view}
-use Rattle.toml_value.specs.declared.tree.tables.Tree.{Tree}
+use Rattle.toml_value.specs.declared.tree.tables.TableTree.{TableTree}
 use Rattle.toml_value.specs.declared.tree.tables.Awaiting.{Awaiting}
 
-abbrev pub tree_view : Tree → Branches
+abbrev pub tree_view : TableTree → Branches
 tree_view tree = branches_view tree.root
 
 -- a key is awaited in its table, or else refused

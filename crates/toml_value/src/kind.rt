@@ -1,24 +1,24 @@
 //! Which kind a value is of, and that another was wanted.
 ghost use Rattle.std.specs.Prelude.{◌≡◌, None};
-ghost use Rattle.toml_shapes.specs.Shaped.{Gives, IsToldBy};
+ghost use Rattle.toml_shapes.specs.Shaped.{AnswersShape, IsToldBy};
 ghost use Rattle.toml_value.specs.Kinds.{kind_of as kind_seen};
 ghost use Rattle.toml_value.specs.Taken.{or_wanted, wrong_kind};
 ghost use Rattle.toml_value.specs.Views.{content_view, value_view};
 
 use crate::value::{Value, ValueInner};
 use std::alloc::Global;
-use toml_shapes::{DeserError, ErrorKind, Kind, one_fault};
+use toml_shapes::{DeserError, ErrorKind, ValueKind, one_fault};
 
-fn kind_of(inner: &ValueInner<'_>) -> Kind
+fn kind_of(inner: &ValueInner<'_>) -> ValueKind
     ensures { result ≡ kind_seen (content_view inner.now) }
 {
     match inner {
-        ValueInner::String(_) => Kind::String,
-        ValueInner::Integer(_) => Kind::Integer,
-        ValueInner::Decimal(_) => Kind::Decimal,
-        ValueInner::Boolean(_) => Kind::Boolean,
-        ValueInner::Array(_) => Kind::Array,
-        ValueInner::Table(_) => Kind::Table,
+        ValueInner::String(_) => ValueKind::String,
+        ValueInner::Integer(_) => ValueKind::Integer,
+        ValueInner::Decimal(_) => ValueKind::Decimal,
+        ValueInner::Boolean(_) => ValueKind::Boolean,
+        ValueInner::Array(_) => ValueKind::Array,
+        ValueInner::Table(_) => ValueKind::Table,
     }
 }
 
@@ -36,7 +36,7 @@ pub fn refuse_kind<T>(
     expected: &'static str,
     value: &Value<'_>,
 ) -> Result<T, DeserError>
-    ensures { Gives (or_wanted expected.now (value_view value.now) None) result }
+    ensures { AnswersShape (or_wanted expected.now (value_view value.now) None) result }
 {
     Err(kind_fault(alloc, expected, value))
 }

@@ -1,6 +1,6 @@
 //! Texts, line by line.
 ghost use Rattle.std.specs.Prelude.{◌≡◌, ◌+◌, ◌-◌, ◌<◌, ◌≤◌, Option, length, IsTrue, IfOk};
-ghost use Rattle.toml_subset.specs.Answer.{Answers, Gives, then_read, unless};
+ghost use Rattle.toml_subset.specs.Answer.{AnswersToml, AnswersSyntax, then_read, unless};
 ghost use Rattle.toml_subset.specs.Bytes.{open_bracket};
 ghost use Rattle.toml_subset.specs.Data.{Toml};
 ghost use Rattle.toml_subset.specs.Faults.{IsFirstFault};
@@ -16,7 +16,7 @@ ghost use Rattle.toml_subset.specs.Text.{IsText};
 ghost use Rattle.toml_frames.specs.Levels.{IsWay, IsOpened, at_root, into_header};
 ghost use Rattle.toml_frames.specs.LinesRead.{bracket_line};
 ghost use Rattle.toml_places.specs.Placed.{IsPlaced};
-ghost use Rattle.toml_value.specs.LevelViews.{cursor_view, pending_view, IsShallow, IsLineRead};
+ghost use Rattle.toml_value.specs.LevelViews.{cursor_view, pending_view, IsShallowCursor, IsLineRead};
 ghost use Rattle.toml_value.specs.ReaderViews.{OnSyntax};
 ghost use Rattle.toml_value.specs.Views.{value_view};
 
@@ -25,14 +25,14 @@ use crate::value::{Value, ValueInner};
 use crate::values::read_value;
 use deny_text::Span;
 use std::alloc::{AllocError, Global};
-use toml_frames::Part;
+use toml_frames::HeaderPart;
 use toml_subset::{
     Keys, SyntaxError, TomlError, after_blanks, after_comment, control_character, next_line,
     read_keys, read_left, stands, stuck,
 };
 
 /// A document, and the place of the next line.
-type Line<'de> = Result<(Document<'de>, usize), TomlError>;
+type NextLine<'de> = Result<(Document<'de>, usize), TomlError>;
 
 /// Whether a line without a statement stands at a place behind its blanks.
 fn is_blank_line(text: &[u8], place: usize) -> bool
@@ -49,7 +49,7 @@ fn is_blank_line(text: &[u8], place: usize) -> bool
 fn line_rest(text: &str, place: usize) -> Result<usize, SyntaxError>
     requires { place ≤ length text.now }
     ensures answer { (document : DocumentOf)
-        → Gives (λ next. (document, next)) (rest_of_line text.now place document) result }
+        → AnswersSyntax (λ next. (document, next)) (rest_of_line text.now place document) result }
     ensures within { IfOk result (λ next. next ≤ length text.now) }
 {
     let bytes = text.as_bytes();
@@ -66,7 +66,7 @@ fn line_rest(text: &str, place: usize) -> Result<usize, SyntaxError>
 }
 
 /// A line whose statement was put into the document, from behind the statement on.
-fn ended_line<'de>(text: &'de str, document: Document<'de>, place: usize) -> Line<'de>
+fn ended_line<'de>(text: &'de str, document: Document<'de>, place: usize) -> NextLine<'de>
     requires inside { place ≤ length text.now }
     ensures answer { (seen : DocumentOf) → IsWay seen (cursor_view document.entry)
         → IsLineRead (rest_of_line text.now place seen) result }
@@ -87,7 +87,7 @@ fn behind_equals<'de>(
     text: &'de str,
     pending: Pending<'de>,
     place: usize,
-) -> Line<'de>
+) -> NextLine<'de>
     requires inside { place ≤ length text.now }
     ensures answer { let keys = pending.entry.awaiting.keys in
         let above = pending.entry.above + (length keys - 1) in
@@ -108,9 +108,9 @@ fn behind_equals<'de>(
 }
 
 /// A line with a key and a value.
-fn pair_line<'de>(alloc: Global, text: &'de str, document: Document<'de>, place: usize) -> Line<'de>
+fn pair_line<'de>(alloc: Global, text: &'de str, document: Document<'de>, place: usize) -> NextLine<'de>
     requires inside { place ≤ length text.now }
-    requires shallow { IsShallow (cursor_view document) }
+    requires shallow { IsShallowCursor (cursor_view document) }
     ensures answer { (seen : DocumentOf) → IsWay seen (cursor_view document.entry)
         → IsLineRead (then_read (pair_from text.now seen) (left_at text.now place)) result }
     ensures within { IfOk result (λ found. found.1 ≤ length text.now) }
@@ -133,12 +133,12 @@ fn opened_line<'de>(
     text: &'de str,
     document: Document<'de>,
     keys: Keys<'de>,
-    last: Part,
+    last: HeaderPart,
     place: usize,
-) -> Line<'de>
+) -> NextLine<'de>
     requires inside { place ≤ length text.now }
     requires some { 0 < length keys }
-    requires shallow { IsShallow (at_root (cursor_view document)) }
+    requires shallow { IsShallowCursor (at_root (cursor_view document)) }
     ensures answer { (fault : Option SyntaxErrorOf) (made : Option Branches)
         → IsOpened fault made keys.entry (into_header last keys.entry (cursor_view document.entry))
         → IsLineRead (unless fault (with_root text.now place keys.entry made)) result }
@@ -163,10 +163,10 @@ fn behind_parts<'de>(
     start: usize,
     keys: Keys<'de>,
     place: usize,
-) -> Line<'de>
+) -> NextLine<'de>
     requires inside { place ≤ length text.now }
     requires some { 0 < length keys }
-    requires shallow { IsShallow (at_root (cursor_view document)) }
+    requires shallow { IsShallowCursor (at_root (cursor_view document)) }
     ensures answer { (seen : DocumentOf) → IsWay seen (cursor_view document.entry)
         → IsLineRead (header_from text.now start seen (keys.entry, place)) result }
     ensures within { IfOk result (λ found. found.1 ≤ length text.now) }
@@ -183,7 +183,7 @@ fn behind_parts<'de>(
         text,
         document,
         keys,
-        Part::Table(Span { start, end }),
+        HeaderPart::Table(Span { start, end }),
         end,
     )
 }
@@ -196,10 +196,10 @@ fn behind_array_parts<'de>(
     start: usize,
     keys: Keys<'de>,
     place: usize,
-) -> Line<'de>
+) -> NextLine<'de>
     requires inside { place ≤ length text.now }
     requires some { 0 < length keys }
-    requires shallow { IsShallow (at_root (cursor_view document)) }
+    requires shallow { IsShallowCursor (at_root (cursor_view document)) }
     ensures answer { (seen : DocumentOf) → IsWay seen (cursor_view document.entry)
         → IsLineRead (array_header_from text.now start seen (keys.entry, place)) result }
     ensures within { IfOk result (λ found. found.1 ≤ length text.now) }
@@ -220,7 +220,7 @@ fn behind_array_parts<'de>(
         text,
         document,
         keys,
-        Part::Array(Span { start, end }),
+        HeaderPart::Array(Span { start, end }),
         end,
     )
 }
@@ -231,9 +231,9 @@ fn header_line<'de>(
     text: &'de str,
     document: Document<'de>,
     place: usize,
-) -> Line<'de>
+) -> NextLine<'de>
     requires bracket { IsTrue (stands_at text.now place open_bracket) }
-    requires shallow { IsShallow (at_root (cursor_view document)) }
+    requires shallow { IsShallowCursor (at_root (cursor_view document)) }
     ensures answer { (seen : DocumentOf) → IsWay seen (cursor_view document.entry)
         → IsLineRead (bracket_line text.now seen place) result }
     ensures within { IfOk result (λ found. found.1 ≤ length text.now) }
@@ -259,10 +259,10 @@ fn header_line<'de>(
 }
 
 /// A line, what it says standing at a place behind its blanks.
-fn read_line<'de>(alloc: Global, text: &'de str, document: Document<'de>, place: usize) -> Line<'de>
+fn read_line<'de>(alloc: Global, text: &'de str, document: Document<'de>, place: usize) -> NextLine<'de>
     requires inside { place ≤ length text.now }
-    requires shallow { IsShallow (cursor_view document) }
-    requires root { IsShallow (at_root (cursor_view document)) }
+    requires shallow { IsShallowCursor (cursor_view document) }
+    requires root { IsShallowCursor (at_root (cursor_view document)) }
     ensures answer { (seen : DocumentOf) → IsWay seen (cursor_view document.entry)
         → IsLineRead (line_from text.now seen place) result }
     ensures within { IfOk result (λ found. found.1 ≤ length text.now) }
@@ -296,7 +296,7 @@ fn whole<'de>(
 
 /// Reads a text of the subset. Its value's strings and keys without escapes borrow the text.
 pub fn parse(alloc: Global, text: &str) -> Result<Value<'_>, TomlError>
-    ensures answer { Answers (λ value. value_view value) (read_text text.now) result }
+    ensures answer { AnswersToml (λ value. value_view value) (read_text text.now) result }
     ensures value { IfOk result (λ value. IsText text.now (value_view value)) }
     ensures spans { IfOk result (λ value. IsPlaced text.now (value_view value)) }
     ensures outside { OnSyntax result (λ fault. (value : Toml) → IsText text.now value → ⊥) }

@@ -1,7 +1,7 @@
 //! Tables that grow key by key, as the table rules of the subset have them.
 ghost use Rattle.std.specs.Prelude.{◌≡◌, ◌<◌, ◌++◌, [], ◌∷◌, length, get_or, set, false, IsTrue, IfOk, IfSome, option_map};
-ghost use Rattle.key_index.specs.KeyPlaces.{place_of};
-ghost use Rattle.toml_subset.specs.TableFaults.{node_at};
+ghost use Rattle.key_index.specs.KeyPlaces.{first_key_place};
+ghost use Rattle.toml_subset.specs.TableFaults.{table_node_at};
 ghost use Rattle.toml_subset.specs.Tables.{unbranched, has_key, added};
 ghost use Rattle.toml_frames.specs.Levels.{size as size_of, replaced, hole as hole_at};
 ghost use Rattle.toml_value.specs.BranchViews.{node_view, branches_view, is_whole, is_whole_node};
@@ -21,7 +21,7 @@ pub(crate) use fault::DEPTH_LIMIT;
 use key_index::KeyIndex;
 use std::alloc::{AllocError, Global};
 use std::mem;
-pub(crate) use tables::{Awaiting, Tree};
+pub(crate) use tables::{Awaiting, TableTree};
 use toml_subset::Key;
 
 /// What made a table.
@@ -76,7 +76,7 @@ impl<'de> Branches<'de> {
 
     /// The place of a key.
     fn find(&self, key: &Key<'_>) -> Option<usize>
-        ensures { result ≡ place_of key.now.name.text (out-Branches self.now).keys }
+        ensures { result ≡ first_key_place key.now.name.text (out-Branches self.now).keys }
     {
         self.keys.find(key.name.as_str())
     }
@@ -85,7 +85,7 @@ impl<'de> Branches<'de> {
     fn at(&self, key: &Key<'_>) -> Option<&Node<'de>>
         requires { IsTrue (is_whole self.now) }
         ensures value { option_map (λ node. node_view node.now) result
-            ≡ node_at key.now (branches_view self.now) }
+            ≡ table_node_at key.now (branches_view self.now) }
         ensures whole { IfSome result (λ node. IsTrue (is_whole_node node.now)) }
     {
         let place = self.find(key)?;

@@ -3,7 +3,7 @@ ghost use Rattle.std.specs.Prelude.{◌≡◌, ◌==◌, ◌++◌, [], ◌∷◌
 ghost use Rattle.std.specs.List.{slice_split};
 ghost use Rattle.std.specs.Option.{option_copied};
 ghost use Rattle.toml_subset.specs.Data.{boolean};
-ghost use Rattle.toml_value.specs.Lookup.{as_text, has_entries, value_at, item_at, place_of, step_to};
+ghost use Rattle.toml_value.specs.Lookup.{as_text, has_entries, value_at, item_at, index_of_digits, step_to};
 ghost use Rattle.toml_value.specs.Lookup.{steps_to, pointed_at, with_item, with_entry};
 ghost use Rattle.toml_value.specs.Views.{value_view, content_view, values_view, entries_view};
 ghost use Rattle.toml_value.specs.Views.{items_from_list, entries_from_list};
@@ -131,7 +131,7 @@ fn step<'v, 'de>(target: &'v Value<'de>, part: &str) -> Option<&'v Value<'de>>
 
 /// The place that decimal digits name.
 fn place_of_part(part: &[u8]) -> Option<usize>
-    ensures { result ≡ place_of part.now }
+    ensures { result ≡ index_of_digits part.now }
 {
     if are_digits(part) && is_whole(part) {
         let place = count(10, part)?;

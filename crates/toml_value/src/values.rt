@@ -1,15 +1,15 @@
 //! Values, read with a stack of what stands open.
 ghost use Rattle.std.specs.Prelude.{◌≡◌, ◌+◌, ◌-◌, ◌<◌, ◌≤◌, ◌||◌, ◌++◌, length, map, true, false, [], ◌∷◌};
 ghost use Rattle.std.specs.Prelude.{IfOk, OnOk};
-ghost use Rattle.toml_subset.specs.Answer.{Answers};
+ghost use Rattle.toml_subset.specs.Answer.{AnswersToml};
 ghost use Rattle.toml_subset.specs.Bytes.{open_bracket, open_brace};
 ghost use Rattle.toml_subset.specs.Data as «data»;
 ghost use Rattle.toml_subset.specs.Data.{depth_of, depth_limit};
 ghost use Rattle.toml_subset.specs.Places.{stands as stands_at};
 ghost use Rattle.toml_subset.specs.Reading.{read_scalar as scalar_at, value_at};
 ghost use Rattle.toml_subset.specs.Tables.{entries_of};
-ghost use Rattle.toml_frames.specs.Between.{place_of};
-ghost use Rattle.toml_frames.specs.Frames.{in_array, in_table, outside, inside as inside_of, IsShallow};
+ghost use Rattle.toml_frames.specs.Between.{next_place};
+ghost use Rattle.toml_frames.specs.Frames.{in_array, in_table, outside, inside as inside_of, IsShallowFrame};
 ghost use Rattle.toml_frames.specs.Frames.{on_with, array_turn as turn_of_array, table_turn as turn_of_table};
 ghost use Rattle.toml_frames.specs.Frames.{table_on};
 ghost use Rattle.toml_frames.specs.Scalars.{scalar_content};
@@ -17,7 +17,7 @@ ghost use Rattle.toml_value.specs.StackViews.{value_found, frame_view, turn_view
 ghost use Rattle.toml_value.specs.TreeViews.{tree_view};
 ghost use Rattle.toml_value.specs.Views.{value_view, content_view, values_view};
 
-use crate::tree::{Awaiting, DEPTH_LIMIT, Tree};
+use crate::tree::{Awaiting, DEPTH_LIMIT, TableTree};
 use crate::value::{Value, ValueInner, Values};
 use deny_text::Span;
 use std::alloc::{AllocError, Global};
@@ -42,7 +42,7 @@ enum Frame<'de> {
 
 /// One turn of reading.
 #[derive(Drop)]
-enum Turn<'de> {
+enum ValueStep<'de> {
     /// A value was read, up to a place.
     Read(Value<'de>, usize),
     /// The value of what stands open stands at a place.
@@ -52,7 +52,7 @@ enum Turn<'de> {
 impl Frame<'_> {
     /// How many tables and arrays stand around its value.
     fn inside(&self) -> usize
-        requires { IsShallow (frame_view self.now) }
+        requires { IsShallowFrame (frame_view self.now) }
         ensures { result ≡ inside_of (frame_view self.now) }
     {
         match self {
@@ -74,20 +74,20 @@ fn inner_of(scalar: Scalar<'_>) -> ValueInner<'_>
 }
 
 /// A value that begins with no bracket and no brace.
-fn scalar_turn(alloc: Global, text: &str, above: usize, place: usize) -> Result<Turn<'_>, TomlError>
+fn scalar_turn(alloc: Global, text: &str, above: usize, place: usize) -> Result<ValueStep<'_>, TomlError>
     requires inside { place ≤ length text.now }
     requires shallow { above ≤ depth_limit }
     requires scalar { (stands_at text.now place open_bracket || stands_at text.now place open_brace) ≡ false }
     ensures { TakesTurn text.now (place + 1) above (value_at text.now above place) result }
 {
     match read_scalar(alloc, text, place) {
-        Ok((scalar, span, next)) => Ok(Turn::Read(Value::new(inner_of(scalar), span), next)),
+        Ok((scalar, span, next)) => Ok(ValueStep::Read(Value::new(inner_of(scalar), span), next)),
         Err(error) => Err(error),
     }
 }
 
 /// An array that goes on.
-fn array_turn(at: Opening, items: Values<'_>, next: Next) -> Turn<'_>
+fn array_turn(at: Opening, items: Values<'_>, next: Next) -> ValueStep<'_>
     ensures { turn_view result ≡ turn_of_array at.place at.above (values_view items.entry) next }
 {
     match next {
@@ -96,9 +96,9 @@ fn array_turn(at: Opening, items: Values<'_>, next: Next) -> Turn<'_>
                 start: at.place,
                 end,
             };
-            Turn::Read(Value::new(ValueInner::Array(items), span), end)
+            ValueStep::Read(Value::new(ValueInner::Array(items), span), end)
         }
-        Next::Further(place) => Turn::Waits(Frame::Array(at, items), place),
+        Next::Further(place) => ValueStep::Waits(Frame::Array(at, items), place),
     }
 }
 
@@ -106,9 +106,9 @@ fn array_turn(at: Opening, items: Values<'_>, next: Next) -> Turn<'_>
 fn closed_table(
     alloc: Global,
     at: Opening,
-    tree: Tree<'_>,
+    tree: TableTree<'_>,
     end: usize,
-) -> Result<Turn<'_>, AllocError>
+) -> Result<ValueStep<'_>, AllocError>
     ensures { IfOk result (λ turn. turn_view turn ≡ turn_of_table at.place (tree_view tree.entry) end) }
 {
     let entries = tree.into_entries(alloc)?;
@@ -116,7 +116,7 @@ fn closed_table(
         start: at.place,
         end,
     };
-    Ok(Turn::Read(Value::new(ValueInner::Table(entries), span), end))
+    Ok(ValueStep::Read(Value::new(ValueInner::Table(entries), span), end))
 }
 
 /// An inline table whose next key stands at a place.
@@ -124,9 +124,9 @@ fn entry_turn<'de>(
     alloc: Global,
     text: &'de str,
     at: Opening,
-    tree: Tree<'de>,
+    tree: TableTree<'de>,
     place: usize,
-) -> Result<Turn<'de>, TomlError>
+) -> Result<ValueStep<'de>, TomlError>
     requires inside { place ≤ length text.now }
     requires shallow { at.above + depth_of (data.table (entries_of (tree_view tree))) ≤ depth_limit }
     ensures { TakesTurn text.now place at.above
@@ -134,7 +134,7 @@ fn entry_turn<'de>(
 {
     match read_left(alloc, text, place) {
         Ok((keys, next)) => match tree.await_value(keys, at.above + 1) {
-            Ok(awaiting) => Ok(Turn::Waits(Frame::Table(at, awaiting), next)),
+            Ok(awaiting) => Ok(ValueStep::Waits(Frame::Table(at, awaiting), next)),
             Err(fault) => Err(TomlError::Syntax(fault)),
         },
         Err(error) => {
@@ -149,12 +149,12 @@ fn table_turn<'de>(
     alloc: Global,
     text: &'de str,
     at: Opening,
-    tree: Tree<'de>,
+    tree: TableTree<'de>,
     next: Next,
-) -> Result<Turn<'de>, TomlError>
-    requires inside { place_of next ≤ length text.now }
+) -> Result<ValueStep<'de>, TomlError>
+    requires inside { next_place next ≤ length text.now }
     requires shallow { at.above + depth_of (data.table (entries_of (tree_view tree))) ≤ depth_limit }
-    ensures { TakesTurn text.now (place_of next) at.above
+    ensures { TakesTurn text.now (next_place next) at.above
         (table_on text.now at.place at.above (tree_view tree.entry) next) result }
 {
     match next {
@@ -174,7 +174,7 @@ fn opens(text: &[u8], place: usize) -> bool
 }
 
 /// A value that begins with a bracket or a brace.
-fn opening_turn(alloc: Global, text: &str, at: Opening) -> Result<Turn<'_>, TomlError>
+fn opening_turn(alloc: Global, text: &str, at: Opening) -> Result<ValueStep<'_>, TomlError>
     requires shallow { at.above < depth_limit }
     requires opens { (stands_at text.now at.place open_bracket || stands_at text.now at.place open_brace)
         ≡ true }
@@ -187,12 +187,12 @@ fn opening_turn(alloc: Global, text: &str, at: Opening) -> Result<Turn<'_>, Toml
         }
     } else {
         let next = entry_place(text, at.place + 1);
-        table_turn(alloc, text, at, Tree::new(alloc), next)
+        table_turn(alloc, text, at, TableTree::new(alloc), next)
     }
 }
 
 /// The first turn of a value.
-fn first_turn(alloc: Global, text: &str, above: usize, place: usize) -> Result<Turn<'_>, TomlError>
+fn first_turn(alloc: Global, text: &str, above: usize, place: usize) -> Result<ValueStep<'_>, TomlError>
     requires inside { place ≤ length text.now }
     requires shallow { above ≤ depth_limit }
     ensures { TakesTurn text.now (place + 1) above (value_at text.now above place) result }
@@ -214,9 +214,9 @@ fn behind_value<'de>(
     items: Values<'de>,
     value: Value<'de>,
     next: usize,
-) -> Result<Turn<'de>, TomlError>
+) -> Result<ValueStep<'de>, TomlError>
     requires inside { next ≤ length text.now }
-    requires shallow { IsShallow (in_array at.place at.above (values_view items)) }
+    requires shallow { IsShallowFrame (in_array at.place at.above (values_view items)) }
     requires value { at.above + 1 + depth_of (value_view value).content ≤ depth_limit }
     ensures { TakesTurn text.now (next + 1) at.above (on_with text.now
         (in_array at.place at.above (values_view items.entry)) (value_found (value.entry, next))) result }
@@ -239,9 +239,9 @@ fn behind_pair<'de>(
     awaiting: Awaiting<'de>,
     value: Value<'de>,
     next: usize,
-) -> Result<Turn<'de>, TomlError>
+) -> Result<ValueStep<'de>, TomlError>
     requires inside { next ≤ length text.now }
-    requires shallow { IsShallow (in_table at.place at.above (tree_view awaiting.tree) awaiting.keys) }
+    requires shallow { IsShallowFrame (in_table at.place at.above (tree_view awaiting.tree) awaiting.keys) }
     requires value { at.above + 1 + (length awaiting.keys - 1) + depth_of (value_view value).content
         ≤ depth_limit }
     ensures { TakesTurn text.now (next + 1) at.above (on_with text.now (in_table at.place at.above
@@ -264,9 +264,9 @@ fn next_turn<'de>(
     frame: Frame<'de>,
     value: Value<'de>,
     next: usize,
-) -> Result<Turn<'de>, TomlError>
+) -> Result<ValueStep<'de>, TomlError>
     requires inside { next ≤ length text.now }
-    requires shallow { IsShallow (frame_view frame) }
+    requires shallow { IsShallowFrame (frame_view frame) }
     requires value { inside_of (frame_view frame) + depth_of (value_view value).content ≤ depth_limit }
     ensures { let seen = frame_view frame.entry in
         TakesTurn text.now (next + 1) (outside seen) (on_with text.now seen (value_found (value.entry, next)))
@@ -293,9 +293,9 @@ fn deeper<'de>(
     open: &mut Vec<Frame<'de>>,
     frame: Frame<'de>,
     place: usize,
-) -> Result<Turn<'de>, TomlError>
+) -> Result<ValueStep<'de>, TomlError>
     requires inside { place ≤ length text.now }
-    requires shallow { IsShallow (frame_view frame) }
+    requires shallow { IsShallowFrame (frame_view frame) }
     requires room { inside_of (frame_view frame) ≤ depth_limit }
     ensures stack { OnOk result (open.new.items ≡ open.old.items ++ frame.entry ∷ []) }
     ensures turn { let above = inside_of (frame_view frame.entry) in
@@ -317,17 +317,17 @@ fn read_with<'de>(
     requires inside { place ≤ length text.now }
     requires shallow { above ≤ depth_limit }
     requires none { open.old.items ≡ [] }
-    ensures answer { Answers value_found (value_at text.now above place) result }
+    ensures answer { AnswersToml value_found (value_at text.now above place) result }
     ensures within { IfOk result (λ found. found.1 ≤ length text.now) }
 {
     let mut turn = first_turn(alloc, text, above, place)?;
     'turns: loop {
         match turn {
-            Turn::Waits(frame, place) => match deeper(alloc, text, open, frame, place) {
+            ValueStep::Waits(frame, place) => match deeper(alloc, text, open, frame, place) {
                 Ok(first) => turn = first,
                 Err(error) => return Err(error),
             },
-            Turn::Read(value, next) => match open.pop() {
+            ValueStep::Read(value, next) => match open.pop() {
                 Some(frame) => match next_turn(alloc, text, frame, value, next) {
                     Ok(further) => turn = further,
                     Err(error) => return Err(error),
@@ -347,7 +347,7 @@ pub fn read_value(
 ) -> Result<(Value<'_>, usize), TomlError>
     requires inside { place ≤ length text.now }
     requires shallow { above ≤ depth_limit }
-    ensures answer { Answers value_found (value_at text.now above place) result }
+    ensures answer { AnswersToml value_found (value_at text.now above place) result }
     ensures within { IfOk result (λ found. found.1 ≤ length text.now) }
 {
     let mut open = Vec::new(alloc);

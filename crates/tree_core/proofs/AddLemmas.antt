@@ -4,15 +4,15 @@ use Rattle.std.specs.Option.{option_map}
 use Rattle.std.specs.Map.{lookup, remove_entry}
 use Rattle.std.specs.BTreeMap.{insert_entry, is_at}
 use Rattle.std.specs.FinMap as finite
-use Rattle.tree_core.specs.Content.{Content, Place, Node, file, folder, place_cmp}
+use Rattle.tree_core.specs.Content.{Content, Place, TreeNode, file, folder, place_cmp}
 use Rattle.tree_core.specs.Stored.{node_of, with_root, content_of, stored_at}
 use Rattle.tree_core.specs.TreeState.{Clashes, Puts, IsClosedAbove}
-use Rattle.tree_core.specs.declared.nodes.Stored.{Stored}
+use Rattle.tree_core.specs.declared.nodes.StoredNode.{StoredNode}
 use Rattle.tree_core.proofs.PlaceLemmas.{length-above}
 use Rattle.tree_core.proofs.StoredLemmas.{stored_at-lookup, stored_at-root, get-content_of, ordered-insert_entry, content_of-insert_entry, remove_entry-insert_entry}
 use Rattle.tree_core.proofs.PutLemmas.{Puts-below_folder, no_Clashes-below_folder, Clashes-below_file, Puts-made, no_Clashes-made, Clashes-made, IsClosedAbove-made}
 
-none_before : (o : Option Stored) → option_map node_of o ≡ None → o ≡ None
+none_before : (o : Option StoredNode) → option_map node_of o ≡ None → o ≡ None
 none_before None e = refl
 none_before (Some stored) e = cc
 
@@ -20,7 +20,7 @@ some_long : (place : Place) → place ≢ [] → 0 < length place
 some_long [] ne = absurd (ne refl)
 some_long (name ∷ names) ne = omega arith
 
-module _ (entries after : List (Place × Stored)) (place above : Place) (stored : Stored)
+module _ (entries after : List (Place × StoredNode)) (place above : Place) (stored : StoredNode)
     (ordered : T (finite.is_sorted place_cmp (with_root entries))) (absent : stored_at entries place ≡ None)
     (is : after ≡ insert_entry place_cmp entries place stored) (right : above ≡ take (length place - 1) place) where
   not_root : place ≢ []
@@ -39,7 +39,7 @@ module _ (entries after : List (Place × Stored)) (place above : Place) (stored 
   content_is = ap content_of is ∙ content_of-insert_entry place stored entries not_root ordered
 
   pub after_ordered : T (finite.is_sorted place_cmp (with_root after))
-  after_ordered = subst (λ (es : List (Place × Stored)). T (finite.is_sorted place_cmp (with_root es))) (sym is) (ordered-insert_entry place stored entries not_root ordered)
+  after_ordered = subst (λ (es : List (Place × StoredNode)). T (finite.is_sorted place_cmp (with_root es))) (sym is) (ordered-insert_entry place stored entries not_root ordered)
 
   pub after_restored : remove_entry (is_at (place_cmp place)) after ≡ entries
   after_restored = ap (remove_entry (is_at (place_cmp place))) is ∙ remove_entry-insert_entry place stored entries gone
@@ -48,7 +48,7 @@ module _ (entries after : List (Place × Stored)) (place above : Place) (stored 
   above_shorter = omega (arith, ap length right, length-above place, long)
 
   -- what was found above, as the content tells it
-  found : (o : Option Node) → stored_at after above ≡ o → finite.get (finite.insert (content_of entries) place (node_of stored)) (take (length place - 1) place) ≡ o
+  found : (o : Option TreeNode) → stored_at after above ≡ o → finite.get (finite.insert (content_of entries) place (node_of stored)) (take (length place - 1) place) ≡ o
   found o there = ap (λ (content : Content). finite.get content (take (length place - 1) place)) (sym content_is) ∙ ap (finite.get (content_of after)) (sym right) ∙ get-content_of after above after_ordered ∙ there
 
   pub after_Puts : IsClosedAbove (content_of entries) place → stored_at after above ≡ Some folder → Puts (content_of entries) (content_of after) place (node_of stored)

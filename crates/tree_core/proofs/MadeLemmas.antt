@@ -5,7 +5,7 @@ use Rattle.std.proofs.lemmas.List.{append_cancel_left}
 use Rattle.std.proofs.lemmas.List.Elements.{All-nil, All-cons, All-append}
 use Rattle.tree_core.specs.Answer.{ReadAnswers, ListAnswers, FileAnswers, ExistsAnswers, FailsOrLacksMemory, listed}
 use Rattle.tree_core.specs.Call as call
-use Rattle.tree_core.specs.Call.{Answered, Call}
+use Rattle.tree_core.specs.Call.{CallAnswer, Call}
 use Rattle.tree_core.specs.Content.{Content, node_at, entries_in, resolve}
 use Rattle.tree_core.specs.Faults.{count_after, counted}
 use Rattle.tree_core.specs.Hearing.{Made, MadeSome}
@@ -23,7 +23,7 @@ faults_after-append count (one ∷ calls) more = faults_after-append (fault_behi
 counted_later : (count : ℕ) → count ≤ counted count
 counted_later count = omega arith
 
-behind_later : (count : ℕ) (answer : Answered) → count ≤ fault_behind count answer
+behind_later : (count : ℕ) (answer : CallAnswer) → count ≤ fault_behind count answer
 behind_later count (call.bytes items) = omega arith
 behind_later count (call.entries items) = omega arith
 behind_later count (call.told answer) = omega arith
@@ -40,7 +40,7 @@ faults_after-later count (one ∷ calls) =
     let rest = faults_after-later (fault_behind count one.answer) calls in omega arith
 
 -- the count behind an answer, as the trait says it and as the call says it
-answered_counts : (X : Type 0) (tell : X → Answered) (count : ℕ) → ((value : X) → fault_behind count (tell value) ≡ count) → (result : Result X TreeError) → count_after count result ≡ fault_behind count (answered tell result)
+answered_counts : (X : Type 0) (tell : X → CallAnswer) (count : ℕ) → ((value : X) → fault_behind count (tell value) ≡ count) → (result : Result X TreeError) → count_after count result ≡ fault_behind count (answered tell result)
 answered_counts X tell count quiet (Ok value) = sym (quiet value)
 answered_counts X tell count quiet (Err Absent) = refl
 answered_counts X tell count quiet (Err WrongKind) = refl

@@ -9,7 +9,7 @@ use Rattle.std.specs.FinMap.{nat_cmp-IsAntisymmetric, slice_cmp-IsAntisymmetric,
 use Rattle.std.proofs.lemmas.Bool.{cases_lt}
 use Rattle.std.proofs.lemmas.List.{take-take, length-take-le, length-take, length-append, take_all, take_at, take_more}
 use Rattle.tree_core.specs.Content.{Place, above, names_cmp, place_cmp, place_cmp_total}
-use Rattle.tree_core.specs.TreeState.{IsFront}
+use Rattle.tree_core.specs.TreeState.{IsPlaceFront}
 
 then_equal : (o p : Ordering) → ordering_then o p ≡ Equal → p ≡ Equal
 then_equal Less p e = cc
@@ -86,27 +86,27 @@ cases_place x y =
     ] refl
 
 -- a front of the place above is a front of the place
-pub IsFront-above : (front place : Place) → IsFront front (take (length place - 1) place) → IsFront front place
+pub IsFront-above : (front place : Place) → IsPlaceFront front (take (length place - 1) place) → IsPlaceFront front place
 IsFront-above front place is =
     let len : length front ≤ length place - 1 = omega (arith, ap length is, length-take (length front) (take (length place - 1) place), length-take (length place - 1) place) in
     sym (take-take (length front) (length place - 1) place len) ∙ is
 
 -- a shorter front of the place is a front of the place above
-pub IsFront-at_above : (front place : Place) → IsFront front place → length front < length place → IsFront front (take (length place - 1) place)
+pub IsFront-at_above : (front place : Place) → IsPlaceFront front place → length front < length place → IsPlaceFront front (take (length place - 1) place)
 IsFront-at_above front place is shorter = take-take (length front) (length place - 1) place (omega arith) ∙ is
 
 pub length-above : (place : Place) → length (take (length place - 1) place) ≡ length place - 1
 length-above place = length-take-le (length place - 1) place (omega arith)
 
 -- the longest of the shorter fronts is the place above
-pub above_or_shorter : (front place : Place) → IsFront front place → length front < length place → (front ≡ take (length place - 1) place) ⊎ (length front < length place - 1)
+pub above_or_shorter : (front place : Place) → IsPlaceFront front place → length front < length place → (front ≡ take (length place - 1) place) ⊎ (length front < length place - 1)
 above_or_shorter front place is shorter =
     elim (cases_lt (length front) (length place - 1)) [
       | inl lt ↦ inr lt
       | inr ge ↦ let same : length front ≡ length place - 1 = omega arith in inl (sym is ∙ ap (λ n. take n place) same)
     ]
 
-pub IsFront-itself : (place : Place) → IsFront place place
+pub IsFront-itself : (place : Place) → IsPlaceFront place place
 IsFront-itself place = take_all (length place) place (omega arith)
 
 -- a place that is not the root is the place above, and its last name

@@ -5,20 +5,20 @@ use Rattle.std.proofs.lemmas.List.{take-take, length-take, length-append, take_m
 use Rattle.std.proofs.lemmas.Bool.{cases_lt}
 use Rattle.std.specs.FinMap as map
 use Rattle.std.specs.FinMap.{get-insert, get-empty, same_map}
-use Rattle.tree_core.specs.Content.{Content, Place, Node, file, folder, place_cmp, place_cmp_total, IsRooted}
+use Rattle.tree_core.specs.Content.{Content, Place, TreeNode, file, folder, place_cmp, place_cmp_total, IsRooted}
 use Rattle.std.specs.BTreeMap.{insert_entry}
 use Rattle.std.specs.Result.{OnOk, OnErr}
 use Rattle.tree_core.specs.Stored.{content_of, node_of, stored_at, with_root, IsSound}
-use Rattle.tree_core.specs.declared.nodes.Stored.{Stored}
+use Rattle.tree_core.specs.declared.nodes.StoredNode.{StoredNode}
 use Rattle.tree_core.specs.declared.nodes.PutError.{PutError}
-use Rattle.tree_core.specs.TreeState.{root_alone, IsFront, Clashes, at_folder, below_file, Puts, IsClosedAbove}
+use Rattle.tree_core.specs.TreeState.{root_alone, IsPlaceFront, Clashes, at_folder, below_file, Puts, IsClosedAbove}
 use Rattle.tree_core.proofs.PlaceLemmas.{place_cmp-IsAntisymmetric, place_is_itself, apart, cases_place, IsFront-above, IsFront-at_above, IsFront-itself, length-above, above_or_shorter, last_name}
 use Rattle.tree_core.proofs.StoredLemmas.{get-content_of, content_of-insert_entry, ordered-insert_entry}
 
-pub get-insert_same : (content : Content) (place : Place) (node : Node) → map.get (map.insert content place node) place ≡ Some node
+pub get-insert_same : (content : Content) (place : Place) (node : TreeNode) → map.get (map.insert content place node) place ≡ Some node
 get-insert_same content place node = get-insert place_cmp_total content place node place ∙ ap (λ b. cond b (Some node) (map.get content place)) (place_is_itself place)
 
-pub get-insert_other : (content : Content) (place other : Place) (node : Node) → other ≢ place → map.get (map.insert content place node) other ≡ map.get content other
+pub get-insert_other : (content : Content) (place other : Place) (node : TreeNode) → other ≢ place → map.get (map.insert content place node) other ≡ map.get content other
 get-insert_other content place other node ne = get-insert place_cmp_total content place node other ∙ ap (λ b. cond b (Some node) (map.get content other)) (apart other place ne)
 
 -- the root alone
@@ -56,7 +56,7 @@ folders_down content place closed (suc more) count e there =
     closed.folders count folder (omega arith) here
 
 -- the place above is where nothing was, and is folder or absent: what is put there
-module _ (old : Content) (place : Place) (node : Node) (absent : map.get old place ≡ None) (below : 0 < length place) where
+module _ (old : Content) (place : Place) (node : TreeNode) (absent : map.get old place ≡ None) (below : 0 < length place) where
   abbrev above_of : Place
   above_of = take (length place - 1) place
 
@@ -73,14 +73,14 @@ module _ (old : Content) (place : Place) (node : Node) (absent : map.get old pla
   kept_above : map.get mid above_of ≡ map.get old above_of
   kept_above = kept above_of above_apart
 
-  no_front : (other : Place) → ¬ (IsFront other place) → other ≢ place
-  no_front other elsewhere e = elsewhere (subst (λ (p : Place). IsFront p place) (sym e) (IsFront-itself place))
+  no_front : (other : Place) → ¬ (IsPlaceFront other place) → other ≢ place
+  no_front other elsewhere e = elsewhere (subst (λ (p : Place). IsPlaceFront p place) (sym e) (IsFront-itself place))
 
   not_folder : map.get old place ≡ Some folder → ⊥
   not_folder there = let wrong : Some folder ≡ None = sym there ∙ absent in cc
 
   -- where the folder above is there
-  folders_above : IsClosedAbove old place → map.get mid above_of ≡ Some folder → (front : Place) → IsFront front place → length front < length place → map.get old front ≡ Some folder
+  folders_above : IsClosedAbove old place → map.get mid above_of ≡ Some folder → (front : Place) → IsPlaceFront front place → length front < length place → map.get old front ≡ Some folder
   folders_above closed there front is shorter =
       let top : map.get old (take (length front + (length place - 1 - length front)) place) ≡ Some folder = subst (λ (n : ℕ). map.get old (take n place) ≡ Some folder) (omega arith) (sym kept_above ∙ there) in
       subst (λ (p : Place). map.get old p ≡ Some folder) is (folders_down old place closed (length place - 1 - length front) (length front) (omega arith) top)
@@ -115,7 +115,7 @@ module _ (old : Content) (place : Place) (node : Node) (absent : map.get old pla
         others = λ other elsewhere. made.others other (λ is. elsewhere (IsFront-above other place is)) ∙ kept other (no_front other elsewhere);
       }
     where
-      omega_front : IsFront place above_of → above_of ≡ place
+      omega_front : IsPlaceFront place above_of → above_of ≡ place
       omega_front is = absurd (omega (arith, ap length is, length-take (length place) above_of, length-above place))
 
   pub no_Clashes-made : map.get mid above_of ≡ None → ¬ (Clashes mid above_of) → ¬ (Clashes old place)
@@ -155,19 +155,19 @@ IsClosedAbove-rooted content place rooted =
     }
 
 -- in a rooted content, what stands above anything is a folder
-folders_above_held : (content : Content) (place : Place) (node : Node) → IsRooted content → map.get content place ≡ Some node → (front : Place) → IsFront front place → length front < length place → map.get content front ≡ Some folder
+folders_above_held : (content : Content) (place : Place) (node : TreeNode) → IsRooted content → map.get content place ≡ Some node → (front : Place) → IsPlaceFront front place → length front < length place → map.get content front ≡ Some folder
 folders_above_held content place node rooted held front is shorter =
     let top : map.get content (take (length place - 1) place) ≡ Some folder = rooted.above (take (length place - 1) place) (get_or place (length place - 1) []) node (subst (λ (p : Place). map.get content p ≡ Some node) (last_name place [] (omega arith)) held) in
     let down : map.get content (take (length front + (length place - 1 - length front)) place) ≡ Some folder = subst (λ (n : ℕ). map.get content (take n place) ≡ Some folder) (omega arith) top in
     subst (λ (p : Place). map.get content p ≡ Some folder) is (folders_down content place (IsClosedAbove-rooted content place rooted) (length place - 1 - length front) (length front) (omega arith) down)
 
 -- in place of a file
-pub Puts-over_file : (old : Content) (place : Place) (bytes : List ℕ) (node : Node) → IsRooted old → map.get old place ≡ Some (file bytes) → Puts old (map.insert old place node) place node
+pub Puts-over_file : (old : Content) (place : Place) (bytes : List ℕ) (node : TreeNode) → IsRooted old → map.get old place ≡ Some (file bytes) → Puts old (map.insert old place node) place node
 Puts-over_file old place bytes node rooted held =
     record {
       there = get-insert_same old place node;
       above = λ front is shorter. get-insert_other old place front node (shorter_apart front place shorter) ∙ folders_above_held old place (file bytes) rooted held front is shorter;
-      others = λ other elsewhere. get-insert_other old place other node (λ e. elsewhere (subst (λ (p : Place). IsFront p place) (sym e) (IsFront-itself place)));
+      others = λ other elsewhere. get-insert_other old place other node (λ e. elsewhere (subst (λ (p : Place). IsPlaceFront p place) (sym e) (IsFront-itself place)));
     }
 
 pub no_Clashes-over_file : (old : Content) (place : Place) (bytes : List ℕ) → IsRooted old → map.get old place ≡ Some (file bytes) → ¬ (Clashes old place)
@@ -175,16 +175,16 @@ no_Clashes-over_file old place bytes rooted held (at_folder is) = let wrong : So
 no_Clashes-over_file old place bytes rooted held (below_file front other is shorter there) =
     let wrong : Some (file other) ≡ Some folder = sym there ∙ folders_above_held old place (file bytes) rooted held front is shorter in cc
 
-front_of_front : (place above : Place) (name : List ℕ) → IsFront (above ++ name ∷ []) place → IsFront above place × (length above < length place)
+front_of_front : (place above : Place) (name : List ℕ) → IsPlaceFront (above ++ name ∷ []) place → IsPlaceFront above place × (length above < length place)
 front_of_front place above name is =
     let len : length (above ++ name ∷ []) ≡ length above + 1 = length-append above (name ∷ []) in
     let fits : length above + 1 ≤ length place = omega (arith, ap length is, length-take (length (above ++ name ∷ [])) place, len) in
     (sym (take-take (length above) (length (above ++ name ∷ [])) place (omega (arith, len))) ∙ ap (take (length above)) is ∙ take_at above (name ∷ []) (length above) refl, omega (arith, fits))
 
-full_front : (front place : Place) → IsFront front place → length place ≤ length front → front ≡ place
+full_front : (front place : Place) → IsPlaceFront front place → length place ≤ length front → front ≡ place
 full_front front place is long = sym is ∙ take_all (length front) place long
 
-pub IsRooted-Puts : (old new : Content) (place : Place) (node : Node) → IsRooted old → Puts old new place node → map.get old place ≢ Some folder → IsRooted new
+pub IsRooted-Puts : (old new : Content) (place : Place) (node : TreeNode) → IsRooted old → Puts old new place node → map.get old place ≢ Some folder → IsRooted new
 IsRooted-Puts old new place node rooted puts ne =
     record {
       root = elim (cases_place place []) [
@@ -214,13 +214,13 @@ not_root_held : (content : Content) (place : Place) → IsRooted content → map
 not_root_held content place rooted ne e = ne (ap (map.get content) e ∙ rooted.root)
 
 -- the entries after nothing or something was added
-pub IsSound-added : (entries after : List (Place × Stored)) (place : Place) (stored : Stored) (r : Result (Unit {0}) PutError) → IsSound entries → stored_at entries place ≡ None → T (map.is_sorted place_cmp (with_root after)) → OnOk r (Puts (content_of entries) (content_of after) place (node_of stored)) → OnErr r (after ≡ entries) → IsSound after
+pub IsSound-added : (entries after : List (Place × StoredNode)) (place : Place) (stored : StoredNode) (r : Result (Unit {0}) PutError) → IsSound entries → stored_at entries place ≡ None → T (map.is_sorted place_cmp (with_root after)) → OnOk r (Puts (content_of entries) (content_of after) place (node_of stored)) → OnErr r (after ≡ entries) → IsSound after
 IsSound-added entries after place stored (Ok u) sound absent ordered ok err =
     let nothing : map.get (content_of entries) place ≡ None = get-content_of entries place sound.ordered ∙ absent in
     record { ordered = ordered; rooted = IsRooted-Puts (content_of entries) (content_of after) place (node_of stored) sound.rooted ok (λ e. let wrong : Some folder ≡ None = sym e ∙ nothing in cc) }
 IsSound-added entries after place stored (Err error) sound absent ordered ok err = subst IsSound (sym err) sound
 
-module _ (entries after : List (Place × Stored)) (place : Place) (stored : Stored) (bytes : List ℕ) (sound : IsSound entries) (held : stored_at entries place ≡ Some (file bytes))
+module _ (entries after : List (Place × StoredNode)) (place : Place) (stored : StoredNode) (bytes : List ℕ) (sound : IsSound entries) (held : stored_at entries place ≡ Some (file bytes))
     (is : after ≡ insert_entry place_cmp entries place stored) where
   there_before : map.get (content_of entries) place ≡ Some (file bytes)
   there_before = get-content_of entries place sound.ordered ∙ held
@@ -243,6 +243,6 @@ module _ (entries after : List (Place × Stored)) (place : Place) (stored : Stor
   pub replaced_IsSound : IsSound after
   replaced_IsSound =
       record {
-        ordered = subst (λ (es : List (Place × Stored)). T (map.is_sorted place_cmp (with_root es))) (sym is) (ordered-insert_entry place stored entries below_root sound.ordered);
+        ordered = subst (λ (es : List (Place × StoredNode)). T (map.is_sorted place_cmp (with_root es))) (sym is) (ordered-insert_entry place stored entries below_root sound.ordered);
         rooted = IsRooted-Puts (content_of entries) (content_of after) place (node_of stored) sound.rooted replaced_Puts no_folder;
       }

@@ -2,20 +2,20 @@
 use Rattle.std.specs.Prelude.{◌≡◌, ◌≢◌, ℕ, Bool, false, List, Option, Some, None, Result, Ok, Err, map, is_some, IsSorted}
 use Rattle.std.specs.Ordering.{nat_cmp, on}
 use Rattle.std.specs.Cmp.Lexicographic.{slice_cmp}
-use Rattle.tree_core.specs.Content.{Content, Node, file, folder, is_file, node_at, entries_in, resolve, Listed}
+use Rattle.tree_core.specs.Content.{Content, TreeNode, file, folder, is_file, node_at, entries_in, resolve, ListedEntry}
 use Rattle.tree_core.specs.declared.tree.TreeError.{TreeError}
 use Rattle.tree_core.specs.declared.tree.TreeError.TheVariants.{Absent, WrongKind, Failed, Memory}
 use Rattle.tree_core.specs.declared.tree.Entry.{Entry}
 
 -- `read`: the bytes of a file, Absent where nothing stands, WrongKind at a folder
-abbrev pub ReadAnswers : Option Node → Result (List ℕ) TreeError → Type 0
+abbrev pub ReadAnswers : Option TreeNode → Result (List ℕ) TreeError → Type 0
 ReadAnswers there (Ok bytes) = there ≡ Some (file bytes)
 ReadAnswers there (Err Absent) = there ≡ None
 ReadAnswers there (Err WrongKind) = there ≡ Some folder
 ReadAnswers there (Err Failed) = Unit {0}
 ReadAnswers there (Err Memory) = Unit {0}
 
-abbrev pub listed : Entry → Listed
+abbrev pub listed : Entry → ListedEntry
 listed entry = (entry.name, entry.is_file)
 
 -- `list`: the entries of a folder, Absent where nothing stands, WrongKind at a file
@@ -27,17 +27,17 @@ ListAnswers content path (Err Failed) = Unit {0}
 ListAnswers content path (Err Memory) = Unit {0}
 
 -- a file stands there
-abbrev pub has_file : Option Node → Bool
+abbrev pub has_file : Option TreeNode → Bool
 has_file None = false
 has_file (Some node) = is_file node
 
 -- `is_file`: whether a file stands there
-abbrev pub FileAnswers : Option Node → Result Bool TreeError → Type 0
+abbrev pub FileAnswers : Option TreeNode → Result Bool TreeError → Type 0
 FileAnswers there (Ok answer) = answer ≡ has_file there
 FileAnswers there (Err error) = Unit {0}
 
 -- `exists`: whether anything stands there
-abbrev pub ExistsAnswers : Option Node → Result Bool TreeError → Type 0
+abbrev pub ExistsAnswers : Option TreeNode → Result Bool TreeError → Type 0
 ExistsAnswers there (Ok answer) = answer ≡ is_some there
 ExistsAnswers there (Err error) = Unit {0}
 

@@ -10,9 +10,9 @@ use Rattle.std.specs.FinMap as map
 use Rattle.deny_text.specs.Path.{components_of, join_of}
 
 -- a file with its bytes, or a folder
-pub data Node : Type 0 where
-  file : List ℕ → Node
-  folder : Node
+pub data TreeNode : Type 0 where
+  file : List ℕ → TreeNode
+  folder : TreeNode
 
 -- where something stands: the names that lead to it from the root
 abbrev pub Place : Type 0
@@ -34,7 +34,7 @@ pub place_cmp_total : IsTotalOrder place_cmp
 place_cmp_total = then_total (on_total above (lists_total nat_list_cmp_total)) (lists_total nat_list_cmp_total)
 
 abbrev pub Content : Type 0
-Content = map.FinMap place_cmp Node
+Content = map.FinMap place_cmp TreeNode
 
 -- one part of a path: the root leads to the root, `.` stays, `..` goes to the folder above (at the root it stays),
 -- and a name goes below
@@ -53,19 +53,19 @@ abbrev pub JoinGoesOn : Type 0
 JoinGoesOn = (folder path : List ℕ) → resolve (join_of folder path) ≡ fold step (resolve folder) (components_of path)
 
 -- what stands at a path
-abbrev pub node_at : Content → List ℕ → Option Node
+abbrev pub node_at : Content → List ℕ → Option TreeNode
 node_at content path = map.get content (resolve path)
 
-abbrev pub is_file : Node → Bool
+abbrev pub is_file : TreeNode → Bool
 is_file (file bytes) = true
 is_file folder = false
 
 -- an entry of a listing: a name, and whether it is a file
-abbrev pub Listed : Type 0
-Listed = List ℕ × Bool
+abbrev pub ListedEntry : Type 0
+ListedEntry = List ℕ × Bool
 
 -- what stands at the second place, as an entry of the folder at the first, where it stands right in it
-abbrev pub entry_in : Place → Place → Node → Option Listed
+abbrev pub entry_in : Place → Place → TreeNode → Option ListedEntry
 entry_in [] [] node = None
 entry_in [] (name ∷ []) node = Some (name, is_file node)
 entry_in [] (name ∷ below ∷ rest) node = None
@@ -73,10 +73,10 @@ entry_in (at ∷ place) [] node = None
 entry_in (at ∷ place) (name ∷ rest) node = if bytes_eq at name then entry_in place rest node else None
 
 -- what stands right in a folder, in byte order of names
-abbrev pub entries_in : Content → Place → List Listed
+abbrev pub entries_in : Content → Place → List ListedEntry
 entries_in content place = filter_map (λ e. entry_in place e.0 e.1) (map.entries content)
 
 -- the root is a folder, and so is what any entry stands in
 pub record IsRooted (content : Content) : Type 0 where
   pub root : map.get content [] ≡ Some folder
-  pub above : (place : Place) (name : List ℕ) (node : Node) → map.get content (place ++ name ∷ []) ≡ Some node → map.get content place ≡ Some folder
+  pub above : (place : Place) (name : List ℕ) (node : TreeNode) → map.get content (place ++ name ∷ []) ≡ Some node → map.get content place ≡ Some folder

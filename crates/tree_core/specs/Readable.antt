@@ -9,5 +9,5 @@ byte_limit = 67_108_864
 
 -- A file within the limit is read; what is no file, as a pipe or a device, only where its path was named. A device's length
 -- says nothing.
-abbrev pub IsRead : Metadata → Bool → Type 0
-IsRead there is_named = (IsFile (file_type there) × (metadata_len there ≤ byte_limit)) ⊎ ((¬ (IsFile (file_type there))) × (is_named ≡ true))
+abbrev pub IsReadable : Metadata → Bool → Type 0
+IsReadable there is_named = (IsFile (file_type there) × (metadata_len there ≤ byte_limit)) ⊎ ((¬ (IsFile (file_type there))) × (is_named ≡ true))

@@ -14,14 +14,14 @@ names_entry name =
     else (if bytes_eq name (codes "..") then false else true))
 
 -- each name that is told ends with the byte 0
-abbrev pub names_told : List ℕ → List (List ℕ)
-names_told bytes = filter names_entry (slice_split (λ byte. byte == 0) bytes)
+abbrev pub names_in_listing : List ℕ → List (List ℕ)
+names_in_listing bytes = filter names_entry (slice_split (λ byte. byte == 0) bytes)
 
 -- these are the names, each as often, that a folder has told from before up to after
 pub record TellsNames (before after : Option (List ℕ)) (names : List (List ℕ)) : Type 0 where
   pub bytes : List ℕ
   pub told : Consumes before after bytes
-  pub same : IsPermutation (names_told bytes) names
+  pub same : IsPermutation (names_in_listing bytes) names
 
-abbrev pub names_of : List Entry → List (List ℕ)
-names_of entries = map (λ (entry : Entry). entry.name) entries
+abbrev pub system_names : List Entry → List (List ℕ)
+system_names entries = map (λ (entry : Entry). entry.name) entries

@@ -2,23 +2,23 @@
 use Rattle.std.specs.Prelude.{◌≡◌, ℕ, Bool, List, [], ◌∷◌, map, is_some, Option, Some, None, Result, Ok, Err}
 use Rattle.tree_core.specs.Answer.{has_file, listed}
 use Rattle.tree_core.specs.Call as call
-use Rattle.tree_core.specs.Call.{Asked, Answered, Call}
-use Rattle.tree_core.specs.Content.{Content, Node, file, folder, entries_in, node_at, resolve}
+use Rattle.tree_core.specs.Call.{CallKind, CallAnswer, Call}
+use Rattle.tree_core.specs.Content.{Content, TreeNode, file, folder, entries_in, node_at, resolve}
 use Rattle.tree_core.specs.Faults.{counted}
 use Rattle.tree_core.specs.declared.tree.TreeError.{TreeError}
 use Rattle.tree_core.specs.declared.tree.TreeError.TheVariants.{Absent, WrongKind, Failed, Memory}
 use Rattle.tree_core.specs.declared.tree.Entry.{Entry}
 
-abbrev pub refused : TreeError → Answered
-refused Absent = call.absent
-refused WrongKind = call.wrong_kind
-refused Failed = call.failed
-refused Memory = call.no_memory
+abbrev pub refusal_answer : TreeError → CallAnswer
+refusal_answer Absent = call.absent
+refusal_answer WrongKind = call.wrong_kind
+refusal_answer Failed = call.failed
+refusal_answer Memory = call.no_memory
 
 -- what was answered, by how a value is told
-abbrev pub answered : {T : Type 0} → (T → Answered) → Result T TreeError → Answered
+abbrev pub answered : {T : Type 0} → (T → CallAnswer) → Result T TreeError → CallAnswer
 answered tell (Ok value) = tell value
-answered tell (Err error) = refused error
+answered tell (Err error) = refusal_answer error
 
 abbrev pub read_call : List ℕ → Result (List ℕ) TreeError → Call
 read_call path result = record { asked = call.read; path = path; answer = answered call.bytes result }
@@ -35,7 +35,7 @@ exists_call path result = record { asked = call.exists; path = path; answer = an
 -- ---- how often calls failed
 
 -- the count behind a call that was answered so: one more where it failed, up to the last number
-abbrev pub fault_behind : ℕ → Answered → ℕ
+abbrev pub fault_behind : ℕ → CallAnswer → ℕ
 fault_behind count (call.bytes items) = count
 fault_behind count (call.entries items) = count
 fault_behind count (call.told answer) = count
@@ -52,26 +52,26 @@ faults_after count (one ∷ calls) = faults_after (fault_behind count one.answer
 -- ---- what a content answers
 
 -- to a read, by what stands there
-abbrev pub read_answer : Option Node → Answered
+abbrev pub read_answer : Option TreeNode → CallAnswer
 read_answer None = call.absent
 read_answer (Some folder) = call.wrong_kind
 read_answer (Some (file bytes)) = call.bytes bytes
 
 -- to a listing, by what stands there and what stands in it
-abbrev pub list_answer : List (List ℕ × Bool) → Option Node → Answered
+abbrev pub list_answer : List (List ℕ × Bool) → Option TreeNode → CallAnswer
 list_answer items None = call.absent
 list_answer items (Some folder) = call.entries items
 list_answer items (Some (file bytes)) = call.wrong_kind
 
 -- to a call at a path
-abbrev pub content_answer : Content → Asked → List ℕ → Answered
+abbrev pub content_answer : Content → CallKind → List ℕ → CallAnswer
 content_answer content call.read path = read_answer (node_at content path)
 content_answer content call.list path = list_answer (entries_in content (resolve path)) (node_at content path)
 content_answer content call.is_file path = call.told (has_file (node_at content path))
 content_answer content call.exists path = call.told (is_some (node_at content path))
 
 -- the answer is this one, but for a failure and for want of memory
-abbrev pub IsUnlessLost : Answered → Answered → Type 0
+abbrev pub IsUnlessLost : CallAnswer → CallAnswer → Type 0
 IsUnlessLost there call.failed = Unit {0}
 IsUnlessLost there call.no_memory = Unit {0}
 IsUnlessLost there (call.bytes items) = call.bytes items ≡ there

@@ -3,7 +3,7 @@ use Rattle.std.specs.Prelude.{◌≡◌, ℕ, ◌+◌, ◌-◌, ◌<◌, ◌==�
 use Rattle.std.specs.Coded.{Coded, code_by, coded×, coded_ℕ, coded_list, coded_option}
 use Rattle.std.specs.List.{list_any}
 use Rattle.std.specs.FinMap as map
-use Rattle.tree_core.specs.Content.{Content, Place, Node, file, folder}
+use Rattle.tree_core.specs.Content.{Content, Place, TreeNode, file, folder}
 use Rattle.tree_core.specs.Call.{Call, call_code}
 use Rattle.tree_core.specs.Faults.{counted}
 
@@ -15,20 +15,20 @@ pub record TreeState : Type 0 where
   pub failing : List ℕ
   pub calls : List Call
 
-abbrev pub bytes_of : Node → Option (List ℕ)
+abbrev pub bytes_of : TreeNode → Option (List ℕ)
 bytes_of (file bytes) = Some bytes
 bytes_of folder = None
 
-abbrev pub node_from : Option (List ℕ) → Node
+abbrev pub node_from : Option (List ℕ) → TreeNode
 node_from (Some bytes) = file bytes
 node_from None = folder
 
-pub node_from-bytes_of : (node : Node) → node_from (bytes_of node) ≡ node
+pub node_from-bytes_of : (node : TreeNode) → node_from (bytes_of node) ≡ node
 node_from-bytes_of (file bytes) = refl
 node_from-bytes_of folder = refl
 
 -- a node is stored as the bytes of a file, if it is one
-abbrev pub node_code : Coded Node
+abbrev pub node_code : Coded TreeNode
 node_code = code_by (Option (List ℕ)) (coded_option (coded_list coded_ℕ)) bytes_of node_from node_from-bytes_of
 
 -- a state is stored as the pairs of its fields
@@ -74,20 +74,20 @@ folder_code =
     code_by (ℕ × List Call) (coded× coded_ℕ (coded_list call_code)) (λ s. (s.faults, s.calls)) (λ p. record { faults = p.0; calls = p.1 }) (λ _. refl)
 
 -- the first names of a place, or all of them
-abbrev pub IsFront : Place → Place → Type 0
-IsFront front place = take (length front) place ≡ front
+abbrev pub IsPlaceFront : Place → Place → Type 0
+IsPlaceFront front place = take (length front) place ≡ front
 
 -- nothing can be put there: a folder stands there, or a file stands above it
 pub data Clashes (content : Content) (place : Place) : Type 0 where
   at_folder : map.get content place ≡ Some folder → Clashes content place
-  below_file : (above : Place) (bytes : List ℕ) → IsFront above place → length above < length place → map.get content above ≡ Some (file bytes) → Clashes content place
+  below_file : (above : Place) (bytes : List ℕ) → IsPlaceFront above place → length above < length place → map.get content above ≡ Some (file bytes) → Clashes content place
 
 -- the node stands there, and what stands above it are folders; all else is as it was
-pub record Puts (old new : Content) (place : Place) (node : Node) : Type 0 where
+pub record Puts (old new : Content) (place : Place) (node : TreeNode) : Type 0 where
   pub there : map.get new place ≡ Some node
-  pub above : (front : Place) → IsFront front place → length front < length place → map.get new front ≡ Some folder
-  pub others : (other : Place) → ¬ (IsFront other place) → map.get new other ≡ map.get old other
+  pub above : (front : Place) → IsPlaceFront front place → length front < length place → map.get new front ≡ Some folder
+  pub others : (other : Place) → ¬ (IsPlaceFront other place) → map.get new other ≡ map.get old other
 
 -- what stands above a place, but not right above it, stands in folders
 pub record IsClosedAbove (content : Content) (place : Place) : Type 0 where
-  pub folders : (count : ℕ) (node : Node) → count + 1 < length place → map.get content (take (count + 1) place) ≡ Some node → map.get content (take count place) ≡ Some folder
+  pub folders : (count : ℕ) (node : TreeNode) → count + 1 < length place → map.get content (take (count + 1) place) ≡ Some node → map.get content (take count place) ≡ Some folder

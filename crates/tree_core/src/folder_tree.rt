@@ -13,8 +13,8 @@ ghost use Rattle.std.specs.Cmp.Lexicographic.{slice_cmp};
 ghost use Rattle.tree_core.specs.Answer.{FailsOrLacksMemory, IsInNameOrder};
 ghost use Rattle.tree_core.specs.Faults.{count_after};
 ghost use Rattle.tree_core.specs.Trace.{read_call, list_call, file_call, exists_call};
-ghost use Rattle.tree_core.specs.Readable.{IsRead};
-ghost use Rattle.tree_core.specs.SystemNames.{TellsNames, names_entry, names_of, names_told};
+ghost use Rattle.tree_core.specs.Readable.{IsReadable};
+ghost use Rattle.tree_core.specs.SystemNames.{TellsNames, names_entry, system_names, names_in_listing};
 
 use crate::trace::Trace;
 use crate::tree::{Entries, Entry, Tree, TreeError};
@@ -233,8 +233,8 @@ fn is_there<R: Files>(rt: &R, path: &str) -> Result<bool, TreeError>
 fn readable(found: &Option<Metadata>, is_named: bool) -> Result<(), TreeError>
     ensures absent { (result ≡ Err TreeError.Absent) ↔ (found.now ≡ None) }
     ensures folder { ForSome found.now (λ there. (result ≡ Err TreeError.WrongKind) ↔ IsDir (file_type there)) }
-    ensures read { OnOk result (ForSome found.now (λ there. IsRead there is_named)) }
-    ensures fails { result ≡ Err TreeError.Failed → ForSome found.now (λ there. ¬ (IsRead there is_named)) }
+    ensures read { OnOk result (ForSome found.now (λ there. IsReadable there is_named)) }
+    ensures fails { result ≡ Err TreeError.Failed → ForSome found.now (λ there. ¬ (IsReadable there is_named)) }
     ensures no_memory { result ≢ Err TreeError.Memory }
 {
     let Some(there) = found else {
@@ -412,7 +412,7 @@ fn list_opened<R: Files, D: Read>(
     folder: &mut D,
 ) -> Result<Entries, TreeError>
     ensures told { IfOk result
-        (λ entries. TellsNames (D.remaining folder.old) (D.remaining folder.new) (names_of entries)) }
+        (λ entries. TellsNames (D.remaining folder.old) (D.remaining folder.new) (system_names entries)) }
     ensures ordered { IfOk result IsInNameOrder }
 {
     let names = names_in(alloc, folder)?;
@@ -426,7 +426,7 @@ fn entries_named<R: Files>(
     path: &str,
     names: Vec<Text>,
 ) -> Result<Entries, TreeError>
-    ensures { IfOk result (λ entries. names_of entries ≡ names.items) }
+    ensures { IfOk result (λ entries. system_names entries ≡ names.items) }
 {
     let mut entries = Entries::new(alloc);
     'names: for name in names {
@@ -482,7 +482,7 @@ fn names_in<D: Read>(alloc: Global, folder: &mut D) -> Result<Vec<Text>, TreeErr
 
 /// The names of entries among those that are told, each of which ends with the byte 0.
 fn split_names(alloc: Global, bytes: &[u8]) -> Result<Vec<Text>, TreeError>
-    ensures { IfOk result (λ names. names.items ≡ names_told bytes.now) }
+    ensures { IfOk result (λ names. names.items ≡ names_in_listing bytes.now) }
 {
     let mut names = Vec::new(alloc);
     'names: for name in bytes.split(|byte| *byte == 0) {

@@ -10,7 +10,7 @@ ghost use Rattle.tree_core.specs.Found.{found_node};
 ghost use Rattle.tree_core.specs.Trace.{read_call, list_call, file_call, exists_call};
 ghost use Rattle.tree_core.specs.TreeState.{root_alone, fails_next, begun, after_call, Clashes, Puts};
 
-use crate::nodes::{Found, Nodes, PutError, Stored, entries_at, find, put_at};
+use crate::nodes::{FoundNode, Nodes, PutError, StoredNode, entries_at, find, put_at};
 use crate::place::Place;
 use crate::trace::Trace;
 use crate::tree::{Entries, Tree, TreeError};
@@ -92,7 +92,7 @@ impl MemTree {
     {
         let place = Place::resolve(self.alloc, path)?;
         let copy = Vec::from_slice(self.alloc, bytes)?;
-        let node = Stored::File(Bytes::from(copy));
+        let node = StoredNode::File(Bytes::from(copy));
         put_at(&mut self.nodes, self.alloc, &place, node)
     }
 
@@ -113,7 +113,7 @@ impl MemTree {
     }
 
     /// What stands at a path.
-    fn look(&self, alloc: Global, path: &str) -> Result<Found<'_>, AllocError>
+    fn look(&self, alloc: Global, path: &str) -> Result<FoundNode<'_>, AllocError>
         ensures { IfOk result (λ found. found_node found ≡ node_at self.now.content path.now) }
     {
         let place = Place::resolve(alloc, path)?;
@@ -121,7 +121,7 @@ impl MemTree {
     }
 
     /// What stands at a place.
-    fn at(&self, place: &Place) -> Found<'_>
+    fn at(&self, place: &Place) -> FoundNode<'_>
         ensures { found_node result ≡ get self.now.content place.now }
     {
         find(&self.nodes, place)
@@ -145,9 +145,9 @@ impl MemTree {
     {
         self.start_call()?;
         match self.look(alloc, path)? {
-            Found::Nothing => Err(TreeError::Absent),
-            Found::Folder => Err(TreeError::WrongKind),
-            Found::File(bytes) => {
+            FoundNode::Nothing => Err(TreeError::Absent),
+            FoundNode::Folder => Err(TreeError::WrongKind),
+            FoundNode::File(bytes) => {
                 let copy = Vec::from_slice(alloc, bytes.items())?;
                 Ok(Bytes::from(copy))
             }
@@ -165,9 +165,9 @@ impl MemTree {
         self.start_call()?;
         let place = Place::resolve(alloc, path)?;
         match self.at(&place) {
-            Found::Nothing => Err(TreeError::Absent),
-            Found::File(_) => Err(TreeError::WrongKind),
-            Found::Folder => {
+            FoundNode::Nothing => Err(TreeError::Absent),
+            FoundNode::File(_) => Err(TreeError::WrongKind),
+            FoundNode::Folder => {
                 let entries = self.entries(alloc, &place)?;
                 Ok(entries)
             }
@@ -184,8 +184,8 @@ impl MemTree {
     {
         self.start_call()?;
         match self.look(alloc, path)? {
-            Found::File(_) => Ok(true),
-            Found::Nothing | Found::Folder => Ok(false),
+            FoundNode::File(_) => Ok(true),
+            FoundNode::Nothing | FoundNode::Folder => Ok(false),
         }
     }
 
@@ -199,8 +199,8 @@ impl MemTree {
     {
         self.start_call()?;
         match self.look(alloc, path)? {
-            Found::Nothing => Ok(false),
-            Found::File(_) | Found::Folder => Ok(true),
+            FoundNode::Nothing => Ok(false),
+            FoundNode::File(_) | FoundNode::Folder => Ok(true),
         }
     }
 }

@@ -37,48 +37,48 @@ impl From<AllocError> for PutError {
 
 /// What stands at a place below the root.
 #[derive(Drop)]
-pub enum Stored {
+pub enum StoredNode {
     File(Bytes),
     Folder,
 }
 
-impl Stored {
+impl StoredNode {
     ghost use Rattle.tree_core.specs.Content.{is_file};
     ghost use Rattle.tree_core.specs.Stored.{node_of};
 
     fn is_file(&self) -> bool
         ensures { result ≡ is_file (node_of self.now) }
     {
-        matches!(self, Stored::File(_))
+        matches!(self, StoredNode::File(_))
     }
 }
 
 /// The nodes below the root, by their places.
-pub type Nodes = BTreeMap<Place, Stored>;
+pub type Nodes = BTreeMap<Place, StoredNode>;
 
 /// What a look-up finds.
-pub enum Found<'a> {
+pub enum FoundNode<'a> {
     Nothing,
     File(&'a Bytes),
     Folder,
 }
 
 /// What stands at a place.
-pub fn find<'a>(nodes: &'a Nodes, place: &Place) -> Found<'a>
+pub fn find<'a>(nodes: &'a Nodes, place: &Place) -> FoundNode<'a>
     ensures { found_node result ≡ stored_at nodes.now.entries place.now }
 {
     if place.is_root() {
-        return Found::Folder;
+        return FoundNode::Folder;
     }
     match nodes.get(place) {
-        None => Found::Nothing,
-        Some(Stored::Folder) => Found::Folder,
-        Some(Stored::File(bytes)) => Found::File(bytes),
+        None => FoundNode::Nothing,
+        Some(StoredNode::Folder) => FoundNode::Folder,
+        Some(StoredNode::File(bytes)) => FoundNode::File(bytes),
     }
 }
 
 /// Puts a node in place of a file, or where nothing stands, and makes its missing parents folders.
-pub fn put_at(nodes: &mut Nodes, alloc: Global, place: &Place, node: Stored) -> Result<(), PutError>
+pub fn put_at(nodes: &mut Nodes, alloc: Global, place: &Place, node: StoredNode) -> Result<(), PutError>
     requires { IsSound nodes.old.entries }
     ensures sound { IsSound nodes.new.entries }
     ensures ok { OnOk result
@@ -88,9 +88,9 @@ pub fn put_at(nodes: &mut Nodes, alloc: Global, place: &Place, node: Stored) -> 
     ensures err { OnErr result (nodes.new.entries ≡ nodes.old.entries) }
 {
     match find(nodes, place) {
-        Found::Folder => Err(PutError::Clash),
-        Found::Nothing => add(nodes, alloc, place, node),
-        Found::File(_) => {
+        FoundNode::Folder => Err(PutError::Clash),
+        FoundNode::Nothing => add(nodes, alloc, place, node),
+        FoundNode::File(_) => {
             let key = place.copy(alloc)?;
             match nodes.insert(key, node) {
                 Ok(_) => Ok(()),
@@ -101,7 +101,7 @@ pub fn put_at(nodes: &mut Nodes, alloc: Global, place: &Place, node: Stored) -> 
 }
 
 /// Adds a node where nothing stands, and makes its missing parents folders.
-fn add(nodes: &mut Nodes, alloc: Global, place: &Place, node: Stored) -> Result<(), PutError>
+fn add(nodes: &mut Nodes, alloc: Global, place: &Place, node: StoredNode) -> Result<(), PutError>
     requires ordered { T (finite.is_sorted place_cmp (with_root nodes.old.entries)) }
     requires absent { stored_at nodes.old.entries place.now ≡ None }
     requires closed { IsClosedAbove (content_of nodes.old.entries) place.now }
@@ -119,14 +119,14 @@ fn add(nodes: &mut Nodes, alloc: Global, place: &Place, node: Stored) -> Result<
         Err(_) => return Err(PutError::Memory),
     }
     match find(nodes, &above) {
-        Found::Folder => return Ok(()),
-        Found::File(_) => {
+        FoundNode::Folder => return Ok(()),
+        FoundNode::File(_) => {
             let _added = nodes.remove(place);
             return Err(PutError::Clash);
         }
-        Found::Nothing => {}
+        FoundNode::Nothing => {}
     }
-    match add(nodes, alloc, &above, Stored::Folder) {
+    match add(nodes, alloc, &above, StoredNode::Folder) {
         Ok(()) => Ok(()),
         Err(error) => {
             let _added = nodes.remove(place);
@@ -158,7 +158,7 @@ fn push_entry(
     alloc: Global,
     folder: &Place,
     place: &Place,
-    node: &Stored,
+    node: &StoredNode,
 ) -> Result<(), AllocError>
     ensures { OnOk result (map listed entries.new
         ≡ map listed entries.old ++ option_to_list (entry_in folder.now place.now (node_of node.now))) }

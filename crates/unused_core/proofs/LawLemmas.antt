@@ -17,7 +17,7 @@ use Rattle.policy_parts.specs.declared.names.LintLevel.TheVariants.{Allow, Warn,
 use Rattle.policy_parts.specs.Names.{severity_of_lint}
 use Rattle.valid_policy.specs.declared.policy.ValidConfig.{ValidConfig}
 use Rattle.valid_policy.specs.declared.policy.ValidException.{ValidException}
-use Rattle.unused_core.specs.Laws.{EntriesLie, ExceptionIsHit, ExceptionIsTold, LabelsLie, LicenseIsHit, LicenseIsTold, Tell, TellUnused}
+use Rattle.unused_core.specs.Laws.{EntriesLie, ExceptionIsHit, ExceptionIsTold, EntryLabelsLie, LicenseIsHit, LicenseIsTold, Tell, TellUnused}
 use Rattle.unused_core.specs.Unused.{allows, excepts, exception_findings, is_exception_hit, is_license_hit, is_own, license_findings, severity_asked, unhit, unused_exception, unused_findings, unused_license}
 
 -- ---- hits by their tests
@@ -152,15 +152,15 @@ asked_lie : (Q : Diag → Type 0) (told : Severity → List Diag) → ((severity
 asked_lie Q told each None = tt
 asked_lie Q told each (Some severity) = each severity
 
-pub labels_lie : (files : List File) (policy : ValidConfig) (hits : List Hit) → EntriesLie files policy → AllByRecursion (LabelsLie files) (unused_findings policy hits)
+pub labels_lie : (files : List File) (policy : ValidConfig) (hits : List Hit) → EntriesLie files policy → AllByRecursion (EntryLabelsLie files) (unused_findings policy hits)
 labels_lie files policy hits lie =
     let LicenseLies : Licensee → Type 0 = λ licensee. PlaceLies files policy.file_id licensee.0.span in
     let ExceptionLies : ValidException → Type 0 = λ exception. PlaceLies files exception.file_id exception.spec.span in
-    both_parts (LabelsLie files) (license_findings policy (is_license_hit hits)) (exception_findings policy (is_exception_hit hits))
-    (asked_lie (LabelsLie files) (λ severity. map (unused_license severity policy.file_id) (unhit (is_license_hit hits) 0 policy.allowed))
-    (λ severity. told_lie LicenseLies (LabelsLie files) (unused_license severity policy.file_id) (λ x lies. (lies, tt)) (unhit (is_license_hit hits) 0 policy.allowed)
+    both_parts (EntryLabelsLie files) (license_findings policy (is_license_hit hits)) (exception_findings policy (is_exception_hit hits))
+    (asked_lie (EntryLabelsLie files) (λ severity. map (unused_license severity policy.file_id) (unhit (is_license_hit hits) 0 policy.allowed))
+    (λ severity. told_lie LicenseLies (EntryLabelsLie files) (unused_license severity policy.file_id) (λ x lies. (lies, tt)) (unhit (is_license_hit hits) 0 policy.allowed)
     (unhit_lie LicenseLies (is_license_hit hits) 0 policy.allowed lie.allowed)) (severity_asked policy.unused_allowed_license))
-    (asked_lie (LabelsLie files) (λ severity. map (unused_exception severity) (filter (is_own policy.file_id) (unhit (is_exception_hit hits) 0 policy.exceptions)))
-    (λ severity. told_lie ExceptionLies (LabelsLie files) (unused_exception severity) (λ x lies. (lies, tt)) (filter (is_own policy.file_id) (unhit (is_exception_hit hits) 0 policy.exceptions))
+    (asked_lie (EntryLabelsLie files) (λ severity. map (unused_exception severity) (filter (is_own policy.file_id) (unhit (is_exception_hit hits) 0 policy.exceptions)))
+    (λ severity. told_lie ExceptionLies (EntryLabelsLie files) (unused_exception severity) (λ x lies. (lies, tt)) (filter (is_own policy.file_id) (unhit (is_exception_hit hits) 0 policy.exceptions))
     (filter_lie ExceptionLies (is_own policy.file_id) (unhit (is_exception_hit hits) 0 policy.exceptions) (unhit_lie ExceptionLies (is_exception_hit hits) 0 policy.exceptions lie.exceptions)))
     (severity_asked policy.unused_license_exception))

@@ -9,8 +9,8 @@ use Rattle.diag_core.specs.Pack.{PackOf, with_crate}
 use Rattle.policy_entries.specs.declared.licensee.Licensee.{Licensee}
 use Rattle.valid_policy.specs.declared.policy.ValidConfig.{ValidConfig}
 use Rattle.valid_policy.specs.declared.policy.ValidException.{ValidException}
-use Rattle.unused_core.specs.Flags.{flag_at, flags_by, flags_of, pack_by, with_more}
-use Rattle.unused_core.specs.Unused.{exception_findings, is_exception_hit, is_license_hit, last_pack, own_told, license_findings, severity_asked, unhit, unused_license}
+use Rattle.unused_core.specs.Flags.{flag_at, flags_by, flags_of, unused_pack, with_more}
+use Rattle.unused_core.specs.Unused.{exception_findings, is_exception_hit, is_license_hit, last_pack, own_findings, license_findings, severity_asked, unhit, unused_license}
 use Rattle.unused_core.proofs.FlagLemmas.{flag_is}
 
 -- ---- packs that gain findings
@@ -35,13 +35,13 @@ unhit_is test items =
 about_none : (findings : List Diag) → map (with_crate None) findings ≡ findings
 about_none findings = map-id findings
 
-pub pack_is : (policy : ValidConfig) (hits : List Hit) → pack_by policy (flags_by policy hits) ≡ last_pack policy hits
+pub pack_is : (policy : ValidConfig) (hits : List Hit) → unused_pack policy (flags_by policy hits) ≡ last_pack policy hits
 pack_is policy hits =
     ap (λ (findings : List Diag). record { check = Licenses; kid = None; findings = findings })
     (ap (λ (l : List Licensee). option_map_or (λ severity. map (unused_license severity policy.file_id) l) (severity_asked policy.unused_allowed_license) []
     ++ exception_findings policy (flag_at (flags_of (length policy.exceptions) (is_exception_hit hits)))) (unhit_is (is_license_hit hits) policy.allowed)
     ∙ ap (λ (l : List ValidException). license_findings policy (is_license_hit hits)
-    ++ option_map_or (λ severity. own_told severity policy.file_id l) (severity_asked policy.unused_license_exception) [])
+    ++ option_map_or (λ severity. own_findings severity policy.file_id l) (severity_asked policy.unused_license_exception) [])
     (unhit_is (is_exception_hit hits) policy.exceptions))
 
 -- ---- steps

@@ -46,8 +46,8 @@ marked_by flags (Some hit) = marked flags hit
 abbrev pub with_more : PackOf → List Diag → PackOf
 with_more pack more = record { check = pack.check; kid = pack.kid; findings = pack.findings ++ map (with_crate pack.kid) more }
 
-abbrev pub pack_by : ValidConfig → Flags → PackOf
-pack_by policy flags = record {
+abbrev pub unused_pack : ValidConfig → Flags → PackOf
+unused_pack policy flags = record {
   check = Licenses;
   kid = None;
   findings = license_findings policy (flag_at flags.allowed) ++ exception_findings policy (flag_at flags.exceptions);

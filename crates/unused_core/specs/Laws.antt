@@ -63,11 +63,11 @@ pub record EntriesLie (files : List File) (policy : ValidConfig) : Type 0 where
   pub allowed : AllByRecursion (λ (licensee : Licensee). PlaceLies files policy.file_id licensee.0.span) policy.allowed
   pub exceptions : AllByRecursion (λ (exception : ValidException). PlaceLies files exception.file_id exception.spec.span) policy.exceptions
 
-abbrev pub LabelLies : List File → Label → Type 0
-LabelLies files label = PlaceLies files label.file_id label.range
+abbrev pub EntryLabelLies : List File → Label → Type 0
+EntryLabelLies files label = PlaceLies files label.file_id label.range
 
-abbrev pub LabelsLie : List File → Diag → Type 0
-LabelsLie files told = AllByRecursion (LabelLies files) told.diag.labels
+abbrev pub EntryLabelsLie : List File → Diag → Type 0
+EntryLabelsLie files told = AllByRecursion (EntryLabelLies files) told.diag.labels
 
 abbrev pub LabelsLieInThePolicy : Type 0
-LabelsLieInThePolicy = (files : List File) (policy : ValidConfig) (hits : List Hit) → EntriesLie files policy → AllByRecursion (LabelsLie files) (unused_findings policy hits)
+LabelsLieInThePolicy = (files : List File) (policy : ValidConfig) (hits : List Hit) → EntriesLie files policy → AllByRecursion (EntryLabelsLie files) (unused_findings policy hits)

@@ -52,16 +52,16 @@ policy licenses grants licensees exceptions = record {
 
 -- ---- findings
 
-pub record Told : Type 0 where
+pub record UnusedFinding : Type 0 where
   pub severity : Severity
   pub code : Option (List ℕ)
   pub message : List ℕ
   pub labels : List Label
 
-abbrev told_by : Diag → Told
+abbrev told_by : Diag → UnusedFinding
 told_by finding = record { severity = finding.diag.severity; code = finding.diag.code; message = finding.diag.message; labels = finding.diag.labels }
 
-abbrev license_told : Severity → ℕ → ℕ → Told
+abbrev license_told : Severity → ℕ → ℕ → UnusedFinding
 license_told severity start end = record {
   severity = severity;
   code = Some (codes "license-not-encountered");
@@ -69,7 +69,7 @@ license_told severity start end = record {
   labels = label_at Primary 0 (from_to start end) (codes "unmatched license allowance") ∷ [];
 }
 
-abbrev exception_told : Severity → ℕ → ℕ → Told
+abbrev exception_told : Severity → ℕ → ℕ → UnusedFinding
 exception_told severity start end = record {
   severity = severity;
   code = Some (codes "license-exception-not-encountered");
@@ -77,23 +77,23 @@ exception_told severity start end = record {
   labels = label_at Primary 0 (from_to start end) (codes "unmatched license exception") ∷ [];
 }
 
-pub record Row : Type 0 where
+pub record UnusedRow : Type 0 where
   pub policy : ValidConfig
   pub hits : List Hit
-  pub told : List Told
+  pub told : List UnusedFinding
 
 -- what the definition makes of a row
-abbrev pub reported : Row → Row
-reported row = record { policy = row.policy; hits = row.hits; told = map told_by (unused_findings row.policy row.hits) }
+abbrev pub reported_row : UnusedRow → UnusedRow
+reported_row row = record { policy = row.policy; hits = row.hits; told = map told_by (unused_findings row.policy row.hits) }
 
-abbrev row : ValidConfig → List Hit → List Told → Row
+abbrev row : ValidConfig → List Hit → List UnusedFinding → UnusedRow
 row policy hits told = record { policy = policy; hits = hits; told = told }
 
 -- an allowed `MIT` and `Zlib`, and two exceptions of the policy's file
 abbrev usual : LintLevel → LintLevel → ValidConfig
 usual licenses grants = policy licenses grants (mit ∷ zlib ∷ []) (exception 0 61 62 (mit ∷ zlib ∷ []) ∷ exception 0 90 91 [] ∷ [])
 
-abbrev pub unused_rows : List Row
+abbrev pub unused_rows : List UnusedRow
 unused_rows =
     -- no hit at all
     row (usual Warn Warn) [] (license_told Warning 21 24 ∷ license_told Warning 28 32 ∷ exception_told Warning 61 62 ∷ exception_told Warning 90 91 ∷ [])

@@ -74,8 +74,8 @@ abbrev pub is_own : ℕ → ValidException → Bool
 is_own file exception = exception.file_id == file
 
 -- of some exceptions those of the file are told
-abbrev pub own_told : Severity → ℕ → List ValidException → List Diag
-own_told severity file exceptions = map (unused_exception severity) (filter (is_own file) exceptions)
+abbrev pub own_findings : Severity → ℕ → List ValidException → List Diag
+own_findings severity file exceptions = map (unused_exception severity) (filter (is_own file) exceptions)
 
 -- each allowed licensee that is no hit, in sorted order
 abbrev pub license_findings : ValidConfig → (ℕ → Bool) → List Diag
@@ -85,7 +85,7 @@ license_findings policy is_hit =
 -- each exception of the policy's own file none of whose entries is a hit
 abbrev pub exception_findings : ValidConfig → (ℕ → Bool) → List Diag
 exception_findings policy is_hit =
-    option_map_or (λ severity. own_told severity policy.file_id (unhit is_hit 0 policy.exceptions)) (severity_asked policy.unused_license_exception) []
+    option_map_or (λ severity. own_findings severity policy.file_id (unhit is_hit 0 policy.exceptions)) (severity_asked policy.unused_license_exception) []
 
 -- what is told after all crates, of which these are the hits
 abbrev pub unused_findings : ValidConfig → List Hit → List Diag

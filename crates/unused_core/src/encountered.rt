@@ -13,12 +13,12 @@ use valid_policy::ValidConfig;
 
 /// Which allowed licensees of a policy, and which exceptions, have allowed a term so far, by their places.
 #[derive(Drop)]
-pub struct Encountered {
+pub struct EntryHits {
     allowed: Vec<bool>,
     exceptions: Vec<bool>,
 }
 
-impl Model for Encountered {
+impl Model for EntryHits {
     ghost use Rattle.unused_core.specs.Flags.{Flags};
 
     ghost Value = { Flags };
@@ -43,14 +43,14 @@ fn set(flags: &mut Vec<bool>, place: usize)
     }
 }
 
-impl Encountered {
+impl EntryHits {
     /// Nothing so far, of the entries of a policy.
-    pub fn of(alloc: Global, policy: &ValidConfig) -> Result<Encountered, AllocError>
+    pub fn of(alloc: Global, policy: &ValidConfig) -> Result<EntryHits, AllocError>
         ensures { IfOk result (λ e. e ≡ flags_by policy.now []) }
     {
         let allowed = unset(alloc, policy.allowed.items().len())?;
         let exceptions = unset(alloc, policy.exceptions.items().len())?;
-        Ok(Encountered {
+        Ok(EntryHits {
             allowed,
             exceptions,
         })

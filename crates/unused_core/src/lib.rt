@@ -5,5 +5,5 @@ pub mod encountered;
 pub mod laws;
 pub mod unused;
 
-pub use encountered::Encountered;
+pub use encountered::EntryHits;
 pub use unused::last_pack;

@@ -1,12 +1,12 @@
 //! The last pack: what of a policy no crate needed.
 ghost use Rattle.std.specs.Prelude.{◌≡◌, ◌∷◌, [], List, IfOk, OnOk, map, if◌then◌else◌};
 ghost use Rattle.certificate_core.specs.declared.verdict.Hit.{Hit};
-ghost use Rattle.unused_core.specs.Flags.{flag_at, flags_by, pack_by, with_more};
+ghost use Rattle.unused_core.specs.Flags.{flag_at, flags_by, unused_pack, with_more};
 ghost use Rattle.unused_core.specs.Unused as spec;
-ghost use Rattle.unused_core.specs.Unused.{exception_findings, license_findings, own_told};
+ghost use Rattle.unused_core.specs.Unused.{exception_findings, license_findings, own_findings};
 ghost use Rattle.unused_core.specs.Unused.{severity_asked, unhit, unused_exception, unused_license};
 
-use crate::encountered::Encountered;
+use crate::encountered::EntryHits;
 use diag_core::licenses::Code;
 use diag_core::{Check, Diag, FileId, Label, Labels, Notes, Pack, Severity};
 use policy_entries::Licensee;
@@ -110,7 +110,7 @@ fn push_own(
     file: FileId,
     exception: &ValidException,
 ) -> Result<(), AllocError>
-    ensures { OnOk result (pack.new ≡ with_more pack.old (own_told severity file (exception.now ∷ []))) }
+    ensures { OnOk result (pack.new ≡ with_more pack.old (own_findings severity file (exception.now ∷ []))) }
 {
     if exception.file_id != file {
         return Ok(());
@@ -129,7 +129,7 @@ fn push_exception(
     exception: &ValidException,
     is_hit: bool,
 ) -> Result<(), AllocError>
-    ensures { OnOk result (pack.new ≡ with_more pack.old (own_told severity file
+    ensures { OnOk result (pack.new ≡ with_more pack.old (own_findings severity file
         (if is_hit then [] else exception.now ∷ []))) }
 {
     if is_hit {
@@ -175,7 +175,7 @@ fn push_exceptions(
     policy: &ValidConfig,
     flags: &[bool],
 ) -> Result<(), AllocError>
-    ensures { OnOk result (pack.new ≡ with_more pack.old (own_told severity policy.now.file_id
+    ensures { OnOk result (pack.new ≡ with_more pack.old (own_findings severity policy.now.file_id
         (unhit (flag_at flags.now) 0 policy.now.exceptions))) }
 {
     'exceptions: for (place, exception) in policy.exceptions.items().iter().enumerate() {
@@ -227,9 +227,9 @@ fn push_unused_exceptions(
 fn pack_of(
     alloc: Global,
     policy: &ValidConfig,
-    encountered: &Encountered,
+    encountered: &EntryHits,
 ) -> Result<Pack, AllocError>
-    ensures { IfOk result (λ pack. pack ≡ pack_by policy.now encountered.now) }
+    ensures { IfOk result (λ pack. pack ≡ unused_pack policy.now encountered.now) }
 {
     let mut pack = Pack::new(alloc, Check::Licenses);
     push_unused_licenses(alloc, &mut pack, policy, encountered.allowed())?;
@@ -242,7 +242,7 @@ fn pack_of(
 pub fn last_pack(
     alloc: Global,
     policy: &ValidConfig,
-    encountered: &Encountered,
+    encountered: &EntryHits,
 ) -> Result<Pack, AllocError>
     ensures { (hits : List Hit) → encountered.now ≡ flags_by policy.now hits
         → IfOk result (λ pack. pack ≡ spec.last_pack policy.now hits) }

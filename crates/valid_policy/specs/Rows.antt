@@ -67,19 +67,19 @@ grant name licensees = record { spec = record { name = name; span = record { sta
 abbrev pub policy : List LicenseReq → List Grant → Policy
 policy licensees grants = record { ignores = false; registries = []; ignore_sources = []; allowed = licensees; exceptions = grants }
 
-pub record Row : Type 0 where
+pub record HitRow : Type 0 where
   pub policy : Policy
   pub term : LicenseReq
   pub hit : Option Hit
 
 -- what the definition makes of a row
-abbrev pub computed : Row → Row
+abbrev pub computed : HitRow → HitRow
 computed row = record { policy = row.policy; term = row.term; hit = hit_of row.policy crate_a row.term }
 
-abbrev row : List LicenseReq → List Grant → LicenseReq → Option Hit → Row
+abbrev row : List LicenseReq → List Grant → LicenseReq → Option Hit → HitRow
 row licensees grants term hit = record { policy = policy licensees grants; term = term; hit = hit }
 
-abbrev pub rows : List Row
+abbrev pub rows : List HitRow
 rows =
     -- allowed, by its place in the list
     row (mit ∷ zlib ∷ []) (grant (codes "a") (isc ∷ []) ∷ []) mit (Some (Allowed 0))

@@ -9,7 +9,7 @@ use Rattle.diag_core.specs.declared.label.LabelStyle.TheVariants.{Primary}
 use Rattle.diag_core.specs.declared.severity.Severity.TheVariants.{Error}
 use Rattle.policy_entries.specs.declared.clarification.Clarification.{Clarification}
 use Rattle.policy_spec.specs.Spec.{Spec}
-use Rattle.validate_core.specs.Valid.{clarification_judged, error_at, told_by, removed_key}
+use Rattle.validate_core.specs.Valid.{clarification_judged, error_at, findings_by_each, removed_key}
 
 abbrev lists : CatalogLists
 lists = record {
@@ -56,7 +56,7 @@ escaped : clarification_judged lists 3 (clarification (codes "MIT AND") true) �
 escaped = refl
 
 -- the others are told, each in its place
-one_of_three : told_by (clarification_judged lists 3)
+one_of_three : findings_by_each (clarification_judged lists 3)
     (clarification [] false ∷ clarification (codes "ISC") false ∷ clarification (codes "x") false ∷ [])
     ≡ told (at 10 10) (codes "expression is empty") ∷ told (at 10 11) (codes "unknown term") ∷ []
 one_of_three = refl

@@ -6,7 +6,7 @@ use Rattle.std.specs.List.{AllZip, cons_option, filter_map}
 use Rattle.std.specs.Option.{option_to_list}
 use Rattle.std.specs.Result.{result_ok, result_err}
 use Rattle.diag_core.specs.declared.diagnostic.Diagnostic.{Diagnostic}
-use Rattle.validate_core.specs.Valid.{Judged, kept_by, told_by}
+use Rattle.validate_core.specs.Valid.{ItemOrFinding, kept_by, findings_by_each}
 
 alone : {A : Type 0} (o : Option A) → cons_option o [] ≡ option_to_list o
 alone None = refl
@@ -15,24 +15,24 @@ alone (Some x) = refl
 pub filter_map_more : {A B : Type 0} (h : A → Option B) (xs : List A) (x : A) → filter_map h (xs ++ x ∷ []) ≡ filter_map h xs ++ option_to_list (h x)
 filter_map_more h xs x = filter_map-append h xs (x ∷ []) ∙ ap (λ more. filter_map h xs ++ more) (alone (h x))
 
-pub kept_more : {A B : Type 0} (judge : A → Judged B) (items : List A) (item : A) → kept_by judge (items ++ item ∷ []) ≡ kept_by judge items ++ option_to_list (result_ok (judge item))
+pub kept_more : {A B : Type 0} (judge : A → ItemOrFinding B) (items : List A) (item : A) → kept_by judge (items ++ item ∷ []) ≡ kept_by judge items ++ option_to_list (result_ok (judge item))
 kept_more judge items item = filter_map_more (λ one. result_ok (judge one)) items item
 
-pub told_more : {A B : Type 0} (judge : A → Judged B) (items : List A) (item : A) → told_by judge (items ++ item ∷ []) ≡ told_by judge items ++ option_to_list (result_err (judge item))
+pub told_more : {A B : Type 0} (judge : A → ItemOrFinding B) (items : List A) (item : A) → findings_by_each judge (items ++ item ∷ []) ≡ findings_by_each judge items ++ option_to_list (result_err (judge item))
 told_more judge items item = filter_map_more (λ one. result_err (judge one)) items item
 
 -- findings so far, and those of one item more
-pub found_more : {A B : Type 0} (judge : A → Judged B) (items : List A) (item : A) (judged : Judged B) (first before after : List Diagnostic)
-    → judged ≡ judge item → after ≡ before ++ option_to_list (result_err judged) → before ≡ first ++ told_by judge items
-    → after ≡ first ++ told_by judge (items ++ item ∷ [])
+pub found_more : {A B : Type 0} (judge : A → ItemOrFinding B) (items : List A) (item : A) (judged : ItemOrFinding B) (first before after : List Diagnostic)
+    → judged ≡ judge item → after ≡ before ++ option_to_list (result_err judged) → before ≡ first ++ findings_by_each judge items
+    → after ≡ first ++ findings_by_each judge (items ++ item ∷ [])
 found_more judge items item judged first before after is added so_far =
     added ∙ ap (λ b. b ++ option_to_list (result_err judged)) so_far
-    ∙ append_assoc first (told_by judge items) (option_to_list (result_err judged))
-    ∙ ap (λ j. first ++ (told_by judge items ++ option_to_list (result_err j))) is
+    ∙ append_assoc first (findings_by_each judge items) (option_to_list (result_err judged))
+    ∙ ap (λ j. first ++ (findings_by_each judge items ++ option_to_list (result_err j))) is
     ∙ ap (λ t. first ++ t) (sym (told_more judge items item))
 
 -- what is kept so far, and one item more
-pub held_more : {A B : Type 0} (judge : A → Judged B) (items : List A) (item : A) (judged : Judged B) (before after : List B)
+pub held_more : {A B : Type 0} (judge : A → ItemOrFinding B) (items : List A) (item : A) (judged : ItemOrFinding B) (before after : List B)
     → judged ≡ judge item → after ≡ before ++ option_to_list (result_ok judged) → before ≡ kept_by judge items
     → after ≡ kept_by judge (items ++ item ∷ [])
 held_more judge items item judged before after is added so_far =

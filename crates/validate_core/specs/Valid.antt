@@ -14,12 +14,12 @@ use Rattle.diag_core.specs.declared.label.LabelStyle.TheVariants.{Primary}
 use Rattle.diag_core.specs.declared.severity.Severity.TheVariants.{Error}
 use Rattle.url.specs.Parts.{Parts}
 use Rattle.source_core.specs.Git.{normal_address}
-use Rattle.source_core.specs.Reading.{Read, address_of}
+use Rattle.source_core.specs.Reading.{SourceReading, address_of}
 use Rattle.term_core.specs.Faults.{first_fault}
 use Rattle.term_core.specs.Reasons.{reason_text}
 use Rattle.term_core.specs.declared.error.ParseError.{ParseError}
 use Rattle.term_core.specs.declared.mode.ParseMode.{ParseMode}
-use Rattle.spdx_core.specs.Reading.{ExpressionView, expression_of}
+use Rattle.spdx_core.specs.Reading.{ExpressionView, expression_of_text}
 use Rattle.policy_entries.specs.Licensees.{moved}
 use Rattle.policy_entries.specs.declared.clarification.Clarification.{Clarification}
 use Rattle.policy_entries.specs.declared.exception.Exception.{Exception}
@@ -31,14 +31,14 @@ use Rattle.valid_policy.specs.declared.policy.ValidException.{ValidException}
 -- ---- items that are kept, or are found wrong
 
 -- an item as it is kept, or what is told of it
-abbrev pub Judged : Type 0 → Type 0
-Judged T = Result T Diagnostic
+abbrev pub ItemOrFinding : Type 0 → Type 0
+ItemOrFinding T = Result T Diagnostic
 
-abbrev pub kept_by : {A B : Type 0} → (A → Judged B) → List A → List B
+abbrev pub kept_by : {A B : Type 0} → (A → ItemOrFinding B) → List A → List B
 kept_by judge items = filter_map (λ item. result_ok (judge item)) items
 
-abbrev pub told_by : {A B : Type 0} → (A → Judged B) → List A → List Diagnostic
-told_by judge items = filter_map (λ item. result_err (judge item)) items
+abbrev pub findings_by_each : {A B : Type 0} → (A → ItemOrFinding B) → List A → List Diagnostic
+findings_by_each judge items = filter_map (λ item. result_err (judge item)) items
 
 -- an error at a place of a file, and what is said there
 abbrev pub error_at : ℕ → List ℕ → Span → List ℕ → Diagnostic
@@ -47,11 +47,11 @@ error_at file message place words = record (plain Error) { message = message; la
 -- ---- addresses whose crates are passed over
 
 -- An address that can be read is kept in normal form, as those of git repositories are.
-abbrev pub address_judged_by : ℕ → Span → Read Parts → Judged Parts
+abbrev pub address_judged_by : ℕ → Span → SourceReading Parts → ItemOrFinding Parts
 address_judged_by file place (Ok address) = Ok (normal_address address)
 address_judged_by file place (Err refused) = Err (error_at file (codes "failed to parse url") place (codes "invalid address"))
 
-abbrev pub address_judged : ℕ → Spanned (List ℕ) → Judged Parts
+abbrev pub address_judged : ℕ → Spanned (List ℕ) → ItemOrFinding Parts
 address_judged file string = address_judged_by file string.span (address_of string.value)
 
 -- ---- clarifications
@@ -76,7 +76,7 @@ no_expression file clarification fault =
     error_at file (codes "unable to parse license expression") (place_in clarification fault.span) (reason_text fault.reason)
 
 -- The first fault, or else the expression. A text has one of the two, so the last case never comes.
-abbrev pub clarification_judged_by : ℕ → Clarification → Option ParseError → Option ExpressionView → Judged ValidClarification
+abbrev pub clarification_judged_by : ℕ → Clarification → Option ParseError → Option ExpressionView → ItemOrFinding ValidClarification
 clarification_judged_by file clarification (Some fault) expression = Err (no_expression file clarification fault)
 clarification_judged_by file clarification None (Some expression) = Ok (with_expression clarification expression)
 clarification_judged_by file clarification None None = Err (plain Error)
@@ -91,10 +91,10 @@ strict = record {
 }
 
 -- A clarification is kept where its expression is one in strict mode.
-abbrev pub clarification_judged : CatalogLists → ℕ → Clarification → Judged ValidClarification
+abbrev pub clarification_judged : CatalogLists → ℕ → Clarification → ItemOrFinding ValidClarification
 clarification_judged lists file clarification =
     let text = clarification.expression.value in
-    clarification_judged_by file clarification (first_fault strict lists text) (expression_of strict lists text)
+    clarification_judged_by file clarification (first_fault strict lists text) (expression_of_text strict lists text)
 
 -- ---- exceptions, and keys that were removed
 
@@ -132,10 +132,10 @@ valid_part lists file config = record {
 }
 
 abbrev pub address_findings : ℕ → Config → List Diagnostic
-address_findings file config = told_by (address_judged file) config.private.ignore_sources
+address_findings file config = findings_by_each (address_judged file) config.private.ignore_sources
 
 abbrev pub clarification_findings : CatalogLists → ℕ → Config → List Diagnostic
-clarification_findings lists file config = told_by (clarification_judged lists file) config.clarify
+clarification_findings lists file config = findings_by_each (clarification_judged lists file) config.clarify
 
 -- one for each key, in the order of the table of keys
 abbrev pub removed_findings : ℕ → Config → List Diagnostic

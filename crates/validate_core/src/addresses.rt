@@ -2,9 +2,9 @@
 ghost use Rattle.std.specs.Prelude.{◌≡◌, ◌++◌, IfOk, OnOk};
 ghost use Rattle.std.specs.Result.{result_ok};
 ghost use Rattle.source_core.specs.Reading.{address_of};
-ghost use Rattle.validate_core.specs.Valid.{address_judged, kept_by, told_by};
+ghost use Rattle.validate_core.specs.Valid.{address_judged, kept_by, findings_by_each};
 
-use crate::findings::{Judged, error_at, push_judged};
+use crate::findings::{ItemOrFinding, error_at, push_judged};
 use deny_text::{Spanned, Text};
 use diag_core::FileId;
 use source_core::normalize_git_url;
@@ -35,7 +35,7 @@ fn judge_address(
     alloc: Global,
     file: FileId,
     string: &Spanned<Text>,
-) -> Result<Judged<Url>, AllocError>
+) -> Result<ItemOrFinding<Url>, AllocError>
     ensures { IfOk result (λ judged. judged ≡ address_judged file string.now) }
 {
     match read_address(alloc, string.value.as_str())? {
@@ -59,7 +59,7 @@ pub(crate) fn judge_addresses(
     found: &mut Diagnostics,
 ) -> Result<Urls, AllocError>
     ensures kept { IfOk result (λ kept. kept ≡ kept_by (address_judged file) strings.now) }
-    ensures told { OnOk result (found.new ≡ found.old ++ told_by (address_judged file) strings.now) }
+    ensures told { OnOk result (found.new ≡ found.old ++ findings_by_each (address_judged file) strings.now) }
 {
     let mut kept = Urls::new(alloc);
     'strings: for string in strings {

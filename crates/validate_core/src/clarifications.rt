@@ -3,9 +3,9 @@ ghost use Rattle.std.specs.Prelude.{◌≡◌, ◌++◌, IfOk, OnOk};
 ghost use Rattle.std.specs.List.{AllZip};
 ghost use Rattle.validate_core.specs.Order.{PutsFilesInOrder, PutsJudgedInOrder};
 ghost use Rattle.validate_core.specs.Valid as spec;
-ghost use Rattle.validate_core.specs.Valid.{clarification_judged, kept_by, told_by};
+ghost use Rattle.validate_core.specs.Valid.{clarification_judged, kept_by, findings_by_each};
 
-use crate::findings::{Judged, error_at, push_judged};
+use crate::findings::{ItemOrFinding, error_at, push_judged};
 use crate::order::sort_files;
 use deny_text::Span;
 use diag_core::{Diagnostic, FileId};
@@ -74,7 +74,7 @@ fn judge_clarification<C: Catalog>(
     file: FileId,
     clarification: Clarification,
     catalog: &C,
-) -> Result<Judged<ValidClarification>, AllocError>
+) -> Result<ItemOrFinding<ValidClarification>, AllocError>
     ensures { IfOk result
         (PutsJudgedInOrder (clarification_judged (C.lists catalog.now) file clarification)) }
 {
@@ -99,7 +99,7 @@ pub(crate) fn judge_clarifications<C: Catalog>(
     ensures kept { IfOk result (AllZip PutsFilesInOrder
         (kept_by (clarification_judged (C.lists catalog.now) file) clarifications)) }
     ensures told { OnOk result (found.new
-        ≡ found.old ++ told_by (clarification_judged (C.lists catalog.now) file) clarifications) }
+        ≡ found.old ++ findings_by_each (clarification_judged (C.lists catalog.now) file) clarifications) }
 {
     let mut kept = ValidClarifications::new(alloc);
     'clarifications: for clarification in clarifications.into_vec() {

@@ -9,7 +9,7 @@ use std::alloc::{AllocError, Global};
 use validation_core::Diagnostics;
 
 /// An item as it is kept, or what is told of it.
-pub type Judged<T> = Result<T, Diagnostic>;
+pub type ItemOrFinding<T> = Result<T, Diagnostic>;
 
 /// Where it is told why keys were removed.
 const MIGRATION: &str = "https://github.com/EmbarkStudios/cargo-deny/pull/611";
@@ -32,7 +32,7 @@ pub fn error_at(
 
 /// Puts an item behind those that are kept, or what is told of it behind the findings so far.
 pub(crate) fn push_judged<T: Drop>(
-    judged: Judged<T>,
+    judged: ItemOrFinding<T>,
     kept: &mut ListOf<T>,
     found: &mut Diagnostics,
 ) -> Result<(), AllocError>

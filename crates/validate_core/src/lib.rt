@@ -10,5 +10,5 @@ mod order;
 pub mod validate;
 
 pub use entries::add_exceptions;
-pub use findings::{Judged, error_at};
+pub use findings::{ItemOrFinding, error_at};
 pub use validate::UnvalidatedConfig;

@@ -46,10 +46,10 @@ GainsFront old new all = (front : List Diagnostic) × (rest : List Diagnostic) �
 -- ---- the call
 
 -- the list was sorted, and then of equals the first is kept, and all is told; or memory was wanting, and nothing was taken out
-abbrev pub Ends : {T : Type 0} → (T → T → Bool) → ℕ → List (Spanned T) → List (Spanned T) → List Diagnostic → List Diagnostic
+abbrev pub EndsDedup : {T : Type 0} → (T → T → Bool) → ℕ → List (Spanned T) → List (Spanned T) → List Diagnostic → List Diagnostic
     → Result (Unit {0}) AllocError → Type 0
-Ends eq file sorted new before after (Ok done) = (new ≡ dedup (by_value eq) sorted) × (after ≡ before ++ warnings_of eq file sorted)
-Ends eq file sorted new before after (Err error) = (new ≡ sorted) × GainsFront before after (warnings_of eq file sorted)
+EndsDedup eq file sorted new before after (Ok done) = (new ≡ dedup (by_value eq) sorted) × (after ≡ before ++ warnings_of eq file sorted)
+EndsDedup eq file sorted new before after (Err error) = (new ≡ sorted) × GainsFront before after (warnings_of eq file sorted)
 
 -- items that tie stand in the order in which they stood
 abbrev pub StandsAsBefore : {T : Type 0} → (T → T → Ordering) → List (Spanned T) → List (Spanned T) → Result (Unit {0}) AllocError → Type 0
@@ -61,4 +61,4 @@ pub record Dedups {T : Type 0} (cmp : T → T → Ordering) (eq : T → T → Bo
   pub sorted : List (Spanned T)
   pub sorts : Sorts cmp old sorted
   pub stable : StandsAsBefore cmp old sorted result
-  pub ends : Ends eq file sorted new before after result
+  pub ends : EndsDedup eq file sorted new before after result

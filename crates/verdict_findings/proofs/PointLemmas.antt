@@ -17,7 +17,7 @@ use Rattle.location_core.specs.Location.{PointsAt}
 use Rattle.finding_core.specs.declared.license.LicenseExprInfo.{LicenseExprInfo}
 use Rattle.finding_core.specs.License.{Stands, StandsIn}
 use Rattle.verdict_findings.specs.Findings.{term_label, term_labels}
-use Rattle.verdict_findings.specs.Laws.{LabelsPoint, words_of}
+use Rattle.verdict_findings.specs.Laws.{LabelsPoint, term_text}
 use Rattle.verdict_findings.specs.Places.{all_of, span_by, LabelPoints, PointsBy}
 use Rattle.verdict_findings.proofs.PlaceLemmas.{span_of}
 
@@ -93,13 +93,13 @@ whole_points files file start text None stands =
 whole_points files file start text (Some whole) stands = (stands, refl)
 
 term_points : (files : List File) (nfo : LicenseExprInfo) (text : List ℕ) (place : ℕ) (term : ExpressionReq) (hit : Option Hit) → Stands files nfo text → LiesFrom text place term.span
-    → LabelPoints files nfo (words_of text term) (term_label nfo term.span hit)
+    → LabelPoints files nfo (term_text text term) (term_label nfo term.span hit)
 term_points files nfo text place term hit stands lies =
     let some : term.span.start < term.span.end = lies.some in
     record { of_file = refl; points = part_points files nfo.file_id nfo.offset text term.span (omega arith) lies.start_border lies.end_border nfo.whole stands }
 
 each_points : (files : List File) (nfo : LicenseExprInfo) (text : List ℕ) (place : ℕ) (terms : List ExpressionReq) (hits : List (Option Hit)) → Stands files nfo text
-    → Rise text place (map span_of terms) (length text) → AllZip (λ term label. LabelPoints files nfo (words_of text term) label) terms (term_labels nfo terms hits)
+    → Rise text place (map span_of terms) (length text) → AllZip (λ term label. LabelPoints files nfo (term_text text term) label) terms (term_labels nfo terms hits)
 each_points files nfo text place [] hits stands rise = tt
 each_points files nfo text place (term ∷ terms) [] stands rise =
     (term_points files nfo text place term None stands rise.0, each_points files nfo text term.span.end terms [] stands rise.1)

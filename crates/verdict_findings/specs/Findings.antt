@@ -19,7 +19,7 @@ use Rattle.diag_core.specs.Code.{code_name}
 use Rattle.diag_core.specs.Label.{heap, label_at}
 use Rattle.diag_core.specs.Pack.{PackOf, with_crate}
 use Rattle.finding_core.specs.declared.license.LicenseExprInfo.{LicenseExprInfo}
-use Rattle.verdict_findings.specs.Places.{all_of, span_at}
+use Rattle.verdict_findings.specs.Places.{all_of, span_in_file}
 use Rattle.verdict_findings.specs.Sources.{source_text}
 
 -- what the licence check tells, about no crate yet
@@ -40,7 +40,7 @@ hit_text (Some (Exception exception entry)) = codes "accepted: allowed by except
 hit_text None = codes "rejected: license is not explicitly allowed"
 
 abbrev pub term_label : LicenseExprInfo → Span → Option Hit → Label
-term_label nfo span hit = label_at Primary nfo.file_id (span_at nfo span) (hit_text hit)
+term_label nfo span hit = label_at Primary nfo.file_id (span_in_file nfo span) (hit_text hit)
 
 -- one for each term, in text order, by its own hit; a term behind the end of the hits has none
 abbrev pub term_labels : LicenseExprInfo → List ExpressionReq → List (Option Hit) → List Label
@@ -50,10 +50,10 @@ term_labels nfo (term ∷ terms) (hit ∷ hits) = term_label nfo term.span hit �
 
 -- the whole expression, and where it comes from
 abbrev pub whole_label : LicenseExprInfo → List ℕ → Label
-whole_label nfo words = label_at Secondary nfo.file_id (span_at nfo (all_of words)) (codes "license expression retrieved via " ++ source_text nfo.source)
+whole_label nfo words = label_at Secondary nfo.file_id (span_in_file nfo (all_of words)) (codes "license expression retrieved via " ++ source_text nfo.source)
 
-abbrev pub labels_of : ExpressionView → LicenseExprInfo → List (Option Hit) → List Label
-labels_of expression nfo hits = whole_label nfo expression.text ∷ term_labels nfo expression.terms hits
+abbrev pub verdict_labels : ExpressionView → LicenseExprInfo → List (Option Hit) → List Label
+verdict_labels expression nfo hits = whole_label nfo expression.text ∷ term_labels nfo expression.terms hits
 
 -- ---- findings
 

@@ -12,14 +12,14 @@ use Rattle.verdict_findings.specs.Findings.{term_labels, whole_label}
 use Rattle.verdict_findings.specs.Places.{LabelPoints}
 
 -- what a term is written as
-abbrev pub words_of : List ℕ → ExpressionReq → List ℕ
-words_of text term = slice_range text term.span.start term.span.end
+abbrev pub term_text : List ℕ → ExpressionReq → List ℕ
+term_text text term = slice_range text term.span.start term.span.end
 
 -- The labels of an expression point at it: the first at its whole text, and then one for each term, in text order, at the
 -- words of just that term.
 pub record LabelsPoint (files : List File) (expression : ExpressionView) (nfo : LicenseExprInfo) (hits : List (Option Hit)) : Type 0 where
   pub whole : LabelPoints files nfo expression.text (whole_label nfo expression.text)
-  pub terms : AllZip (λ term label. LabelPoints files nfo (words_of expression.text term) label) expression.terms (term_labels nfo expression.terms hits)
+  pub terms : AllZip (λ term label. LabelPoints files nfo (term_text expression.text term) label) expression.terms (term_labels nfo expression.terms hits)
 
 -- so they do where the expression's text stands where it is said to
 abbrev pub LabelsAlwaysPoint : Type 0

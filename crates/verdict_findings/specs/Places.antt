@@ -14,21 +14,21 @@ span_by start inner None = moved start inner
 span_by start inner (Some whole) = whole
 
 -- a place in an expression's text, as a place in its file; where the string has escapes it is the whole string
-abbrev pub span_at : LicenseExprInfo → Span → Span
-span_at nfo inner = span_by nfo.offset inner nfo.whole
+abbrev pub span_in_file : LicenseExprInfo → Span → Span
+span_in_file nfo inner = span_by nfo.offset inner nfo.whole
 
 abbrev pub FitsBy : ℕ → Option Span → Type 0
 FitsBy place None = place < 2 ^ 64
 FitsBy place (Some whole) = ⊤
 
 -- so far into the expression's text, the place in the file is one of 64 bits
-abbrev pub Fits : LicenseExprInfo → ℕ → Type 0
-Fits nfo far = FitsBy (nfo.offset + far) nfo.whole
+abbrev pub PlaceFits : LicenseExprInfo → ℕ → Type 0
+PlaceFits nfo far = FitsBy (nfo.offset + far) nfo.whole
 
 -- both ends of a place in the text
 pub record HasRoom (nfo : LicenseExprInfo) (span : Span) : Type 0 where
-  pub start : Fits nfo span.start
-  pub end : Fits nfo span.end
+  pub start : PlaceFits nfo span.start
+  pub end : PlaceFits nfo span.end
 
 abbrev pub TermHasRoom : LicenseExprInfo → ExpressionReq → Type 0
 TermHasRoom nfo term = HasRoom nfo term.span

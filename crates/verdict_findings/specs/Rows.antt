@@ -18,7 +18,7 @@ use Rattle.diag_core.specs.Label.{label_at}
 use Rattle.finding_core.specs.declared.license.LicenseExprInfo.{LicenseExprInfo}
 use Rattle.finding_core.specs.declared.license.LicenseExprSource.{LicenseExprSource}
 use Rattle.finding_core.specs.declared.license.LicenseExprSource.TheVariants.{Metadata, UserOverride, LicenseFiles}
-use Rattle.verdict_findings.specs.Findings.{judged, labels_of, skipped, unlicensed}
+use Rattle.verdict_findings.specs.Findings.{judged, verdict_labels, skipped, unlicensed}
 use Rattle.verdict_findings.specs.Sources.{source_text}
 
 -- ---- sources in words
@@ -67,16 +67,16 @@ abbrev escaped : ℕ → ℕ → LicenseExprSource → LicenseExprInfo
 escaped start end source = record { file_id = 1; offset = start; whole = Some (from_to start end); source = source }
 
 -- a label without the file
-pub record Seen : Type 0 where
+pub record LabelSpan : Type 0 where
   pub style : LabelStyle
   pub start : ℕ
   pub end : ℕ
   pub message : List ℕ
 
-abbrev seen : LabelStyle → ℕ → ℕ → List ℕ → Seen
+abbrev seen : LabelStyle → ℕ → ℕ → List ℕ → LabelSpan
 seen style start end message = record { style = style; start = start; end = end; message = message }
 
-abbrev all_seen : ℕ → List Seen → List Label
+abbrev all_seen : ℕ → List LabelSpan → List Label
 all_seen file [] = []
 all_seen file (one ∷ more) = label_at one.style file (from_to one.start one.end) one.message ∷ all_seen file more
 
@@ -88,9 +88,9 @@ pub record LabelRow : Type 0 where
 
 -- what the definition makes of a row
 abbrev pub labelled : LabelRow → LabelRow
-labelled row = record { expression = row.expression; nfo = row.nfo; hits = row.hits; labels = labels_of row.expression row.nfo row.hits }
+labelled row = record { expression = row.expression; nfo = row.nfo; hits = row.hits; labels = verdict_labels row.expression row.nfo row.hits }
 
-abbrev row : LicenseExprInfo → ExpressionView → List (Option Hit) → List Seen → LabelRow
+abbrev row : LicenseExprInfo → ExpressionView → List (Option Hit) → List LabelSpan → LabelRow
 row nfo expression hits labels = record { expression = expression; nfo = nfo; hits = hits; labels = all_seen nfo.file_id labels }
 
 abbrev allowed : List ℕ
@@ -146,19 +146,19 @@ crate_a = record {
 }
 
 -- what a finding says, without its labels
-pub record Said : Type 0 where
+pub record FindingText : Type 0 where
   pub severity : Severity
   pub code : Option (List ℕ)
   pub message : List ℕ
   pub notes : List (List ℕ)
 
-abbrev said_by : Diag → Said
+abbrev said_by : Diag → FindingText
 said_by told = record { severity = told.diag.severity; code = told.diag.code; message = told.diag.message; notes = told.diag.notes }
 
-abbrev said : Severity → List ℕ → List ℕ → List (List ℕ) → Said
+abbrev said : Severity → List ℕ → List ℕ → List (List ℕ) → FindingText
 said severity code message notes = record { severity = severity; code = Some code; message = message; notes = notes }
 
-abbrev pub findings_said : List Said
+abbrev pub findings_said : List FindingText
 findings_said =
     said_by (judged true [] (codes "a note" ∷ codes "another" ∷ []))
     ∷ said_by (judged false [] [])
@@ -166,7 +166,7 @@ findings_said =
     ∷ said_by (skipped crate_a)
     ∷ []
 
-abbrev pub findings_meant : List Said
+abbrev pub findings_meant : List FindingText
 findings_meant =
     said Note (codes "accepted") (codes "license requirements satisfied") (codes "a note" ∷ codes "another" ∷ [])
     ∷ said Error (codes "rejected") (codes "failed to satisfy license requirements") []

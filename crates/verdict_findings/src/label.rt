@@ -2,8 +2,8 @@
 ghost use Rattle.std.specs.Prelude.{◌≡◌, ◌++◌, IfOk, OnOk, All, length};
 ghost use Rattle.certificate_core.specs.Certificates as certificates;
 ghost use Rattle.verdict_findings.specs.Findings as spec;
-ghost use Rattle.verdict_findings.specs.Findings.{hit_text, labels_of};
-ghost use Rattle.verdict_findings.specs.Places.{Fits, TermHasRoom};
+ghost use Rattle.verdict_findings.specs.Findings.{hit_text, verdict_labels};
+ghost use Rattle.verdict_findings.specs.Places.{PlaceFits, TermHasRoom};
 
 use crate::place::span_at;
 use crate::source::source_text;
@@ -68,7 +68,7 @@ fn push_terms(
 }
 
 fn whole_label(alloc: Global, nfo: &LicenseExprInfo, words: &str) -> Result<Label, AllocError>
-    requires { Fits nfo.now (length words.now) }
+    requires { PlaceFits nfo.now (length words.now) }
     ensures { IfOk result (λ label. label ≡ spec.whole_label nfo.now words.now) }
 {
     let source = source_text(alloc, &nfo.source)?;
@@ -88,8 +88,8 @@ pub(crate) fn labels(
     nfo: &LicenseExprInfo,
     hits: &[Option<Hit>],
 ) -> Result<Labels, AllocError>
-    requires { Fits nfo.now (length expression.now.text) }
-    ensures { IfOk result (λ labels. labels ≡ labels_of expression.now nfo.now hits.now) }
+    requires { PlaceFits nfo.now (length expression.now.text) }
+    ensures { IfOk result (λ labels. labels ≡ verdict_labels expression.now nfo.now hits.now) }
 {
     let mut labels = Labels::new(alloc);
     let whole = whole_label(alloc, nfo, expression.as_ref())?;

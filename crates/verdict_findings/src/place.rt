@@ -1,14 +1,14 @@
 //! Places in the text of an expression, as places in its file.
 ghost use Rattle.std.specs.Prelude.{◌≡◌, ◌↔◌, IsTrue};
 ghost use Rattle.verdict_findings.specs.Places as spec;
-ghost use Rattle.verdict_findings.specs.Places.{Fits, HasRoom};
+ghost use Rattle.verdict_findings.specs.Places.{PlaceFits, HasRoom};
 
 use deny_text::Span;
 use finding_core::LicenseExprInfo;
 
 /// Whether the file can hold so many bytes of the text, as the finding requires of the whole text.
 pub fn fits(nfo: &LicenseExprInfo, far: usize) -> bool
-    ensures { IsTrue result ↔ Fits nfo.now far }
+    ensures { IsTrue result ↔ PlaceFits nfo.now far }
 {
     match nfo.whole {
         Some(_) => true,
@@ -20,7 +20,7 @@ pub fn fits(nfo: &LicenseExprInfo, far: usize) -> bool
 /// string.
 pub(crate) fn span_at(nfo: &LicenseExprInfo, inner: Span) -> Span
     requires { HasRoom nfo.now inner }
-    ensures { result ≡ spec.span_at nfo.now inner }
+    ensures { result ≡ spec.span_in_file nfo.now inner }
 {
     match nfo.whole {
         Some(whole) => whole,

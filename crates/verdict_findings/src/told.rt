@@ -2,8 +2,8 @@
 ghost use Rattle.std.specs.Prelude.{◌≡◌, IfOk, length};
 ghost use Rattle.graph_core.specs.Krate.{record_of};
 ghost use Rattle.verdict_findings.specs.Findings as spec;
-ghost use Rattle.verdict_findings.specs.Findings.{labels_of};
-ghost use Rattle.verdict_findings.specs.Places.{Fits};
+ghost use Rattle.verdict_findings.specs.Findings.{verdict_labels};
+ghost use Rattle.verdict_findings.specs.Places.{PlaceFits};
 
 use crate::copy::notes_copy;
 use crate::label::labels;
@@ -73,8 +73,8 @@ pub fn judged(
     hits: &[Option<Hit>],
     notes: &[Text],
 ) -> Result<Diag, AllocError>
-    requires { Fits nfo.now (length expression.now.text) }
-    ensures { let labels = labels_of expression.now nfo.now hits.now in
+    requires { PlaceFits nfo.now (length expression.now.text) }
+    ensures { let labels = verdict_labels expression.now nfo.now hits.now in
         IfOk result (λ told. told ≡ spec.judged accepted labels notes.now) }
 {
     let labels = labels(alloc, expression, nfo, hits)?;

@@ -1,12 +1,12 @@
 -- The crates from what was heard of the metadata's file, by what each step answers.
 use Rattle.std.proofs.Common.{◌≡◌, ◌∙◌, sym, ap, subst, ℕ, List, Option, Some, None, Result, Ok, Err, IfErr}
 use Rattle.tree_core.specs.Call.{Call}
-use Rattle.heard_core.specs.Heard.{IsRead}
+use Rattle.heard_core.specs.Heard.{IsTextRead}
 use Rattle.graph_core.specs.Metadata.{Graph}
 use Rattle.records_core.specs.declared.fault.MetaError.{MetaError}
 use Rattle.records_core.specs.declared.fault.MetaError.TheVariants as records
-use Rattle.records_core.specs.Records.{records_of, IsCause}
-use Rattle.records_core.specs.Told.{Told}
+use Rattle.records_core.specs.Records.{metadata_of, IsMetaCause}
+use Rattle.records_core.specs.Told.{MetadataReading}
 use Rattle.selection_core.specs.declared.selection.BuildError.{BuildError}
 use Rattle.selection_core.specs.declared.selection.BuildError.TheVariants as build
 use Rattle.selection_core.specs.Choice.{Choice}
@@ -17,41 +17,41 @@ use Rattle.heard_core.specs.declared.fault.ReadFault.TheVariants.{Failed, Absent
 use Rattle.workspace_core.specs.declared.error.KratesError.{KratesError}
 use Rattle.workspace_core.specs.declared.error.KratesError.TheVariants.{Memory, NotCarried, MetadataRead, MetadataSyntax, MetadataShape, NoRoots}
 use Rattle.heard_core.specs.Cause.{heard_cause, ReadCounts}
-use Rattle.workspace_core.specs.Krates.{krates_cause, error_of_build, error_of_records, graph_in, graph_told, sparse_dir, AreFrom, GathersBy, TellsGraph}
+use Rattle.workspace_core.specs.Krates.{krates_cause, error_of_build, error_of_records, graph_in, graph_or_error, sparse_dir, AreFrom, GathersBy, AnswersGraph}
 
 -- ---- what is told
 
-error_told : (told : Option (Told Graph)) (error : MetaError) → IsCause error told → TellsGraph (graph_told told) (Err (error_of_records error))
+error_told : (told : Option (MetadataReading Graph)) (error : MetaError) → IsMetaCause error told → AnswersGraph (graph_or_error told) (Err (error_of_records error))
 error_told told records.Memory cause = tt
-error_told told records.Syntax cause = ap graph_told cause
-error_told told (records.Shape fault) cause = ap graph_told cause
+error_told told records.Syntax cause = ap graph_or_error cause
+error_told told (records.Shape fault) cause = ap graph_or_error cause
 
 -- the refusal of a text
 pub text_refused : (text dir : List ℕ) (heard : Result (List ℕ) ReadFault) (error : MetaError) → heard ≡ Ok text → dir ≡ sparse_dir
-    → IsCause error (records_of text dir) → TellsGraph (graph_in heard) (Err (error_of_records error))
+    → IsMetaCause error (metadata_of text dir) → AnswersGraph (graph_in heard) (Err (error_of_records error))
 text_refused text dir heard error is named cause =
-    subst (λ one. TellsGraph (graph_in one) (Err (error_of_records error))) (sym is)
-    (error_told (records_of text sparse_dir) error (subst (λ one. IsCause error (records_of text one)) named cause))
+    subst (λ one. AnswersGraph (graph_in one) (Err (error_of_records error))) (sym is)
+    (error_told (metadata_of text sparse_dir) error (subst (λ one. IsMetaCause error (metadata_of text one)) named cause))
 
 -- the graph of a text
 pub text_told : (text dir : List ℕ) (heard : Result (List ℕ) ReadFault) (graph : Graph) → heard ≡ Ok text → dir ≡ sparse_dir
-    → records_of text dir ≡ Some (Ok graph) → graph_in heard ≡ Ok graph
+    → metadata_of text dir ≡ Some (Ok graph) → graph_in heard ≡ Ok graph
 text_told text dir heard graph is named tells =
-    ap graph_in is ∙ (ap (λ one. graph_told (records_of text one)) (sym named) ∙ ap graph_told tells)
+    ap graph_in is ∙ (ap (λ one. graph_or_error (metadata_of text one)) (sym named) ∙ ap graph_or_error tells)
 
 -- ---- the crates
 
-rootless : (told : Option (Told Graph)) (base excluded unpublished : ℕ) → graph_told told ≡ Err (NoRoots base excluded unpublished) → ⊥
+rootless : (told : Option (MetadataReading Graph)) (base excluded unpublished : ℕ) → graph_or_error told ≡ Err (NoRoots base excluded unpublished) → ⊥
 rootless None base excluded unpublished e = cc
 rootless (Some (Err fault)) base excluded unpublished e = cc
 rootless (Some (Ok graph)) base excluded unpublished e = cc
 
 never_rootless : (heard : Result (List ℕ) ReadFault) (base excluded unpublished : ℕ) → graph_in heard ≡ Err (NoRoots base excluded unpublished) → ⊥
-never_rootless (Ok text) base excluded unpublished e = rootless (records_of text sparse_dir) base excluded unpublished e
+never_rootless (Ok text) base excluded unpublished e = rootless (metadata_of text sparse_dir) base excluded unpublished e
 never_rootless (Err fault) base excluded unpublished e = cc
 
 -- the refusal of the graph
-pub graph_refused : (choice : Choice) (heard : Result (List ℕ) ReadFault) (error : KratesError) → TellsGraph (graph_in heard) (Err error)
+pub graph_refused : (choice : Choice) (heard : Result (List ℕ) ReadFault) (error : KratesError) → AnswersGraph (graph_in heard) (Err error)
     → AreFrom choice heard (Err error)
 graph_refused choice heard Memory tells = tt
 graph_refused choice heard (NotCarried what) tells = tells
@@ -62,13 +62,13 @@ graph_refused choice heard (NoRoots base excluded unpublished) tells = absurd (n
 
 -- the refusal of the selection
 pub build_refused : (choice : Choice) (heard : Result (List ℕ) ReadFault) (graph : Graph) (error : BuildError) → graph_in heard ≡ Ok graph
-    → roots.IsCause graph choice error → AreFrom choice heard (Err (error_of_build error))
+    → roots.IsRootsCause graph choice error → AreFrom choice heard (Err (error_of_build error))
 build_refused choice heard graph build.Memory tells cause = tt
 build_refused choice heard graph (build.NoRoots base excluded unpublished) tells cause = record { graph = graph; tells = tells; lacks = cause }
 
 -- ---- counts
 
-read_told : (told : Option (Told Graph)) (fault : ReadFault) → graph_told told ≡ Err (MetadataRead fault) → ⊥
+read_told : (told : Option (MetadataReading Graph)) (fault : ReadFault) → graph_or_error told ≡ Err (MetadataRead fault) → ⊥
 read_told None fault e = cc
 read_told (Some (Err other)) fault e = cc
 read_told (Some (Ok graph)) fault e = cc
@@ -77,7 +77,7 @@ same_fault : (x y : ReadFault) → ◌≡◌ {A = Result Graph KratesError} (Err
 same_fault x y e = cc
 
 read_fault : (heard : Result (List ℕ) ReadFault) (fault : ReadFault) → graph_in heard ≡ Err (MetadataRead fault) → heard ≡ Err fault
-read_fault (Ok text) fault e = absurd (read_told (records_of text sparse_dir) fault e)
+read_fault (Ok text) fault e = absurd (read_told (metadata_of text sparse_dir) fault e)
 read_fault (Err other) fault e = ap Err (same_fault other fault e)
 
 -- a failed read has the counts of the step
@@ -98,7 +98,7 @@ krates_counts choice begun before after heard (Err (NoRoots base excluded unpubl
 -- ---- by the answer of the read
 
 pub gathered_by : (choice : Choice) (begun after : ℕ) (old new : List Call) (path : List ℕ) (heard : Result (List ℕ) ReadFault) (result : Result Chosen KratesError)
-    → IsRead begun after old new path heard → AreFrom choice heard result → GathersBy choice begun after old new path result
+    → IsTextRead begun after old new path heard → AreFrom choice heard result → GathersBy choice begun after old new path result
 gathered_by choice begun after old new path heard (Ok chosen) read from = record { heard = heard; read = read; from = from }
 gathered_by choice begun after old new path heard (Err Memory) read from = (read.answer, read.made)
 gathered_by choice begun after old new path heard (Err (NotCarried what)) read from = record { heard = heard; read = read; from = from }

@@ -1,11 +1,11 @@
 -- The crates that metadata tells of, from what was heard of its file.
 use Rattle.std.specs.Prelude.{◌≡◌, ℕ, List, [], ◌∷◌, ◌++◌, codes, Option, Some, None, Result, Ok, Err}
-use Rattle.tree_core.specs.Call.{Answered, Call}
+use Rattle.tree_core.specs.Call.{CallAnswer, Call}
 use Rattle.graph_core.specs.Metadata.{Graph}
 use Rattle.records_core.specs.declared.fault.MetaError.{MetaError}
 use Rattle.records_core.specs.declared.fault.MetaError.TheVariants as records
-use Rattle.records_core.specs.Records.{records_of}
-use Rattle.records_core.specs.Told.{Told}
+use Rattle.records_core.specs.Records.{metadata_of}
+use Rattle.records_core.specs.Told.{MetadataReading}
 use Rattle.selection_core.specs.declared.selection.BuildError.{BuildError}
 use Rattle.selection_core.specs.declared.selection.BuildError.TheVariants as build
 use Rattle.selection_core.specs.Choice.{Choice}
@@ -16,7 +16,7 @@ use Rattle.heard_core.specs.declared.fault.ReadFault.TheVariants.{Failed}
 use Rattle.workspace_core.specs.declared.error.KratesError.{KratesError}
 use Rattle.workspace_core.specs.declared.error.KratesError.TheVariants.{Memory, NotCarried, MetadataRead, MetadataSyntax, MetadataShape, NoRoots}
 use Rattle.heard_core.specs.Cause.{Cause, no_memory, told, failed_read}
-use Rattle.heard_core.specs.Heard.{IsRead, read_of}
+use Rattle.heard_core.specs.Heard.{IsTextRead, read_of}
 
 -- why a refusal comes
 abbrev pub krates_cause : KratesError → Cause
@@ -45,20 +45,20 @@ abbrev pub sparse_dir : List ℕ
 sparse_dir = codes "index.crates.io-1949cf8c6b5b557f"
 
 -- what a text tells: no JSON, a fault, or a graph
-abbrev pub graph_told : Option (Told Graph) → Result Graph KratesError
-graph_told None = Err MetadataSyntax
-graph_told (Some (Err fault)) = Err (MetadataShape fault)
-graph_told (Some (Ok graph)) = Ok graph
+abbrev pub graph_or_error : Option (MetadataReading Graph) → Result Graph KratesError
+graph_or_error None = Err MetadataSyntax
+graph_or_error (Some (Err fault)) = Err (MetadataShape fault)
+graph_or_error (Some (Ok graph)) = Ok graph
 
 -- the graph, from what was heard of the metadata's file
 abbrev pub graph_in : Result (List ℕ) ReadFault → Result Graph KratesError
-graph_in (Ok text) = graph_told (records_of text sparse_dir)
+graph_in (Ok text) = graph_or_error (metadata_of text sparse_dir)
 graph_in (Err fault) = Err (MetadataRead fault)
 
 -- a call answers what is told, or for want of memory
-abbrev pub TellsGraph : Result Graph KratesError → Result Graph KratesError → Type 0
-TellsGraph asked (Err Memory) = Unit {0}
-TellsGraph asked result = asked ≡ result
+abbrev pub AnswersGraph : Result Graph KratesError → Result Graph KratesError → Type 0
+AnswersGraph asked (Err Memory) = Unit {0}
+AnswersGraph asked result = asked ≡ result
 
 -- ---- the crates that a choice reaches in it
 
@@ -88,12 +88,12 @@ AreFrom choice heard result = AreOf choice (graph_in heard) result
 -- ---- the crates that are gathered from a tree, by what it answered
 
 -- one call was made, the read of the path; what its answer lets hear, and the crates from it
-pub record AreRead (choice : Choice) (begun after : ℕ) (old new : List Call) (path : List ℕ) (result : Result Chosen KratesError) : Type 0 where
+pub record AreKratesRead (choice : Choice) (begun after : ℕ) (old new : List Call) (path : List ℕ) (result : Result Chosen KratesError) : Type 0 where
   pub heard : Result (List ℕ) ReadFault
-  pub read : IsRead begun after old new path heard
+  pub read : IsTextRead begun after old new path heard
   pub from : AreFrom choice heard result
 
 -- the same, unless memory was refused: then the read was made too, whatever was answered
 abbrev pub GathersBy : Choice → ℕ → ℕ → List Call → List Call → List ℕ → Result Chosen KratesError → Type 0
-GathersBy choice begun after old new path (Err Memory) = (answer : Answered) × (new ≡ old ++ read_of path answer ∷ [])
-GathersBy choice begun after old new path result = AreRead choice begun after old new path result
+GathersBy choice begun after old new path (Err Memory) = (answer : CallAnswer) × (new ≡ old ++ read_of path answer ∷ [])
+GathersBy choice begun after old new path result = AreKratesRead choice begun after old new path result

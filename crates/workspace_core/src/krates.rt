@@ -4,11 +4,11 @@ ghost use Rattle.tree_core.specs.Hearing.{MadeSome};
 ghost use Rattle.selection_core.specs.Choice.{choice_of};
 ghost use Rattle.heard_core.specs.Cause.{ReadCounts};
 ghost use Rattle.workspace_core.specs.Krates.{krates_cause, graph_in, sparse_dir, IsCarried};
-ghost use Rattle.workspace_core.specs.Krates.{GathersBy, AreFrom, TellsGraph};
+ghost use Rattle.workspace_core.specs.Krates.{GathersBy, AreFrom, AnswersGraph};
 
 use crate::error::KratesError;
 use graph_core::Metadata;
-use heard_core::{Heard, load};
+use heard_core::{TextHeard, read_file_text};
 use records_core::records;
 use selection_core::{Krates, Selection};
 use std::alloc::Global;
@@ -22,8 +22,8 @@ fn sparse_dir() -> &'static str
 }
 
 /// What the metadata tells, from what was heard of its file. The text is let go before it is answered.
-fn metadata_of(alloc: Global, heard: Heard) -> Result<Metadata, KratesError>
-    ensures told { TellsGraph (graph_in heard) result }
+fn metadata_of(alloc: Global, heard: TextHeard) -> Result<Metadata, KratesError>
+    ensures told { AnswersGraph (graph_in heard) result }
     ensures carried { IfErr result IsCarried }
 {
     match heard {
@@ -33,7 +33,7 @@ fn metadata_of(alloc: Global, heard: Heard) -> Result<Metadata, KratesError>
 }
 
 /// The crates that a selection reaches, from what was heard of the metadata's file.
-fn krates_of(alloc: Global, heard: Heard, selection: &Selection) -> Result<Krates, KratesError>
+fn krates_of(alloc: Global, heard: TextHeard, selection: &Selection) -> Result<Krates, KratesError>
     ensures from { AreFrom (choice_of selection.now) heard result }
     ensures carried { IfErr result IsCarried }
 {
@@ -62,6 +62,6 @@ pub fn krates_at<T: Tree>(
     ensures counts { IfErr result (λ error.
         ReadCounts begun (T.fault_count tree.old) (T.fault_count tree.new) (krates_cause error)) }
 {
-    let heard = load(alloc, tree, path, begun)?;
+    let heard = read_file_text(alloc, tree, path, begun)?;
     krates_of(alloc, heard, selection)
 }

@@ -1,7 +1,7 @@
 -- What is read is what the entry holds, where there is one that can be read.
 use Rattle.std.proofs.Common.{Some, sym, ap, subst, ◌∙◌}
 use Rattle.policy_toml.specs.HelperState.{given_value, state_of}
-use Rattle.toml_shapes.specs.Shaped.{Tells}
+use Rattle.toml_shapes.specs.Shaped.{TellsFaults}
 use Rattle.toml_value.specs.Views.{value_view}
 use Rattle.key_rows.proofs.Keys.{read_of_entry}
 use Rattle.key_rows.proofs.deprecated.Goals as goal
@@ -14,7 +14,7 @@ returns-in-Ok-clause-read g c =
 pub returns-in-Err-Faults-clause-read : goal.returns-in-Err-Faults-clause-read
 returns-in-Err-Faults-clause-read g c =
     let reads = g.T.Deserialize.reads c.args.context.now in
-    let told = subst (Tells (reads (value_view c.in-Some.value))) c.in-Err-Faults.field-0-is c.in-Err-Faults.ensures.read in
+    let told = subst (TellsFaults (reads (value_view c.in-Some.value))) c.in-Err-Faults.field-0-is c.in-Err-Faults.ensures.read in
     sym (ap given_value (read_of_entry c.args.name.now reads (state_of c.args.table.now) c.in-Some.ensures.taken ∙ ap Some told.0))
 
 pub returns-clause-read : goal.returns-clause-read

@@ -3,7 +3,7 @@ use Rattle.std.proofs.Common.{◌≡◌, ℕ, Bool, true, false, List, ℤ, Opti
 use Rattle.toml_subset.specs.Data as «data»
 use Rattle.toml_subset.specs.Data.{Content, Items, Entries, Toml}
 use Rattle.toml_subset.specs.Text.{IsText}
-use Rattle.toml_subset.specs.Answer.{Read, fault_at}
+use Rattle.toml_subset.specs.Answer.{TomlReading, fault_at}
 use Rattle.toml_subset.specs.Reading.{read_text}
 use Rattle.toml_subset.specs.declared.error.SyntaxError.{SyntaxError}
 use Rattle.toml_subset.specs.declared.error.SyntaxReason.{SyntaxReason}
@@ -50,7 +50,7 @@ shape_read s = elim (read_text s) [ Ok value ↦ Some (shape_of value.content) |
 abbrev pub LiesInside : List ℕ → Shape → Type 0
 LiesInside s shape = (value : Toml) × IsText s value × (shape_of value.content ≡ shape)
 
-shape_from : (s : List ℕ) (r : Read Toml) → read_text s ≡ r → (shape : Shape)
+shape_from : (s : List ℕ) (r : TomlReading Toml) → read_text s ≡ r → (shape : Shape)
     → ◌≡◌ {A = Option Shape} (elim r [ Ok value ↦ Some (shape_of value.content) | Err fault ↦ None ]) (Some shape) → LiesInside s shape
 shape_from s (Ok value) is shape e = (value, text_sound s value is, cc)
 shape_from s (Err fault) is shape e = absurd (cc)
@@ -70,11 +70,11 @@ HasFault s reason i j = read_text s ≡ Err (fault_at reason i j)
 pub lies_outside : (s : List ℕ) (fault : SyntaxError) → read_text s ≡ Err fault → LiesOutside s
 lies_outside s fault e value is = let read = text_complete s value is in cc
 
-abbrev is_read : Read Toml → Bool
+abbrev is_read : TomlReading Toml → Bool
 is_read (Ok value) = true
 is_read (Err fault) = false
 
-read_from : (s : List ℕ) (r : Read Toml) → read_text s ≡ r → is_read r ≡ true → (value : Toml) × IsText s value
+read_from : (s : List ℕ) (r : TomlReading Toml) → read_text s ≡ r → is_read r ≡ true → (value : Toml) × IsText s value
 read_from s (Ok value) is e = (value, text_sound s value is)
 read_from s (Err fault) is e = absurd (true≢false (sym e))
 

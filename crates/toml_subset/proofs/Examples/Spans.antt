@@ -4,11 +4,11 @@ use Rattle.toml_subset.specs.Data as «data»
 use Rattle.toml_subset.specs.Data.{Content, Items, Entries, Toml}
 use Rattle.toml_subset.specs.Places.{from_to}
 use Rattle.toml_subset.specs.Text.{IsText}
-use Rattle.toml_subset.specs.Written.{Written}
+use Rattle.toml_subset.specs.Written.{WrittenString}
 use Rattle.toml_subset.specs.declared.string.Key.{Key}
 use Rattle.toml_subset.proofs.Law.Whole.{text_sound}
 
-abbrev plain : List ℕ → Written
+abbrev plain : List ℕ → WrittenString
 plain s = record { text = s; escaped = false }
 
 abbrev key : List ℕ → ℕ → ℕ → Key

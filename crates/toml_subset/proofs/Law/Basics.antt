@@ -1,6 +1,6 @@
 -- What follows from an answer.
 use Rattle.std.proofs.Common.{◌≡◌, ℕ, ◌⊎◌, inl, inr, Bool, true, false, cond, List, Option, Some, None, Ok, Err, option_map, option_and_then, true≢false, refl, ap, sym}
-use Rattle.toml_subset.specs.Answer.{Read, then_read, unless}
+use Rattle.toml_subset.specs.Answer.{TomlReading, then_read, unless}
 use Rattle.toml_subset.specs.Reading.{made}
 use Rattle.toml_subset.specs.declared.error.SyntaxError.{SyntaxError}
 
@@ -15,17 +15,17 @@ then_some f (Some x) r e = (x, refl, e)
 pub is_some : {A : Type 0} (x y : A) → Some x ≡ Some y → x ≡ y
 is_some x y e = cc
 
-pub is_ok : {A : Type 0} (x y : A) → ◌≡◌ {A = Read A} (Ok x) (Ok y) → x ≡ y
+pub is_ok : {A : Type 0} (x y : A) → ◌≡◌ {A = TomlReading A} (Ok x) (Ok y) → x ≡ y
 is_ok x y e = cc
 
-pub not_ok : {A : Type 0} (fault : SyntaxError) (x : A) → ◌≡◌ {A = Read A} (Err fault) (Ok x) → ⊥
+pub not_ok : {A : Type 0} (fault : SyntaxError) (x : A) → ◌≡◌ {A = TomlReading A} (Err fault) (Ok x) → ⊥
 not_ok fault x e = cc
 
-pub then_ok : {A B : Type 0} (f : A → Read B) (o : Read A) (r : B) → then_read f o ≡ Ok r → (x : A) × (o ≡ Ok x) × (f x ≡ Ok r)
+pub then_ok : {A B : Type 0} (f : A → TomlReading B) (o : TomlReading A) (r : B) → then_read f o ≡ Ok r → (x : A) × (o ≡ Ok x) × (f x ≡ Ok r)
 then_ok f (Err fault) r e = absurd (not_ok fault r e)
 then_ok f (Ok x) r e = (x, refl, e)
 
-pub unless_ok : {A : Type 0} (fault : Option SyntaxError) (o : Read A) (r : A) → unless fault o ≡ Ok r → (fault ≡ None) × (o ≡ Ok r)
+pub unless_ok : {A : Type 0} (fault : Option SyntaxError) (o : TomlReading A) (r : A) → unless fault o ≡ Ok r → (fault ≡ None) × (o ≡ Ok r)
 unless_ok (Some fault) o r e = absurd (not_ok fault r e)
 unless_ok None o r e = (refl, e)
 

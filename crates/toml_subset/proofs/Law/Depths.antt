@@ -2,7 +2,7 @@
 use Rattle.std.proofs.Common.{◌≡◌, ℕ, ◌+◌, ◌≤◌, ⊎_elim, true, false, max, Option, Some, None, option_map, true≢false, refl, ap, sym, subst, ◌∙◌, arith}
 use Rattle.deny_text.specs.declared.span.Span.{Span}
 use Rattle.toml_subset.specs.Data.{depth_of, items_depth, entries_depth}
-use Rattle.toml_subset.specs.TableFaults.{Inside, node_at, last_of, inside_any, inside_dotted}
+use Rattle.toml_subset.specs.TableFaults.{Inside, table_node_at, last_of, inside_any, inside_dotted}
 use Rattle.toml_subset.specs.Tables.{by_header, implicit, dotted, Node, Branches, Bodies, closed, growing, tables, unbranched, branch, last, body, content_of, entries_of, items_of, same_key, has_key, added, changed, in_last, through_any, through_dotted, with_table}
 use Rattle.toml_subset.specs.declared.string.Key.{Key}
 use Rattle.toml_subset.proofs.Law.Basics.{map_some, is_some, if_is, if_true, if_false}
@@ -18,23 +18,23 @@ bodies_depth bodies = items_depth (items_of bodies)
 
 -- look-ups
 
-pub node_at_depth : (key : Key) (branches : Branches) (node : Node) → node_at key branches ≡ Some node → node_depth node ≤ depth branches
+pub node_at_depth : (key : Key) (branches : Branches) (node : Node) → table_node_at key branches ≡ Some node → node_depth node ≤ depth branches
 node_at_depth key unbranched node e = absurd (cc)
 node_at_depth key (branch other here more) node e =
     ⊎_elim (λ h. let same = ap node_depth (is_some here node h.1) in omega arith) (λ h. let rest = node_at_depth key more node h.1 in omega arith)
-    (if_is (same_key key other) (Some here) (node_at key more) (Some node) e)
+    (if_is (same_key key other) (Some here) (table_node_at key more) (Some node) e)
 
-pub has_none : (key : Key) (branches : Branches) → has_key key branches ≡ false → node_at key branches ≡ None
+pub has_none : (key : Key) (branches : Branches) → has_key key branches ≡ false → table_node_at key branches ≡ None
 has_none key unbranched e = refl
 has_none key (branch other here more) e =
-    ⊎_elim (λ h. absurd (true≢false h.1)) (λ h. if_false (same_key key other) (Some here) (node_at key more) h.0 ∙ has_none key more h.1)
+    ⊎_elim (λ h. absurd (true≢false h.1)) (λ h. if_false (same_key key other) (Some here) (table_node_at key more) h.0 ∙ has_none key more h.1)
     (if_is (same_key key other) true (has_key key more) false e)
 
-pub none_has : (key : Key) (branches : Branches) → node_at key branches ≡ None → has_key key branches ≡ false
+pub none_has : (key : Key) (branches : Branches) → table_node_at key branches ≡ None → has_key key branches ≡ false
 none_has key unbranched e = refl
 none_has key (branch other here more) e =
     ⊎_elim (λ h. let other : Some here ≡ None = h.1 in absurd (cc)) (λ h. if_false (same_key key other) true (has_key key more) h.0 ∙ none_has key more h.1)
-    (if_is (same_key key other) (Some here) (node_at key more) None e)
+    (if_is (same_key key other) (Some here) (table_node_at key more) None e)
 
 -- a further key
 
@@ -46,7 +46,7 @@ added_depth key node (branch other here more) = let rest = added_depth key node 
 pub record Changed (f : Node → Option Node) (key : Key) (branches new : Branches) : Type 0 where
   pub node : Node
   pub made : Node
-  pub there : node_at key branches ≡ Some node
+  pub there : table_node_at key branches ≡ Some node
   pub is : f node ≡ Some made
   pub below : (a d : ℕ) → a + depth branches ≤ d → a + node_depth made ≤ d → a + depth new ≤ d
   pub least : node_depth made ≤ depth new
@@ -61,7 +61,7 @@ is_changed f key (branch other here more) new e =
     subst (Changed f key (branch other here more)) found.2 (record {
       node = here;
       made = found.0;
-      there = if_true (same_key key other) (Some here) (node_at key more) h.0;
+      there = if_true (same_key key other) (Some here) (table_node_at key more) h.0;
       is = found.1;
       below = λ a d first second. omega arith;
       least = omega arith;
@@ -73,7 +73,7 @@ is_changed f key (branch other here more) new e =
     subst (Changed f key (branch other here more)) found.2 (record {
       node = rest.node;
       made = rest.made;
-      there = if_false (same_key key other) (Some here) (node_at key more) h.0 ∙ rest.there;
+      there = if_false (same_key key other) (Some here) (table_node_at key more) h.0 ∙ rest.there;
       is = rest.is;
       below = λ a d first second. let under = rest.below a d (omega arith) second in omega arith;
       least = let under = rest.least in omega arith;

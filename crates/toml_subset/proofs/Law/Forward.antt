@@ -5,10 +5,10 @@ use Rattle.toml_subset.specs.Bytes.{quote, apostrophe, backslash, may_stand, is_
 use Rattle.toml_subset.specs.Keys.{IsKey, AreKeys}
 use Rattle.toml_subset.specs.Lines.{Statement, AreLines}
 use Rattle.toml_subset.specs.Numbers.{Class, is_special}
-use Rattle.toml_subset.specs.Places.{passes_at, stands, run_end, run_at, after_blanks, after_comment, after_blanks_and_comment, lines_over, after_lines_of, after_white, after_space, line_end, next_line}
+use Rattle.toml_subset.specs.Places.{passes_at, stands, run_end, run_at, after_blanks, after_comment, after_blanks_and_comment, lines_over, after_lines_of, after_white, after_space, behind_line_end, next_line}
 use Rattle.toml_subset.specs.Raw.{Raw, RawItems, RawEntries, raw_text, raw_integer, raw_decimal, raw_boolean, raw_array, raw_table, raw_none, raw_item, raw_empty, raw_entry, IsNumber, IsValue, AreItems, AreItemsBehind, AreEntries, AreEntriesBehind, IsWord}
-use Rattle.toml_subset.specs.Strings.{Quoting, basic, literal, long_basic, long_literal, Piece, Part, piece, closing, broken, mark_of, is_long, has_escapes, marks_at, opening, opening_of, scalar_of, letter_escape, escaped_piece, plain_piece, scalar_escape, trimming_escape, escape_by, escape_at, mark_at, plain_at, part_at, ArePieces, IsString}
-use Rattle.toml_subset.specs.Written.{Written}
+use Rattle.toml_subset.specs.Strings.{Quoting, basic, literal, long_basic, long_literal, StringPiece, StringPart, piece, closing, broken, mark_of, is_long, has_escapes, marks_in_row, opening, opening_of, scalar_of, letter_escape, escaped_piece, plain_piece, scalar_escape, trimming_escape, escape_by, escape_at, mark_at, plain_at, part_at, ArePieces, IsString}
+use Rattle.toml_subset.specs.Written.{WrittenString}
 use Rattle.toml_subset.specs.declared.string.Key.{Key}
 use Rattle.toml_subset.proofs.NumberRuns.{begins_some, or_left}
 
@@ -22,7 +22,7 @@ past_if : (b : Bool) (i : ℕ) (x y : Option ℕ) → Past i x → Past i y → 
 past_if true i x y p q = p
 past_if false i x y p q = q
 
-pub line_end_past : (text : List ℕ) (i : ℕ) → Past i (line_end text i)
+pub line_end_past : (text : List ℕ) (i : ℕ) → Past i (behind_line_end text i)
 line_end_past text i =
     past_if (stands text i line_feed) i (Some (i + 1)) _ (omega arith)
     (past_if (stands text i carriage_return && stands text (i + 1) line_feed) i (Some (i + 2)) None (omega arith) tt)
@@ -46,7 +46,7 @@ lines_go_by over text i j rest le goes None past = omega arith
 lines_go : (over : List ℕ → ℕ → ℕ) (text : List ℕ) → ((k : ℕ) → k ≤ over text k) → (n i : ℕ) → i ≤ lines_over over n text i
 lines_go over text goes zero i = omega arith
 lines_go over text goes (suc n) i =
-    lines_go_by over text i (over text i) (lines_over over n text) (goes i) (lines_go over text goes n) (line_end text (over text i)) (line_end_past text (over text i))
+    lines_go_by over text i (over text i) (lines_over over n text) (goes i) (lines_go over text goes n) (behind_line_end text (over text i)) (line_end_past text (over text i))
 
 pub white_goes : (text : List ℕ) (i : ℕ) → i ≤ after_white text i
 white_goes text i = let lines = lines_go after_blanks text (λ k. omega arith) (length text) i in omega arith
@@ -59,12 +59,12 @@ space_goes text i =
 
 -- parts of strings
 
-abbrev Goes : ℕ → Part → Type 0
+abbrev Goes : ℕ → StringPart → Type 0
 Goes i (piece p k) = i < k
 Goes i (closing k) = i < k
 Goes i broken = Unit {0}
 
-goes_if : (b : Bool) (i : ℕ) (x y : Part) → Goes i x → Goes i y → Goes i (cond b x y)
+goes_if : (b : Bool) (i : ℕ) (x y : StringPart) → Goes i x → Goes i y → Goes i (cond b x y)
 goes_if true i x y p q = p
 goes_if false i x y p q = q
 
@@ -77,7 +77,7 @@ scalar_goes digits text i =
 
 trimming_goes : (kind : Quoting) (text : List ℕ) (i : ℕ) → Goes i (trimming_escape kind text i)
 trimming_goes kind text i =
-    goes_if (is_long kind && option_is_some (line_end text (after_blanks text (i + 1)))) i (escaped_piece [] (after_white text (i + 1))) broken
+    goes_if (is_long kind && option_is_some (behind_line_end text (after_blanks text (i + 1)))) i (escaped_piece [] (after_white text (i + 1))) broken
     (let white = white_goes text (i + 1) in omega arith) tt
 
 escape_goes : (kind : Quoting) (text : List ℕ) (i c : ℕ) → Goes i (escape_by kind text i c)
@@ -99,17 +99,17 @@ escape_at_goes kind text i =
 mark_goes : (kind : Quoting) (text : List ℕ) (i : ℕ) → Goes i (mark_at kind text i)
 mark_goes kind text i =
     goes_if (is_long kind) i _ _
-    (goes_if (eqb (marks_at (mark_of kind) text i) 3) i _ _ (omega arith)
-    (goes_if (nat_le (marks_at (mark_of kind) text i) 5) i (plain_piece (mark_of kind ∷ []) (i + 1)) broken (omega arith) tt))
+    (goes_if (eqb (marks_in_row (mark_of kind) text i) 3) i _ _ (omega arith)
+    (goes_if (nat_le (marks_in_row (mark_of kind) text i) 5) i (plain_piece (mark_of kind ∷ []) (i + 1)) broken (omega arith) tt))
     (omega arith)
 
 plain_goes : (kind : Quoting) (text : List ℕ) (i : ℕ) → Goes i (plain_at kind text i)
 plain_goes kind text i =
     elim (slice_get text i) as (λ o. Goes i (elim o [
-      | Some c ↦ cond (may_stand c || (is_long kind && option_is_some (line_end text i))) (plain_piece (c ∷ []) (i + 1)) broken
+      | Some c ↦ cond (may_stand c || (is_long kind && option_is_some (behind_line_end text i))) (plain_piece (c ∷ []) (i + 1)) broken
       | None ↦ broken
     ])) [
-      | Some c ↦ goes_if (may_stand c || (is_long kind && option_is_some (line_end text i))) i (plain_piece (c ∷ []) (i + 1)) broken (omega arith) tt
+      | Some c ↦ goes_if (may_stand c || (is_long kind && option_is_some (behind_line_end text i))) i (plain_piece (c ∷ []) (i + 1)) broken (omega arith) tt
       | None ↦ tt
     ]
 
@@ -118,13 +118,13 @@ part_goes kind text i =
     goes_if (stands text i (mark_of kind)) i _ _ (mark_goes kind text i)
     (goes_if (has_escapes kind && stands text i backslash) i _ _ (escape_at_goes kind text i) (plain_goes kind text i))
 
-pub piece_goes : (kind : Quoting) (text : List ℕ) (i : ℕ) (p : Piece) (k : ℕ) → part_at kind text i ≡ piece p k → i < k
+pub piece_goes : (kind : Quoting) (text : List ℕ) (i : ℕ) (p : StringPiece) (k : ℕ) → part_at kind text i ≡ piece p k → i < k
 piece_goes kind text i p k e = subst (Goes i) e (part_goes kind text i)
 
 pub closing_goes : (kind : Quoting) (text : List ℕ) (i k : ℕ) → part_at kind text i ≡ closing k → i < k
 closing_goes kind text i k e = subst (Goes i) e (part_goes kind text i)
 
-pub pieces_go : (kind : Quoting) (text : List ℕ) (i : ℕ) (ps : List Piece) (close next : ℕ) → ArePieces kind text i ps close next → i < next
+pub pieces_go : (kind : Quoting) (text : List ℕ) (i : ℕ) (ps : List StringPiece) (close next : ℕ) → ArePieces kind text i ps close next → i < next
 pieces_go kind text i [] close next is = closing_goes kind text i next is.0
 pieces_go kind text i (p ∷ ps) close next is =
     let first = piece_goes kind text i p is.0 is.1 in
@@ -139,8 +139,8 @@ pair_if false i x y p q = q
 
 opening_of_goes : (short long : Quoting) (mark : ℕ) (text : List ℕ) (i : ℕ) → i < (opening_of short long mark text i).1
 opening_of_goes short long mark text i =
-    let past = past_or (i + 3) (line_end text (i + 3)) (line_end_past text (i + 3)) in
-    pair_if (nat_le 3 (marks_at mark text i)) i (long, unwrap_or (line_end text (i + 3)) (i + 3)) (short, i + 1) (omega arith) (omega arith)
+    let past = past_or (i + 3) (behind_line_end text (i + 3)) (line_end_past text (i + 3)) in
+    pair_if (nat_le 3 (marks_in_row mark text i)) i (long, unwrap_or (behind_line_end text (i + 3)) (i + 3)) (short, i + 1) (omega arith) (omega arith)
 
 opens_goes : (a b : Bool) (i : ℕ) (x y r : Quoting × ℕ) → i < x.1 → i < y.1 → cond a (Some x) (cond b (Some y) None) ≡ Some r → i < r.1
 opens_goes true b i x y r p q e = let same : x ≡ r = cc in subst (λ (z : Quoting × ℕ). i < z.1) same p
@@ -152,7 +152,7 @@ opening_goes text i r e =
     opens_goes (stands text i quote) (stands text i apostrophe) i (opening_of basic long_basic quote text i) (opening_of literal long_literal apostrophe text i) r
     (opening_of_goes basic long_basic quote text i) (opening_of_goes literal long_literal apostrophe text i) e
 
-pub string_goes : (text : List ℕ) (i : ℕ) (kind : Quoting) (w : Written) (span : Span) (next : ℕ) → IsString text i kind w span next → i < next
+pub string_goes : (text : List ℕ) (i : ℕ) (kind : Quoting) (w : WrittenString) (span : Span) (next : ℕ) → IsString text i kind w span next → i < next
 string_goes text i kind w span next is =
     let opens = opening_goes text i (kind, is.first) is.opens in
     let body = pieces_go kind text is.first is.pieces is.close next is.body in
@@ -238,9 +238,9 @@ ends_from : (text : List ℕ) (i j : ℕ) (o : Option ℕ) → i ≤ j → Past 
 ends_from text i j (Some k) le p = inl (omega arith)
 ends_from text i j None le p = tt
 
-ends_if : (b : Bool) (text : List ℕ) (i j : ℕ) → i ≤ j → eqb j (length text) ≡ b → Ends text i (cond b (Some j) (line_end text j))
+ends_if : (b : Bool) (text : List ℕ) (i j : ℕ) → i ≤ j → eqb j (length text) ≡ b → Ends text i (cond b (Some j) (behind_line_end text j))
 ends_if true text i j le e = let at = eqb-true j (length text) e in inr (at, le)
-ends_if false text i j le e = ends_from text i j (line_end text j) le (line_end_past text j)
+ends_if false text i j le e = ends_from text i j (behind_line_end text j) le (line_end_past text j)
 
 pub next_line_goes : (text : List ℕ) (i : ℕ) (next : ℕ) → next_line text i ≡ Some next → (i < next) ⊎ ((next ≡ length text) × (i ≤ next))
 next_line_goes text i next e =

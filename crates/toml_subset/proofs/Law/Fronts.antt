@@ -3,7 +3,7 @@ use Rattle.std.proofs.Common.{◌≡◌, ℕ, ◌+◌, ◌<◌, ◌≤◌, ◌�
 use Rattle.std.specs.List.{prefix_len}
 use Rattle.toml_subset.proofs.Law.Basics.{is_some, if_is}
 use Rattle.toml_subset.specs.Bytes.{may_stand as may, quote, apostrophe, is_blank, is_bare, hash, line_feed, carriage_return}
-use Rattle.toml_subset.specs.Places.{front_is, passes_at, stands, run_end, after_blanks, after_comment, line_end, next_line}
+use Rattle.toml_subset.specs.Places.{front_is, passes_at, stands, run_end, after_blanks, after_comment, behind_line_end, next_line}
 use Rattle.toml_subset.specs.Raw.{word_of}
 use Rattle.toml_subset.specs.Strings.{Quoting, basic, long_basic, literal, long_literal, opening, opening_of}
 
@@ -110,13 +110,13 @@ begins_line_bare text i h = record {
   inside = passes_inside is_bare text i h;
 }
 
-line_end_none : (text : List ℕ) (i : ℕ) → stands text i line_feed ≡ false → stands text i carriage_return ≡ false → line_end text i ≡ None
+line_end_none : (text : List ℕ) (i : ℕ) → stands text i line_feed ≡ false → stands text i carriage_return ≡ false → behind_line_end text i ≡ None
 line_end_none text i lf cr =
     ap (λ (b : Bool). cond b (Some (i + 1)) (cond (stands text i carriage_return && stands text (i + 1) line_feed) (Some (i + 2)) None)) lf
     ∙ ap (λ (b : Bool). cond (b && stands text (i + 1) line_feed) (Some (i + 2)) None) cr
 
 abbrev line_from : List ℕ → ℕ → Option ℕ
-line_from text j = cond (eqb j (length text)) (Some j) (line_end text j)
+line_from text j = cond (eqb j (length text)) (Some j) (behind_line_end text j)
 
 pub no_line_end : (text : List ℕ) (i : ℕ) → BeginsLine text i → next_line text i ≡ None
 no_line_end text i begins =
@@ -124,14 +124,14 @@ no_line_end text i begins =
     let comment : after_comment text i ≡ i = ap (λ (b : Bool). cond b (run_end may text (i + 1)) i) begins.comment in
     let differs : eqb i (length text) ≡ false = false_from (eqb i (length text)) (λ same. let e = eqb-true i (length text) same in absurd (omega (arith, begins.inside))) in
     ap (λ j. line_from text (after_comment text j)) blanks ∙ ap (line_from text) comment
-    ∙ ap (λ (b : Bool). cond b (Some i) (line_end text i)) differs ∙ line_end_none text i begins.lf begins.cr
+    ∙ ap (λ (b : Bool). cond b (Some i) (behind_line_end text i)) differs ∙ line_end_none text i begins.lf begins.cr
 
 pub and_last : (a b : Bool) → (a && b) ≡ true → b ≡ true
 and_last true b h = h
 and_last false b h = absurd (true≢false (sym h))
 
 -- a line end and the next line lie in the text
-pub line_end_inside : (text : List ℕ) (i next : ℕ) → line_end text i ≡ Some next → next ≤ length text
+pub line_end_inside : (text : List ℕ) (i next : ℕ) → behind_line_end text i ≡ Some next → next ≤ length text
 line_end_inside text i next e =
     ⊎_elim (λ h. let same = is_some (i + 1) next h.1 in let inside = passes_inside (λ b. eqb b line_feed) text i h.0 in omega arith)
     (λ h.
@@ -148,4 +148,4 @@ pub next_line_inside : (text : List ℕ) (i next : ℕ) → next_line text i ≡
 next_line_inside text i next e =
     let j = after_comment text (after_blanks text i) in
     ⊎_elim (λ h. let at = eqb-true j (length text) h.0 in let same = is_some j next h.1 in omega arith) (λ h. line_end_inside text j next h.1)
-    (if_is (eqb j (length text)) (Some j) (line_end text j) (Some next) e)
+    (if_is (eqb j (length text)) (Some j) (behind_line_end text j) (Some next) e)

@@ -4,7 +4,7 @@ use Rattle.std.proofs.lemmas.Bool.Decides.{nat_tests}
 use Rattle.deny_text.specs.declared.span.Span.{Span}
 use Rattle.toml_subset.specs.Data.{depth_limit}
 use Rattle.toml_subset.specs.Reading.{section_of}
-use Rattle.toml_subset.specs.TableFaults.{Inside, node_at, inside_any, refused, taken_over_fault, open_table_fault, header_fault, appended_fault, open_array_fault, array_header_fault}
+use Rattle.toml_subset.specs.TableFaults.{Inside, table_node_at, inside_any, refused, taken_over_fault, open_table_fault, header_fault, appended_fault, open_array_fault, array_header_fault}
 use Rattle.toml_subset.specs.Tables.{by_header, implicit, dotted, Node, Branches, closed, growing, tables, unbranched, last, has_key, added, changed, through_any, along, take_over, open_table, append_to, open_array, within}
 use Rattle.toml_subset.specs.declared.error.SyntaxError.{SyntaxError}
 use Rattle.toml_subset.specs.declared.error.SyntaxReason.TheVariants.{TooDeep}
@@ -32,7 +32,7 @@ module _ (change : Node → Option Node) (fresh : Node) (fault : Key → Node �
       (λ h. let same = ap depth (is_some _ new h.1) in let grown = added_depth key fresh branches in omega arith)
       (if_is (has_key key branches) (changed change key branches) (Some (added key fresh branches)) (Some new) e)
 
-  pub edit_below : (key : Key) (branches new : Branches) (above : ℕ) → fault_by key above (node_at key branches) ≡ None → edit_by key branches ≡ Some new
+  pub edit_below : (key : Key) (branches new : Branches) (above : ℕ) → fault_by key above (table_node_at key branches) ≡ None → edit_by key branches ≡ Some new
       → above + depth branches ≤ depth_limit → above + depth new ≤ depth_limit
   edit_below key branches new above none e low =
       ⊎_elim
@@ -50,7 +50,7 @@ module _ (change : Node → Option Node) (fresh : Node) (fault : Key → Node �
       (if_is (has_key key branches) (changed change key branches) (Some (added key fresh branches)) (Some new) e)
 
   pub edit_free : (key : Key) (branches new : Branches) (above : ℕ) → edit_by key branches ≡ Some new → above + depth new ≤ depth_limit
-      → fault_by key above (node_at key branches) ≡ None
+      → fault_by key above (table_node_at key branches) ≡ None
   edit_free key branches new above e low =
       ⊎_elim
       (λ h.
@@ -85,9 +85,9 @@ abbrev fresh_table : Span → Node
 fresh_table at = growing at by_header unbranched
 
 table_fault_is : (at : Span) (key : Key) (branches : Branches) (above : ℕ)
-    → open_table_fault key branches above ≡ fault_by (take_over at) (fresh_table at) taken_over_fault absent_table (taken at) table_free table_back key above (node_at key branches)
+    → open_table_fault key branches above ≡ fault_by (take_over at) (fresh_table at) taken_over_fault absent_table (taken at) table_free table_back key above (table_node_at key branches)
 table_fault_is at key branches above =
-    elim (node_at key branches) as (λ o. elim o [ Some node ↦ taken_over_fault key node | None ↦ absent_table key above ]
+    elim (table_node_at key branches) as (λ o. elim o [ Some node ↦ taken_over_fault key node | None ↦ absent_table key above ]
     ≡ fault_by (take_over at) (fresh_table at) taken_over_fault absent_table (taken at) table_free table_back key above o) [ Some node ↦ refl | None ↦ refl ]
 
 abbrev Any : ℕ → List Key → Type 0
@@ -141,9 +141,9 @@ abbrev fresh_array : Span → Node
 fresh_array at = tables at (last at unbranched)
 
 array_fault_is : (at : Span) (key : Key) (branches : Branches) (above : ℕ)
-    → open_array_fault key branches above ≡ fault_by (append_to at) (fresh_array at) appended_fault absent_array (appended at) array_free array_back key above (node_at key branches)
+    → open_array_fault key branches above ≡ fault_by (append_to at) (fresh_array at) appended_fault absent_array (appended at) array_free array_back key above (table_node_at key branches)
 array_fault_is at key branches above =
-    elim (node_at key branches) as (λ o. elim o [ Some node ↦ appended_fault key node | None ↦ absent_array key above ]
+    elim (table_node_at key branches) as (λ o. elim o [ Some node ↦ appended_fault key node | None ↦ absent_array key above ]
     ≡ fault_by (append_to at) (fresh_array at) appended_fault absent_array (appended at) array_free array_back key above o) [ Some node ↦ refl | None ↦ refl ]
 
 pub array_header_below : (at : Span) (keys : List Key) (root new : Branches) → array_header_fault keys root ≡ None → along implicit through_any (open_array at) keys root ≡ Some new
@@ -189,9 +189,9 @@ abbrev node_section : List Key → ℕ → Option Node → Inside
 node_section more above (Some node) = inside_section more above (inside_any node)
 node_section more above None = (unbranched, above)
 
-section_step : (key : Key) (more : List Key) (root : Branches) (above : ℕ) → section_of (key ∷ more) root above ≡ node_section more above (node_at key root)
+section_step : (key : Key) (more : List Key) (root : Branches) (above : ℕ) → section_of (key ∷ more) root above ≡ node_section more above (table_node_at key root)
 section_step key more root above =
-    elim (node_at key root) as (λ o. elim o [
+    elim (table_node_at key root) as (λ o. elim o [
       | Some node ↦ elim (inside_any node) [ Some found ↦ section_of more found.0 (above + found.1) | None ↦ (unbranched, above) ]
       | None ↦ (unbranched, above)
     ] ≡ node_section more above o) [
@@ -247,7 +247,7 @@ pub section_inner : (section : List Key) (root : Branches) (above : ℕ) → (se
 section_inner [] root above = omega arith
 section_inner (key ∷ more) root above =
     subst (λ (x : Inside). x.1 + depth x.0 ≤ above + depth root) (sym (section_step key more root above))
-    (elim (node_at key root) as (λ o. node_at key root ≡ o → (node_section more above o).1 + depth (node_section more above o).0 ≤ above + depth root) [
+    (elim (table_node_at key root) as (λ o. table_node_at key root ≡ o → (node_section more above o).1 + depth (node_section more above o).0 ≤ above + depth root) [
       | Some node ↦ λ there.
           let under = node_at_depth key root node there in
           elim (inside_any node) as (λ o. inside_any node ≡ o → (inside_section more above o).1 + depth (inside_section more above o).0 ≤ above + depth root) [

@@ -3,7 +3,7 @@ use Rattle.std.proofs.Common.{◌≡◌, ℕ, zero, suc, ◌+◌, ◌-◌, ◌<�
 use Rattle.std.proofs.lemmas.Bool.Decides.{nat_tests}
 use Rattle.std.proofs.lemmas.List.Sums.{prefix_len-le-length}
 use Rattle.std.specs.List.{prefix_len}
-use Rattle.toml_subset.specs.Answer.{Read, fault_at, stuck, then_read, unless}
+use Rattle.toml_subset.specs.Answer.{TomlReading, fault_at, stuck, then_read, unless}
 use Rattle.deny_text.specs.Character.{goes_on}
 use Rattle.toml_subset.specs.Bytes.{quote, apostrophe, backslash, dot, equals, hash, comma, open_bracket, close_bracket, open_brace, close_brace, is_bare, is_run, may_stand}
 use Rattle.toml_subset.specs.Data.{depth_limit}
@@ -12,12 +12,12 @@ use Rattle.toml_subset.specs.Faults.{begins_number}
 use Rattle.toml_subset.specs.Keys.{IsKey, AreKeys}
 use Rattle.toml_subset.specs.Lines.{Document, no_lines}
 use Rattle.toml_subset.specs.Numbers.{Class, unsupported, number_form, number_range, integer, decimal, class_of, is_digit_in}
-use Rattle.toml_subset.specs.Places.{from_to, passes_at, stands, run_end, run_at, after_blanks, after_comment, line_end, next_line, after_space, char_end, in_comment}
-use Rattle.toml_subset.specs.Reading.{number_read, shared_len, word_read, read_scalar, cut_in_comment, space_fault, items_behind, made, entries_behind, entry_put, array_read, table_read, table_from, read_value, read_items, read_entries, enough, value_at, section_of, LineFound, line_rest, with_root, is_blank_line, pair_put, pair_from, header_from, array_header_from, line_from, read_lines, read_text}
+use Rattle.toml_subset.specs.Places.{from_to, passes_at, stands, run_end, run_at, after_blanks, after_comment, behind_line_end, next_line, after_space, char_end, in_comment}
+use Rattle.toml_subset.specs.Reading.{number_read, shared_len, word_read, read_scalar, cut_in_comment, space_fault, array_items_behind, made, entries_behind, entry_put, array_read, table_read, table_from, read_value, read_items, read_entries, enough, value_at, section_of, LineFound, line_rest, with_root, is_blank_line, pair_put, pair_from, header_from, array_header_from, line_from, read_lines, read_text}
 use Rattle.toml_subset.specs.Raw.{word_of}
 use Rattle.toml_subset.specs.StringReading.{scalar_fault, escape_is_cut, escape_fault, part_fault, Pieces, after_part, read_pieces, string_from, read_string, begins_long, read_key, KeysFound, keys_behind, read_keys, keys_at, equals_behind, read_left}
-use Rattle.toml_subset.specs.Strings.{Quoting, mark_of, has_escapes, Piece, Part, piece, closing, broken, opening, part_at, ArePieces, IsString}
-use Rattle.toml_subset.specs.TableFaults.{Inside, node_at, inside_any, inside_dotted, refused, way_fault, new_key_fault, put_fault, taken_over_fault, open_table_fault, header_fault, appended_fault, open_array_fault, array_header_fault}
+use Rattle.toml_subset.specs.Strings.{Quoting, mark_of, has_escapes, StringPiece, StringPart, piece, closing, broken, opening, part_at, ArePieces, IsString}
+use Rattle.toml_subset.specs.TableFaults.{Inside, table_node_at, inside_any, inside_dotted, refused, way_fault, new_key_fault, put_fault, taken_over_fault, open_table_fault, header_fault, appended_fault, open_array_fault, array_header_fault}
 use Rattle.toml_subset.specs.Tables.{Node, Branches, by_header, implicit, dotted, closed, growing, tables, unbranched, has_key, put}
 use Rattle.toml_subset.specs.declared.error.SyntaxError.{SyntaxError}
 use Rattle.toml_subset.specs.declared.error.SyntaxReason.{SyntaxReason}
@@ -34,7 +34,7 @@ use Rattle.toml_subset.proofs.NumberRuns.{begins_some}
 abbrev Lies : List ℕ → SyntaxError → Type 0
 Lies text fault = LiesIn text fault.span
 
-abbrev ErrLies : {A : Type 0} → List ℕ → Read A → Type 0
+abbrev ErrLies : {A : Type 0} → List ℕ → TomlReading A → Type 0
 ErrLies text (Ok x) = Unit {0}
 ErrLies text (Err fault) = Lies text fault
 
@@ -42,11 +42,11 @@ abbrev SomeLies : List ℕ → Option SyntaxError → Type 0
 SomeLies text (Some fault) = Lies text fault
 SomeLies text None = Unit {0}
 
-then_lies : {A B : Type 0} (text : List ℕ) (f : A → Read B) (o : Read A) → ErrLies text o → ((x : A) → o ≡ Ok x → ErrLies text (f x)) → ErrLies text (then_read f o)
+then_lies : {A B : Type 0} (text : List ℕ) (f : A → TomlReading B) (o : TomlReading A) → ErrLies text o → ((x : A) → o ≡ Ok x → ErrLies text (f x)) → ErrLies text (then_read f o)
 then_lies text f (Ok x) here further = further x refl
 then_lies text f (Err fault) here further = here
 
-if_lies : {A : Type 0} (b : Bool) (text : List ℕ) (x y : Read A) → (b ≡ true → ErrLies text x) → (b ≡ false → ErrLies text y) → ErrLies text (cond b x y)
+if_lies : {A : Type 0} (b : Bool) (text : List ℕ) (x y : TomlReading A) → (b ≡ true → ErrLies text x) → (b ≡ false → ErrLies text y) → ErrLies text (cond b x y)
 if_lies true text x y first second = first refl
 if_lies false text x y first second = second refl
 
@@ -58,7 +58,7 @@ some_if : (b : Bool) (text : List ℕ) (x y : Option SyntaxError) → (b ≡ tru
 some_if true text x y first second = first refl
 some_if false text x y first second = second refl
 
-unless_lies : {A : Type 0} (text : List ℕ) (fault : Option SyntaxError) (o : Read A) → SomeLies text fault → ErrLies text o → ErrLies text (unless fault o)
+unless_lies : {A : Type 0} (text : List ℕ) (fault : Option SyntaxError) (o : TomlReading A) → SomeLies text fault → ErrLies text o → ErrLies text (unless fault o)
 unless_lies text (Some fault) o here further = here
 unless_lies text None o here further = further
 
@@ -112,7 +112,7 @@ part_lies kind text i =
     (λ k.
     if_so (nat_lt i (length text)) text _ _ (λ l. let inside : i < length text = grind (arith, nat_tests) in (omega arith, omega arith)) (λ l. stuck_lies text i)))
 
-after_part_lies : (kind : Quoting) (text : List ℕ) (i : ℕ) (rest : ℕ → Read Pieces) → ((k : ℕ) → ErrLies text (rest k)) → (q : Part) → ErrLies text (after_part kind text i rest q)
+after_part_lies : (kind : Quoting) (text : List ℕ) (i : ℕ) (rest : ℕ → TomlReading Pieces) → ((k : ℕ) → ErrLies text (rest k)) → (q : StringPart) → ErrLies text (after_part kind text i rest q)
 after_part_lies kind text i rest further (piece p k) = then_lies text _ (rest k) (further k) (λ x is. tt)
 after_part_lies kind text i rest further (closing k) = tt
 after_part_lies kind text i rest further broken = part_lies kind text i
@@ -156,7 +156,7 @@ abbrev KeysLie : List ℕ → List Key → Type 0
 KeysLie text [] = Unit {0}
 KeysLie text (key ∷ more) = LiesIn text key.span × KeysLie text more
 
-pieces_order : (kind : Quoting) (text : List ℕ) (i : ℕ) (ps : List Piece) (close next : ℕ) → ArePieces kind text i ps close next → (i ≤ close) × (close < next)
+pieces_order : (kind : Quoting) (text : List ℕ) (i : ℕ) (ps : List StringPiece) (close next : ℕ) → ArePieces kind text i ps close next → (i ≤ close) × (close < next)
 pieces_order kind text i [] close next is = let at = is.1 in let goes = closing_goes kind text i next is.0 in (omega arith, omega arith)
 pieces_order kind text i (p ∷ ps) close next is =
     let goes = piece_goes kind text i p is.0 is.1 in let rest = pieces_order kind text is.0 ps close next is.2 in let le = rest.0 in (omega arith, rest.1)
@@ -194,7 +194,7 @@ way_lies : (inside : Node → Option Inside) (end : Key → Branches → ℕ →
 way_lies inside end points text [] branches above lie = tt
 way_lies inside end points text (key ∷ []) branches above lie = points text key branches above lie.0
 way_lies inside end points text (key ∷ next ∷ more) branches above lie =
-    elim (node_at key branches) as (λ o. SomeLies text (elim o [
+    elim (table_node_at key branches) as (λ o. SomeLies text (elim o [
       | Some node ↦ elim (inside node) [ Some found ↦ way_fault inside end (next ∷ more) found.0 (above + found.1) | None ↦ refused RedefinedTable key ]
       | None ↦ cond (eqb above depth_limit) (refused TooDeep key) (way_fault inside end (next ∷ more) unbranched (above + 1))
     ])) [
@@ -217,7 +217,7 @@ taken_points text key (tables span bodies) lie = lie
 
 open_table_points : PointsAt open_table_fault
 open_table_points text key branches above lie =
-    elim (node_at key branches) as (λ o. SomeLies text (elim o [ Some node ↦ taken_over_fault key node | None ↦ cond (eqb above depth_limit) (refused TooDeep key) None ])) [
+    elim (table_node_at key branches) as (λ o. SomeLies text (elim o [ Some node ↦ taken_over_fault key node | None ↦ cond (eqb above depth_limit) (refused TooDeep key) None ])) [
       | Some node ↦ taken_points text key node lie
       | None ↦ some_if (eqb above depth_limit) text _ _ (λ h. lie) (λ h. tt)
     ]
@@ -229,7 +229,7 @@ appended_points text key (tables span bodies) lie = tt
 
 open_array_points : PointsAt open_array_fault
 open_array_points text key branches above lie =
-    elim (node_at key branches) as (λ o. SomeLies text (elim o [ Some node ↦ appended_fault key node | None ↦ cond (nat_lt (above + 1) depth_limit) None (refused TooDeep key) ])) [
+    elim (table_node_at key branches) as (λ o. SomeLies text (elim o [ Some node ↦ appended_fault key node | None ↦ cond (nat_lt (above + 1) depth_limit) None (refused TooDeep key) ])) [
       | Some node ↦ appended_points text key node lie
       | None ↦ some_if (nat_lt (above + 1) depth_limit) text _ _ (λ h. tt) (λ h. lie)
     ]
@@ -298,7 +298,7 @@ mutual
       let j = after_space text i in
       if_lies (cut_in_comment text i) text _ _ (λ cut. space_lies text i)
       (λ go_on. if_lies (stands text j close_bracket) text _ _ (λ closed_here. tt)
-      (λ further. then_lies text (items_behind (read_items n text above) text) (read_value n text above j) (value_lies n text above j)
+      (λ further. then_lies text (array_items_behind (read_items n text above) text) (read_value n text above j) (value_lies n text above j)
       (λ v is.
       let k = after_space text v.2 in
       if_lies (stands text k close_bracket) text _ _ (λ last_one. tt)
@@ -327,7 +327,7 @@ mutual
 not_end : (text : List ℕ) (i : ℕ) → next_line text i ≡ None → (after_comment text (after_blanks text i) ≡ length text → ⊥)
 not_end text i e at =
     let j = after_comment text (after_blanks text i) in
-    let here = sym (if_true (eqb j (length text)) (Some j) (line_end text j) (eq-eqb j (length text) at)) ∙ e in
+    let here = sym (if_true (eqb j (length text)) (Some j) (behind_line_end text j) (eq-eqb j (length text) at)) ∙ e in
     absurd (cc)
 
 rest_lies : (text : List ℕ) (i : ℕ) (document : Document) → ErrLies text (line_rest text i document)

@@ -3,20 +3,20 @@ use Rattle.std.proofs.Common.{◌≡◌, ℕ, zero, suc, ◌+◌, ◌≤◌, inl
 use Rattle.std.proofs.lemmas.List.Sums.{prefix_len-le-length}
 use Rattle.deny_text.specs.declared.span.Span.{Span}
 use Rattle.toml_subset.specs.Bytes.{backslash, close_bracket, close_brace, begins_run, is_run, may_stand}
-use Rattle.toml_subset.specs.Places.{stands, after_blanks, after_white, after_space, line_end}
+use Rattle.toml_subset.specs.Places.{stands, after_blanks, after_white, after_space, behind_line_end}
 use Rattle.toml_subset.specs.Raw.{Raw, RawItems, RawEntries, raw_text, raw_integer, raw_decimal, raw_boolean, raw_array, raw_table, raw_none, raw_item, raw_empty, raw_entry, IsNumber, IsWord, IsValue, AreItems, AreItemsBehind, AreEntries, AreEntriesBehind, word_of}
 use Rattle.toml_subset.specs.Numbers.{Class}
-use Rattle.toml_subset.specs.Strings.{Quoting, Piece, Part, piece, closing, broken, mark_of, is_long, has_escapes, marks_at, scalar_of, letter_escape, escaped_piece, plain_piece, scalar_escape, trimming_escape, escape_by, escape_at, mark_at, plain_at, part_at, ArePieces}
+use Rattle.toml_subset.specs.Strings.{Quoting, StringPiece, StringPart, piece, closing, broken, mark_of, is_long, has_escapes, marks_in_row, scalar_of, letter_escape, escaped_piece, plain_piece, scalar_escape, trimming_escape, escape_by, escape_at, mark_at, plain_at, part_at, ArePieces}
 use Rattle.toml_subset.proofs.Law.Fronts.{passes_inside}
 
 -- strings
 
-abbrev ClosesIn : List ℕ → Part → Type 0
+abbrev ClosesIn : List ℕ → StringPart → Type 0
 ClosesIn text (piece p k) = Unit {0}
 ClosesIn text (closing k) = k ≤ length text
 ClosesIn text broken = Unit {0}
 
-in_if : (b : Bool) (text : List ℕ) (x y : Part) → (b ≡ true → ClosesIn text x) → ClosesIn text y → ClosesIn text (cond b x y)
+in_if : (b : Bool) (text : List ℕ) (x y : StringPart) → (b ≡ true → ClosesIn text x) → ClosesIn text y → ClosesIn text (cond b x y)
 in_if true text x y p q = p refl
 in_if false text x y p q = q
 
@@ -29,7 +29,7 @@ scalar_in digits text i =
 
 trimming_in : (kind : Quoting) (text : List ℕ) (i : ℕ) → ClosesIn text (trimming_escape kind text i)
 trimming_in kind text i =
-    in_if (is_long kind && option_is_some (line_end text (after_blanks text (i + 1)))) text (escaped_piece [] (after_white text (i + 1))) broken (λ h. tt) tt
+    in_if (is_long kind && option_is_some (behind_line_end text (after_blanks text (i + 1)))) text (escaped_piece [] (after_white text (i + 1))) broken (λ h. tt) tt
 
 escape_in : (kind : Quoting) (text : List ℕ) (i c : ℕ) → ClosesIn text (escape_by kind text i c)
 escape_in kind text i c =
@@ -52,22 +52,22 @@ mark_in kind text i h =
     let inside = passes_inside (λ b. eqb b (mark_of kind)) text i h in
     in_if (is_long kind) text _ _
     (λ long.
-    in_if (eqb (marks_at (mark_of kind) text i) 3) text _ _
+    in_if (eqb (marks_in_row (mark_of kind) text i) 3) text _ _
     (λ three.
-    let count = eqb-true (marks_at (mark_of kind) text i) 3 three in
+    let count = eqb-true (marks_in_row (mark_of kind) text i) 3 three in
     let least = prefix_len-le-length (λ c. eqb c (mark_of kind)) (drop i text) in
     let rest = length-drop i text in
     omega arith)
-    (in_if (nat_le (marks_at (mark_of kind) text i) 5) text (plain_piece (mark_of kind ∷ []) (i + 1)) broken (λ few. tt) tt))
+    (in_if (nat_le (marks_in_row (mark_of kind) text i) 5) text (plain_piece (mark_of kind ∷ []) (i + 1)) broken (λ few. tt) tt))
     (omega arith)
 
 plain_in : (kind : Quoting) (text : List ℕ) (i : ℕ) → ClosesIn text (plain_at kind text i)
 plain_in kind text i =
     elim (slice_get text i) as (λ o. ClosesIn text (elim o [
-      | Some c ↦ cond (may_stand c || (is_long kind && option_is_some (line_end text i))) (plain_piece (c ∷ []) (i + 1)) broken
+      | Some c ↦ cond (may_stand c || (is_long kind && option_is_some (behind_line_end text i))) (plain_piece (c ∷ []) (i + 1)) broken
       | None ↦ broken
     ])) [
-      | Some c ↦ in_if (may_stand c || (is_long kind && option_is_some (line_end text i))) text (plain_piece (c ∷ []) (i + 1)) broken (λ h. tt) tt
+      | Some c ↦ in_if (may_stand c || (is_long kind && option_is_some (behind_line_end text i))) text (plain_piece (c ∷ []) (i + 1)) broken (λ h. tt) tt
       | None ↦ tt
     ]
 
@@ -76,7 +76,7 @@ part_in kind text i =
     in_if (stands text i (mark_of kind)) text _ _ (mark_in kind text i)
     (in_if (has_escapes kind && stands text i backslash) text _ _ (λ h. escape_at_in kind text i) (plain_in kind text i))
 
-pub pieces_in : (kind : Quoting) (text : List ℕ) (i : ℕ) (ps : List Piece) (close next : ℕ) → ArePieces kind text i ps close next → next ≤ length text
+pub pieces_in : (kind : Quoting) (text : List ℕ) (i : ℕ) (ps : List StringPiece) (close next : ℕ) → ArePieces kind text i ps close next → next ≤ length text
 pieces_in kind text i [] close next is = subst (ClosesIn text) is.0 (part_in kind text i)
 pieces_in kind text i (p ∷ ps) close next is = pieces_in kind text is.0 ps close next is.2
 

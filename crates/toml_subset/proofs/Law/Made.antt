@@ -2,7 +2,7 @@
 use Rattle.std.proofs.Common.{◌≡◌, ℕ, ◌+◌, ◌<◌, ⊎_elim, Bool, true, false, cond, eqb, List, [], ◌∷◌, length, Option, Some, None, option_map, refl, ap, sym, subst, ◌∙◌, arith}
 use Rattle.deny_text.specs.declared.span.Span.{Span}
 use Rattle.toml_subset.specs.Data.{depth_limit}
-use Rattle.toml_subset.specs.TableFaults.{Inside, node_at, last_of, inside_any, inside_dotted, refused, way_fault, new_key_fault, put_fault, taken_over_fault, open_table_fault, header_fault, appended_fault, open_array_fault, array_header_fault}
+use Rattle.toml_subset.specs.TableFaults.{Inside, table_node_at, last_of, inside_any, inside_dotted, refused, way_fault, new_key_fault, put_fault, taken_over_fault, open_table_fault, header_fault, appended_fault, open_array_fault, array_header_fault}
 use Rattle.toml_subset.specs.Tables.{Mark, by_header, implicit, dotted, Node, Branches, Bodies, closed, growing, tables, last, body, unbranched, branch, same_key, has_key, added, changed, in_last, through_any, through_dotted, along, put_new, put, take_over, open_table, with_table, append_to, open_array}
 use Rattle.toml_subset.specs.declared.error.SyntaxError.{SyntaxError}
 use Rattle.toml_subset.specs.declared.error.SyntaxReason.TheVariants.{DuplicateKey, RedefinedTable, TooDeep}
@@ -17,14 +17,14 @@ IsMade o = (x : _) × (o ≡ Some x)
 map_made : {A B : Type 0} (f : A → B) (o : Option A) → IsMade o → IsMade (option_map f o)
 map_made f o made = (f made.0, ap (option_map f) made.1)
 
-some_has : (key : Key) (branches : Branches) (node : Node) → node_at key branches ≡ Some node → has_key key branches ≡ true
+some_has : (key : Key) (branches : Branches) (node : Node) → table_node_at key branches ≡ Some node → has_key key branches ≡ true
 some_has key unbranched node e = absurd (cc)
 some_has key (branch other here more) node e =
     ⊎_elim (λ h. if_true (same_key key other) true (has_key key more) h.0)
     (λ h. if_false (same_key key other) true (has_key key more) h.0 ∙ some_has key more node h.1)
-    (if_is (same_key key other) (Some here) (node_at key more) (Some node) e)
+    (if_is (same_key key other) (Some here) (table_node_at key more) (Some node) e)
 
-change_made : (f : Node → Option Node) (key : Key) (branches : Branches) (node : Node) → node_at key branches ≡ Some node → IsMade (f node) → IsMade (changed f key branches)
+change_made : (f : Node → Option Node) (key : Key) (branches : Branches) (node : Node) → table_node_at key branches ≡ Some node → IsMade (f node) → IsMade (changed f key branches)
 change_made f key unbranched node e made = absurd (cc)
 change_made f key (branch other here more) node e made =
     ⊎_elim
@@ -35,7 +35,7 @@ change_made f key (branch other here more) node e made =
     (λ h.
     let rest = map_made (branch other here) (changed f key more) (change_made f key more node h.1 made) in
     (rest.0, if_false (same_key key other) _ _ h.0 ∙ rest.1))
-    (if_is (same_key key other) (Some here) (node_at key more) (Some node) e)
+    (if_is (same_key key other) (Some here) (table_node_at key more) (Some node) e)
 
 module _ (mark : Mark) (through : Through) (inside : Node → Option Inside) (edit : Edit) (end : EndFault)
     (ends : (key : Key) (branches : Branches) (above : ℕ) → end key branches above ≡ None → IsMade (edit key branches))
@@ -46,7 +46,7 @@ module _ (mark : Mark) (through : Through) (inside : Node → Option Inside) (ed
   way_made (key ∷ []) branches above some free = ends key branches above free
   way_made (key ∷ next ∷ more) branches above some free =
       let here = sym (way_step inside end key next more branches above) ∙ free in
-      elim (node_at key branches) as (λ o. node_at key branches ≡ o → node_fault inside end key next more above o ≡ None → IsMade (along mark through edit (key ∷ next ∷ more) branches)) [
+      elim (table_node_at key branches) as (λ o. table_node_at key branches ≡ o → node_fault inside end key next more above o ≡ None → IsMade (along mark through edit (key ∷ next ∷ more) branches)) [
         | Some node ↦ λ there is.
             elim (inside node) as (λ o. inside node ≡ o → inside_fault inside end key next more above o ≡ None → IsMade (along mark through edit (key ∷ next ∷ more) branches)) [
               | Some found ↦ λ into rest.
@@ -118,10 +118,10 @@ appended at key (tables span bodies) free = (tables span (with_table at bodies),
 -- an edit at a key: of its node, or a new one
 at_key : (f : Node → Option Node) (new : Node) (key : Key) (branches : Branches) (fault : Node → Option SyntaxError) (none : Option SyntaxError)
     → ((node : Node) → fault node ≡ None → IsMade (f node))
-    → ◌≡◌ {A = Option SyntaxError} (elim (node_at key branches) [ Some node ↦ fault node | None ↦ none ]) None
+    → ◌≡◌ {A = Option SyntaxError} (elim (table_node_at key branches) [ Some node ↦ fault node | None ↦ none ]) None
     → IsMade (cond (has_key key branches) (changed f key branches) (Some (added key new branches)))
 at_key f new key branches fault none goes free =
-    elim (node_at key branches) as (λ o. node_at key branches ≡ o → ◌≡◌ {A = Option SyntaxError} (elim o [ Some node ↦ fault node | None ↦ none ]) None
+    elim (table_node_at key branches) as (λ o. table_node_at key branches ≡ o → ◌≡◌ {A = Option SyntaxError} (elim o [ Some node ↦ fault node | None ↦ none ]) None
     → IsMade (cond (has_key key branches) (changed f key branches) (Some (added key new branches)))) [
       | Some node ↦ λ there is.
           let change = change_made f key branches node there (goes node is) in

@@ -2,7 +2,7 @@
 use Rattle.std.proofs.Common.{◌≡◌, ℕ, zero, suc, ◌+◌, ◌≤◌, ⊎_elim, Bool, true, false, cond, eqb, ◌||◌, List, [], ◌∷◌, length, take, drop, Some, Ok, Err, true≢false, refl, ap, sym, subst, ◌∙◌, eqb-true, eq-eqb, arith}
 use Rattle.std.specs.List.{prefix_len}
 use Rattle.deny_text.specs.declared.span.Span.{Span}
-use Rattle.toml_subset.specs.Answer.{Read, stuck, then_read}
+use Rattle.toml_subset.specs.Answer.{TomlReading, stuck, then_read}
 use Rattle.toml_subset.specs.Bytes.{quote, apostrophe, is_run, begins_run}
 use Rattle.toml_subset.specs.Data as «data»
 use Rattle.toml_subset.specs.Data.{Content, depth_of}
@@ -10,24 +10,24 @@ use Rattle.toml_subset.specs.Faults.{begins_number}
 use Rattle.toml_subset.specs.Numbers.{Class, unsupported, number_form, number_range, integer, decimal, class_of, is_special}
 use Rattle.toml_subset.specs.Places.{front_is, from_to, stands, run_end, run_at}
 use Rattle.toml_subset.specs.Raw.{Raw, raw_text, raw_integer, raw_decimal, raw_boolean, IsNumber, IsWord, IsValue, word_of}
-use Rattle.toml_subset.specs.Reading.{Found, number_read, shared_len, word_read, read_scalar}
+use Rattle.toml_subset.specs.Reading.{ValueFound, number_read, shared_len, word_read, read_scalar}
 use Rattle.toml_subset.specs.StringReading.{StringFound, read_string}
 use Rattle.toml_subset.specs.Strings.{Quoting, IsString}
 use Rattle.toml_subset.specs.Tables.{meant}
-use Rattle.toml_subset.specs.Written.{Written}
+use Rattle.toml_subset.specs.Written.{WrittenString}
 use Rattle.toml_subset.proofs.Law.Basics.{is_ok, not_ok, then_ok, if_is, if_true, if_false}
 use Rattle.toml_subset.proofs.Law.Fronts.{stands_other, opening_front, word_front}
 use Rattle.toml_subset.proofs.Law.Texts.{string_sound, string_read}
 use Rattle.toml_subset.proofs.NumberRuns.{begins_read, or_left}
 
 -- a value that is no array and no table
-abbrev pub ScalarAt : List ℕ → ℕ → Found → Type 0
+abbrev pub ScalarAt : List ℕ → ℕ → ValueFound → Type 0
 ScalarAt text i r = (raw : Raw) × IsValue text i r.0 raw r.2 × (meant raw ≡ Some r.1) × (depth_of r.1 ≡ 0)
 
 class_other : (run : List ℕ) (class : Class) → class_of run ≡ class → (class ≡ unsupported → ⊥) → class_of run ≡ unsupported → ⊥
 class_other run class is other e = other (sym is ∙ e)
 
-number_sound : (text : List ℕ) (i : ℕ) (r : Found) → begins_number text i ≡ true
+number_sound : (text : List ℕ) (i : ℕ) (r : ValueFound) → begins_number text i ≡ true
     → (class : Class) → class_of (run_at is_run text i) ≡ class → number_read text i class ≡ Ok r → ScalarAt text i r
 number_sound text i r begins unsupported is e = absurd (not_ok _ r e)
 number_sound text i r begins number_form is e = absurd (not_ok _ r e)
@@ -66,7 +66,7 @@ whole_shared (c ∷ cs) (d ∷ ds) e =
     let more = whole_shared cs ds rest in
     if_true (eqb c d) (suc (shared_len cs ds)) 0 (eq-eqb c d same) ∙ omega arith
 
-word_sound : (b : Bool) (text : List ℕ) (i : ℕ) (r : Found) → word_read b text i ≡ Ok r → ScalarAt text i r
+word_sound : (b : Bool) (text : List ℕ) (i : ℕ) (r : ValueFound) → word_read b text i ≡ Ok r → ScalarAt text i r
 word_sound b text i r e =
     let shared = shared_len (word_of b) (drop i text) in
     ⊎_elim
@@ -87,22 +87,22 @@ word_is_read b text i span next is =
 
 -- all scalars
 
-abbrev false_from : List ℕ → ℕ → Read Found
+abbrev false_from : List ℕ → ℕ → TomlReading ValueFound
 false_from text i = cond (stands text i 102) (word_read false text i) (Err (stuck text i))
 
-abbrev true_from : List ℕ → ℕ → Read Found
+abbrev true_from : List ℕ → ℕ → TomlReading ValueFound
 true_from text i = cond (stands text i 116) (word_read true text i) (false_from text i)
 
-abbrev string_value : List ℕ → ℕ → Read Found
+abbrev string_value : List ℕ → ℕ → TomlReading ValueFound
 string_value text i = then_read (λ (r : StringFound). Ok (r.1, data.string r.0, r.2)) (read_string text i)
 
-abbrev string_from : List ℕ → ℕ → Read Found
+abbrev string_from : List ℕ → ℕ → TomlReading ValueFound
 string_from text i = cond (stands text i quote || stands text i apostrophe) (string_value text i) (true_from text i)
 
-abbrev number_from : List ℕ → ℕ → Read Found
+abbrev number_from : List ℕ → ℕ → TomlReading ValueFound
 number_from text i = number_read text i (class_of (run_at is_run text i))
 
-pub scalar_sound : (text : List ℕ) (i : ℕ) (r : Found) → read_scalar text i ≡ Ok r → ScalarAt text i r
+pub scalar_sound : (text : List ℕ) (i : ℕ) (r : ValueFound) → read_scalar text i ≡ Ok r → ScalarAt text i r
 scalar_sound text i r e =
     ⊎_elim (λ h. number_sound text i r h.0 (class_of (run_at is_run text i)) refl h.1)
     (λ h.
@@ -159,7 +159,7 @@ or_none : (a b : Bool) → a ≡ false → b ≡ false → (a || b) ≡ false
 or_none true b h k = absurd (true≢false h)
 or_none false b h k = k
 
-pub text_read : (text : List ℕ) (i : ℕ) (kind : Quoting) (w : Written) (span : Span) (next : ℕ) → IsString text i kind w span next → next ≤ length text
+pub text_read : (text : List ℕ) (i : ℕ) (kind : Quoting) (w : WrittenString) (span : Span) (next : ℕ) → IsString text i kind w span next → next ≤ length text
     → read_scalar text i ≡ Ok (span, data.string w, next)
 text_read text i kind w span next is inside =
     let front = opening_front text i (kind, is.first) is.opens in

@@ -1,12 +1,12 @@
 -- A larger bound on how often reading calls itself changes no answer.
 use Rattle.std.proofs.Common.{◌≡◌, ℕ, zero, suc, ◌+◌, ◌-◌, ◌*◌, ◌<◌, ◌≤◌, Bool, true, false, cond, eqb, ◌||◌, List, length, Option, Some, None, Ok, Err, refl, ap, ◌∙◌, arith}
 use Rattle.std.proofs.lemmas.Bool.Decides.{nat_tests}
-use Rattle.toml_subset.specs.Answer.{Read, then_read, unless}
+use Rattle.toml_subset.specs.Answer.{TomlReading, then_read, unless}
 use Rattle.toml_subset.specs.Bytes.{comma, open_bracket, close_bracket, open_brace, close_brace}
 use Rattle.toml_subset.specs.Data as «data»
 use Rattle.toml_subset.specs.Data.{depth_limit}
 use Rattle.toml_subset.specs.Places.{stands, after_blanks, after_space}
-use Rattle.toml_subset.specs.Reading.{ItemsFound, cut_in_comment, items_behind, made, entries_behind, entry_put, array_read, table_read, read_value, read_items, read_entries, enough, value_at}
+use Rattle.toml_subset.specs.Reading.{ItemsFound, cut_in_comment, array_items_behind, made, entries_behind, entry_put, array_read, table_read, read_value, read_items, read_entries, enough, value_at}
 use Rattle.toml_subset.specs.StringReading.{read_left}
 use Rattle.toml_subset.specs.TableFaults.{put_fault}
 use Rattle.toml_subset.specs.Tables.{Branches, unbranched, closed, put}
@@ -19,7 +19,7 @@ use Rattle.toml_subset.proofs.Law.Texts.{left_sound}
 use Rattle.toml_subset.proofs.Law.Values.{value_sound}
 use Rattle.toml_subset.proofs.Law.Ways.{put_below, put_room}
 
-then_same : {A B : Type 0} (f g : A → Read B) (o p : Read A) → o ≡ p → ((x : A) → o ≡ Ok x → f x ≡ g x) → then_read f o ≡ then_read g p
+then_same : {A B : Type 0} (f g : A → TomlReading B) (o p : TomlReading A) → o ≡ p → ((x : A) → o ≡ Ok x → f x ≡ g x) → then_read f o ≡ then_read g p
 then_same f g (Ok x) p e same = same x refl ∙ ap (then_read g) e
 then_same f g (Err fault) p e same = ap (then_read g) e
 
@@ -27,7 +27,7 @@ if_same : {A : Type 0} (b : Bool) (x y z w : A) → (b ≡ true → x ≡ z) →
 if_same true x y z w first second = first refl
 if_same false x y z w first second = second refl
 
-unless_same : {A : Type 0} (fault : Option SyntaxError) (x y : Read A) → (fault ≡ None → x ≡ y) → unless fault x ≡ unless fault y
+unless_same : {A : Type 0} (fault : Option SyntaxError) (x y : TomlReading A) → (fault ≡ None → x ≡ y) → unless fault x ≡ unless fault y
 unless_same (Some fault) x y same = refl
 unless_same None x y same = same refl
 
@@ -70,7 +70,7 @@ mutual
       let space = space_goes text i in
       if_same (cut_in_comment text i) _ _ _ _ (λ cut. refl)
       (λ whole. if_same (stands text j close_bracket) _ _ _ _ (λ closed_here. refl)
-      (λ further. then_same (items_behind (read_items n text above) text) (items_behind (read_items m text above) text)
+      (λ further. then_same (array_items_behind (read_items n text above) text) (array_items_behind (read_items m text above) text)
       (read_value n text above j) (read_value m text above j) (value_steady n m text above j low (omega arith) (omega arith))
       (λ v is.
       let stood = value_sound n text above j v low is in

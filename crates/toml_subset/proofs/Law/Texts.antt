@@ -3,13 +3,13 @@ use Rattle.std.proofs.Common.{◌≡◌, ℕ, zero, suc, ◌+◌, ◌<◌, ◌�
 use Rattle.std.proofs.lemmas.Bool.Decides.{nat_tests}
 use Rattle.std.specs.List.{prefix_len}
 use Rattle.deny_text.specs.declared.span.Span.{Span}
-use Rattle.toml_subset.specs.Answer.{Read, stuck, then_read}
+use Rattle.toml_subset.specs.Answer.{TomlReading, stuck, then_read}
 use Rattle.toml_subset.specs.Bytes.{quote, apostrophe, dot, equals, is_bare}
 use Rattle.toml_subset.specs.Keys.{IsKey, AreKeys}
-use Rattle.toml_subset.specs.Places.{front_is, from_to, passes_at, stands, run_at, after_blanks, line_end}
+use Rattle.toml_subset.specs.Places.{front_is, from_to, passes_at, stands, run_at, after_blanks, behind_line_end}
 use Rattle.toml_subset.specs.StringReading.{Pieces, after_part, part_fault, read_pieces, StringFound, string_from, read_string, begins_long, KeyFound, bare_key, read_key, KeysFound, keys_behind, read_keys, keys_at, equals_behind, read_left}
-use Rattle.toml_subset.specs.Strings.{Quoting, basic, literal, long_basic, long_literal, Piece, Part, piece, closing, broken, marks_at, opening, opening_of, part_at, written_of, ArePieces, IsString}
-use Rattle.toml_subset.specs.Written.{Written}
+use Rattle.toml_subset.specs.Strings.{Quoting, basic, literal, long_basic, long_literal, StringPiece, StringPart, piece, closing, broken, marks_in_row, opening, opening_of, part_at, written_of, ArePieces, IsString}
+use Rattle.toml_subset.specs.Written.{WrittenString}
 use Rattle.toml_subset.specs.declared.string.Key.{Key}
 use Rattle.toml_subset.proofs.Law.Basics.{is_ok, not_ok, then_ok, if_is, if_true, if_false}
 use Rattle.toml_subset.proofs.Law.Forward.{piece_goes, pieces_go, key_goes, keys_go}
@@ -20,8 +20,8 @@ use Rattle.toml_subset.proofs.Law.Fronts.{stands_other, passes_other, run_some, 
 abbrev PiecesAt : Quoting → List ℕ → ℕ → Pieces → Type 0
 PiecesAt kind text i r = ArePieces kind text i r.0 r.1 r.2
 
-part_sound : (kind : Quoting) (text : List ℕ) (i : ℕ) (rest : ℕ → Read Pieces) (r : Pieces) → ((k : ℕ) (x : Pieces) → rest k ≡ Ok x → PiecesAt kind text k x)
-    → (q : Part) → part_at kind text i ≡ q → after_part kind text i rest q ≡ Ok r → PiecesAt kind text i r
+part_sound : (kind : Quoting) (text : List ℕ) (i : ℕ) (rest : ℕ → TomlReading Pieces) (r : Pieces) → ((k : ℕ) (x : Pieces) → rest k ≡ Ok x → PiecesAt kind text k x)
+    → (q : StringPart) → part_at kind text i ≡ q → after_part kind text i rest q ≡ Ok r → PiecesAt kind text i r
 part_sound kind text i rest r all (piece p k) here e =
     let found = then_ok (λ (x : Pieces). Ok (p ∷ x.0, x.1, x.2)) (rest k) r e in
     subst (PiecesAt kind text i) (is_ok _ r found.2) (k, here, all k found.0 found.1)
@@ -32,7 +32,7 @@ pub pieces_sound : (n : ℕ) (kind : Quoting) (text : List ℕ) (i : ℕ) (r : P
 pieces_sound zero kind text i r e = absurd (not_ok (stuck text i) r e)
 pieces_sound (suc n) kind text i r e = part_sound kind text i (read_pieces n kind text) r (pieces_sound n kind text) (part_at kind text i) refl e
 
-abbrev string_by : List ℕ → ℕ → Option (Quoting × ℕ) → Read StringFound
+abbrev string_by : List ℕ → ℕ → Option (Quoting × ℕ) → TomlReading StringFound
 string_by text i (Some first) = string_from text first
 string_by text i None = Err (stuck text i)
 
@@ -65,7 +65,7 @@ string_by_sound text i (Some first) r is e =
 pub string_sound : (text : List ℕ) (i : ℕ) (r : StringFound) → read_string text i ≡ Ok r → StringAt text i r
 string_sound text i r e = string_by_sound text i (opening text i) r refl (sym (string_step text i) ∙ e)
 
-pub pieces_read : (n : ℕ) (kind : Quoting) (text : List ℕ) (i : ℕ) (ps : List Piece) (close next : ℕ) → ArePieces kind text i ps close next → next ≤ i + n
+pub pieces_read : (n : ℕ) (kind : Quoting) (text : List ℕ) (i : ℕ) (ps : List StringPiece) (close next : ℕ) → ArePieces kind text i ps close next → next ≤ i + n
     → read_pieces n kind text i ≡ Ok (ps, close, next)
 pieces_read zero kind text i ps close next is room = let goes = pieces_go kind text i ps close next is in absurd (omega arith)
 pieces_read (suc n) kind text i [] close next is room =
@@ -75,13 +75,13 @@ pieces_read (suc n) kind text i (p ∷ ps) close next is room =
     ap (after_part kind text i (read_pieces n kind text)) is.1
     ∙ ap (then_read (λ (x : Pieces). Ok (p ∷ x.0, x.1, x.2))) (pieces_read n kind text is.0 ps close next is.2 (omega arith))
 
-pub string_read : (text : List ℕ) (i : ℕ) (kind : Quoting) (w : Written) (span : Span) (next : ℕ) → IsString text i kind w span next → next ≤ length text
+pub string_read : (text : List ℕ) (i : ℕ) (kind : Quoting) (w : WrittenString) (span : Span) (next : ℕ) → IsString text i kind w span next → next ≤ length text
     → read_string text i ≡ Ok (w, span, next)
 string_read text i kind w span next is inside =
     string_step text i ∙ ap (string_by text i) is.opens
     ∙ ap (then_read (λ (x : Pieces). Ok (written_of x.0, from_to is.first x.1, x.2)))
     (pieces_read (suc (length text)) kind text is.first is.pieces is.close next is.body (omega arith))
-    ∙ ap (λ (x : Written). Ok (x, from_to is.first is.close, next)) (sym is.stands_for) ∙ ap (λ (x : Span). Ok (w, x, next)) (sym is.spans)
+    ∙ ap (λ (x : WrittenString). Ok (x, from_to is.first is.close, next)) (sym is.stands_for) ∙ ap (λ (x : Span). Ok (w, x, next)) (sym is.spans)
 
 -- three marks begin a long string, and no key
 
@@ -89,16 +89,16 @@ front_none : (p : ℕ → Bool) (s : List ℕ) → front_is p s ≡ false → pr
 front_none p [] h = refl
 front_none p (c ∷ cs) h = ap (λ b. cond b (1 + prefix_len p cs) 0) h
 
-few_marks : (mark : ℕ) (text : List ℕ) (i : ℕ) → stands text i mark ≡ false → nat_le 3 (marks_at mark text i) ≡ false
+few_marks : (mark : ℕ) (text : List ℕ) (i : ℕ) → stands text i mark ≡ false → nat_le 3 (marks_in_row mark text i) ≡ false
 few_marks mark text i h = let none = front_none (λ c. eqb c mark) (drop i text) h in grind (arith, nat_tests)
 
 abbrev opened : Quoting → Quoting → ℕ → List ℕ → ℕ → Quoting × ℕ
 opened short long mark text i = opening_of short long mark text i
 
-short_of : (short long : Quoting) (mark : ℕ) (text : List ℕ) (i : ℕ) (o : Quoting × ℕ) → nat_le 3 (marks_at mark text i) ≡ false → opening_of short long mark text i ≡ o → o.0 ≡ short
+short_of : (short long : Quoting) (mark : ℕ) (text : List ℕ) (i : ℕ) (o : Quoting × ℕ) → nat_le 3 (marks_in_row mark text i) ≡ false → opening_of short long mark text i ≡ o → o.0 ≡ short
 short_of short long mark text i o few e =
     ap (λ (x : Quoting × ℕ). x.0) (sym e)
-    ∙ ap (λ (x : Quoting × ℕ). x.0) (if_false (nat_le 3 (marks_at mark text i)) (long, unwrap_or (line_end text (i + 3)) (i + 3)) (short, i + 1) few)
+    ∙ ap (λ (x : Quoting × ℕ). x.0) (if_false (nat_le 3 (marks_in_row mark text i)) (long, unwrap_or (behind_line_end text (i + 3)) (i + 3)) (short, i + 1) few)
 
 or_false : (a b : Bool) → (a || b) ≡ false → (a ≡ false) × (b ≡ false)
 or_false true b h = absurd (true≢false h)
@@ -113,7 +113,7 @@ some_same x y e = cc
 
 short_kind : (text : List ℕ) (i : ℕ) (o : Quoting × ℕ) → opening text i ≡ Some o → begins_long text i ≡ false → (o.0 ≡ basic) ⊎ (o.0 ≡ literal)
 short_kind text i o opens short =
-    let few = or_false (nat_le 3 (marks_at quote text i)) (nat_le 3 (marks_at apostrophe text i)) short in
+    let few = or_false (nat_le 3 (marks_in_row quote text i)) (nat_le 3 (marks_in_row apostrophe text i)) short in
     ⊎_elim (λ h. inl (short_of basic long_basic quote text i o few.0 (some_same _ o h.1)))
     (λ h.
     ⊎_elim (λ k. inr (short_of literal long_literal apostrophe text i o few.1 (some_same _ o k.1))) (λ k. let other = k.1 in absurd (cc))
@@ -122,10 +122,10 @@ short_kind text i o opens short =
     (cond (stands text i apostrophe) (Some (opening_of literal long_literal apostrophe text i)) None) (Some o) opens)
 
 -- an opening of a short kind has few marks
-few_of : (short long : Quoting) (mark : ℕ) (text : List ℕ) (i : ℕ) (o : Quoting × ℕ) → (o.0 ≡ long → ⊥) → opening_of short long mark text i ≡ o → nat_le 3 (marks_at mark text i) ≡ false
+few_of : (short long : Quoting) (mark : ℕ) (text : List ℕ) (i : ℕ) (o : Quoting × ℕ) → (o.0 ≡ long → ⊥) → opening_of short long mark text i ≡ o → nat_le 3 (marks_in_row mark text i) ≡ false
 few_of short long mark text i o other e =
     ⊎_elim (λ h. absurd (other (ap (λ (x : Quoting × ℕ). x.0) (sym h.1)))) (λ h. h.0)
-    (if_is (nat_le 3 (marks_at mark text i)) (long, unwrap_or (line_end text (i + 3)) (i + 3)) (short, i + 1) o e)
+    (if_is (nat_le 3 (marks_in_row mark text i)) (long, unwrap_or (behind_line_end text (i + 3)) (i + 3)) (short, i + 1) o e)
 
 short_begins : (text : List ℕ) (i : ℕ) (o : Quoting × ℕ) → opening text i ≡ Some o → (o.0 ≡ long_basic → ⊥) → (o.0 ≡ long_literal → ⊥) → begins_long text i ≡ false
 short_begins text i o opens not_basic not_literal =
@@ -156,7 +156,7 @@ quoted_sound text i r is short =
     ⊎_elim (λ k. inr (inl (subst (λ kind. IsString text i kind r.0 r.1 r.2) k is.2))) (λ k. inr (inr (subst (λ kind. IsString text i kind r.0 r.1 r.2) k is.2)))
     (short_kind text i is.0 is.1 short)
 
-abbrev quoted_read : List ℕ → ℕ → Read KeyFound
+abbrev quoted_read : List ℕ → ℕ → TomlReading KeyFound
 quoted_read text i = then_read (λ (r : StringFound). Ok (key_of r)) (read_string text i)
 
 pub key_sound : (text : List ℕ) (i : ℕ) (r : KeyFound) → read_key text i ≡ Ok r → KeyAt text i r
@@ -195,7 +195,7 @@ key_read text i key next (inr (inr is)) inside = quoted_key_read text i literal 
 abbrev pub KeysAt : List ℕ → ℕ → KeysFound → Type 0
 KeysAt text i r = AreKeys text i r.0 r.1
 
-behind_sound : (text : List ℕ) (i : ℕ) (rest : ℕ → Read KeysFound) (first : KeyFound) (r : KeysFound)
+behind_sound : (text : List ℕ) (i : ℕ) (rest : ℕ → TomlReading KeysFound) (first : KeyFound) (r : KeysFound)
     → ((k : ℕ) (x : KeysFound) → rest k ≡ Ok x → KeysAt text k x) → KeyAt text i first → keys_behind rest text first ≡ Ok r → KeysAt text i r
 behind_sound text i rest first r all is e =
     ⊎_elim

@@ -4,14 +4,14 @@ use Rattle.std.proofs.lemmas.Bool.Decides.{nat_tests}
 use Rattle.std.proofs.lemmas.List.{drop-drop}
 use Rattle.std.specs.List.{prefix_len}
 use Rattle.deny_text.specs.declared.span.Span.{Span}
-use Rattle.toml_subset.specs.Answer.{Read, fault_at, stuck, then_read, unless}
+use Rattle.toml_subset.specs.Answer.{TomlReading, fault_at, stuck, then_read, unless}
 use Rattle.toml_subset.specs.Bytes.{quote, apostrophe, hash, comma, open_bracket, close_bracket, open_brace, close_brace, begins_run, may_stand}
 use Rattle.toml_subset.specs.Data as «data»
 use Rattle.toml_subset.specs.Data.{Content, Items, depth_of, items_depth, depth_limit}
 use Rattle.toml_subset.specs.Numbers.{integer, decimal}
 use Rattle.toml_subset.specs.Places.{front_is, from_to, passes_at, stands, run_end, after_blanks, after_blanks_and_comment, after_lines_of, after_space}
 use Rattle.toml_subset.specs.Raw.{Raw, RawItems, RawEntries, raw_text, raw_integer, raw_decimal, raw_boolean, raw_array, raw_table, raw_none, raw_item, raw_empty, raw_entry, IsValue, AreItems, AreItemsBehind, AreEntries, AreEntriesBehind}
-use Rattle.toml_subset.specs.Reading.{Found, ItemsFound, EntriesFound, read_scalar, space_fault, cut_in_comment, items_behind, items_from, made, entries_behind, entry_put, entries_from, array_read, table_read, table_from, value_from, read_value, read_items, read_entries}
+use Rattle.toml_subset.specs.Reading.{ValueFound, ItemsFound, EntriesFound, read_scalar, space_fault, cut_in_comment, array_items_behind, array_items_from, made, entries_behind, entry_put, entries_from, array_read, table_read, table_from, value_from, read_value, read_items, read_entries}
 use Rattle.toml_subset.specs.StringReading.{KeysFound, read_left}
 use Rattle.toml_subset.specs.TableFaults.{put_fault}
 use Rattle.toml_subset.specs.Tables.{Branches, unbranched, closed, put, entries_of, meant, items_meant, entries_meant}
@@ -27,7 +27,7 @@ use Rattle.toml_subset.proofs.Law.Ways.{put_below, put_free, put_grows, put_room
 
 -- what is read stands there
 
-abbrev pub ValueAt : ℕ → List ℕ → ℕ → Found → Type 0
+abbrev pub ValueAt : ℕ → List ℕ → ℕ → ValueFound → Type 0
 ValueAt above text i r = (raw : Raw) × IsValue text i r.0 raw r.2 × (meant raw ≡ Some r.1) × (above + depth_of r.1 ≤ depth_limit)
 
 abbrev pub ItemsAt : ℕ → List ℕ → ℕ → ItemsFound → Type 0
@@ -50,10 +50,10 @@ comma_behind : (text : List ℕ) (j : ℕ) (items : RawItems) (next : ℕ) → s
 comma_behind text j raw_none next at is = inr (at, is.0, is.1)
 comma_behind text j (raw_item span value more) next at is = (at, is)
 
-module _ (above : ℕ) (text : List ℕ) (value : ℕ → Read Found) (rest : ℕ → Read ItemsFound)
-    (value_ok : (k : ℕ) (x : Found) → value k ≡ Ok x → ValueAt above text k x)
+module _ (above : ℕ) (text : List ℕ) (value : ℕ → TomlReading ValueFound) (rest : ℕ → TomlReading ItemsFound)
+    (value_ok : (k : ℕ) (x : ValueFound) → value k ≡ Ok x → ValueAt above text k x)
     (rest_ok : (k : ℕ) (x : ItemsFound) → rest k ≡ Ok x → ItemsAt above text k x) (low : above ≤ depth_limit) (r : ItemsFound) where
-  behind_sound : (v : Found) → items_behind rest text v ≡ Ok r → (m : ItemsFound) × BehindAt above text v.2 m × ((data.item v.0 v.1 m.0, m.1) ≡ r)
+  behind_sound : (v : ValueFound) → array_items_behind rest text v ≡ Ok r → (m : ItemsFound) × BehindAt above text v.2 m × ((data.item v.0 v.1 m.0, m.1) ≡ r)
   behind_sound v e =
       let j = after_space text v.2 in
       ⊎_elim (λ h. ((data.no_item, j + 1), (raw_none, inl (h.0, refl), refl, omega arith), is_ok _ r h.1))
@@ -68,14 +68,14 @@ module _ (above : ℕ) (text : List ℕ) (value : ℕ → Read Found) (rest : �
       (if_is (stands text j close_bracket) (Ok (data.item v.0 v.1 data.no_item, j + 1))
       (cond (stands text j comma) (then_read (λ (x : ItemsFound). Ok (data.item v.0 v.1 x.0, x.1)) (rest (j + 1))) (Err (space_fault text v.2))) (Ok r) e)
 
-  items_from_sound : (i : ℕ) → items_from value rest text i ≡ Ok r → ItemsAt above text i r
+  items_from_sound : (i : ℕ) → array_items_from value rest text i ≡ Ok r → ItemsAt above text i r
   items_from_sound i e =
       let j = after_space text i in
       ⊎_elim (λ h. absurd (not_ok _ r h.1))
       (λ h.
       ⊎_elim (λ k. subst (ItemsAt above text i) (is_ok _ r k.1) (raw_none, (k.0, refl), refl, omega arith))
       (λ k.
-      let found = then_ok (items_behind rest text) (value j) r k.1 in
+      let found = then_ok (array_items_behind rest text) (value j) r k.1 in
       let v = found.0 in
       let is = value_ok j v found.1 in
       let behind = behind_sound v found.2 in
@@ -85,11 +85,11 @@ module _ (above : ℕ) (text : List ℕ) (value : ℕ → Read Found) (rest : �
       let all : items_meant (raw_item v.0 is.0 behind.1.0) ≡ Some (data.item v.0 v.1 m.0) =
       ap (option_and_then (λ content. option_map (data.item v.0 content) (items_meant behind.1.0))) is.2 ∙ ap (option_map (data.item v.0 v.1)) behind.1.2 in
       subst (ItemsAt above text i) behind.2 (raw_item v.0 is.0 behind.1.0, (v.2, is.1, behind.1.1), all, omega arith))
-      (if_is (stands text j close_bracket) (Ok (data.no_item, j + 1)) (then_read (items_behind rest text) (value j)) (Ok r) h.1))
-      (if_is (cut_in_comment text i) (Err (space_fault text i)) (cond (stands text j close_bracket) (Ok (data.no_item, j + 1)) (then_read (items_behind rest text) (value j))) (Ok r) e)
+      (if_is (stands text j close_bracket) (Ok (data.no_item, j + 1)) (then_read (array_items_behind rest text) (value j)) (Ok r) h.1))
+      (if_is (cut_in_comment text i) (Err (space_fault text i)) (cond (stands text j close_bracket) (Ok (data.no_item, j + 1)) (then_read (array_items_behind rest text) (value j))) (Ok r) e)
 
-module _ (above : ℕ) (text : List ℕ) (value : ℕ → ℕ → Read Found) (rest : Branches → ℕ → Read EntriesFound)
-    (value_ok : (high k : ℕ) (x : Found) → high ≤ depth_limit → value high k ≡ Ok x → ValueAt high text k x)
+module _ (above : ℕ) (text : List ℕ) (value : ℕ → ℕ → TomlReading ValueFound) (rest : Branches → ℕ → TomlReading EntriesFound)
+    (value_ok : (high k : ℕ) (x : ValueFound) → high ≤ depth_limit → value high k ≡ Ok x → ValueAt high text k x)
     (rest_ok : (branches : Branches) (k : ℕ) (x : EntriesFound) → above + depth branches ≤ depth_limit → rest branches k ≡ Ok x → EntriesAt above text branches k x)
     (r : EntriesFound) where
   entries_behind_sound : (i : ℕ) (branches : Branches) → above + depth branches ≤ depth_limit → entries_behind rest text i branches ≡ Ok r
@@ -107,7 +107,7 @@ module _ (above : ℕ) (text : List ℕ) (value : ℕ → ℕ → Read Found) (r
       (if_is (stands text j comma) (rest branches (after_blanks text (j + 1))) (Err (stuck text j)) (Ok r) h.1))
       (if_is (stands text j close_brace) (Ok (branches, j + 1)) (cond (stands text j comma) (rest branches (after_blanks text (j + 1))) (Err (stuck text j))) (Ok r) e)
 
-  abbrev entry_from : Branches → KeysFound → Read EntriesFound
+  abbrev entry_from : Branches → KeysFound → TomlReading EntriesFound
   entry_from branches left =
       unless (put_fault left.0 branches above) (then_read (entry_put rest text left.0 branches) (value (above + (length left.0 - 1)) left.1))
 
@@ -135,17 +135,17 @@ module _ (above : ℕ) (text : List ℕ) (value : ℕ → ℕ → Read Found) (r
         low = behind.3;
       }
 
-module _ (above : ℕ) (text : List ℕ) (items : ℕ → Read ItemsFound) (entries : ℕ → Read EntriesFound)
+module _ (above : ℕ) (text : List ℕ) (items : ℕ → TomlReading ItemsFound) (entries : ℕ → TomlReading EntriesFound)
     (items_ok : (k : ℕ) (x : ItemsFound) → above + 1 ≤ depth_limit → items k ≡ Ok x → ItemsAt (above + 1) text k x)
     (entries_ok : (k : ℕ) (x : EntriesFound) → above + 1 ≤ depth_limit → entries k ≡ Ok x → EntriesAt (above + 1) text unbranched k x)
-    (i : ℕ) (r : Found) where
-  abbrev array_by : Read Found
+    (i : ℕ) (r : ValueFound) where
+  abbrev array_by : TomlReading ValueFound
   array_by = then_read (array_read i) (items (i + 1))
 
-  abbrev table_by : Read Found
+  abbrev table_by : TomlReading ValueFound
   table_by = then_read (table_read i) (table_from entries text i)
 
-  abbrev opened_by : Read Found
+  abbrev opened_by : TomlReading ValueFound
   opened_by = cond (eqb above depth_limit) (Err (fault_at TooDeep i (i + 1))) (cond (stands text i open_bracket) array_by table_by)
 
   table_sound : above + 1 ≤ depth_limit → stands text i open_brace ≡ true → table_by ≡ Ok r → ValueAt above text i r
@@ -192,7 +192,7 @@ module _ (above : ℕ) (text : List ℕ) (items : ℕ → Read ItemsFound) (entr
       (if_is (stands text i open_bracket || stands text i open_brace) opened_by (read_scalar text i) (Ok r) e)
 
 mutual
-  pub value_sound : (n : ℕ) (text : List ℕ) (above i : ℕ) (r : Found) → above ≤ depth_limit → read_value n text above i ≡ Ok r → ValueAt above text i r
+  pub value_sound : (n : ℕ) (text : List ℕ) (above i : ℕ) (r : ValueFound) → above ≤ depth_limit → read_value n text above i ≡ Ok r → ValueAt above text i r
   value_sound zero text above i r low e = absurd (not_ok (stuck text i) r e)
   value_sound (suc n) text above i r low e =
       value_from_sound above text (read_items n text (above + 1)) (read_entries n text (above + 1) unbranched)
@@ -281,22 +281,22 @@ entries_grow (raw_entry keys span value more) branches new e =
     omega arith
 
 past_opening : (text : List ℕ) (i : ℕ) (span : Span) (raw : Raw) (next : ℕ) → IsValue text i span raw next
-    → stands text i open_bracket ≡ false → stands text i open_brace ≡ false → (opened scalar : Read Found) → cond (stands text i open_bracket || stands text i open_brace) opened scalar ≡ scalar
+    → stands text i open_bracket ≡ false → stands text i open_brace ≡ false → (opened scalar : TomlReading ValueFound) → cond (stands text i open_bracket || stands text i open_brace) opened scalar ≡ scalar
 past_opening text i span raw next is bracket brace opened scalar =
     if_false (stands text i open_bracket || stands text i open_brace) opened scalar (ap (λ b. b || stands text i open_brace) bracket ∙ brace)
 
-abbrev opened_from : (ℕ → Read ItemsFound) → (ℕ → Read EntriesFound) → List ℕ → ℕ → ℕ → Read Found
+abbrev opened_from : (ℕ → TomlReading ItemsFound) → (ℕ → TomlReading EntriesFound) → List ℕ → ℕ → ℕ → TomlReading ValueFound
 opened_from items entries text above i =
     cond (eqb above depth_limit) (Err (fault_at TooDeep i (i + 1)))
     (cond (stands text i open_bracket) (then_read (array_read i) (items (i + 1))) (then_read (table_read i) (table_from entries text i)))
 
-scalar_first : (items : ℕ → Read ItemsFound) (entries : ℕ → Read EntriesFound) (text : List ℕ) (above i : ℕ)
+scalar_first : (items : ℕ → TomlReading ItemsFound) (entries : ℕ → TomlReading EntriesFound) (text : List ℕ) (above i : ℕ)
     → stands text i open_bracket ≡ false → stands text i open_brace ≡ false → value_from items entries text above i ≡ read_scalar text i
 scalar_first items entries text above i bracket brace =
     if_false (stands text i open_bracket || stands text i open_brace) (opened_from items entries text above i) (read_scalar text i)
     (ap (λ b. b || stands text i open_brace) bracket ∙ brace)
 
-abbrev left_from : (ℕ → ℕ → Read Found) → (Branches → ℕ → Read EntriesFound) → List ℕ → ℕ → Branches → KeysFound → Read EntriesFound
+abbrev left_from : (ℕ → ℕ → TomlReading ValueFound) → (Branches → ℕ → TomlReading EntriesFound) → List ℕ → ℕ → Branches → KeysFound → TomlReading EntriesFound
 left_from value rest text above branches left =
     unless (put_fault left.0 branches above) (then_read (entry_put rest text left.0 branches) (value (above + (length left.0 - 1)) left.1))
 
@@ -307,18 +307,18 @@ or_last : (a b : Bool) → b ≡ true → (a || b) ≡ true
 or_last true b h = refl
 or_last false b h = h
 
-module _ (n : ℕ) (text : List ℕ) (above : ℕ) (rest : ℕ → Read ItemsFound)
+module _ (n : ℕ) (text : List ℕ) (above : ℕ) (rest : ℕ → TomlReading ItemsFound)
     (rest_read : (i : ℕ) (items : RawItems) (next : ℕ) (content : Items) → AreItems text (after_space text i) items next → items_meant items ≡ Some content
     → above + items_depth content ≤ depth_limit → next ≤ length text → 2 * next + 1 ≤ 2 * i + n → rest i ≡ Ok (content, next)) where
-  abbrev comma_from : Found → Read ItemsFound
+  abbrev comma_from : ValueFound → TomlReading ItemsFound
   comma_from v =
       let j = after_space text v.2 in
       cond (stands text j comma) (then_read (λ (x : ItemsFound). Ok (data.item v.0 v.1 x.0, x.1)) (rest (j + 1))) (Err (space_fault text v.2))
 
-  comma_read : (v : Found) (more : RawItems) (next : ℕ) (content : Items) → stands text (after_space text v.2) comma ≡ true
+  comma_read : (v : ValueFound) (more : RawItems) (next : ℕ) (content : Items) → stands text (after_space text v.2) comma ≡ true
       → AreItems text (after_space text (after_space text v.2 + 1)) more next → items_meant more ≡ Some content
       → above + items_depth content ≤ depth_limit → next ≤ length text → 2 * next + 1 ≤ 2 * (v.2 + 1) + n
-      → items_behind rest text v ≡ Ok (data.item v.0 v.1 content, next)
+      → array_items_behind rest text v ≡ Ok (data.item v.0 v.1 content, next)
   comma_read v more next content at are mean low inside room =
       let j = after_space text v.2 in
       let gap = space_goes text v.2 in
@@ -326,9 +326,9 @@ module _ (n : ℕ) (text : List ℕ) (above : ℕ) (rest : ℕ → Read ItemsFou
       ∙ if_true (stands text j comma) (then_read (λ (x : ItemsFound). Ok (data.item v.0 v.1 x.0, x.1)) (rest (j + 1))) (Err (space_fault text v.2)) at
       ∙ ap (then_read (λ (x : ItemsFound). Ok (data.item v.0 v.1 x.0, x.1))) (rest_read (j + 1) more next content are mean low inside (omega arith))
 
-  behind_read : (v : Found) (more : RawItems) (next : ℕ) (content : Items) → AreItemsBehind text (after_space text v.2) more next → items_meant more ≡ Some content
+  behind_read : (v : ValueFound) (more : RawItems) (next : ℕ) (content : Items) → AreItemsBehind text (after_space text v.2) more next → items_meant more ≡ Some content
       → above + items_depth content ≤ depth_limit → next ≤ length text → 2 * next + 1 ≤ 2 * (v.2 + 1) + n
-      → items_behind rest text v ≡ Ok (data.item v.0 v.1 content, next)
+      → array_items_behind rest text v ≡ Ok (data.item v.0 v.1 content, next)
   behind_read v raw_none next content (inl only) mean low inside room =
       let j = after_space text v.2 in
       if_true (stands text j close_bracket) (Ok (data.item v.0 v.1 data.no_item, j + 1)) (comma_from v) only.0
@@ -336,7 +336,7 @@ module _ (n : ℕ) (text : List ℕ) (above : ℕ) (rest : ℕ → Read ItemsFou
   behind_read v raw_none next content (inr further) mean low inside room = comma_read v raw_none next content further.0 (further.1, further.2) mean low inside room
   behind_read v (raw_item span raw more) next content are mean low inside room = comma_read v (raw_item span raw more) next content are.0 are.1 mean low inside room
 
-module _ (n : ℕ) (text : List ℕ) (above : ℕ) (rest : Branches → ℕ → Read EntriesFound)
+module _ (n : ℕ) (text : List ℕ) (above : ℕ) (rest : Branches → ℕ → TomlReading EntriesFound)
     (rest_read : (branches : Branches) (i : ℕ) (keys : List Key) (span : Span) (raw : Raw) (more : RawEntries) (next : ℕ) (new : Branches)
     → AreEntries text i (raw_entry keys span raw more) next → entries_meant (raw_entry keys span raw more) branches ≡ Some new
     → above + depth new ≤ depth_limit → next ≤ length text → 2 * next + 1 ≤ 2 * i + n → rest branches i ≡ Ok (new, next)) where
@@ -439,9 +439,9 @@ mutual
       let j = after_space text i in
       let value = read_value n text above in
       let rest = read_items n text above in
-      if_false (cut_in_comment text i) (Err (space_fault text i)) (cond (stands text j close_bracket) (Ok (data.no_item, j + 1)) (then_read (items_behind rest text) (value j)))
+      if_false (cut_in_comment text i) (Err (space_fault text i)) (cond (stands text j close_bracket) (Ok (data.no_item, j + 1)) (then_read (array_items_behind rest text) (value j)))
       (uncut text i (stands_may close_bracket refl text j are.0))
-      ∙ if_true (stands text j close_bracket) (Ok (data.no_item, j + 1)) (then_read (items_behind rest text) (value j)) are.0
+      ∙ if_true (stands text j close_bracket) (Ok (data.no_item, j + 1)) (then_read (array_items_behind rest text) (value j)) are.0
       ∙ ap (λ (k : ℕ). Ok (data.no_item, k)) (sym are.1) ∙ ap (λ (x : Items). Ok (x, next)) (is_some data.no_item content mean)
   items_read (suc n) text above i (raw_item span raw more) next content are mean low inside room =
       let j = after_space text i in
@@ -455,11 +455,11 @@ mutual
       let goes = value_goes text j span raw k are.1 in
       let further = behind_goes text (after_space text k) more next are.2 in
       let gap = space_goes text k in
-      if_false (cut_in_comment text i) (Err (space_fault text i)) (cond (stands text j close_bracket) (Ok (data.no_item, j + 1)) (then_read (items_behind rest text) (value j)))
+      if_false (cut_in_comment text i) (Err (space_fault text i)) (cond (stands text j close_bracket) (Ok (data.no_item, j + 1)) (then_read (array_items_behind rest text) (value j)))
       (uncut text i (value_may text j span raw k are.1))
-      ∙ if_false (stands text j close_bracket) (Ok (data.no_item, j + 1)) (then_read (items_behind rest text) (value j))
+      ∙ if_false (stands text j close_bracket) (Ok (data.no_item, j + 1)) (then_read (array_items_behind rest text) (value j))
       (value_other close_bracket refl refl refl refl refl refl refl text j span raw k are.1)
-      ∙ ap (then_read (items_behind rest text)) (value_read n text above j span raw k first.0 are.1 first.1 (omega arith) (omega arith) (omega arith))
+      ∙ ap (then_read (array_items_behind rest text)) (value_read n text above j span raw k first.0 are.1 first.1 (omega arith) (omega arith) (omega arith))
       ∙ behind_read n text above rest (items_read n text above) (span, first.0, k) more next others.0 are.2 others.1 (omega arith) inside (omega arith)
       ∙ ap (λ (x : Items). Ok (x, next)) others.2
 

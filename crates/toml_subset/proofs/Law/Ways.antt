@@ -2,7 +2,7 @@
 use Rattle.std.proofs.Common.{◌≡◌, ℕ, ◌+◌, ◌-◌, ◌<◌, ◌≤◌, ⊎_elim, Bool, true, false, cond, eqb, max, List, [], ◌∷◌, length, Option, Some, None, option_map, refl, ap, sym, ◌∙◌, arith}
 use Rattle.std.proofs.lemmas.Bool.Decides.{nat_tests}
 use Rattle.toml_subset.specs.Data.{depth_limit}
-use Rattle.toml_subset.specs.TableFaults.{Inside, node_at, inside_dotted, refused, way_fault, new_key_fault, put_fault}
+use Rattle.toml_subset.specs.TableFaults.{Inside, table_node_at, inside_dotted, refused, way_fault, new_key_fault, put_fault}
 use Rattle.toml_subset.specs.Tables.{Mark, dotted, Node, Branches, growing, unbranched, has_key, added, changed, through_dotted, along, put_new, put}
 use Rattle.toml_subset.specs.declared.error.SyntaxError.{SyntaxError}
 use Rattle.toml_subset.specs.declared.error.SyntaxReason.TheVariants.{RedefinedTable, TooDeep}
@@ -29,9 +29,9 @@ node_fault inside end key next more above None =
     cond (eqb above depth_limit) (refused TooDeep key) (way_fault inside end (next ∷ more) unbranched (above + 1))
 
 pub way_step : (inside : Node → Option Inside) (end : EndFault) (key next : Key) (more : List Key) (branches : Branches) (above : ℕ)
-    → way_fault inside end (key ∷ next ∷ more) branches above ≡ node_fault inside end key next more above (node_at key branches)
+    → way_fault inside end (key ∷ next ∷ more) branches above ≡ node_fault inside end key next more above (table_node_at key branches)
 way_step inside end key next more branches above =
-    elim (node_at key branches) as (λ o. elim o [
+    elim (table_node_at key branches) as (λ o. elim o [
       | Some node ↦ elim (inside node) [ Some found ↦ way_fault inside end (next ∷ more) found.0 (above + found.1) | None ↦ refused RedefinedTable key ]
       | None ↦ cond (eqb above depth_limit) (refused TooDeep key) (way_fault inside end (next ∷ more) unbranched (above + 1))
     ] ≡ node_fault inside end key next more above o) [
@@ -198,7 +198,7 @@ put_room [] branches above free low = omega arith
 put_room (key ∷ []) branches above free low = omega arith
 put_room (key ∷ next ∷ more) branches above free low =
     let here = sym (way_step inside_dotted new_key_fault key next more branches above) ∙ free in
-    elim (node_at key branches) as (λ o. node_at key branches ≡ o → node_fault inside_dotted new_key_fault key next more above o ≡ None → above + (length (key ∷ next ∷ more) - 1) ≤ depth_limit) [
+    elim (table_node_at key branches) as (λ o. table_node_at key branches ≡ o → node_fault inside_dotted new_key_fault key next more above o ≡ None → above + (length (key ∷ next ∷ more) - 1) ≤ depth_limit) [
       | Some node ↦ λ there is.
           let under = node_at_depth key branches node there in
           elim (inside_dotted node) as (λ o. inside_dotted node ≡ o → inside_fault inside_dotted new_key_fault key next more above o ≡ None

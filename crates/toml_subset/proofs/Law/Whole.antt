@@ -2,12 +2,12 @@
 use Rattle.std.proofs.Common.{◌≡◌, ℕ, zero, suc, ◌+◌, ◌-◌, ◌<◌, ◌≤◌, ⊎_elim, Bool, true, false, cond, eqb, nat_lt, ◌||◌, ◌&&◌, List, [], ◌∷◌, length, Option, Some, None, Ok, Err, option_map, option_and_then, true≢false, refl, ap, sym, subst, ◌∙◌, arith}
 use Rattle.std.proofs.lemmas.Bool.Decides.{nat_tests}
 use Rattle.deny_text.specs.declared.span.Span.{Span}
-use Rattle.toml_subset.specs.Answer.{Read, fault_at, stuck, then_read, unless}
+use Rattle.toml_subset.specs.Answer.{TomlReading, fault_at, stuck, then_read, unless}
 use Rattle.toml_subset.specs.Bytes.{quote, apostrophe, hash, line_feed, carriage_return, open_bracket, close_bracket, may_stand, is_blank}
 use Rattle.toml_subset.specs.Data.{Toml, depth_limit}
 use Rattle.toml_subset.specs.Keys.{AreKeys}
 use Rattle.toml_subset.specs.Lines.{Statement, blank_line, pair, table_header, array_header, Document, no_lines, IsStatement, AreLines, after_line, after_lines}
-use Rattle.toml_subset.specs.Places.{from_to, passes_at, stands, run_end, after_blanks, after_comment, line_end, next_line}
+use Rattle.toml_subset.specs.Places.{from_to, passes_at, stands, run_end, after_blanks, after_comment, behind_line_end, next_line}
 use Rattle.toml_subset.specs.Raw.{IsValue}
 use Rattle.toml_subset.specs.Reading.{made, enough, value_at, section_of, LineFound, line_rest, with_root, pair_put, pair_from, header_from, array_header_from, is_blank_line, line_from, read_lines, whole, read_text}
 use Rattle.toml_subset.specs.StringReading.{KeysFound, keys_at, read_left}
@@ -27,7 +27,7 @@ use Rattle.toml_subset.proofs.Law.Ways.{put_below, put_free, put_grows, put_room
 
 -- lines that are read stand there
 
-abbrev rest_by : List ℕ → ℕ → Document → Option ℕ → Read LineFound
+abbrev rest_by : List ℕ → ℕ → Document → Option ℕ → TomlReading LineFound
 rest_by text i document (Some next) = Ok (document, next)
 rest_by text i document None =
     let j = after_comment text (after_blanks text i) in cond (stands text (after_blanks text i) hash) (Err (fault_at ControlCharacter j (j + 1))) (Err (stuck text j))
@@ -142,19 +142,19 @@ array_header_sound text j document keys r low at two is_keys e =
     (λ h. absurd (not_ok _ r h.1))
     (if_is (stands text k close_bracket) (cond (stands text (k + 1) close_bracket) made_it (Err (stuck text (k + 1)))) (Err (stuck text k)) (Ok r) e)
 
-abbrev array_line : List ℕ → Document → ℕ → Read LineFound
+abbrev array_line : List ℕ → Document → ℕ → TomlReading LineFound
 array_line text document j = then_read (array_header_from text j document) (keys_at text (after_blanks text (j + 2)))
 
-abbrev table_line : List ℕ → Document → ℕ → Read LineFound
+abbrev table_line : List ℕ → Document → ℕ → TomlReading LineFound
 table_line text document j = then_read (header_from text j document) (keys_at text (after_blanks text (j + 1)))
 
-abbrev bracket_line : List ℕ → Document → ℕ → Read LineFound
+abbrev bracket_line : List ℕ → Document → ℕ → TomlReading LineFound
 bracket_line text document j = cond (stands text (j + 1) open_bracket) (array_line text document j) (table_line text document j)
 
-abbrev pair_line : List ℕ → Document → ℕ → Read LineFound
+abbrev pair_line : List ℕ → Document → ℕ → TomlReading LineFound
 pair_line text document j = then_read (pair_from text document) (read_left text j)
 
-abbrev statement_line : List ℕ → Document → ℕ → Read LineFound
+abbrev statement_line : List ℕ → Document → ℕ → TomlReading LineFound
 statement_line text document j = cond (stands text j open_bracket) (bracket_line text document j) (pair_line text document j)
 
 line_sound : (text : List ℕ) (j : ℕ) (document : Document) (r : LineFound) → depth document.root ≤ depth_limit → line_from text document j ≡ Ok r → LineAt text j document r
@@ -243,9 +243,9 @@ blank_line_is text j next blank e =
       | true ↦ λ is. or_last (eqb j (length text)) _ (or_first _ _ is)
       | false ↦ λ is.
           let comment : after_comment text j ≡ j = if_false (stands text j hash) (run_end may_stand text (j + 1)) j is in
-          let here : cond (eqb j (length text)) (Some j) (line_end text j) ≡ Some next =
-          sym (ap (λ k. cond (eqb (after_comment text k) (length text)) (Some (after_comment text k)) (line_end text (after_comment text k))) blanks
-          ∙ ap (λ k. cond (eqb k (length text)) (Some k) (line_end text k)) comment) ∙ e in
+          let here : cond (eqb j (length text)) (Some j) (behind_line_end text j) ≡ Some next =
+          sym (ap (λ k. cond (eqb (after_comment text k) (length text)) (Some (after_comment text k)) (behind_line_end text (after_comment text k))) blanks
+          ∙ ap (λ k. cond (eqb k (length text)) (Some k) (behind_line_end text k)) comment) ∙ e in
           ⊎_elim (λ h. or_first _ _ h.0)
           (λ h.
           ⊎_elim (λ k. or_last (eqb j (length text)) _ (or_last (stands text j hash) _ (or_first _ _ k.0)))
@@ -253,7 +253,7 @@ blank_line_is text j next blank e =
           ⊎_elim (λ l. or_last (eqb j (length text)) _ (or_last (stands text j hash) _ (or_last (stands text j line_feed) _ l.0))) (λ l. let none = l.1 in absurd (cc))
           (if_is breaks (Some (j + 2)) None (Some next) k.1))
           (if_is (stands text j line_feed) (Some (j + 1)) (cond breaks (Some (j + 2)) None) (Some next) h.1))
-          (if_is (eqb j (length text)) (Some j) (line_end text j) (Some next) here)
+          (if_is (eqb j (length text)) (Some j) (behind_line_end text j) (Some next) here)
     ] refl
 
 key_line : (text : List ℕ) (i : ℕ) (keys : List Key) (next : ℕ) → AreKeys text i keys next → BeginsLine text i

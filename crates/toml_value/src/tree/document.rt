@@ -1,6 +1,6 @@
 //! The tables that the lines of a text make.
 ghost use Rattle.std.specs.Prelude.{◌≡◌, ◌+◌, ◌≤◌, length, Some, None, IsTrue, IfOk, option_map};
-ghost use Rattle.toml_subset.specs.Answer.{Answers};
+ghost use Rattle.toml_subset.specs.Answer.{AnswersToml};
 ghost use Rattle.toml_subset.specs.Data.{depth_limit};
 ghost use Rattle.toml_subset.specs.TableFaults.{put_fault};
 ghost use Rattle.toml_subset.specs.Tables.{Node};
@@ -9,20 +9,20 @@ ghost use Rattle.toml_value.specs.AroundViews.{opened_view, or_redefined, is_who
 ghost use Rattle.toml_value.specs.BranchViews.{branches_view, is_whole};
 ghost use Rattle.toml_value.specs.TreeViews.{tree_view};
 
-use super::levels::{Around, Level, fresh, opened};
-use super::{Awaiting, Branches, Tree, hole};
+use super::levels::{Around, TableLevel, fresh, opened};
+use super::{Awaiting, Branches, TableTree, hole};
 use crate::value::{Entries, Value};
 use key_index::KeyParts;
 use std::alloc::{AllocError, Global};
-use toml_frames::Part;
+use toml_frames::HeaderPart;
 use toml_subset::{Key, Keys, SyntaxError, SyntaxReason, TomlError};
 
 /// The table that the last header opened, taken out of the tables around it. So a further key of it is looked
 /// up in it alone.
 #[derive(Drop)]
 pub(crate) struct Document<'de> {
-    around: Vec<Level<'de>>,
-    body: Tree<'de>,
+    around: Vec<TableLevel<'de>>,
+    body: TableTree<'de>,
     /// How many tables and arrays stand around its entries.
     above: usize,
 }
@@ -30,7 +30,7 @@ pub(crate) struct Document<'de> {
 /// A document and a further key of its open table, which nothing refuses and whose value is still to come.
 #[derive(Drop)]
 pub(crate) struct Pending<'de> {
-    around: Vec<Level<'de>>,
+    around: Vec<TableLevel<'de>>,
     awaiting: Awaiting<'de>,
     above: usize,
     ghost free: { put_fault awaiting.keys (tree_view awaiting.tree) above ≡ None },
@@ -40,13 +40,13 @@ pub(crate) struct Pending<'de> {
 impl<'de> Document<'de> {
     ghost use Rattle.std.specs.Prelude.{◌≡◌, ◌+◌, ◌<◌, ◌≤◌, ◌++◌, [], ◌∷◌, length, map};
     ghost use Rattle.std.specs.Prelude.{Some, None, IsTrue, IfOk, option_map};
-    ghost use Rattle.toml_subset.specs.Answer.{Answers};
+    ghost use Rattle.toml_subset.specs.Answer.{AnswersToml};
     ghost use Rattle.toml_subset.specs.Data.{depth_limit};
     ghost use Rattle.toml_subset.specs.TableFaults.{put_fault};
     ghost use Rattle.toml_subset.specs.Tables.{entries_of};
     ghost use Rattle.toml_frames.specs.Levels.{at_start, at_root, found_at, into_part, into_header, steps_in};
     ghost use Rattle.toml_value.specs.BranchViews.{branches_view, is_whole};
-    ghost use Rattle.toml_value.specs.LevelViews.{level_view, cursor_view, IsPending, IsShallow};
+    ghost use Rattle.toml_value.specs.LevelViews.{level_view, cursor_view, IsPending, IsShallowCursor};
     ghost use Rattle.toml_value.specs.Views.{entries_view};
 
     /// The document of no lines, which takes no memory.
@@ -55,7 +55,7 @@ impl<'de> Document<'de> {
     {
         Document {
             around: Vec::new(alloc),
-            body: Tree::new(alloc),
+            body: TableTree::new(alloc),
             above: 0,
         }
     }
@@ -64,7 +64,7 @@ impl<'de> Document<'de> {
     /// left.
     pub(crate) fn await_value(self, keys: Keys<'de>) -> Result<Pending<'de>, SyntaxError>
         requires some { 0 < length keys }
-        requires shallow { IsShallow (cursor_view self) }
+        requires shallow { IsShallowCursor (cursor_view self) }
         ensures { let c = cursor_view self.entry in
             IsPending (put_fault keys.entry c.here c.above) keys.entry c result }
     {
@@ -107,16 +107,16 @@ impl<'de> Document<'de> {
         }
         Document {
             around,
-            body: Tree::from_root(table),
+            body: TableTree::from_root(table),
             above: 0,
         }
     }
 
     /// The way one table further.
     fn further(
-        around: Vec<Level<'de>>,
+        around: Vec<TableLevel<'de>>,
         above: usize,
-        level: Level<'de>,
+        level: TableLevel<'de>,
         inner: Branches<'de>,
     ) -> Result<Document<'de>, AllocError>
         requires whole { IsTrue (is_whole inner) }
@@ -132,15 +132,15 @@ impl<'de> Document<'de> {
         around.push(level)?;
         Ok(Document {
             around,
-            body: Tree::from_root(inner),
+            body: TableTree::from_root(inner),
             above,
         })
     }
 
     /// A part of a header.
-    fn enter(self, alloc: Global, key: Key<'de>, part: Part) -> Result<Document<'de>, TomlError>
-        requires { IsShallow (cursor_view self) }
-        ensures { Answers cursor_view (into_part part key.entry (cursor_view self.entry)) result }
+    fn enter(self, alloc: Global, key: Key<'de>, part: HeaderPart) -> Result<Document<'de>, TomlError>
+        requires { IsShallowCursor (cursor_view self) }
+        ensures { AnswersToml cursor_view (into_part part key.entry (cursor_view self.entry)) result }
     {
         match self.body.find(&key) {
             Some(place) => self.enter_old(alloc, &key, part, place),
@@ -153,13 +153,13 @@ impl<'de> Document<'de> {
         self,
         alloc: Global,
         key: &Key<'_>,
-        part: Part,
+        part: HeaderPart,
         place: usize,
     ) -> Result<Document<'de>, TomlError>
-        requires shallow { IsShallow (cursor_view self) }
+        requires shallow { IsShallowCursor (cursor_view self) }
         requires found { option_map (λ found. found.0) (found_at key.now (cursor_view self).here)
             ≡ Some place }
-        ensures { Answers cursor_view (into_part part key.now (cursor_view self.entry)) result }
+        ensures { AnswersToml cursor_view (into_part part key.now (cursor_view self.entry)) result }
     {
         let Document {
             around,
@@ -169,7 +169,7 @@ impl<'de> Document<'de> {
         let mut table = body.into_root();
         match take_opened(alloc, &mut table, place, key, part) {
             Ok((kind, inner)) => {
-                let level = Level {
+                let level = TableLevel {
                     table,
                     place,
                     around: kind,
@@ -185,10 +185,10 @@ impl<'de> Document<'de> {
     }
 
     /// A part of a header whose key the open table does not have.
-    fn enter_new(self, alloc: Global, key: Key<'de>, part: Part) -> Result<Document<'de>, TomlError>
-        requires shallow { IsShallow (cursor_view self) }
+    fn enter_new(self, alloc: Global, key: Key<'de>, part: HeaderPart) -> Result<Document<'de>, TomlError>
+        requires shallow { IsShallowCursor (cursor_view self) }
         requires new { found_at key (cursor_view self).here ≡ None }
-        ensures { Answers cursor_view (into_part part key.entry (cursor_view self.entry)) result }
+        ensures { AnswersToml cursor_view (into_part part key.entry (cursor_view self.entry)) result }
     {
         let Document {
             around,
@@ -204,7 +204,7 @@ impl<'de> Document<'de> {
         let empty = hole(&key);
         match root.with(alloc, key, empty) {
             Ok(table) => {
-                let level = Level {
+                let level = TableLevel {
                     table,
                     place,
                     around: kind,
@@ -225,11 +225,11 @@ impl<'de> Document<'de> {
         self,
         alloc: Global,
         keys: Keys<'de>,
-        last: Part,
+        last: HeaderPart,
     ) -> Result<Document<'de>, TomlError>
         requires some { 0 < length keys }
-        requires shallow { IsShallow (at_root (cursor_view self)) }
-        ensures { Answers cursor_view (into_header last keys.entry (cursor_view self.entry)) result }
+        requires shallow { IsShallowCursor (at_root (cursor_view self)) }
+        ensures { AnswersToml cursor_view (into_header last keys.entry (cursor_view self.entry)) result }
     {
         let mut document = self.at_root();
         let mut parts = KeyParts::new(keys);
@@ -238,7 +238,7 @@ impl<'de> Document<'de> {
         };
         let mut key = first;
         'parts: while let Some(next) = parts.next() {
-            match document.enter(alloc, key, Part::Through) {
+            match document.enter(alloc, key, HeaderPart::Through) {
                 Ok(inner) => document = inner,
                 Err(error) => return Err(error),
             }
@@ -313,12 +313,12 @@ fn take_opened<'de>(
     table: &mut Branches<'de>,
     place: usize,
     key: &Key<'_>,
-    part: Part,
+    part: HeaderPart,
 ) -> Result<(Around<'de>, Branches<'de>), TomlError>
     requires whole { IsTrue (is_whole table.old) }
     requires found { option_map (λ found. found.0) (found_at key.now (branches_view table.old)) ≡ Some place }
     ensures opened { (node : Node) → found_at key.now (branches_view table.old) ≡ Some (place, node)
-        → Answers opened_view (or_redefined key.now (opened_in part node)) result }
+        → AnswersToml opened_view (or_redefined key.now (opened_in part node)) result }
     ensures left { branches_view table.new ≡ replaced place (hole_at key.now) (branches_view table.old) }
     ensures whole { IsTrue (is_whole table.new) }
     ensures around { IfOk result (λ found. IsTrue (is_whole_around found.0)) }
@@ -333,13 +333,13 @@ fn take_opened<'de>(
 }
 
 /// Lets the levels of a way and the table at its end go.
-fn let_way_go(around: Vec<Level<'_>>, table: Branches<'_>) {
+fn let_way_go(around: Vec<TableLevel<'_>>, table: Branches<'_>) {
     let_levels_go(around);
     table.let_go();
 }
 
 /// Lets levels go.
-fn let_levels_go(_around: Vec<Level<'_>>) {}
+fn let_levels_go(_around: Vec<TableLevel<'_>>) {}
 
 /// The fault at a part of a header.
 fn refuse(reason: SyntaxReason, key: &Key<'_>) -> SyntaxError

@@ -9,7 +9,7 @@ use super::fault::DEPTH_LIMIT;
 use super::{Body, Branches, Mark, Node};
 use deny_text::Span;
 use std::alloc::{AllocError, Global};
-use toml_frames::Part;
+use toml_frames::HeaderPart;
 use toml_subset::Key;
 
 /// What a table that was taken out is where it stands.
@@ -23,7 +23,7 @@ pub(crate) enum Around<'de> {
 
 /// A table without the one that was taken out of it, and the place of its key.
 #[derive(Drop)]
-pub(crate) struct Level<'de> {
+pub(crate) struct TableLevel<'de> {
     pub(crate) table: Branches<'de>,
     pub(crate) place: usize,
     pub(crate) around: Around<'de>,
@@ -33,7 +33,7 @@ pub(crate) struct Level<'de> {
 }
 
 /// What a part of a header opens of what stands at it.
-type Opened<'de> = Option<(Around<'de>, Branches<'de>)>;
+type OpenedTable<'de> = Option<(Around<'de>, Branches<'de>)>;
 
 impl<'de> Around<'de> {
     /// How many tables and arrays it puts around what stands in it.
@@ -63,7 +63,7 @@ impl<'de> Around<'de> {
     }
 }
 
-impl<'de> Level<'de> {
+impl<'de> TableLevel<'de> {
     ghost use Rattle.std.specs.Prelude.{◌≡◌, IsTrue};
     ghost use Rattle.toml_frames.specs.Levels.{plugged};
     ghost use Rattle.toml_value.specs.BranchViews.{branches_view, is_whole};
@@ -75,7 +75,7 @@ impl<'de> Level<'de> {
         ensures view { branches_view result ≡ plugged (level_view self.entry) (branches_view inner.entry) }
         ensures whole { IsTrue (is_whole result) }
     {
-        let Level {
+        let TableLevel {
             mut table,
             place,
             around,
@@ -86,9 +86,9 @@ impl<'de> Level<'de> {
 }
 
 /// A table with keys of its own, or the last one of an array of tables.
-fn opened_through(node: Node<'_>) -> Opened<'_>
+fn opened_through(node: Node<'_>) -> OpenedTable<'_>
     requires { IsTrue (is_whole_node node) }
-    ensures view { option_map opened_view result ≡ opened_in Part.Through (node_view node.entry) }
+    ensures view { option_map opened_view result ≡ opened_in HeaderPart.Through (node_view node.entry) }
     ensures around { IfSome result (λ o. IsTrue (is_whole_around o.0)) }
     ensures inner { IfSome result (λ o. IsTrue (is_whole o.1)) }
 {
@@ -105,9 +105,9 @@ fn opened_through(node: Node<'_>) -> Opened<'_>
 }
 
 /// An implicit table, which a header takes over.
-fn taken_over(node: Node<'_>, at: Span) -> Opened<'_>
+fn taken_over(node: Node<'_>, at: Span) -> OpenedTable<'_>
     requires { IsTrue (is_whole_node node) }
-    ensures view { option_map opened_view result ≡ opened_in (Part.Table at) (node_view node.entry) }
+    ensures view { option_map opened_view result ≡ opened_in (HeaderPart.Table at) (node_view node.entry) }
     ensures around { IfSome result (λ o. IsTrue (is_whole_around o.0)) }
     ensures inner { IfSome result (λ o. IsTrue (is_whole o.1)) }
 {
@@ -130,9 +130,9 @@ fn with_body<'de>(before: Vec<Body<'de>>, body: Body<'de>) -> Result<Vec<Body<'d
 }
 
 /// A further table of an array of tables.
-fn appended(alloc: Global, node: Node<'_>, at: Span) -> Result<Opened<'_>, AllocError>
+fn appended(alloc: Global, node: Node<'_>, at: Span) -> Result<OpenedTable<'_>, AllocError>
     requires { IsTrue (is_whole_node node) }
-    ensures view { let wanted = opened_in (Part.Array at) (node_view node.entry) in
+    ensures view { let wanted = opened_in (HeaderPart.Array at) (node_view node.entry) in
         IfOk result (λ found. option_map opened_view found ≡ wanted) }
     ensures around { IfOk result (λ found. IfSome found (λ o. IsTrue (is_whole_around o.0))) }
     ensures inner { IfOk result (λ found. IfSome found (λ o. IsTrue (is_whole o.1))) }
@@ -154,7 +154,7 @@ fn appended(alloc: Global, node: Node<'_>, at: Span) -> Result<Opened<'_>, Alloc
 }
 
 /// What a part of a header opens of what stands at it. Where memory ends, nothing is left.
-pub(crate) fn opened(alloc: Global, part: Part, node: Node<'_>) -> Result<Opened<'_>, AllocError>
+pub(crate) fn opened(alloc: Global, part: HeaderPart, node: Node<'_>) -> Result<OpenedTable<'_>, AllocError>
     requires { IsTrue (is_whole_node node) }
     ensures view { let wanted = opened_in part (node_view node.entry) in
         IfOk result (λ found. option_map opened_view found ≡ wanted) }
@@ -162,16 +162,16 @@ pub(crate) fn opened(alloc: Global, part: Part, node: Node<'_>) -> Result<Opened
     ensures inner { IfOk result (λ found. IfSome found (λ o. IsTrue (is_whole o.1))) }
 {
     match part {
-        Part::Through => Ok(opened_through(node)),
-        Part::Table(at) => Ok(taken_over(node, at)),
-        Part::Array(at) => appended(alloc, node, at),
+        HeaderPart::Through => Ok(opened_through(node)),
+        HeaderPart::Table(at) => Ok(taken_over(node, at)),
+        HeaderPart::Array(at) => appended(alloc, node, at),
     }
 }
 
 /// What a part of a header makes where nothing stands, unless that is too deep.
 pub(crate) fn fresh<'de>(
     alloc: Global,
-    part: Part,
+    part: HeaderPart,
     key: &Key<'_>,
     above: usize,
 ) -> Option<Around<'de>>
@@ -179,9 +179,9 @@ pub(crate) fn fresh<'de>(
     ensures around { IfSome result (λ around. IsTrue (is_whole_around around)) }
 {
     match part {
-        Part::Through if above != DEPTH_LIMIT => Some(Around::Alone(key.span, Mark::Implicit)),
-        Part::Table(at) if above != DEPTH_LIMIT => Some(Around::Alone(at, Mark::Header)),
-        Part::Array(at) if above < DEPTH_LIMIT - 1 => Some(Around::Behind(at, Vec::new(alloc), at)),
+        HeaderPart::Through if above != DEPTH_LIMIT => Some(Around::Alone(key.span, Mark::Implicit)),
+        HeaderPart::Table(at) if above != DEPTH_LIMIT => Some(Around::Alone(at, Mark::Header)),
+        HeaderPart::Array(at) if above < DEPTH_LIMIT - 1 => Some(Around::Behind(at, Vec::new(alloc), at)),
         _ => None,
     }
 }

@@ -14,7 +14,7 @@ use toml_subset::{Key, Keys, SyntaxError};
 
 /// The table of a body or of an inline table, with all that dotted keys made in it.
 #[derive(Drop)]
-pub(crate) struct Tree<'de> {
+pub(crate) struct TableTree<'de> {
     root: Branches<'de>,
     ghost whole: { IsTrue (is_whole root) },
 }
@@ -22,14 +22,14 @@ pub(crate) struct Tree<'de> {
 /// A table and a further key of it, which nothing refuses and whose value is still to come.
 #[derive(Drop)]
 pub(crate) struct Awaiting<'de> {
-    tree: Tree<'de>,
+    tree: TableTree<'de>,
     keys: Keys<'de>,
     above: usize,
     ghost some: { 0 < length keys },
     ghost free: { put_fault keys (branches_view tree.root) above ≡ None },
 }
 
-impl<'de> Tree<'de> {
+impl<'de> TableTree<'de> {
     ghost use Rattle.std.specs.Prelude.{◌≡◌, ◌<◌, ◌≤◌, length, IsTrue, IfOk, option_map};
     ghost use Rattle.toml_frames.specs.Levels.{found_at};
     ghost use Rattle.toml_value.specs.BranchViews.{branches_view, is_whole};
@@ -40,10 +40,10 @@ impl<'de> Tree<'de> {
     ghost use Rattle.toml_value.specs.Views.{entries_view};
 
     /// A table without keys, which takes no memory.
-    pub(crate) fn new(alloc: Global) -> Tree<'de>
+    pub(crate) fn new(alloc: Global) -> TableTree<'de>
         ensures { tree_view result ≡ unbranched }
     {
-        Tree {
+        TableTree {
             root: Branches::new(alloc),
         }
     }
@@ -55,11 +55,11 @@ impl<'de> Tree<'de> {
         self.root.find(key)
     }
 
-    pub(super) fn from_root(root: Branches<'de>) -> Tree<'de>
+    pub(super) fn from_root(root: Branches<'de>) -> TableTree<'de>
         requires { IsTrue (is_whole root) }
         ensures { tree_view result ≡ branches_view root.entry }
     {
-        Tree { root }
+        TableTree { root }
     }
 
     /// Lets the table go.
@@ -124,7 +124,7 @@ impl<'de> Awaiting<'de> {
     }
 
     /// The table with the value at the key. Where memory ends, nothing is left.
-    pub(crate) fn put(self, alloc: Global, value: Value<'de>) -> Result<Tree<'de>, AllocError>
+    pub(crate) fn put(self, alloc: Global, value: Value<'de>) -> Result<TableTree<'de>, AllocError>
         ensures { IfOk result (λ tree. put self.entry.keys (shut value.entry) (tree_view self.entry.tree)
             ≡ Some (tree_view tree)) }
     {
@@ -138,6 +138,6 @@ impl<'de> Awaiting<'de> {
             unreachable!()
         };
         let root = put_along(alloc, tree.root, first, parts, value)?;
-        Ok(Tree { root })
+        Ok(TableTree { root })
     }
 }

@@ -5,7 +5,7 @@ ghost use Rattle.std.specs.Str.{bytes_eq};
 ghost use Rattle.toml_value.specs.Taken.{given_back};
 ghost use Rattle.toml_value.specs.Taken.{as_array, as_table, string_of, values_of, left_by, left_where};
 ghost use Rattle.toml_value.specs.Removal.{entry_at, entries_without, names_in};
-ghost use Rattle.toml_shapes.specs.Shaped.{Gives};
+ghost use Rattle.toml_shapes.specs.Shaped.{AnswersShape};
 ghost use Rattle.toml_value.specs.Views.{value_view, content_view, values_view, entries_view};
 
 use crate::kind::refuse_kind;
@@ -30,7 +30,7 @@ impl<'de> Value<'de> {
         alloc: Global,
         wanted: &'static str,
     ) -> Result<Str<'de>, DeserError>
-        ensures read { Gives (string_of wanted.now (value_view self.old)) result }
+        ensures read { AnswersShape (string_of wanted.now (value_view self.old)) result }
         ensures left { let old = value_view self.old in
             value_view self.new ≡ left_by (string_of wanted.now old) old }
     {

@@ -4,7 +4,7 @@ use Rattle.gather_core.specs.declared.summary.KrateLicense.{KrateLicense}
 use Rattle.gather_core.specs.Premises.{IsPlacedAt}
 use Rattle.valid_policy.specs.View.{policy_of}
 use Rattle.check_core.specs.Labels.{VerdictPoints}
-use Rattle.check_core.specs.Summary.{all_asked}
+use Rattle.check_core.specs.Summary.{gathered_of_licenses}
 use Rattle.check_core.proofs.LabelLemmas.{all_point, any_gain}
 use Rattle.check_core.proofs.check.check.Goals as goal
 
@@ -23,4 +23,4 @@ returns-clause-terms g c =
     let policy = policy_of c.args.ctx.now.cfg in
     let licenses = c.items-licenses.result.now in
     let placed : All (IsPlacedAt files) licenses = subst (All (IsPlacedAt files)) (sym c.items-licenses.ensures) c.requires.placed in
-    subst (λ (all : List KrateLicense). All (VerdictPoints files policy) (all_asked all)) c.items-licenses.ensures (all_point files policy licenses c.most_nodes-nodes.ensures.facts placed)
+    subst (λ (all : List KrateLicense). All (VerdictPoints files policy) (gathered_of_licenses all)) c.items-licenses.ensures (all_point files policy licenses c.most_nodes-nodes.ensures.facts placed)

@@ -3,12 +3,12 @@ use Rattle.std.proofs.Common.{◌≡◌, ◌≤◌, take}
 use Rattle.valid_policy.specs.View.{policy_of}
 use Rattle.unused_core.specs.Flags.{flags_by}
 use Rattle.check_core.specs.Check.{AreVerdicts, all_hits, gained, packs_of}
-use Rattle.check_core.specs.Summary.{all_asked}
+use Rattle.check_core.specs.Summary.{gathered_of_licenses}
 use Rattle.check_core.proofs.check.judge_in_order.Given as goal
 
 abbrev pub invariant-licenses : goal.invariant-licenses
 invariant-licenses g l =
-    let asked = all_asked (take l.license-index l.licenses) in
+    let asked = gathered_of_licenses (take l.license-index l.licenses) in
     record {
       nodes : l.checker.nodes ≡ l.fn.checker.nodes;
       names : l.checker.names ≡ l.fn.checker.names;

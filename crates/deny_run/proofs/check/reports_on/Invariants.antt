@@ -2,10 +2,10 @@
 use Rattle.std.proofs.Common.{◌≡◌, ◌++◌}
 use Rattle.std.specs.Iterator.Adapters.{zip_first, zip_second}
 use Rattle.std.specs.Vec.Iter.{into_iter_items}
-use Rattle.deny_run.specs.Steps.{all_reported}
+use Rattle.deny_run.specs.Steps.{reports_of}
 use Rattle.deny_run.proofs.check.reports_on.Given as goal
 
 abbrev pub invariant-crates : goal.invariant-crates
 invariant-crates l =
-    l.reports ++ all_reported (into_iter_items (zip_first l.license-iterator)) (into_iter_items (zip_second l.license-iterator))
-    ≡ all_reported l.fn.licenses l.fn.verdicts
+    l.reports ++ reports_of (into_iter_items (zip_first l.license-iterator)) (into_iter_items (zip_second l.license-iterator))
+    ≡ reports_of l.fn.licenses l.fn.verdicts

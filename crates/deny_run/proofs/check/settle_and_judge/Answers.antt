@@ -11,16 +11,16 @@ use Rattle.tree_core.specs.Hearing.{Made}
 use Rattle.tree_core.proofs.MadeLemmas.{made-later}
 use Rattle.valid_policy.specs.View.{policy_of}
 use Rattle.check_core.specs.Labels.{VerdictPoints}
-use Rattle.check_core.specs.Summary.{all_asked}
+use Rattle.check_core.specs.Summary.{gathered_of_licenses}
 use Rattle.pack_core.proofs.CallLemmas.{on_err}
 use Rattle.deny_run.proofs.CheckLemmas.{both_of}
 use Rattle.deny_run.proofs.StageLemmas.{check_cut, checked_on, gather_cut}
 use Rattle.expression_core.specs.Scanned.{Scanner}
 use Rattle.gather_core.specs.Calls.{AreTurnsByReads, StarvesGathering}
 use Rattle.gather_core.specs.Entries.{entries_of}
-use Rattle.gather_core.specs.Gathered.{include_of, scanner_of, threshold_of}
+use Rattle.gather_core.specs.Gathered.{include_of, scanner_of_gatherer, threshold_of}
 use Rattle.deny_run.specs.Hearing.{seen}
-use Rattle.deny_run.specs.Steps.{IsCheckOf, IsCheckedOn, scanner_by}
+use Rattle.deny_run.specs.Steps.{IsCheckOf, IsCheckedOn, scanner_of_policy}
 use Rattle.placed_policy.proofs.PlaceLemmas.{are_placed, entries_lie}
 use Rattle.deny_run.proofs.StepLemmas.{gathering_later}
 use Rattle.deny_run.proofs.check.settle_and_judge.Goals as goal
@@ -36,14 +36,14 @@ pub returns-clause-checked : goal.returns-clause-checked
 returns-clause-checked g c =
     let policy = c.args.policy in
     let lists = g.C.Catalog.lists c.args.catalog.now in
-    let own = scanner_by lists (g.I.Identifier.match_of c.args.identifier.now) policy in
+    let own = scanner_of_policy lists (g.I.Identifier.match_of c.args.identifier.now) policy in
     let nfos = c.in_ok-summary.summary.nfos in
     let last = c.gather.new.files in
     let fits : SFits w64 c.args.policy.confidence_threshold = search rules in
     let cut = simp to_z-of_z at c.with_confidence_threshold-gatherer.ensures in
-    let same : ◌≡◌ {A = Scanner} (scanner_of lists g.I.Identifier.match_of c.with_confidence_threshold-gatherer.result) own =
-    ap (scanner_of lists g.I.Identifier.match_of) cut
-    ∙ ap (λ one. scanner_of lists g.I.Identifier.match_of (record one { threshold = threshold_of policy.confidence_threshold })) c.with_store.ensures in
+    let same : ◌≡◌ {A = Scanner} (scanner_of_gatherer lists g.I.Identifier.match_of c.with_confidence_threshold-gatherer.result) own =
+    ap (scanner_of_gatherer lists g.I.Identifier.match_of) cut
+    ∙ ap (λ one. scanner_of_gatherer lists g.I.Identifier.match_of (record one { threshold = threshold_of policy.confidence_threshold })) c.with_store.ensures in
     let told = g.T.Tree.content c.args.tree.now in
     let tells = g.T.Tree.content c.gather.new.tree in
     let before = g.T.Tree.fault_count c.args.tree.now in
@@ -51,23 +51,23 @@ returns-clause-checked g c =
     let old = g.T.Tree.trace c.args.tree.now in
     let new = g.T.Tree.trace c.gather.new.tree in
     let reads = subst (λ scanner. AreTurnsByReads told tells before after old new scanner policy.file_id (entries_of policy) c.args.files.now nfos last) same c.in_ok-summary.ensures.answered in
-    IfOk-weaker c.judge_and_report.result (λ checked. IsCheckOf policy nfos checked × All (VerdictPoints last (policy_of policy)) (all_asked nfos))
+    IfOk-weaker c.judge_and_report.result (λ checked. IsCheckOf policy nfos checked × All (VerdictPoints last (policy_of policy)) (gathered_of_licenses nfos))
     (λ checked. (graph : Graph) (choice : Choice) → IsChosen graph choice c.args.krates.now → IsCheckedOn own policy (seen told tells before after old new) c.args.files.now last graph choice checked)
     (λ checked both graph choice chosen. checked_on own policy (seen told tells before after old new) c.args.files.now last graph choice nfos (c.in_ok-summary.ensures.listed graph choice chosen) reads checked both.0 both.1)
-    (both_of c.judge_and_report.result (IsCheckOf policy nfos) (λ _. All (VerdictPoints last (policy_of policy)) (all_asked nfos)) c.judge_and_report.ensures.check c.judge_and_report.ensures.terms)
+    (both_of c.judge_and_report.result (IsCheckOf policy nfos) (λ _. All (VerdictPoints last (policy_of policy)) (gathered_of_licenses nfos)) c.judge_and_report.ensures.check c.judge_and_report.ensures.terms)
 
 pub returns-clause-cut : goal.returns-clause-cut
 returns-clause-cut g c =
     let policy = c.args.policy in
     let lists = g.C.Catalog.lists c.args.catalog.now in
-    let own = scanner_by lists (g.I.Identifier.match_of c.args.identifier.now) policy in
+    let own = scanner_of_policy lists (g.I.Identifier.match_of c.args.identifier.now) policy in
     let nfos = c.in_ok-summary.summary.nfos in
     let last = c.gather.new.files in
     let fits : SFits w64 c.args.policy.confidence_threshold = search rules in
     let cut = simp to_z-of_z at c.with_confidence_threshold-gatherer.ensures in
-    let same : ◌≡◌ {A = Scanner} (scanner_of lists g.I.Identifier.match_of c.with_confidence_threshold-gatherer.result) own =
-    ap (scanner_of lists g.I.Identifier.match_of) cut
-    ∙ ap (λ one. scanner_of lists g.I.Identifier.match_of (record one { threshold = threshold_of policy.confidence_threshold })) c.with_store.ensures in
+    let same : ◌≡◌ {A = Scanner} (scanner_of_gatherer lists g.I.Identifier.match_of c.with_confidence_threshold-gatherer.result) own =
+    ap (scanner_of_gatherer lists g.I.Identifier.match_of) cut
+    ∙ ap (λ one. scanner_of_gatherer lists g.I.Identifier.match_of (record one { threshold = threshold_of policy.confidence_threshold })) c.with_store.ensures in
     let told = g.T.Tree.content c.args.tree.now in
     let tells = g.T.Tree.content c.gather.new.tree in
     let before = g.T.Tree.fault_count c.args.tree.now in
@@ -82,12 +82,12 @@ pub returns-in_err-summary-clause-cut : goal.returns-in_err-summary-clause-cut
 returns-in_err-summary-clause-cut g c =
     let policy = c.args.policy in
     let lists = g.C.Catalog.lists c.args.catalog.now in
-    let own = scanner_by lists (g.I.Identifier.match_of c.args.identifier.now) policy in
+    let own = scanner_of_policy lists (g.I.Identifier.match_of c.args.identifier.now) policy in
     let fits : SFits w64 c.args.policy.confidence_threshold = search rules in
     let cut = simp to_z-of_z at c.with_confidence_threshold-gatherer.ensures in
-    let same : ◌≡◌ {A = Scanner} (scanner_of lists g.I.Identifier.match_of c.with_confidence_threshold-gatherer.result) own =
-    ap (scanner_of lists g.I.Identifier.match_of) cut
-    ∙ ap (λ one. scanner_of lists g.I.Identifier.match_of (record one { threshold = threshold_of policy.confidence_threshold })) c.with_store.ensures in
+    let same : ◌≡◌ {A = Scanner} (scanner_of_gatherer lists g.I.Identifier.match_of c.with_confidence_threshold-gatherer.result) own =
+    ap (scanner_of_gatherer lists g.I.Identifier.match_of) cut
+    ∙ ap (λ one. scanner_of_gatherer lists g.I.Identifier.match_of (record one { threshold = threshold_of policy.confidence_threshold })) c.with_store.ensures in
     let told = g.T.Tree.content c.args.tree.now in
     let tells = g.T.Tree.content c.gather.new.tree in
     let before = g.T.Tree.fault_count c.args.tree.now in

@@ -1,16 +1,16 @@
 use Rattle.std.proofs.Common.{◌≡◌, Result, Ok, Err, sym, subst}
 use Rattle.std.proofs.lemmas.Result.{err_from_is_err_and}
 use Rattle.tree_core.specs.Faults.{Gained, GainedPrefix}
-use Rattle.tree_core.specs.Script.{FaultCounts, Written}
+use Rattle.tree_core.specs.Script.{FaultCounts, SinkTexts}
 use Rattle.heard_core.specs.declared.fault.ReadFault.TheVariants.{Absent}
 use Rattle.load_core.specs.Print.{HasReasonSince, printed_packs}
 use Rattle.print_core.specs.declared.printer.PrintError.{PrintError}
 use Rattle.print_core.specs.declared.printer.PrintError.TheVariants as print
 use Rattle.deny_run.specs.declared.error.Error.{Error}
 use Rattle.deny_run.specs.declared.error.Error.TheVariants.{ConfigRead, NotYet}
-use Rattle.deny_run.specs.declared.error.Part.TheVariants.{Words}
+use Rattle.deny_run.specs.declared.error.InputPart.TheVariants.{Words}
 use Rattle.deny_run.specs.Error.{error_of, error_of_print}
-use Rattle.deny_run.specs.Given.{given_of}
+use Rattle.deny_run.specs.Given.{run_arguments_of}
 use Rattle.deny_run.specs.Hearing.{seen}
 use Rattle.deny_run.specs.Script.{WritesFirst, plain_log}
 use Rattle.deny_run.proofs.ScriptLemmas.{first_cut, first_refused, first_reported, found_refused}
@@ -20,7 +20,7 @@ use Rattle.deny_run.proofs.run.check.Goals as goal
 -- a refusal before what was found: what is told of the load, or a front of it, stands on `err`
 pub returns-in-Err-clause-written : goal.returns-in-Err-clause-written
 returns-in-Err-clause-written g c =
-    let given = given_of (g.C.Catalog.lists c.args.catalog.now) (g.I.Identifier.match_of c.args.identifier.now) c.args.words.now c.args.cwd.now in
+    let given = run_arguments_of (g.C.Catalog.lists c.args.catalog.now) (g.I.Identifier.match_of c.args.identifier.now) c.args.words.now c.args.cwd.now in
     let tree = seen (g.T.Tree.content c.args.tree.now) (g.T.Tree.content c.report.new.tree) (g.T.Tree.fault_count c.args.tree.now) (g.T.Tree.fault_count c.report.new.tree)
     (g.T.Tree.trace c.args.tree.now) (g.T.Tree.trace c.report.new.tree) in
     let counts : FaultCounts = record {
@@ -65,7 +65,7 @@ returns-in_err-print_packs-clause-policy g c told =
 -- what was found was printed in part
 pub returns-in_err-print_packs-clause-written : goal.returns-in_err-print_packs-clause-written
 returns-in_err-print_packs-clause-written g c =
-    let given = given_of (g.C.Catalog.lists c.args.catalog.now) (g.I.Identifier.match_of c.args.identifier.now) c.args.words.now c.args.cwd.now in
+    let given = run_arguments_of (g.C.Catalog.lists c.args.catalog.now) (g.I.Identifier.match_of c.args.identifier.now) c.args.words.now c.args.cwd.now in
     let tree = seen (g.T.Tree.content c.args.tree.now) (g.T.Tree.content c.report.new.tree) (g.T.Tree.fault_count c.args.tree.now) (g.T.Tree.fault_count c.report.new.tree)
     (g.T.Tree.trace c.args.tree.now) (g.T.Tree.trace c.report.new.tree) in
     let counts : FaultCounts = record {
@@ -76,7 +76,7 @@ returns-in_err-print_packs-clause-written g c =
       err_before = g.E.Sink.fault_count c.args.err.now;
       err_after = g.E.Sink.fault_count c.print_packs.new.sink;
     } in
-    let old : Written = record { out = g.O.Sink.written c.args.out.now; err = g.E.Sink.written c.args.err.now } in
+    let old : SinkTexts = record { out = g.O.Sink.written c.args.out.now; err = g.E.Sink.written c.args.err.now } in
     let middle = g.E.Sink.written c.report.new.err in
     let new = g.E.Sink.written c.print_packs.new.sink in
     let report = c.in-Ok.report in
@@ -92,7 +92,7 @@ returns-in_err-print_packs-clause-written g c =
 -- all was written
 pub returns-in-Ok-write_summary-clause-written : goal.returns-in-Ok-write_summary-clause-written
 returns-in-Ok-write_summary-clause-written g c =
-    let given = given_of (g.C.Catalog.lists c.args.catalog.now) (g.I.Identifier.match_of c.args.identifier.now) c.args.words.now c.args.cwd.now in
+    let given = run_arguments_of (g.C.Catalog.lists c.args.catalog.now) (g.I.Identifier.match_of c.args.identifier.now) c.args.words.now c.args.cwd.now in
     let tree = seen (g.T.Tree.content c.args.tree.now) (g.T.Tree.content c.report.new.tree) (g.T.Tree.fault_count c.args.tree.now) (g.T.Tree.fault_count c.report.new.tree)
     (g.T.Tree.trace c.args.tree.now) (g.T.Tree.trace c.report.new.tree) in
     let counts : FaultCounts = record {
@@ -103,9 +103,9 @@ returns-in-Ok-write_summary-clause-written g c =
       err_before = g.E.Sink.fault_count c.args.err.now;
       err_after = g.E.Sink.fault_count c.print_packs.new.sink;
     } in
-    let old : Written = record { out = g.O.Sink.written c.args.out.now; err = g.E.Sink.written c.args.err.now } in
+    let old : SinkTexts = record { out = g.O.Sink.written c.args.out.now; err = g.E.Sink.written c.args.err.now } in
     let middle = g.E.Sink.written c.report.new.err in
-    let new : Written = record { out = g.O.Sink.written c.write_summary.new.out; err = g.E.Sink.written c.print_packs.new.sink } in
+    let new : SinkTexts = record { out = g.O.Sink.written c.write_summary.new.out; err = g.E.Sink.written c.print_packs.new.sink } in
     let report = c.in-Ok.report in
     let found =
     subst (λ packs. Gained middle new.err (printed_packs plain_log report.files packs)) c.items.ensures
@@ -116,7 +116,7 @@ returns-in-Ok-write_summary-clause-written g c =
 -- the summary was cut
 pub returns-in-Err-write_summary-clause-written : goal.returns-in-Err-write_summary-clause-written
 returns-in-Err-write_summary-clause-written g c =
-    let given = given_of (g.C.Catalog.lists c.args.catalog.now) (g.I.Identifier.match_of c.args.identifier.now) c.args.words.now c.args.cwd.now in
+    let given = run_arguments_of (g.C.Catalog.lists c.args.catalog.now) (g.I.Identifier.match_of c.args.identifier.now) c.args.words.now c.args.cwd.now in
     let tree = seen (g.T.Tree.content c.args.tree.now) (g.T.Tree.content c.report.new.tree) (g.T.Tree.fault_count c.args.tree.now) (g.T.Tree.fault_count c.report.new.tree)
     (g.T.Tree.trace c.args.tree.now) (g.T.Tree.trace c.report.new.tree) in
     let counts : FaultCounts = record {
@@ -127,9 +127,9 @@ returns-in-Err-write_summary-clause-written g c =
       err_before = g.E.Sink.fault_count c.args.err.now;
       err_after = g.E.Sink.fault_count c.print_packs.new.sink;
     } in
-    let old : Written = record { out = g.O.Sink.written c.args.out.now; err = g.E.Sink.written c.args.err.now } in
+    let old : SinkTexts = record { out = g.O.Sink.written c.args.out.now; err = g.E.Sink.written c.args.err.now } in
     let middle = g.E.Sink.written c.report.new.err in
-    let new : Written = record { out = g.O.Sink.written c.write_summary.new.out; err = g.E.Sink.written c.print_packs.new.sink } in
+    let new : SinkTexts = record { out = g.O.Sink.written c.write_summary.new.out; err = g.E.Sink.written c.print_packs.new.sink } in
     let report = c.in-Ok.report in
     let found =
     subst (λ packs. Gained middle new.err (printed_packs plain_log report.files packs)) c.items.ensures

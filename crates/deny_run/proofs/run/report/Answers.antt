@@ -4,8 +4,8 @@ use Rattle.std.proofs.lemmas.Result.{err_from_is_err_and}
 use Rattle.search_core.specs.Search.{search_cause}
 use Rattle.tree_core.proofs.MadeLemmas.{some-later}
 use Rattle.deny_run.specs.Error.{cause_of, error_of}
-use Rattle.deny_run.specs.Given.{given_of}
-use Rattle.deny_run.specs.Heard.{scanner_in}
+use Rattle.deny_run.specs.Given.{run_arguments_of}
+use Rattle.deny_run.specs.Heard.{scanner_of_given}
 use Rattle.deny_run.specs.Hearing.{seen}
 use Rattle.deny_run.specs.Report.{LabelsLie}
 use Rattle.deny_run.specs.Script.{WritesLoad}
@@ -18,7 +18,7 @@ use Rattle.deny_run.proofs.run.report.Goals as goal
 
 pub returns-in_err-request-clause-written : goal.returns-in_err-request-clause-written
 returns-in_err-request-clause-written g c =
-    let given = given_of (g.C.Catalog.lists c.args.catalog.now) (g.I.Identifier.match_of c.args.identifier.now) c.args.words.now c.args.cwd.now in
+    let given = run_arguments_of (g.C.Catalog.lists c.args.catalog.now) (g.I.Identifier.match_of c.args.identifier.now) c.args.words.now c.args.cwd.now in
     let count = g.E.Sink.fault_count c.args.err.now in
     let p = err_from_is_err_and c.from_residual.result c.from_residual.ensures.1 in
     rw (p.1, p.2)
@@ -26,7 +26,7 @@ returns-in_err-request-clause-written g c =
 
 pub returns-in_default-clause-written : goal.returns-in_default-clause-written
 returns-in_default-clause-written g c =
-    let given = given_of (g.C.Catalog.lists c.args.catalog.now) (g.I.Identifier.match_of c.args.identifier.now) c.args.words.now c.args.cwd.now in
+    let given = run_arguments_of (g.C.Catalog.lists c.args.catalog.now) (g.I.Identifier.match_of c.args.identifier.now) c.args.words.now c.args.cwd.now in
     let count = g.E.Sink.fault_count c.args.err.now in
     words_before given (g.T.Tree.content c.args.tree.now) (g.T.Tree.fault_count c.args.tree.now) (g.T.Tree.trace c.args.tree.now) (g.E.Sink.written c.args.err.now) count count
     (sym c.in_ok-request.ensures.ok ∙ c.in_default.is)
@@ -35,7 +35,7 @@ returns-in_default-clause-written g c =
 
 pub returns-in_err-paths-clause-written : goal.returns-in_err-paths-clause-written
 returns-in_err-paths-clause-written g c =
-    let given = given_of (g.C.Catalog.lists c.args.catalog.now) (g.I.Identifier.match_of c.args.identifier.now) c.args.words.now c.args.cwd.now in
+    let given = run_arguments_of (g.C.Catalog.lists c.args.catalog.now) (g.I.Identifier.match_of c.args.identifier.now) c.args.words.now c.args.cwd.now in
     let begun = g.T.Tree.fault_count c.args.tree.now in
     let after = g.T.Tree.fault_count c.policy_paths.new.tree in
     let count = g.E.Sink.fault_count c.args.err.now in
@@ -50,7 +50,7 @@ returns-in_err-paths-clause-written g c =
 
 pub returns-in_err-policy-clause-written : goal.returns-in_err-policy-clause-written
 returns-in_err-policy-clause-written g c =
-    let given = given_of (g.C.Catalog.lists c.args.catalog.now) (g.I.Identifier.match_of c.args.identifier.now) c.args.words.now c.args.cwd.now in
+    let given = run_arguments_of (g.C.Catalog.lists c.args.catalog.now) (g.I.Identifier.match_of c.args.identifier.now) c.args.words.now c.args.cwd.now in
     let begun = g.T.Tree.fault_count c.args.tree.now in
     let first = g.T.Tree.fault_count c.policy_paths.new.tree in
     let after = g.T.Tree.fault_count c.load.new.tree in
@@ -71,7 +71,7 @@ returns-in_err-policy-clause-written g c =
 
 pub returns-in_err-checked-clause-written : goal.returns-in_err-checked-clause-written
 returns-in_err-checked-clause-written g c =
-    let given = given_of (g.C.Catalog.lists c.args.catalog.now) (g.I.Identifier.match_of c.args.identifier.now) c.args.words.now c.args.cwd.now in
+    let given = run_arguments_of (g.C.Catalog.lists c.args.catalog.now) (g.I.Identifier.match_of c.args.identifier.now) c.args.words.now c.args.cwd.now in
     let begun = g.T.Tree.fault_count c.args.tree.now in
     let first = g.T.Tree.fault_count c.policy_paths.new.tree in
     let mid = g.T.Tree.fault_count c.load.new.tree in
@@ -85,7 +85,7 @@ returns-in_err-checked-clause-written g c =
     let refused = c.in_err-checked.field-0.0 in
     let ends = ends_at given.lists c.plain_log.result c.in_ok-paths.paths begun c.faults-begun.result first mid between more c.new-files.result c.load.new.files old new (Ok policy)
     c.plain_log.ensures c.faults-begun.ensures c.new-files.ensures c.in_ok-policy.ensures.reads in
-    let checks = checks_at (scanner_in given policy.licenses) policy (seen (g.T.Tree.content c.load.new.tree) (g.T.Tree.content c.check_crates.new.tree) mid after more newest)
+    let checks = checks_at (scanner_of_given given policy.licenses) policy (seen (g.T.Tree.content c.load.new.tree) (g.T.Tree.content c.check_crates.new.tree) mid after more newest)
     c.load.new.files c.check_crates.new.files begun c.faults-begun.result c.in-Some.request.metadata_path c.as_path.result.now (Err refused)
     c.faults-begun.ensures c.as_path.ensures c.in_err-checked.ensures.checks in
     let p = err_from_is_err_and c.from_residual-in_err-checked.result c.from_residual-in_err-checked.ensures.1 in
@@ -99,7 +99,7 @@ returns-in_err-checked-clause-written g c =
 
 pub returns-clause-written : goal.returns-clause-written
 returns-clause-written g c =
-    let given = given_of (g.C.Catalog.lists c.args.catalog.now) (g.I.Identifier.match_of c.args.identifier.now) c.args.words.now c.args.cwd.now in
+    let given = run_arguments_of (g.C.Catalog.lists c.args.catalog.now) (g.I.Identifier.match_of c.args.identifier.now) c.args.words.now c.args.cwd.now in
     let begun = g.T.Tree.fault_count c.args.tree.now in
     let first = g.T.Tree.fault_count c.policy_paths.new.tree in
     let mid = g.T.Tree.fault_count c.load.new.tree in
@@ -116,7 +116,7 @@ returns-clause-written g c =
     let policy = c.in_ok-policy.policy in
     let ends = ends_at given.lists c.plain_log.result c.in_ok-paths.paths begun c.faults-begun.result first mid between more c.new-files.result c.load.new.files old new (Ok policy)
     c.plain_log.ensures c.faults-begun.ensures c.new-files.ensures c.in_ok-policy.ensures.reads in
-    let checks = checks_at (scanner_in given policy.licenses) policy (seen (g.T.Tree.content c.load.new.tree) further mid after more newest)
+    let checks = checks_at (scanner_of_given given policy.licenses) policy (seen (g.T.Tree.content c.load.new.tree) further mid after more newest)
     c.load.new.files c.check_crates.new.files begun c.faults-begun.result c.in-Some.request.metadata_path c.as_path.result.now (Ok c.in_ok-checked.checked)
     c.faults-begun.ensures c.as_path.ensures c.in_ok-checked.ensures.checks in
     subst (λ one. WritesLoad given (seen told further begun after (g.T.Tree.trace c.args.tree.now) newest) old new err_before err_after (Ok one)) (sym c.report_of.ensures)

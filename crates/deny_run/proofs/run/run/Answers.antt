@@ -1,5 +1,5 @@
-use Rattle.tree_core.specs.Script.{FaultCounts, Written}
-use Rattle.deny_run.specs.Given.{given_of}
+use Rattle.tree_core.specs.Script.{FaultCounts, SinkTexts}
+use Rattle.deny_run.specs.Given.{run_arguments_of}
 use Rattle.deny_run.specs.Hearing.{seen}
 use Rattle.deny_run.proofs.AnswerLemmas.{some_made_by}
 use Rattle.deny_run.proofs.HeadlineLemmas.{HeadlineRead-from_writes, told_headline}
@@ -18,14 +18,14 @@ returns-in-Ok-clause-answer g c = record { hearing = c.in-Ok.ensures.written.tel
 
 pub returns-in-Ok-clause-made : goal.returns-in-Ok-clause-made
 returns-in-Ok-clause-made g c =
-    let given = given_of (g.C.Catalog.lists c.args.catalog.now) (g.I.Identifier.match_of c.args.identifier.now) c.args.words.now c.args.cwd.now in
+    let given = run_arguments_of (g.C.Catalog.lists c.args.catalog.now) (g.I.Identifier.match_of c.args.identifier.now) c.args.words.now c.args.cwd.now in
     let tree = seen (g.T.Tree.content c.args.tree.now) (g.T.Tree.content c.check.new.tree) (g.T.Tree.fault_count c.args.tree.now) (g.T.Tree.fault_count c.check.new.tree)
     (g.T.Tree.trace c.args.tree.now) (g.T.Tree.trace c.check.new.tree) in
     some_made_by given tree c.in-Ok.ensures.written.tells.hearing (Ok c.in-Ok.report) c.in-Ok.ensures.written.tells.answers
 
 pub returns-in-Err-clause-made : goal.returns-in-Err-clause-made
 returns-in-Err-clause-made g c =
-    let given = given_of (g.C.Catalog.lists c.args.catalog.now) (g.I.Identifier.match_of c.args.identifier.now) c.args.words.now c.args.cwd.now in
+    let given = run_arguments_of (g.C.Catalog.lists c.args.catalog.now) (g.I.Identifier.match_of c.args.identifier.now) c.args.words.now c.args.cwd.now in
     let tree = seen (g.T.Tree.content c.args.tree.now) (g.T.Tree.content c.check.new.tree) (g.T.Tree.fault_count c.args.tree.now) (g.T.Tree.fault_count c.check.new.tree)
     (g.T.Tree.trace c.args.tree.now) (g.T.Tree.trace c.check.new.tree) in
     some_made_by given tree c.in-Err.ensures.written.tells.hearing (Err c.in-Err.error) c.in-Err.ensures.written.tells.answers
@@ -35,7 +35,7 @@ returns-in-Err-clause-answer g c = record { hearing = c.in-Err.ensures.written.t
 
 pub returns-in-Err-clause-written : goal.returns-in-Err-clause-written
 returns-in-Err-clause-written g c =
-    let given = given_of (g.C.Catalog.lists c.args.catalog.now) (g.I.Identifier.match_of c.args.identifier.now) c.args.words.now c.args.cwd.now in
+    let given = run_arguments_of (g.C.Catalog.lists c.args.catalog.now) (g.I.Identifier.match_of c.args.identifier.now) c.args.words.now c.args.cwd.now in
     let tree = seen (g.T.Tree.content c.args.tree.now) (g.T.Tree.content c.check.new.tree) (g.T.Tree.fault_count c.args.tree.now) (g.T.Tree.fault_count c.check.new.tree)
     (g.T.Tree.trace c.args.tree.now) (g.T.Tree.trace c.check.new.tree) in
     let counts : FaultCounts = record {
@@ -46,9 +46,9 @@ returns-in-Err-clause-written g c =
       err_before = g.E.Sink.fault_count c.args.err.now;
       err_after = g.E.Sink.fault_count c.check.new.err;
     } in
-    let old : Written = record { out = g.O.Sink.written c.args.out.now; err = g.E.Sink.written c.args.err.now } in
-    let mid : Written = record { out = g.O.Sink.written c.check.new.out; err = g.E.Sink.written c.check.new.err } in
-    let new : Written = record { out = g.O.Sink.written c.check.new.out; err = g.E.Sink.written c.write_fault.new.err } in
+    let old : SinkTexts = record { out = g.O.Sink.written c.args.out.now; err = g.E.Sink.written c.args.err.now } in
+    let mid : SinkTexts = record { out = g.O.Sink.written c.check.new.out; err = g.E.Sink.written c.check.new.err } in
+    let new : SinkTexts = record { out = g.O.Sink.written c.check.new.out; err = g.E.Sink.written c.write_fault.new.err } in
     Writes-from_line given tree counts (g.E.Sink.fault_count c.write_fault.new.err) c.in-Err.ensures.err_later c.write_fault.ensures.later
     old mid new c.in-Err.error c.in-Err.ensures.written refl c.write_fault.ensures.written
 

@@ -1,6 +1,6 @@
 -- The files so far, and what comes of the rest, are what comes of all.
 use Rattle.std.proofs.Common.{◌≡◌, ◌++◌, List, ℕ, length, map, option_copied}
-use Rattle.reads_core.specs.Heard.{Heard}
+use Rattle.reads_core.specs.Heard.{ReadResult}
 use Rattle.expression_core.specs.Scanned.{Scanner, file_scanned, match_by}
 use Rattle.expression_core.proofs.files.scan_pack.Given as goal
 

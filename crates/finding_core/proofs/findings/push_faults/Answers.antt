@@ -4,7 +4,7 @@ use Rattle.term_core.specs.declared.error.ParseError.{ParseError}
 use Rattle.term_core.specs.declared.error.ParseReason.TheVariants.{Empty}
 use Rattle.diag_core.specs.declared.pack.Diag.{Diag}
 use Rattle.finding_core.specs.Findings as spec
-use Rattle.finding_core.specs.Findings.{Fits}
+use Rattle.finding_core.specs.Findings.{FaultFits}
 use Rattle.finding_core.proofs.FindingLemmas.{map_more}
 use Rattle.finding_core.proofs.findings.push_faults.Goals as goal
 
@@ -13,7 +13,7 @@ abbrev past : ParseError
 past = record { reason = Empty; span = record { start = 0; end = 0 } }
 
 pub field_fault-requires : goal.field_fault-requires
-field_fault-requires c = All-get_or (Fits c.args.field) c.args.faults.now c.faults.fault-index past c.faults-test.true c.requires
+field_fault-requires c = All-get_or (FaultFits c.args.field) c.args.faults.now c.faults.fault-index past c.faults-test.true c.requires
 
 pub faults-preserved : goal.faults-preserved
 faults-preserved c =

@@ -1,5 +1,5 @@
 use Rattle.std.proofs.Common.{OnOk, sym, subst}
-use Rattle.finding_core.specs.declared.case.Settles.{Settles}
+use Rattle.finding_core.specs.declared.case.ExpressionBasis.{ExpressionBasis}
 use Rattle.finding_core.specs.Cuts.{MarksLie}
 use Rattle.finding_core.specs.Views.{case_view, outcome_view}
 use Rattle.finding_core.proofs.GrowLemmas.{grows_itself}
@@ -7,7 +7,7 @@ use Rattle.finding_core.proofs.outcome.find_points.Goals as goal
 
 pub returns-in-Files-clause-marks : goal.returns-in-Files-clause-marks
 returns-in-Files-clause-marks c =
-    subst (λ (settles : Settles). OnOk c.find_by_files.result (MarksLie (case_view c.args.case.now) (outcome_view settles))) (sym c.in-Files.is) c.find_by_files.ensures.marks
+    subst (λ (settles : ExpressionBasis). OnOk c.find_by_files.result (MarksLie (case_view c.args.case.now) (outcome_view settles))) (sym c.in-Files.is) c.find_by_files.ensures.marks
 
 -- a location leaves the table as it is
 pub returns-in-Some-clause-grows : goal.returns-in-Some-clause-grows

@@ -1,6 +1,6 @@
 use Rattle.std.proofs.Common.{◌∙◌, ap, option_copied}
 use Rattle.graph_core.specs.Krate.{record_of}
-use Rattle.manifest_core.specs.Synthetic.{Kept, written_all}
+use Rattle.manifest_core.specs.Synthetic.{PlacedText, written_all}
 use Rattle.finding_core.specs.Pieces.{head_pieces}
 use Rattle.finding_core.specs.Views.{seen_view}
 use Rattle.finding_core.proofs.PieceLemmas.{crate_written}
@@ -11,5 +11,5 @@ returns c =
     let krate = record_of c.args.krate.now in
     crate_written krate c.args.folder.now (option_copied c.args.joined) (seen_view c.args.seen)
     c.write_head.new.synthetic c.write_joined.new.synthetic c.write_seen.new.synthetic
-    (c.in_ok-write_head.ensures ∙ ap (λ (kept : Kept). written_all kept (head_pieces krate)) c.new-synthetic.ensures)
+    (c.in_ok-write_head.ensures ∙ ap (λ (kept : PlacedText). written_all kept (head_pieces krate)) c.new-synthetic.ensures)
     c.in_ok-write_joined.ensures c.in_ok-write_seen.ensures

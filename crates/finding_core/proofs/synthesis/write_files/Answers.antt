@@ -1,5 +1,5 @@
 use Rattle.std.proofs.Common.{◌∙◌, ap}
-use Rattle.manifest_core.specs.Synthetic.{Kept, written_all}
+use Rattle.manifest_core.specs.Synthetic.{PlacedText, written_all}
 use Rattle.finding_core.specs.Pieces.{file_pieces}
 use Rattle.finding_core.proofs.PieceLemmas.{item_written}
 use Rattle.finding_core.proofs.synthesis.write_files.Goals as goal
@@ -8,5 +8,5 @@ pub files-preserved : goal.files-preserved
 files-preserved c =
     let pieces = file_pieces c.args.folder.now in
     let file = c.file-item.result in
-    c.in_ok-write_file.ensures ∙ ap (λ (kept : Kept). written_all kept (pieces file)) c.files.invariant
+    c.in_ok-write_file.ensures ∙ ap (λ (kept : PlacedText). written_all kept (pieces file)) c.files.invariant
     ∙ item_written pieces c.args.synthetic.now c.args.files.now c.files.file-index file c.files-test.true c.file-item.is

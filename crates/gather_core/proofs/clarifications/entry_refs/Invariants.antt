@@ -1,6 +1,6 @@
 use Rattle.std.proofs.Common.{◌≡◌, map, take}
-use Rattle.gather_core.specs.Entries.{entry_of}
+use Rattle.gather_core.specs.Entries.{clarification_entry}
 use Rattle.gather_core.proofs.clarifications.entry_refs.Given as goal
 
 abbrev pub invariant-entries : goal.invariant-entries
-invariant-entries l = l.refs.items ≡ map entry_of (take l.entry-index l.entries)
+invariant-entries l = l.refs.items ≡ map clarification_entry (take l.entry-index l.entries)

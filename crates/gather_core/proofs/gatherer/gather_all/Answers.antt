@@ -3,7 +3,7 @@ use Rattle.std.specs.List.{All}
 use Rattle.std.proofs.lemmas.List.{take_more}
 use Rattle.std.proofs.lemmas.List.Elements.{All-nil, All-push}
 use Rattle.graph_core.specs.Krate.{Record}
-use Rattle.priority_core.specs.Settled.{scanner_with}
+use Rattle.priority_core.specs.Settled.{scanner_of_scan}
 use Rattle.selection_core.specs.Listed.{record_behind}
 use Rattle.pack_core.specs.Calls.{IsFront}
 use Rattle.pack_core.proofs.CallLemmas.{on_err}
@@ -23,7 +23,7 @@ krates-preserved g c =
     let krates = c.args.krates.now in
     let license = c.in_ok-license.license in
     let pushed = c.in_ok-push.ensures.ok in
-    let scanner = scanner_with g.C.Catalog.lists g.I.Identifier.match_of c.args.scan.now in
+    let scanner = scanner_of_scan g.C.Catalog.lists g.I.Identifier.match_of c.args.scan.now in
     let all = c.args.clarifications.now in
     let policy = c.args.policy in
     let new_files = c.license_of.new.files in
@@ -49,7 +49,7 @@ krates-preserved g c =
 pub krates-init : goal.krates-init
 krates-init g c =
     let none = sym c.new-licenses.ensures in
-    let scanner = scanner_with g.C.Catalog.lists g.I.Identifier.match_of c.args.scan.now in
+    let scanner = scanner_of_scan g.C.Catalog.lists g.I.Identifier.match_of c.args.scan.now in
     let all = c.args.clarifications.now in
     let policy = c.args.policy in
     let files = c.args.files.now in
@@ -71,14 +71,14 @@ returns-in_err-license-clause-no_memory g c =
     let krates = c.args.krates.now in
     let item = c.krate-item.result in
     on_err c.from_residual.result _
-    (starves_next (scanner_with g.C.Catalog.lists g.I.Identifier.match_of c.args.scan.now) c.args.policy c.args.clarifications.now c.args.files.now
+    (starves_next (scanner_of_scan g.C.Catalog.lists g.I.Identifier.match_of c.args.scan.now) c.args.policy c.args.clarifications.now c.args.files.now
     c.krates.licenses c.krates.files (record_behind item) (map record_behind krates) c.krates.invariant.answered c.in_err-license.ensures.no_memory
     (front_next record_behind krates place item (map krate_of c.krates.licenses) c.krates.invariant.krates
     (take_more krates place item c.krates-test.true ∙ ap (λ one. take place krates ++ one ∷ []) (sym c.krate-item.is))))
 
 pub returns-in_err-push-clause-no_memory : goal.returns-in_err-push-clause-no_memory
 returns-in_err-push-clause-no_memory g c =
-    let scanner = scanner_with g.C.Catalog.lists g.I.Identifier.match_of c.args.scan.now in
+    let scanner = scanner_of_scan g.C.Catalog.lists g.I.Identifier.match_of c.args.scan.now in
     let all = c.args.clarifications.now in
     let policy = c.args.policy in
     let place = c.krates.krate-index in

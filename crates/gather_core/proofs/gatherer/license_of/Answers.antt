@@ -4,13 +4,13 @@ use Rattle.graph_core.specs.Krate.{record_of}
 use Rattle.pack_core.specs.Ears.{ears_by}
 use Rattle.pack_core.proofs.CallLemmas.{on_err}
 use Rattle.location_core.specs.Calls.{manifest_by}
-use Rattle.priority_core.specs.Clarification.{Clarification, behind}
-use Rattle.priority_core.specs.Settled.{scanner_with}
+use Rattle.priority_core.specs.Clarification.{ClarificationView, behind}
+use Rattle.priority_core.specs.Settled.{scanner_of_scan}
 use Rattle.priority_core.specs.Priority.{folder_of}
 use Rattle.finding_core.proofs.GrowLemmas.{grows_itself}
 use Rattle.gather_core.specs.Calls.{IsByOwnReads, StarvesTaking}
 use Rattle.gather_core.specs.Entries.{clarifications_of}
-use Rattle.gather_core.specs.Premises.{IsPlacedIn, TextIs}
+use Rattle.gather_core.specs.Premises.{IsClarificationPlaced, TextIs}
 use Rattle.gather_core.specs.Taken.{IsTaken, turn_with}
 use Rattle.gather_core.specs.Turns.{field_text, records_in}
 use Rattle.gather_core.proofs.CallLemmas.{starves_before, starves_behind}
@@ -27,9 +27,9 @@ returns-clause-placed g c = λ placed.
     let old = c.args.files.now in
     let all = c.args.clarifications.now in
     let by = c.in_ok-taken.ensures.answered policy in
-    let turn = turn_with (scanner_with g.C.Catalog.lists g.I.Identifier.match_of c.args.scan.now) policy (map behind c.deref.result.now) krate (ears_by by.reads) (manifest_by by.reads) old in
-    let stand : All (IsPlacedIn old policy) (map behind c.deref.result.now) =
-    subst (All (IsPlacedIn old policy)) (sym (ap (map behind) c.deref.ensures.value ∙ c.in_ok-matching.ensures)) (for_krate old policy krate all placed) in
+    let turn = turn_with (scanner_of_scan g.C.Catalog.lists g.I.Identifier.match_of c.args.scan.now) policy (map behind c.deref.result.now) krate (ears_by by.reads) (manifest_by by.reads) old in
+    let stand : All (IsClarificationPlaced old policy) (map behind c.deref.result.now) =
+    subst (All (IsClarificationPlaced old policy)) (sym (ap (map behind) c.deref.ensures.value ∙ c.in_ok-matching.ensures)) (for_krate old policy krate all placed) in
     c.tell.ensures.placed
     (missing_taken turn c.in_ok-taken.taken c.take.new.files by.is_so stand)
     (held_taken turn c.in_ok-taken.taken c.take.new.files by.is_so stand)
@@ -38,7 +38,7 @@ returns-clause-placed g c = λ placed.
 -- over any tree, by the crate's own reads
 pub returns-clause-answered : goal.returns-clause-answered
 returns-clause-answered g c =
-    let scanner = scanner_with g.C.Catalog.lists g.I.Identifier.match_of c.args.scan.now in
+    let scanner = scanner_of_scan g.C.Catalog.lists g.I.Identifier.match_of c.args.scan.now in
     let policy = c.args.policy in
     let files = c.args.files.now in
     let krate = record_of c.args.krate.now in
@@ -46,7 +46,7 @@ returns-clause-answered g c =
     let matching : map behind c.deref.result.now ≡ clarifications_of krate all = ap (map behind) c.deref.ensures.value ∙ c.in_ok-matching.ensures in
     let taken = c.in_ok-taken.taken in
     let by =
-    subst (λ (matching : List Clarification). IsByOwnReads (g.T.Tree.content c.args.tree.now) (g.T.Tree.content c.take.new.tree) (g.T.Tree.fault_count c.args.tree.now) (g.T.Tree.fault_count c.take.new.tree) (g.T.Tree.trace c.args.tree.now) (g.T.Tree.trace c.take.new.tree)
+    subst (λ (matching : List ClarificationView). IsByOwnReads (g.T.Tree.content c.args.tree.now) (g.T.Tree.content c.take.new.tree) (g.T.Tree.fault_count c.args.tree.now) (g.T.Tree.fault_count c.take.new.tree) (g.T.Tree.trace c.args.tree.now) (g.T.Tree.trace c.take.new.tree)
     (folder_of krate) taken.reads (λ ears manifest. IsTaken (turn_with scanner policy matching krate ears manifest files) taken c.take.new.files)) matching
     (c.in_ok-taken.ensures.answered policy) in
     license_answered scanner policy all files c.tell.new.files krate taken.reads by.reads c.tell.result by.recorded_are by.made c.tell.ensures.krate c.tell.ensures.reads
@@ -61,20 +61,20 @@ returns-in_err-field-clause-no_memory g c = on_err c.from_residual-in_err-field.
 
 pub returns-in_err-taken-clause-no_memory : goal.returns-in_err-taken-clause-no_memory
 returns-in_err-taken-clause-no_memory g c =
-    let scanner = scanner_with g.C.Catalog.lists g.I.Identifier.match_of c.args.scan.now in
+    let scanner = scanner_of_scan g.C.Catalog.lists g.I.Identifier.match_of c.args.scan.now in
     let policy = c.args.policy in
     let files = c.args.files.now in
     let krate = record_of c.args.krate.now in
     let all = c.args.clarifications.now in
     let matching : map behind c.deref.result.now ≡ clarifications_of krate all = ap (map behind) c.deref.ensures.value ∙ c.in_ok-matching.ensures in
     on_err c.from_residual-in_err-taken.result _
-    (subst (λ (matching : List Clarification). StarvesTaking (g.T.Tree.content c.args.tree.now) (g.T.Tree.content c.take.new.tree) (g.T.Tree.fault_count c.args.tree.now) (g.T.Tree.fault_count c.take.new.tree) (g.T.Tree.trace c.args.tree.now) (g.T.Tree.trace c.take.new.tree)
+    (subst (λ (matching : List ClarificationView). StarvesTaking (g.T.Tree.content c.args.tree.now) (g.T.Tree.content c.take.new.tree) (g.T.Tree.fault_count c.args.tree.now) (g.T.Tree.fault_count c.take.new.tree) (g.T.Tree.trace c.args.tree.now) (g.T.Tree.trace c.take.new.tree)
     (folder_of krate) (λ ears manifest. records_in (turn_with scanner policy matching krate ears manifest files))) matching
     (c.in_err-taken.ensures.no_memory policy))
 
 pub returns-clause-no_memory : goal.returns-clause-no_memory
 returns-clause-no_memory g c =
-    let scanner = scanner_with g.C.Catalog.lists g.I.Identifier.match_of c.args.scan.now in
+    let scanner = scanner_of_scan g.C.Catalog.lists g.I.Identifier.match_of c.args.scan.now in
     let policy = c.args.policy in
     let files = c.args.files.now in
     let krate = record_of c.args.krate.now in
@@ -82,7 +82,7 @@ returns-clause-no_memory g c =
     let matching : map behind c.deref.result.now ≡ clarifications_of krate all = ap (map behind) c.deref.ensures.value ∙ c.in_ok-matching.ensures in
     let taken = c.in_ok-taken.taken in
     let by =
-    subst (λ (matching : List Clarification). IsByOwnReads (g.T.Tree.content c.args.tree.now) (g.T.Tree.content c.take.new.tree) (g.T.Tree.fault_count c.args.tree.now) (g.T.Tree.fault_count c.take.new.tree) (g.T.Tree.trace c.args.tree.now) (g.T.Tree.trace c.take.new.tree)
+    subst (λ (matching : List ClarificationView). IsByOwnReads (g.T.Tree.content c.args.tree.now) (g.T.Tree.content c.take.new.tree) (g.T.Tree.fault_count c.args.tree.now) (g.T.Tree.fault_count c.take.new.tree) (g.T.Tree.trace c.args.tree.now) (g.T.Tree.trace c.take.new.tree)
     (folder_of krate) taken.reads (λ ears manifest. IsTaken (turn_with scanner policy matching krate ears manifest files) taken c.take.new.files)) matching
     (c.in_ok-taken.ensures.answered policy) in
     on_err c.tell.result _

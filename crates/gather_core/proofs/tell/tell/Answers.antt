@@ -10,7 +10,7 @@ use Rattle.finding_core.proofs.LabelLemmas.{lie-append}
 use Rattle.gather_core.specs.declared.summary.KrateLicense.{KrateLicense}
 use Rattle.gather_core.specs.Premises.{Grows, InfoStands}
 use Rattle.gather_core.specs.Told.{info_by, nowhere}
-use Rattle.gather_core.specs.Turns.{files_left, missing_findings, points_for, texts_for}
+use Rattle.gather_core.specs.Turns.{files_left, missing_findings, points_for, label_texts_for}
 use Rattle.gather_core.proofs.PlacedLemmas.{by_grown, places_grown}
 use Rattle.gather_core.proofs.ToldLemmas.{info_stands, missing_labels}
 use Rattle.gather_core.proofs.TurnLemmas.{found_turn, told_turn}
@@ -42,7 +42,7 @@ returns-clause-found c = λ turn krate_is faults_are is.
     found_turn turn faults taken c.in_ok-points.points old c.find_points.new.files faults_are is
     (c.in_ok-points.ensures.points ∙ ap (λ (krate : Record). points_for krate faults taken.location old taken.by) (sym krate_is))
     c.in_ok-points.ensures.inside
-    (c.in_ok-points.ensures.cuts ∙ ap (λ (krate : Record). texts_for krate faults taken.location taken.by) (sym krate_is))
+    (c.in_ok-points.ensures.cuts ∙ ap (λ (krate : Record). label_texts_for krate faults taken.location taken.by) (sym krate_is))
 
 pub returns-clause-placed : goal.returns-clause-placed
 returns-clause-placed c = λ missing_lie held_stands words.

@@ -3,7 +3,7 @@ use Rattle.std.specs.Option.{option_to_list}
 use Rattle.tree_core.specs.declared.reads.ReadRecord.{ReadRecord}
 use Rattle.graph_core.specs.Krate.{record_of}
 use Rattle.priority_core.specs.Clarification.{behind}
-use Rattle.priority_core.specs.Settled.{scanner_with}
+use Rattle.priority_core.specs.Settled.{scanner_of_scan}
 use Rattle.finding_core.proofs.GrowLemmas.{grows_itself}
 use Rattle.pack_core.proofs.CallLemmas.{on_err}
 use Rattle.gather_core.proofs.CallLemmas.{own_last, starves_last, starves_last_locating, starves_taken}
@@ -11,7 +11,7 @@ use Rattle.gather_core.proofs.turn.take_files_first.Goals as goal
 
 pub returns-clause-answered : goal.returns-clause-answered
 returns-clause-answered g c = λ policy.
-    let scanner = scanner_with g.C.Catalog.lists g.I.Identifier.match_of c.args.scan.now in
+    let scanner = scanner_of_scan g.C.Catalog.lists g.I.Identifier.match_of c.args.scan.now in
     let krate = record_of c.args.krate.now in
     let all = map behind c.args.clarifications.now in
     let files = c.args.files.now in
@@ -22,7 +22,7 @@ returns-clause-answered g c = λ policy.
 
 pub returns-in_err-settled-clause-no_memory : goal.returns-in_err-settled-clause-no_memory
 returns-in_err-settled-clause-no_memory g c = λ policy.
-    let scanner = scanner_with g.C.Catalog.lists g.I.Identifier.match_of c.args.scan.now in
+    let scanner = scanner_of_scan g.C.Catalog.lists g.I.Identifier.match_of c.args.scan.now in
     let krate = record_of c.args.krate.now in
     let all = map behind c.args.clarifications.now in
     let files = c.args.files.now in
@@ -30,7 +30,7 @@ returns-in_err-settled-clause-no_memory g c = λ policy.
 
 pub returns-in_err-located-clause-no_memory : goal.returns-in_err-located-clause-no_memory
 returns-in_err-located-clause-no_memory g c = λ policy.
-    let scanner = scanner_with g.C.Catalog.lists g.I.Identifier.match_of c.args.scan.now in
+    let scanner = scanner_of_scan g.C.Catalog.lists g.I.Identifier.match_of c.args.scan.now in
     let krate = record_of c.args.krate.now in
     let all = map behind c.args.clarifications.now in
     let files = c.args.files.now in
@@ -39,7 +39,7 @@ returns-in_err-located-clause-no_memory g c = λ policy.
 
 pub returns-in_err-back-clause-no_memory : goal.returns-in_err-back-clause-no_memory
 returns-in_err-back-clause-no_memory g c = λ policy.
-    let scanner = scanner_with g.C.Catalog.lists g.I.Identifier.match_of c.args.scan.now in
+    let scanner = scanner_of_scan g.C.Catalog.lists g.I.Identifier.match_of c.args.scan.now in
     let krate = record_of c.args.krate.now in
     let all = map behind c.args.clarifications.now in
     let files = c.args.files.now in
@@ -52,7 +52,7 @@ returns-in_err-back-clause-no_memory g c = λ policy.
 
 pub returns-in_err-reads-clause-no_memory : goal.returns-in_err-reads-clause-no_memory
 returns-in_err-reads-clause-no_memory g c = λ policy.
-    let scanner = scanner_with g.C.Catalog.lists g.I.Identifier.match_of c.args.scan.now in
+    let scanner = scanner_of_scan g.C.Catalog.lists g.I.Identifier.match_of c.args.scan.now in
     let krate = record_of c.args.krate.now in
     let all = map behind c.args.clarifications.now in
     let files = c.args.files.now in

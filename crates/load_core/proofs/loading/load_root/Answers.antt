@@ -2,7 +2,7 @@ use Rattle.std.proofs.Common.{inl, inr, refl, sym, subst, []}
 use Rattle.std.specs.Option.{option_copied}
 use Rattle.policy_core.specs.Load.{LoadsPolicyBy}
 use Rattle.policy_core.specs.Places.{PointInto}
-use Rattle.policy_core.specs.Policy.{absence_told}
+use Rattle.policy_core.specs.Policy.{absence_findings}
 use Rattle.load_core.specs.declared.error.LoadError.TheVariants.{Memory}
 use Rattle.load_core.proofs.CallLemmas.{reads_root}
 use Rattle.load_core.proofs.LoadLemmas.{handed_on}
@@ -32,9 +32,9 @@ returns-clause-reads g c =
     let paths = c.args.paths in
     let policy = c.in_ok-loaded.loaded in
     let file = c.args.file_id in
-    inr (reads_root lists c.args.context file (absence_told c.args.is_there paths.policy) c.args.root paths.exceptions mid after calls more old new found held behind policy c.finish.result
-    (subst (λ path. LoadsPolicyBy lists mid after calls more file (absence_told c.args.is_there path) c.args.root paths.exceptions (record { files = old; found = [] }) (record { files = new; found = found }) policy)
+    inr (reads_root lists c.args.context file (absence_findings c.args.is_there paths.policy) c.args.root paths.exceptions mid after calls more old new found held behind policy c.finish.result
+    (subst (λ path. LoadsPolicyBy lists mid after calls more file (absence_findings c.args.is_there path) c.args.root paths.exceptions (record { files = old; found = [] }) (record { files = new; found = found }) policy)
     c.path_text.ensures
-    (subst (λ start. LoadsPolicyBy lists mid after calls more file (absence_told c.args.is_there (option_copied c.path_text.result)) c.args.root paths.exceptions (record { files = old; found = start }) (record { files = new; found = found }) policy)
+    (subst (λ start. LoadsPolicyBy lists mid after calls more file (absence_findings c.args.is_there (option_copied c.path_text.result)) c.args.root paths.exceptions (record { files = old; found = start }) (record { files = new; found = found }) policy)
     c.new-found.ensures c.in_ok-loaded.ensures.read))
     c.finish.ensures.ends c.finish.ensures.prints)

@@ -1,8 +1,8 @@
 use Rattle.std.proofs.Common.{◌∙◌, ◌⊎◌, inl, refl, sym, ap, subst, length, Err}
-use Rattle.policy_text.specs.Config.{IsTold, config_told}
+use Rattle.policy_text.specs.Config.{AnswersConfig, config_of_text}
 use Rattle.policy_core.specs.Heard.{IsFileText, MayReadOf}
-use Rattle.policy_core.specs.Places.{IsPlacedIn}
-use Rattle.policy_core.specs.Policy.{absence_told}
+use Rattle.policy_core.specs.Places.{IsConfigPlaced}
+use Rattle.policy_core.specs.Policy.{absence_findings}
 use Rattle.policy_core.proofs.ExceptionLemmas.{grows_itself}
 use Rattle.load_core.specs.Answer.{Comes, IsUnprinted, LoadsRootBy, refused_by}
 use Rattle.load_core.specs.Load.{policy_file, refusal_findings, with_policy}
@@ -19,9 +19,9 @@ load_root-requires-clause-placed g c =
     let old = c.args.files.now in
     let file = policy_file c.args.paths.policy c.args.found.text in
     let is_text = subst IsFileText c.as_str.ensures c.read_text-config.ensures.text in
-    let told = ap (config_told lists) (sym c.as_str.ensures) ∙ c.in-Ok.ensures.told in
-    subst (λ number. IsPlacedIn c.add_policy.new.files number c.in-Ok.root) (sym c.in_ok-file_id.ensures.number)
-    (subst (λ files. IsPlacedIn files (length old) c.in-Ok.root) (sym c.in_ok-file_id.ensures.ok)
+    let told = ap (config_of_text lists) (sym c.as_str.ensures) ∙ c.in-Ok.ensures.told in
+    subst (λ number. IsConfigPlaced c.add_policy.new.files number c.in-Ok.root) (sym c.in_ok-file_id.ensures.number)
+    (subst (λ files. IsConfigPlaced files (length old) c.in-Ok.root) (sym c.in_ok-file_id.ensures.ok)
     (root_in old file is_text.utf8 is_text.fits lists (g.met.C.Catalog.lawful c.args.catalog.now) c.in-Ok.root told))
 
 pub refuse-requires : goal.refuse-requires
@@ -30,7 +30,7 @@ refuse-requires g c =
     let old = c.args.files.now in
     let file = policy_file c.args.paths.policy c.args.found.text in
     let is_text = subst IsFileText c.as_str.ensures c.read_text-config.ensures.text in
-    let told = subst (λ text. IsTold (config_told lists text) (Err c.in-Err.refused)) c.as_str.ensures c.in-Err.ensures.told in
+    let told = subst (λ text. AnswersConfig (config_of_text lists text) (Err c.in-Err.refused)) c.as_str.ensures c.in-Err.ensures.told in
     subst (λ number. AreInside c.add_policy.new.files (refusal_findings number c.in-Err.refused)) (sym c.in_ok-file_id.ensures.number)
     (subst (λ files. AreInside files (refusal_findings (length old) c.in-Err.refused)) (sym c.in_ok-file_id.ensures.ok)
     (refusal_inside old file is_text.utf8 is_text.fits lists (g.met.C.Catalog.lawful c.args.catalog.now) c.in-Err.refused told))
@@ -42,7 +42,7 @@ returns-in_err-file_id-clause-reads g c =
     let text = c.args.found in
     inl (
       record { memory = handed_on c.from_residual.result Memory c.from_residual.ensures.1; same = refl },
-      unread_further (g.T.Tree.trace c.args.tree.now) (with_policy c.args.files.now paths text) paths.exceptions (config_told lists text.text),
+      unread_further (g.T.Tree.trace c.args.tree.now) (with_policy c.args.files.now paths text) paths.exceptions (config_of_text lists text.text),
     )
 
 pub returns-in-Ok-clause-reads : goal.returns-in-Ok-clause-reads
@@ -61,12 +61,12 @@ returns-in-Ok-clause-reads g c =
     let root = c.in-Ok.root in
     let result = c.load_root.result in
     reads_by_root lists c.args.context paths text mid after calls old new held behind more root result
-    (ap (config_told lists) (sym c.as_str.ensures) ∙ c.in-Ok.ensures.told)
+    (ap (config_of_text lists) (sym c.as_str.ensures) ∙ c.in-Ok.ensures.told)
     (subst (λ file. (IsUnprinted held behind result × MayReadOf calls more (with_policy old paths text) paths.exceptions)
-    ⊎ LoadsRootBy lists c.args.context file (absence_told text.is_there paths.policy) root paths.exceptions mid after calls more (with_policy old paths text) new held behind result)
+    ⊎ LoadsRootBy lists c.args.context file (absence_findings text.is_there paths.policy) root paths.exceptions mid after calls more (with_policy old paths text) new held behind result)
     c.in_ok-file_id.ensures.number
     (subst (λ files. (IsUnprinted held behind result × MayReadOf calls more files paths.exceptions)
-    ⊎ LoadsRootBy lists c.args.context c.in_ok-file_id.file_id (absence_told text.is_there paths.policy) root paths.exceptions mid after calls more files new held behind result)
+    ⊎ LoadsRootBy lists c.args.context c.in_ok-file_id.file_id (absence_findings text.is_there paths.policy) root paths.exceptions mid after calls more files new held behind result)
     c.in_ok-file_id.ensures.ok c.load_root.ensures.reads))
 
 pub returns-in-Err-clause-reads : goal.returns-in-Err-clause-reads
@@ -83,7 +83,7 @@ returns-in-Err-clause-reads g c =
     let refused = c.in-Err.refused in
     let error = c.refuse.result in
     reads_by_refusal lists c.args.context paths text mid mid calls old new held behind refused error
-    (subst (λ own. IsTold (config_told lists own) (Err refused)) c.as_str.ensures c.in-Err.ensures.told)
+    (subst (λ own. AnswersConfig (config_of_text lists own) (Err refused)) c.as_str.ensures c.in-Err.ensures.told)
     (subst (λ number. Comes (refused_by number refused) c.args.context (with_policy old paths text) new held behind (Err error)) c.in_ok-file_id.ensures.number
     (subst (λ files. Comes (refused_by c.in_ok-file_id.file_id refused) c.args.context files new held behind (Err error)) c.in_ok-file_id.ensures.ok c.refuse.ensures.comes))
     c.refuse.ensures.quiet

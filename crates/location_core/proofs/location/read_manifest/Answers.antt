@@ -1,7 +1,7 @@
 use Rattle.std.proofs.Common.{subst, ◌∙◌, ◌≡◌, ◌⊎◌, [], ◌∷◌, ◌++◌, ℕ, List, OnErr}
 use Rattle.std.proofs.lemmas.Result.{IfOk-weaker}
 use Rattle.tree_core.specs.Call as call
-use Rattle.reads_core.specs.Answered.{IsRead, call_of}
+use Rattle.reads_core.specs.Answered.{IsFileRead, call_of}
 use Rattle.reads_core.specs.Views.{heard_file}
 use Rattle.location_core.proofs.CallLemmas.{join_nothing}
 use Rattle.location_core.proofs.location.read_manifest.Goals as goal
@@ -9,7 +9,7 @@ use Rattle.location_core.proofs.location.read_manifest.Goals as goal
 pub returns-clause-read : goal.returns-clause-read
 returns-clause-read g c =
     IfOk-weaker c.read_file.result _ _
-    (λ heard read. subst (λ (path : List ℕ). IsRead (g.T.Tree.fault_count c.args.tree.now) (g.T.Tree.fault_count c.read_file.new.tree) (g.T.Tree.trace c.args.tree.now) (g.T.Tree.trace c.read_file.new.tree) path (heard_file heard))
+    (λ heard read. subst (λ (path : List ℕ). IsFileRead (g.T.Tree.fault_count c.args.tree.now) (g.T.Tree.fault_count c.read_file.new.tree) (g.T.Tree.trace c.args.tree.now) (g.T.Tree.trace c.read_file.new.tree) path (heard_file heard))
     (join_nothing c.as_path.result.now ∙ c.as_path.ensures) read)
     c.read_file.ensures.read
 

@@ -4,7 +4,7 @@ use Rattle.std.specs.Prelude.{codes, unwrap_or}
 use Rattle.deny_text.specs.declared.span.Span.{Span}
 use Rattle.toml_subset.specs.Data.{Entries}
 use Rattle.policy_toml.specs.HelperState.{HelperState, after_optional}
-use Rattle.policy_parts.specs.Tables.{graph_of}
+use Rattle.policy_parts.specs.Tables.{graph_config_of}
 use Rattle.policy_config.specs.OpenTable.{open_state, behind_rows}
 use Rattle.policy_config.specs.Places.{places_of_keys}
 use Rattle.policy_config.specs.Root.{no_graph, moved_in, moved_keys, moved_rows, with_moved}
@@ -15,7 +15,7 @@ left state = state.left
 
 pub returns-clause-graph : goal.returns-clause-graph
 returns-clause-graph c =
-    let behind = after_optional (codes "graph") graph_of (open_state c.args.table.now) in
+    let behind = after_optional (codes "graph") graph_config_of (open_state c.args.table.now) in
     c.with_moved.ensures
     ∙ ap (λ keys. with_moved keys c.or_no_graph.result) (c.in_ok-moved.ensures.keys ∙ ap moved_in (ap left c.in_ok-graph.ensures.after))
     ∙ ap (with_moved (moved_in behind.left)) (c.or_no_graph.ensures ∙ ap (λ own. unwrap_or own no_graph) c.in_ok-graph.ensures.value)

@@ -3,13 +3,13 @@ use Rattle.std.proofs.Common.{◌≡◌, ℕ, List, [], ◌∷◌, ◌++◌, Opt
 use Rattle.std.specs.Prelude.{codes, unwrap_or}
 use Rattle.deny_text.specs.declared.span.Span.{Span}
 use Rattle.toml_subset.specs.Data.{Entries}
-use Rattle.toml_shapes.specs.Shaped.{Gives, answer_of}
+use Rattle.toml_shapes.specs.Shaped.{AnswersShape, shaped_of}
 use Rattle.toml_shapes.specs.Shapes.{Fault}
 use Rattle.policy_toml.specs.HelperState.{HelperState, optional_of}
 use Rattle.policy_toml.specs.Readings.{u32_of}
 use Rattle.key_rows.specs.Rows.{key, passed_key, given, table_faults}
 use Rattle.key_rows.proofs.RowLemmas.{after_row, begun, field, finished, passed_row, passed_span}
-use Rattle.policy_parts.specs.Tables.{graph_of, output_of}
+use Rattle.policy_parts.specs.Tables.{graph_config_of, output_of}
 use Rattle.policy_parts.specs.declared.graph.GraphConfig.{GraphConfig}
 use Rattle.policy_parts.specs.declared.output.OutputConfig.{OutputConfig}
 use Rattle.policy_config.specs.Config.{config_of}
@@ -60,8 +60,8 @@ returns g c =
     let k3 = c.pass_over-3.ensures ∙ passed_row (codes "sources") (open_state c.pass_over-2.new.self) ∙ ap (after_row (passed_key (codes "sources"))) k2 in
     let licenses = field (codes "licenses") (config_of lists) (codes "advisories" ∷ codes "bans" ∷ codes "sources" ∷ []) state.left (open_state c.pass_over-3.new.self) c.in_ok-licenses.licenses refl (ap left k3) c.in_ok-licenses.ensures.value in
     let k4 = c.in_ok-licenses.ensures.after ∙ ap (after_row (key (codes "licenses") (config_of lists))) k3 in
-    let own_graph = field (codes "graph") graph_of (codes "advisories" ∷ codes "bans" ∷ codes "sources" ∷ codes "licenses" ∷ []) state.left (open_state c.optional.new.self) (optional_of (codes "graph") graph_of (open_state c.optional.new.self)) refl (ap left k4) refl in
-    let k5 = ap (after_row (key (codes "graph") graph_of)) k4 in
+    let own_graph = field (codes "graph") graph_config_of (codes "advisories" ∷ codes "bans" ∷ codes "sources" ∷ codes "licenses" ∷ []) state.left (open_state c.optional.new.self) (optional_of (codes "graph") graph_config_of (open_state c.optional.new.self)) refl (ap left k4) refl in
+    let k5 = ap (after_row (key (codes "graph") graph_config_of)) k4 in
     let moved = ap moved_in (ap left k5) ∙ moved_behind state.left in
     let places = c.in_ok-graph.ensures.places ∙ ap (places_of_keys moved_keys) (ap left k5) ∙ places_behind state.left in
     let k6 = c.in_ok-graph.ensures.after ∙ ap (behind_rows moved_rows) k5 in
@@ -71,10 +71,10 @@ returns g c =
     let place = c.in_ok-depth.ensures.place ∙ passed_span (codes "feature-depth") depth_passed state.left (open_state c.optional-2.new.self) refl (ap left k7) in
     let k8 = c.in_ok-depth.ensures.after ∙ ap (after_row (key (codes "feature-depth") u32_of)) k7 in
     let graph = c.in_ok-graph.ensures.graph
-    ∙ ap (λ keys. with_moved keys (unwrap_or (optional_of (codes "graph") graph_of (open_state c.optional.new.self)) no_graph)) moved
+    ∙ ap (λ keys. with_moved keys (unwrap_or (optional_of (codes "graph") graph_config_of (open_state c.optional.new.self)) no_graph)) moved
     ∙ ap (with_moved (moved_in state.left)) (ap (λ own. unwrap_or own no_graph) own_graph) in
     let output = c.with_depth.ensures ∙ ap (λ found. with_depth found (unwrap_or c.in_ok-output.output no_output)) depth
     ∙ ap (λ own. with_depth (given (codes "feature-depth") u32_of state.left) (unwrap_or own no_output)) own_output in
     let value = same licenses graph output places place in
-    subst (λ r. Gives r c.finish.result) (finished [] (root_rows lists) state.left state.span (open_state c.placed.new.self) _ refl k8
-    ∙ ap (answer_of (table_faults [] (root_rows lists) state.left state.span)) value) c.finish.ensures
+    subst (λ r. AnswersShape r c.finish.result) (finished [] (root_rows lists) state.left state.span (open_state c.placed.new.self) _ refl k8
+    ∙ ap (shaped_of (table_faults [] (root_rows lists) state.left state.span)) value) c.finish.ensures

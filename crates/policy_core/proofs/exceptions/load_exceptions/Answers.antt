@@ -1,7 +1,7 @@
 use Rattle.std.proofs.Common.{◌≡◌, ◌∙◌, refl, sym, ap, subst, true, [], ◌∷◌, ◌++◌, Some}
 use Rattle.std.specs.Prelude.{is_some, OnOk}
-use Rattle.diag_core.specs.File.{id_at}
-use Rattle.policy_core.specs.Exceptions.{itself_told}
+use Rattle.diag_core.specs.File.{file_id_at}
+use Rattle.policy_core.specs.Exceptions.{itself_finding}
 use Rattle.policy_core.proofs.AnswerLemmas.{itself_by, labels_of, on_err, places_of}
 use Rattle.policy_core.proofs.ExceptionLemmas.{grows_itself, unread_of}
 use Rattle.policy_core.proofs.exceptions.load_exceptions.Goals as goal
@@ -28,10 +28,10 @@ returns-then-is_some-clause-read g c =
     let files = c.args.files.now in
     let found = c.args.diags.now in
     let further = c.tell_itself.new.found in
-    let there : is_some (id_at files c.args.path) ≡ true =
-    ap (λ path. is_some (id_at files path)) (sym c.as_path.ensures) ∙ sym (ap is_some c.id_for_path.ensures) ∙ sym c.is_some.ensures ∙ c.if-is_some.true in
+    let there : is_some (file_id_at files c.args.path) ≡ true =
+    ap (λ path. is_some (file_id_at files path)) (sym c.as_path.ensures) ∙ sym (ap is_some c.id_for_path.ensures) ∙ sym c.is_some.ensures ∙ c.if-is_some.true in
     itself_by c.tell_itself.result lists count calls c.args.path c.args.cfg.now files found further there
-    (subst (λ path. OnOk c.tell_itself.result (further ≡ found ++ itself_told path ∷ [])) c.as_path-then-is_some.ensures c.tell_itself.ensures)
+    (subst (λ path. OnOk c.tell_itself.result (further ≡ found ++ itself_finding path ∷ [])) c.as_path-then-is_some.ensures c.tell_itself.ensures)
 
 pub returns-then-is_some-clause-no_memory : goal.returns-then-is_some-clause-no_memory
 returns-then-is_some-clause-no_memory g c =

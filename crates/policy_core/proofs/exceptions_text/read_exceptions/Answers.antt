@@ -1,6 +1,6 @@
 use Rattle.std.proofs.Common.{Ok, Err}
 use Rattle.catalog_core.specs.Catalog.{CatalogLists}
-use Rattle.toml_subset.specs.Answer.{Read}
+use Rattle.toml_subset.specs.Answer.{TomlReading}
 use Rattle.toml_subset.specs.Data.{Toml}
 use Rattle.toml_subset.specs.Reading.{read_text}
 use Rattle.policy_core.specs.ExceptionsText.{ReadsBy}
@@ -8,7 +8,7 @@ use Rattle.policy_core.specs.declared.exceptions_text.NoExceptions.TheVariants.{
 use Rattle.policy_core.proofs.exceptions_text.read_exceptions.Goals as goal
 
 -- want of memory may come in the place of any answer
-no_memory : (lists : CatalogLists) (read : Read Toml) → ReadsBy lists read (Err Memory)
+no_memory : (lists : CatalogLists) (read : TomlReading Toml) → ReadsBy lists read (Err Memory)
 no_memory lists (Ok toml) = tt
 no_memory lists (Err fault) = tt
 

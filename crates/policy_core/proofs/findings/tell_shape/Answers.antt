@@ -1,12 +1,12 @@
 use Rattle.std.proofs.Common.{◌≡◌, ◌∙◌, ap, subst, ◌++◌, map}
 use Rattle.std.specs.Prelude.{OnOk}
 use Rattle.toml_shapes.specs.ShapeViews.{fault_of}
-use Rattle.policy_core.specs.Exceptions.{shape_told}
+use Rattle.policy_core.specs.Exceptions.{shape_diagnostic}
 use Rattle.policy_core.proofs.MapLemmas.{map_twice}
 use Rattle.policy_core.proofs.findings.tell_shape.Goals as goal
 
 pub returns : goal.returns
 returns c =
-    let tell = shape_told c.args.file in
+    let tell = shape_diagnostic c.args.file in
     subst (λ told. OnOk c.tell_faults.result (c.tell_faults.new.found ≡ c.args.found.now ++ told))
     (map_twice tell fault_of c.items.result.now ∙ ap (map tell) c.items.ensures) c.tell_faults.ensures

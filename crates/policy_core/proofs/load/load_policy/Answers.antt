@@ -3,7 +3,7 @@ use Rattle.std.specs.Prelude.{unwrap_or}
 use Rattle.std.specs.Option.{option_copied}
 use Rattle.policy_config.specs.Config.{no_config}
 use Rattle.policy_core.specs.Heard.{LoadsExceptionsBy}
-use Rattle.policy_core.specs.Policy.{absence_told}
+use Rattle.policy_core.specs.Policy.{absence_findings}
 use Rattle.policy_core.proofs.KeptLemmas.{load_places}
 use Rattle.policy_core.proofs.LoadLemmas.{may_read_of, reads_policy}
 use Rattle.policy_core.proofs.AnswerLemmas.{on_err}
@@ -22,7 +22,7 @@ returns-clause-read g c =
     let licenses = c.load_further.new.cfg in
     let files = c.load_further.new.files in
     let heard = c.load_further.new.diags in
-    reads_policy lists before after calls others source.file_id (absence_told source.is_there (option_copied source.path)) c.args.root c.args.exceptions_path
+    reads_policy lists before after calls others source.file_id (absence_findings source.is_there (option_copied source.path)) c.args.root c.args.exceptions_path
     c.licences_or_default-config.result c.in_ok-licenses.licenses licenses c.args.files.now files c.args.found.now c.tell_absence.new.found c.validated.new.found
     heard c.tell_settings.new.found
     (c.licences_or_default-config.ensures ∙ ap (λ licenses. unwrap_or licenses no_config) c.take.ensures.value)
@@ -44,7 +44,7 @@ pub returns-clause-places : goal.returns-clause-places
 returns-clause-places g c =
     load_places (g.C.Catalog.lists c.args.catalog.now) (g.met.C.Catalog.lawful c.args.catalog.now) (g.T.Tree.fault_count c.args.tree.now)
     (g.T.Tree.fault_count c.load_further.new.tree) (g.T.Tree.trace c.args.tree.now) (g.T.Tree.trace c.load_further.new.tree) c.args.source.now.file_id
-    (absence_told c.args.source.now.is_there (option_copied c.args.source.now.path)) c.args.root c.args.exceptions_path
+    (absence_findings c.args.source.now.is_there (option_copied c.args.source.now.path)) c.args.root c.args.exceptions_path
     (record { files = c.args.files.now; found = c.args.found.now }) (record { files = c.load_further.new.files; found = c.tell_settings.new.found })
     (record { licenses = c.load_further.new.cfg; graph = c.args.root.graph; output = c.args.root.output }) (returns-clause-read g c)
 

@@ -1,7 +1,7 @@
 use Rattle.std.proofs.Common.{◌≡◌, ◌∙◌, List, ℕ, subst, map, option_copied, rules}
 use Rattle.graph_core.specs.Krate.{record_of}
 use Rattle.pack_core.specs.Calls.{IsMadeBy}
-use Rattle.pack_core.specs.Steps.{Begins}
+use Rattle.pack_core.specs.Steps.{BeginsPack}
 use Rattle.pack_core.proofs.CallLemmas.{made_then, on_err}
 use Rattle.priority_core.specs.Clarification.{behind}
 use Rattle.priority_core.specs.Priority.{folder_of}
@@ -16,8 +16,8 @@ returns-clause-looked g c =
     let begun = c.in_ok-pack.pack in
     let new = c.in_ok-clarified.clarified.pack in
     looked krate (map behind c.args.clarifications.now) c.in_ok-clarified.ensures.goes.reads begun new c.in_ok-clarified.clarified.held c.in_ok-clarified.clarified.missing
-    (subst (λ folder. Begins folder krate.license_file begun) c.folder.ensures
-    (subst (λ file. Begins c.folder.result.now file begun) file_is c.in_ok-pack.ensures.begins))
+    (subst (λ folder. BeginsPack folder krate.license_file begun) c.folder.ensures
+    (subst (λ file. BeginsPack c.folder.result.now file begun) file_is c.in_ok-pack.ensures.begins))
     c.in_ok-clarified.ensures.goes.takes
     c.in_ok-clarified.ensures.paths
     c.in_ok-clarified.ensures.held
@@ -44,8 +44,8 @@ returns-in_err-clarified-clause-no_memory g c =
     let begun = c.in_ok-pack.pack in
     on_err c.from_residual-in_err-clarified.result _
     (starves_looking krate (map behind c.args.clarifications.now) begun
-    (subst (λ folder. Begins folder krate.license_file begun) c.folder.ensures
-    (subst (λ file. Begins c.folder.result.now file begun) file_is c.in_ok-pack.ensures.begins))
+    (subst (λ folder. BeginsPack folder krate.license_file begun) c.folder.ensures
+    (subst (λ file. BeginsPack c.folder.result.now file begun) file_is c.in_ok-pack.ensures.begins))
     (subst (λ (folder : List ℕ). IsMadeBy (g.T.Tree.content c.args.tree.now) (g.T.Tree.content c.read.new.tree) (g.T.Tree.fault_count c.args.tree.now) (g.T.Tree.fault_count c.read.new.tree)
     (g.T.Tree.trace c.args.tree.now) (g.T.Tree.trace c.read.new.tree) folder c.in_ok-pack.pack) c.folder.ensures c.in_ok-pack.ensures.made)
     c.in_err-clarified.ensures.no_memory)

@@ -2,9 +2,9 @@ use Rattle.std.proofs.Common.{refl, sym, map, ◌∙◌}
 use Rattle.graph_core.specs.Krate.{record_of}
 use Rattle.pack_core.specs.Ears.{ears_by}
 use Rattle.pack_core.proofs.CallLemmas.{on_err}
-use Rattle.priority_core.specs.declared.settle.Settled.{Settled}
+use Rattle.priority_core.specs.declared.settle.SettledLicense.{SettledLicense}
 use Rattle.priority_core.specs.Clarification.{behind}
-use Rattle.priority_core.specs.Settled.{scanner_with}
+use Rattle.priority_core.specs.Settled.{scanner_of_scan}
 use Rattle.priority_core.proofs.CallLemmas.{starves_looked}
 use Rattle.priority_core.proofs.LookedLemmas.{ordered}
 use Rattle.priority_core.proofs.settle.settle_by_files.Goals as goal
@@ -16,12 +16,12 @@ returns-clause-answered g c =
     let looked = c.in_ok-clarified.ensures.looked in
     let made = c.in_ok-clarified.ensures.made in
     let reads = c.into_reads-reads.result in
-    let settled : Settled = record { by = c.in_ok-by.by; missing = c.in_ok-clarified.clarified.missing; reads = reads } in
+    let settled : SettledLicense = record { by = c.in_ok-by.by; missing = c.in_ok-clarified.clarified.missing; reads = reads } in
     record {
       reads = made.reads;
       records = sym made.is.records ∙ sym c.into_reads-reads.ensures.reads;
       made = made.made;
-      is_so = ordered (scanner_with g.C.Catalog.lists g.I.Identifier.match_of c.args.scan.now) krate (map behind c.args.clarifications.now) pack
+      is_so = ordered (scanner_of_scan g.C.Catalog.lists g.I.Identifier.match_of c.args.scan.now) krate (map behind c.args.clarifications.now) pack
           c.in_ok-clarified.clarified.held c.in_ok-clarified.clarified.missing c.args.field settled (ears_by made.reads) looked
           c.into_reads-reads.ensures.sorted c.requires c.in_ok-by.ensures refl c.into_reads-reads.ensures.reads made.is.agrees;
     }

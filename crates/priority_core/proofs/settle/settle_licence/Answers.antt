@@ -3,17 +3,17 @@ use Rattle.std.proofs.lemmas.Result.{IfOk-weaker, on_err_weaker}
 use Rattle.graph_core.specs.Krate.{record_of}
 use Rattle.pack_core.specs.Ears.{ears_by}
 use Rattle.reads_core.proofs.ReadLemmas.{no_reads}
-use Rattle.priority_core.specs.declared.settle.Settled.{Settled}
+use Rattle.priority_core.specs.declared.settle.SettledLicense.{SettledLicense}
 use Rattle.priority_core.specs.Clarification.{behind}
 use Rattle.priority_core.specs.Priority.{folder_of}
-use Rattle.priority_core.specs.Settled.{scanner_with}
+use Rattle.priority_core.specs.Settled.{scanner_of_scan}
 use Rattle.priority_core.proofs.CallLemmas.{starves_at_files}
 use Rattle.priority_core.proofs.LookedLemmas.{looks_for_none, looks_for_some, settled_by_field, settled_by_files}
 use Rattle.priority_core.proofs.settle.settle_licence.Goals as goal
 
 pub returns-then-not-is_nothing-clause-answered : goal.returns-then-not-is_nothing-clause-answered
 returns-then-not-is_nothing-clause-answered g c =
-    let scanner = scanner_with g.C.Catalog.lists g.I.Identifier.match_of c.args.scan.now in
+    let scanner = scanner_of_scan g.C.Catalog.lists g.I.Identifier.match_of c.args.scan.now in
     let krate = record_of c.args.krate.now in
     let all = map behind c.args.clarifications.now in
     let off : c.is_nothing.result ≡ false = search rules in
@@ -28,7 +28,7 @@ returns-then-not-is_nothing-clause-answered g c =
 
 pub returns-then-not-is_nothing-clause-no_memory : goal.returns-then-not-is_nothing-clause-no_memory
 returns-then-not-is_nothing-clause-no_memory g c =
-    let scanner = scanner_with g.C.Catalog.lists g.I.Identifier.match_of c.args.scan.now in
+    let scanner = scanner_of_scan g.C.Catalog.lists g.I.Identifier.match_of c.args.scan.now in
     let krate = record_of c.args.krate.now in
     let all = map behind c.args.clarifications.now in
     let off : c.is_nothing.result ≡ false = search rules in
@@ -36,7 +36,7 @@ returns-then-not-is_nothing-clause-no_memory g c =
 
 pub returns-in-None-clause-answered : goal.returns-in-None-clause-answered
 returns-in-None-clause-answered g c =
-    let scanner = scanner_with g.C.Catalog.lists g.I.Identifier.match_of c.args.scan.now in
+    let scanner = scanner_of_scan g.C.Catalog.lists g.I.Identifier.match_of c.args.scan.now in
     let krate = record_of c.args.krate.now in
     let all = map behind c.args.clarifications.now in
     IfOk-weaker c.settle_by_files-in-None.result _ _
@@ -50,7 +50,7 @@ returns-in-None-clause-answered g c =
 
 pub returns-in-None-clause-no_memory : goal.returns-in-None-clause-no_memory
 returns-in-None-clause-no_memory g c =
-    let scanner = scanner_with g.C.Catalog.lists g.I.Identifier.match_of c.args.scan.now in
+    let scanner = scanner_of_scan g.C.Catalog.lists g.I.Identifier.match_of c.args.scan.now in
     let krate = record_of c.args.krate.now in
     let all = map behind c.args.clarifications.now in
     on_err_weaker c.settle_by_files-in-None.result (starves_at_files scanner all krate (looks_for_none scanner all krate (sym c.in-None.is ∙ c.requires))) c.settle_by_files-in-None.ensures.no_memory
@@ -62,9 +62,9 @@ returns-in-Some-clause-answered g c =
     let on : c.is_nothing.result ≡ true = search rules in
     record {
       reads = [];
-      records = sym (ap (λ (s : Settled). s.reads) c.settle_by_field.ensures);
+      records = sym (ap (λ (s : SettledLicense). s.reads) c.settle_by_field.ensures);
       made = no_reads _ _ _ (folder_of krate);
-      is_so = settled_by_field (scanner_with g.C.Catalog.lists g.I.Identifier.match_of c.args.scan.now) (map behind c.args.clarifications.now) krate
+      is_so = settled_by_field (scanner_of_scan g.C.Catalog.lists g.I.Identifier.match_of c.args.scan.now) (map behind c.args.clarifications.now) krate
           (ears_by []) c.settle_by_field.result c.in-Some.expression (sym c.is_nothing.ensures ∙ on) (sym c.in-Some.is ∙ c.requires)
           c.settle_by_field.ensures;
     }

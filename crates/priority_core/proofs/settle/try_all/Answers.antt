@@ -8,7 +8,7 @@ use Rattle.pack_core.specs.Ears.{holds, looked_of, missing_from}
 use Rattle.pack_core.specs.Steps.{with_path}
 use Rattle.pack_core.specs.View.{paths_read}
 use Rattle.pack_core.proofs.CallLemmas.{agrees_before, goes_itself, goes_then, on_err}
-use Rattle.priority_core.specs.declared.clarification.Held.{Held}
+use Rattle.priority_core.specs.declared.clarification.HeldClarification.{HeldClarification}
 use Rattle.priority_core.specs.Clarification.{PlacedFile, behind, held_in}
 use Rattle.priority_core.specs.Priority.{holding}
 use Rattle.priority_core.specs.Settled.{missing_of, span_at}
@@ -77,7 +77,7 @@ returns-then-tried-clause-held g c = λ ears agrees.
     let rest = drop (place + 1) c.args.clarifications.now in
     let files_are = ap (map (λ (file : PlacedFile). file.named)) c.files.ensures in
     let passed : c.in_ok-tried.tried.holds ≡ true = search rules in
-    ap (λ (one : Held). Some one) c.in_ok-held.ensures
+    ap (λ (one : HeldClarification). Some one) c.in_ok-held.ensures
     ∙ sym (c.all.invariant.held_rest ears (agrees_before _ _ _ ears c.in_ok-tried.ensures.goes.takes agrees)
     ∙ at_drop_more (λ all. option_map held_in (holding ears (map behind all))) c.args.clarifications.now place item c.all-test.true
     ∙ ap (λ one. option_map held_in (holding ears (map behind (one ∷ rest)))) (sym c.clarification-item.is)

@@ -2,7 +2,7 @@
 use Rattle.std.proofs.Common.{◌≡◌, ◌++◌, map, drop}
 use Rattle.std.specs.Prelude.{option_map}
 use Rattle.pack_core.specs.Calls.{GoesBy}
-use Rattle.pack_core.specs.Ears.{Ears}
+use Rattle.pack_core.specs.Ears.{FolderReads}
 use Rattle.pack_core.specs.Steps.{Agrees}
 use Rattle.pack_core.specs.View.{paths_read}
 use Rattle.priority_core.specs.Clarification.{behind, held_in}
@@ -17,7 +17,7 @@ invariant-all g l =
     let rest = map behind (drop l.clarification-index l.clarifications) in
     record {
       goes_by : GoesBy (g.T.Tree.content l.fn.tree) (g.T.Tree.content l.tree) (g.T.Tree.fault_count l.fn.tree) (g.T.Tree.fault_count l.tree) (g.T.Tree.trace l.fn.tree) (g.T.Tree.trace l.tree) l.fn.pack l.pack;
-      looks_rest : (ears : Ears) → Agrees ears l.pack → looks ears (paths_read l.fn.pack.reads) all ≡ looks ears (paths_read l.pack.reads) rest;
-      held_rest : (ears : Ears) → Agrees ears l.pack → option_map held_in (holding ears all) ≡ option_map held_in (holding ears rest);
-      missing_rest : (ears : Ears) → Agrees ears l.pack → missing_of ears all ≡ l.missing ++ missing_of ears rest;
+      looks_rest : (ears : FolderReads) → Agrees ears l.pack → looks ears (paths_read l.fn.pack.reads) all ≡ looks ears (paths_read l.pack.reads) rest;
+      held_rest : (ears : FolderReads) → Agrees ears l.pack → option_map held_in (holding ears all) ≡ option_map held_in (holding ears rest);
+      missing_rest : (ears : FolderReads) → Agrees ears l.pack → missing_of ears all ≡ l.missing ++ missing_of ears rest;
     }

@@ -3,7 +3,7 @@ use Rattle.std.proofs.Common.{◌≡◌, ◌+◌, ◌<◌, ◌∷◌, ◌++◌, 
 use Rattle.std.specs.List.{AllByRecursion, cons_option, filter_map}
 use Rattle.std.proofs.lemmas.List.{length-map}
 use Rattle.records_core.specs.declared.order.Spot.{Spot}
-use Rattle.records_core.specs.Order.{place_of}
+use Rattle.records_core.specs.Order.{spot_place}
 use Rattle.records_core.specs.Sound.{AreApart}
 use Rattle.records_core.proofs.Drops.{at-drop-or}
 use Rattle.records_core.proofs.LeftLemmas.{put-next}
@@ -15,18 +15,18 @@ no_spot = record { place = 0; node = None }
 
 pub spots-init : goal.spots-init
 spots-init c = record {
-  held = subst (λ slots. Held slots c.args.crates.items (map place_of c.args.spots.now)) (sym c.in_ok-slots.ensures)
-      (held-all c.args.crates.items (map place_of c.args.spots.now));
+  held = subst (λ slots. Held slots c.args.crates.items (map spot_place c.args.spots.now)) (sym c.in_ok-slots.ensures)
+      (held-all c.args.crates.items (map spot_place c.args.spots.now));
   apart = c.requires.apart;
-  below = subst (λ slots. AllByRecursion (λ place. place < length slots) (map place_of c.args.spots.now)) (sym c.in_ok-slots.ensures)
-      (subst (λ n. AllByRecursion (λ place. place < n) (map place_of c.args.spots.now)) (sym (length-map c.args.crates.items Some))
+  below = subst (λ slots. AllByRecursion (λ place. place < length slots) (map spot_place c.args.spots.now)) (sym c.in_ok-slots.ensures)
+      (subst (λ n. AllByRecursion (λ place. place < n) (map spot_place c.args.spots.now)) (sym (length-map c.args.crates.items Some))
       c.requires.within);
-  so_far = ap (λ list. list ++ filter_map (slice_get c.args.crates.items) (map place_of c.args.spots.now)) c.in_ok-ordered.ensures.items;
+  so_far = ap (λ list. list ++ filter_map (slice_get c.args.crates.items) (map spot_place c.args.spots.now)) c.in_ok-ordered.ensures.items;
 }
 
 pub taken-krate-requires : goal.taken-krate-requires
 taken-krate-requires c =
-    (subst (λ left. AllByRecursion (λ place. place < length c.spots.slots.items) (map place_of left))
+    (subst (λ left. AllByRecursion (λ place. place < length c.spots.slots.items) (map spot_place left))
     (at-drop-or c.args.spots.now c.spots.spot-index no_spot c.spots-test.true) c.spots.invariant.below).0
 
 pub spots-preserved : goal.spots-preserved
@@ -35,22 +35,22 @@ spots-preserved c =
     let rest : List Spot = drop (c.spots.spot-index + 1) c.args.spots.now in
     let is : drop c.spots.spot-index c.args.spots.now ≡ spot ∷ rest =
     at-drop-or c.args.spots.now c.spots.spot-index no_spot c.spots-test.true in
-    let held : Held c.spots.slots.items c.args.crates.items (map place_of (spot ∷ rest)) =
-    subst (λ left. Held c.spots.slots.items c.args.crates.items (map place_of left)) is c.spots.invariant.held in
-    let apart : AreApart (map place_of (spot ∷ rest)) =
-    subst (λ left. AreApart (map place_of left)) is c.spots.invariant.apart in
-    let below : AllByRecursion (λ place. place < length c.spots.slots.items) (map place_of (spot ∷ rest)) =
-    subst (λ left. AllByRecursion (λ place. place < length c.spots.slots.items) (map place_of left)) is c.spots.invariant.below in
+    let held : Held c.spots.slots.items c.args.crates.items (map spot_place (spot ∷ rest)) =
+    subst (λ left. Held c.spots.slots.items c.args.crates.items (map spot_place left)) is c.spots.invariant.held in
+    let apart : AreApart (map spot_place (spot ∷ rest)) =
+    subst (λ left. AreApart (map spot_place left)) is c.spots.invariant.apart in
+    let below : AllByRecursion (λ place. place < length c.spots.slots.items) (map spot_place (spot ∷ rest)) =
+    subst (λ left. AllByRecursion (λ place. place < length c.spots.slots.items) (map spot_place left)) is c.spots.invariant.below in
     record {
-      held = subst (λ slots. Held slots c.args.crates.items (map place_of rest)) (sym c.taken-krate.ensures.after)
-          (held-rest c.spots.slots.items c.args.crates.items spot.place (map place_of rest) apart.0 held.1);
+      held = subst (λ slots. Held slots c.args.crates.items (map spot_place rest)) (sym c.taken-krate.ensures.after)
+          (held-rest c.spots.slots.items c.args.crates.items spot.place (map spot_place rest) apart.0 held.1);
       apart = apart.1;
-      below = subst (λ n. AllByRecursion (λ place. place < n) (map place_of rest))
+      below = subst (λ n. AllByRecursion (λ place. place < n) (map spot_place rest))
           (sym (ap length c.taken-krate.ensures.after ∙ length-set c.spots.slots.items spot.place None)) below.1;
-      so_far = ap (λ list. list ++ filter_map (slice_get c.args.crates.items) (map place_of rest)) c.in_ok-put.ensures
-          ∙ (put-next c.spots.ordered.items c.taken-krate.result (filter_map (slice_get c.args.crates.items) (map place_of rest))
-          ∙ (ap (λ o. c.spots.ordered.items ++ cons_option o (filter_map (slice_get c.args.crates.items) (map place_of rest)))
+      so_far = ap (λ list. list ++ filter_map (slice_get c.args.crates.items) (map spot_place rest)) c.in_ok-put.ensures
+          ∙ (put-next c.spots.ordered.items c.taken-krate.result (filter_map (slice_get c.args.crates.items) (map spot_place rest))
+          ∙ (ap (λ o. c.spots.ordered.items ++ cons_option o (filter_map (slice_get c.args.crates.items) (map spot_place rest)))
           (c.taken-krate.ensures.value ∙ held.0)
-          ∙ (ap (λ left. c.spots.ordered.items ++ filter_map (slice_get c.args.crates.items) (map place_of left)) (sym is)
+          ∙ (ap (λ left. c.spots.ordered.items ++ filter_map (slice_get c.args.crates.items) (map spot_place left)) (sym is)
           ∙ c.spots.invariant.so_far)));
     }

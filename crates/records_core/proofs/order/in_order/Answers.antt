@@ -5,7 +5,7 @@ use Rattle.std.proofs.lemmas.List.{length-map}
 use Rattle.graph_core.specs.declared.edge.Edge.{Edge}
 use Rattle.graph_core.specs.Krate.{record_of}
 use Rattle.records_core.specs.NodeRows.{member_of}
-use Rattle.records_core.specs.Order.{place_of, id_of_member, rank_at, rank_of_member, ranked_edges}
+use Rattle.records_core.specs.Order.{spot_place, id_of_member, rank_at, rank_of_member, ranked_edges}
 use Rattle.records_core.specs.Records.{spots_of}
 use Rattle.records_core.specs.Sound.{AreApart}
 use Rattle.records_core.proofs.OrderLemmas.{crates_at, places-within, places-apart, fit, same_graph}
@@ -25,7 +25,7 @@ crates_in_order-requires-clause-apart c =
     let lists = c.args.rows.edges.items in
     let low : AllByRecursion (AllByRecursion (λ (edge : Edge). edge.to < length crates)) lists =
     subst (λ n. AllByRecursion (AllByRecursion (λ (edge : Edge). edge.to < n)) lists) (length-map crates record_of) c.requires.within in
-    subst (λ spots. AreApart (map place_of spots)) (sym (c.deref.ensures.value ∙ c.in_ok-parts.ensures.spots))
+    subst (λ spots. AreApart (map spot_place spots)) (sym (c.deref.ensures.value ∙ c.in_ok-parts.ensures.spots))
     (places-apart c.args.rows.root.known c.args.rows.nodes.firsts crates lists [] c.requires.located c.requires.complete low)
 
 pub crates_in_order-requires-clause-within : goal.crates_in_order-requires-clause-within
@@ -34,7 +34,7 @@ crates_in_order-requires-clause-within c =
     let lists = c.args.rows.edges.items in
     let low : AllByRecursion (AllByRecursion (λ (edge : Edge). edge.to < length crates)) lists =
     subst (λ n. AllByRecursion (AllByRecursion (λ (edge : Edge). edge.to < n)) lists) (length-map crates record_of) c.requires.within in
-    subst (λ spots. AllByRecursion (λ place. place < length crates) (map place_of spots))
+    subst (λ spots. AllByRecursion (λ place. place < length crates) (map spot_place spots))
     (sym (c.deref.ensures.value ∙ c.in_ok-parts.ensures.spots))
     (places-within c.args.rows.root.known c.args.rows.nodes.firsts crates lists [] c.requires.located c.requires.complete low)
 
@@ -52,8 +52,8 @@ of_parts-requires c =
     subst (λ n. AllByRecursion (AllByRecursion (λ (edge : Edge). edge.to < n)) lists) (length-map crates record_of) c.requires.within in
     let below : IfSome c.args.rows.resolve.root (λ place. place < length crates) =
     subst (λ n. IfSome c.args.rows.resolve.root (λ place. place < n)) (length-map crates record_of) c.requires.root in
-    let e_crates : c.in_ok-crates.crates.items ≡ crates_at crates (map place_of (spots_of known firsts)) =
-    c.in_ok-crates.ensures ∙ ap (λ spots. filter_map (slice_get crates) (map place_of spots)) (c.deref.ensures.value ∙ made.spots) in
+    let e_crates : c.in_ok-crates.crates.items ≡ crates_at crates (map spot_place (spots_of known firsts)) =
+    c.in_ok-crates.ensures ∙ ap (λ spots. filter_map (slice_get crates) (map spot_place spots)) (c.deref.ensures.value ∙ made.spots) in
     let e_edges : parts.edges.items ≡ map (ranked_edges ranks lists) (spots_of known firsts) = made.edges in
     let e_members : parts.members ≡ map id_of_member members = made.members in
     let e_places : parts.member_places.items ≡ map (rank_of_member ranks) members = made.places in
@@ -75,8 +75,8 @@ returns c =
     subst (λ n. AllByRecursion (AllByRecursion (λ (edge : Edge). edge.to < n)) lists) (length-map crates record_of) c.requires.within in
     let below : IfSome c.args.rows.resolve.root (λ place. place < length crates) =
     subst (λ n. IfSome c.args.rows.resolve.root (λ place. place < n)) (length-map crates record_of) c.requires.root in
-    let e_crates : c.in_ok-crates.crates.items ≡ crates_at crates (map place_of (spots_of known firsts)) =
-    c.in_ok-crates.ensures ∙ ap (λ spots. filter_map (slice_get crates) (map place_of spots)) (c.deref.ensures.value ∙ made.spots) in
+    let e_crates : c.in_ok-crates.crates.items ≡ crates_at crates (map spot_place (spots_of known firsts)) =
+    c.in_ok-crates.ensures ∙ ap (λ spots. filter_map (slice_get crates) (map spot_place spots)) (c.deref.ensures.value ∙ made.spots) in
     let e_edges : parts.edges.items ≡ map (ranked_edges ranks lists) (spots_of known firsts) = made.edges in
     let e_members : parts.members ≡ map id_of_member members = made.members in
     let e_root : parts.root ≡ option_map (rank_at ranks) c.args.rows.resolve.root = made.root in

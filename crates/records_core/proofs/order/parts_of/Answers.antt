@@ -2,16 +2,16 @@
 use Rattle.std.proofs.Common.{◌≡◌, ◌<◌, map, length, option_map, sym, ap, subst, ◌∙◌}
 use Rattle.std.specs.List.{AllByRecursion}
 use Rattle.records_core.specs.NodeRows.{member_of}
-use Rattle.records_core.specs.Order.{AreRanks, place_of, id_of_member, rank_at, rank_of_member, ranked_edges}
+use Rattle.records_core.specs.Order.{AreRanks, spot_place, id_of_member, rank_at, rank_of_member, ranked_edges}
 use Rattle.records_core.specs.Records.{spots_of}
 use Rattle.records_core.proofs.order.parts_of.Goals as goal
 
 pub ranks_of-requires : goal.ranks_of-requires
 ranks_of-requires c =
     let crates = c.args.rows.now.crates.items in
-    subst (λ n. AllByRecursion (λ place. place < n) (map place_of c.deref.result.now)) (sym c.len.ensures)
-    (subst (λ n. AllByRecursion (λ place. place < n) (map place_of c.deref.result.now)) (sym c.args.rows.now.crates.ok.0)
-    (subst (λ spots. AllByRecursion (λ place. place < length crates) (map place_of spots))
+    subst (λ n. AllByRecursion (λ place. place < n) (map spot_place c.deref.result.now)) (sym c.len.ensures)
+    (subst (λ n. AllByRecursion (λ place. place < n) (map spot_place c.deref.result.now)) (sym c.args.rows.now.crates.ok.0)
+    (subst (λ spots. AllByRecursion (λ place. place < length crates) (map spot_place spots))
     (sym (c.deref.ensures.value ∙ c.in_ok-spots.ensures))
     c.requires))
 
@@ -22,8 +22,8 @@ returns c =
     let lists = c.args.rows.now.edges.items in
     let members = map member_of c.args.rows.now.root.members.items in
     let ranks = c.in_ok-ranks.ranks.items in
-    let ranked : AreRanks (map place_of (spots_of known firsts)) (length (spots_of known firsts)) ranks =
-    subst (λ spots. AreRanks (map place_of spots) (length spots) ranks) (c.deref.ensures.value ∙ c.in_ok-spots.ensures) c.in_ok-ranks.ensures in
+    let ranked : AreRanks (map spot_place (spots_of known firsts)) (length (spots_of known firsts)) ranks =
+    subst (λ spots. AreRanks (map spot_place spots) (length spots) ranks) (c.deref.ensures.value ∙ c.in_ok-spots.ensures) c.in_ok-ranks.ensures in
     let e_edges : c.in_ok-edges.edges.items ≡ map (ranked_edges ranks lists) (spots_of known firsts) =
     c.in_ok-edges.ensures
     ∙ (ap (λ found. map (ranked_edges found c.deref-4.result.now) c.deref-2.result.now) c.deref-3.ensures.value

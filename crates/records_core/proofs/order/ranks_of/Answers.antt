@@ -1,7 +1,7 @@
 -- One rank more.
 use Rattle.std.proofs.Common.{◌+◌, ◌<◌, length, map, get_or, None, sym, subst, ap, ◌∙◌, length-set}
 use Rattle.records_core.specs.declared.order.Spot.{Spot}
-use Rattle.records_core.specs.Order.{AreRanks, place_of}
+use Rattle.records_core.specs.Order.{AreRanks, spot_place}
 use Rattle.records_core.proofs.LeftLemmas.{place-at, place-below}
 use Rattle.records_core.proofs.OrderLemmas.{ranks-more}
 use Rattle.records_core.proofs.order.ranks_of.Goals as goal
@@ -19,8 +19,8 @@ ranks-preserved c = record {
   counted = ap length c.set_rank.ensures
       ∙ (length-set c.ranks.ranks.items (get_or c.args.spots.now c.ranks.rank no_spot).place c.ranks.rank
       ∙ c.ranks.invariant.counted);
-  ranked = subst (AreRanks (map place_of c.args.spots.now) (c.ranks.rank + 1)) (sym c.set_rank.ensures)
-      (ranks-more (map place_of c.args.spots.now) c.ranks.ranks.items c.ranks.rank
+  ranked = subst (AreRanks (map spot_place c.args.spots.now) (c.ranks.rank + 1)) (sym c.set_rank.ensures)
+      (ranks-more (map spot_place c.args.spots.now) c.ranks.ranks.items c.ranks.rank
       (get_or c.args.spots.now c.ranks.rank no_spot).place
       (place-at c.args.spots.now c.ranks.rank no_spot c.ranks-test.true)
       (subst (λ n. (get_or c.args.spots.now c.ranks.rank no_spot).place < n) (sym c.ranks.invariant.counted)

@@ -2,7 +2,7 @@
 use Rattle.std.proofs.Common.{◌≡◌, ◌<◌, [], length, sym, ◌∙◌, ap, subst}
 use Rattle.graph_core.specs.Metadata.{Graph}
 use Rattle.selection_core.specs.Choice.{Choice, choice_of}
-use Rattle.selection_core.specs.Places.{Seen, counting_at, nothing_seen, other_kinds, put_roots, seen_of}
+use Rattle.selection_core.specs.Places.{FrontierView, counting_at, nothing_seen, other_kinds, put_roots, frontier_of}
 use Rattle.selection_core.proofs.KeepLemmas.{no-items}
 use Rattle.selection_core.proofs.PutLemmas.{left_to_do}
 use Rattle.selection_core.proofs.RootLemmas.{under-way-started}
@@ -15,7 +15,7 @@ walk-init c =
     let graph : Graph = c.args.metadata.now in
     let choice : Choice = choice_of c.args.selection.now in
     let standings = c.args.standings.now in
-    let started : seen_of c.in_ok-found.found ≡ put_roots 0 standings (nothing_seen (length graph.nodes)) =
+    let started : frontier_of c.in_ok-found.found ≡ put_roots 0 standings (nothing_seen (length graph.nodes)) =
     c.in_ok-found.ensures
     ∙ ap (λ n. put_roots 0 standings (nothing_seen n))
     (count-standings graph choice c.args.named c.requires.rising standings c.requires.told) in
@@ -26,29 +26,29 @@ walk-init c =
 pub standing_at-requires : goal.standing_at-requires
 standing_at-requires c =
     below-standings c.args.metadata.now (choice_of c.args.selection.now) c.args.named c.requires.rising c.args.standings.now
-    c.requires.told (seen_of c.walk.found) c.pop.new.self.items c.in-Some.place c.in-Some.ensures.items c.walk.invariant
+    c.requires.told (frontier_of c.walk.found) c.pop.new.self.items c.in-Some.place c.in-Some.ensures.items c.walk.invariant
 
 pub edges_at-requires : goal.edges_at-requires
 edges_at-requires c =
     below c.args.metadata.now (choice_of c.args.selection.now) c.args.named c.requires.rising c.args.standings.now
-    c.requires.told (seen_of c.walk.found) c.pop.new.self.items c.in-Some.place c.in-Some.ensures.items c.walk.invariant
+    c.requires.told (frontier_of c.walk.found) c.pop.new.self.items c.in-Some.place c.in-Some.ensures.items c.walk.invariant
 
 pub follow-requires-clause-counted : goal.follow-requires-clause-counted
 follow-requires-clause-counted c =
     counted c.args.metadata.now (choice_of c.args.selection.now) c.args.named c.requires.rising c.args.standings.now
-    c.requires.told (seen_of c.walk.found) c.pop.new.self.items c.in-Some.place c.in-Some.ensures.items c.walk.invariant
+    c.requires.told (frontier_of c.walk.found) c.pop.new.self.items c.in-Some.place c.in-Some.ensures.items c.walk.invariant
 
 pub follow-requires-clause-within : goal.follow-requires-clause-within
 follow-requires-clause-within c =
     within-standings c.args.metadata.now (choice_of c.args.selection.now) c.args.named c.requires.rising c.args.standings.now
-    c.requires.told (seen_of c.walk.found) c.pop.new.self.items c.in-Some.place c.in-Some.ensures.items c.walk.invariant
+    c.requires.told (frontier_of c.walk.found) c.pop.new.self.items c.in-Some.place c.in-Some.ensures.items c.walk.invariant
     c.edges_at.result.now c.edges_at.ensures.within
 
 pub walk-smaller : goal.walk-smaller
 walk-smaller c =
-    subst (λ (seen : Seen). left_to_do seen < left_to_do (seen_of c.walk.found)) (sym c.in_ok-follow.ensures)
+    subst (λ (seen : FrontierView). left_to_do seen < left_to_do (frontier_of c.walk.found)) (sym c.in_ok-follow.ensures)
     (less c.args.metadata.now (choice_of c.args.selection.now) c.args.named c.requires.rising c.args.standings.now
-    c.requires.told (seen_of c.walk.found) c.pop.new.self.items c.in-Some.place c.in-Some.ensures.items c.walk.invariant
+    c.requires.told (frontier_of c.walk.found) c.pop.new.self.items c.in-Some.place c.in-Some.ensures.items c.walk.invariant
     c.edges_at.result.now c.edges_at.ensures.within c.counting_at-counting.result)
 
 pub walk-preserved : goal.walk-preserved
@@ -57,7 +57,7 @@ walk-preserved c =
     let choice : Choice = choice_of c.args.selection.now in
     let standings = c.args.standings.now in
     subst (IsUnderWay graph choice c.args.named) (sym c.in_ok-follow.ensures)
-    (followed graph choice c.args.named c.requires.rising standings c.requires.told (seen_of c.walk.found)
+    (followed graph choice c.args.named c.requires.rising standings c.requires.told (frontier_of c.walk.found)
     c.pop.new.self.items c.in-Some.place c.in-Some.ensures.items c.walk.invariant c.edges_at.result.now
     c.edges_at.ensures.within c.edges_at.ensures.value c.counting_at-counting.result
     (c.counting_at-counting.ensures

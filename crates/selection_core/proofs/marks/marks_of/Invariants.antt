@@ -1,12 +1,12 @@
 -- What is marked is reached, and what doesn't wait is done; each turn leaves less to do.
 use Rattle.selection_core.specs.Choice.{choice_of}
-use Rattle.selection_core.specs.Places.{seen_of}
+use Rattle.selection_core.specs.Places.{frontier_of}
 use Rattle.selection_core.proofs.PutLemmas.{left_to_do}
 use Rattle.selection_core.proofs.UnderWay.{IsUnderWay}
 use Rattle.selection_core.proofs.marks.marks_of.Given as goal
 
 abbrev pub invariant-walk : goal.invariant-walk
-invariant-walk l = IsUnderWay l.metadata (choice_of l.selection) l.fn.named (seen_of l.found)
+invariant-walk l = IsUnderWay l.metadata (choice_of l.selection) l.fn.named (frontier_of l.found)
 
 abbrev pub decreases-walk : goal.decreases-walk
-decreases-walk l = left_to_do (seen_of l.found)
+decreases-walk l = left_to_do (frontier_of l.found)

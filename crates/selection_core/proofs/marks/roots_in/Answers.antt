@@ -2,7 +2,7 @@
 use Rattle.std.proofs.Common.{suc, ◌+◌, List, drop, get_or, length, sym, ◌∙◌, ap, add-one}
 use Rattle.std.proofs.lemmas.List.{at_drop_more}
 use Rattle.selection_core.specs.declared.standing.Standing.{Standing}
-use Rattle.selection_core.specs.Places.{Seen, nobody, put, put_roots, seen_of}
+use Rattle.selection_core.specs.Places.{FrontierView, nobody, put, put_roots, frontier_of}
 use Rattle.selection_core.proofs.PutLemmas.{put-counted}
 use Rattle.selection_core.proofs.marks.roots_in.Goals as goal
 
@@ -10,11 +10,11 @@ pub roots-preserved : goal.roots-preserved
 roots-preserved c =
     let standings = c.args.standings.now in
     let place = c.roots.place in
-    let seen : Seen = seen_of c.roots.found in
+    let seen : FrontierView = frontier_of c.roots.found in
     let standing : Standing = get_or standings place nobody in
     let rest : List Standing = drop (place + 1) standings in
     record {
-      counted = ap (λ (s : Seen). length s.marks) c.in_ok-put.ensures
+      counted = ap (λ (s : FrontierView). length s.marks) c.in_ok-put.ensures
           ∙ (put-counted place c.is_root.result seen ∙ c.roots.invariant.counted);
       so_far = ap (put_roots (place + 1) rest) c.in_ok-put.ensures
           ∙ (ap (λ n. put_roots n rest (put place c.is_root.result seen)) (add-one place)

@@ -1,9 +1,9 @@
 use Rattle.std.proofs.Common.{◌≡◌, ◌-◌, ◌<◌, ◌++◌, true, Ok, Err, take, drop, sym, ap, subst, ◌∙◌, arith}
 use Rattle.std.specs.Prelude.{string_bytes}
 use Rattle.toml_subset.specs.Places.{from_to}
-use Rattle.toml_subset.specs.StringViews.{kind_of, meaning_of, part_of, IsRead}
+use Rattle.toml_subset.specs.StringViews.{kind_of, meaning_of, part_of, IsStringRead}
 use Rattle.toml_subset.specs.Strings.{part_at, closing, broken, escaped_piece}
-use Rattle.toml_subset.specs.Written.{Written}
+use Rattle.toml_subset.specs.Written.{WrittenString}
 use Rattle.toml_subset.proofs.Law.Forward.{piece_goes}
 use Rattle.toml_subset.proofs.PlainRuns.{read_piece, read_run, string_closed, string_broken}
 use Rattle.toml_subset.proofs.strings.read_escaped.Goals as goal
@@ -21,7 +21,7 @@ returns-in-Closing-clause-answer c =
     let string : c.escaped_string.result ≡ record { text = means; escaped = true } =
     c.escaped_string.ensures ∙ ap (λ s. record { text = s; escaped = true }) (c.from.ensures ∙ held) in
     string_closed kind text c.args.first means true end c.in-Closing.next inside read part
-    ∙ ap (λ (w : Written). Ok (w, from_to c.args.first end, c.in-Closing.next)) (sym string)
+    ∙ ap (λ (w : WrittenString). Ok (w, from_to c.args.first end, c.in-Closing.next)) (sym string)
 
 pub parts-smaller : goal.parts-smaller
 parts-smaller c =
@@ -47,7 +47,7 @@ parts-preserved c =
     let held : string_bytes c.push_str.new.self ≡ means = c.in_ok-push_str.ensures.bytes ∙ ap (λ s. string_bytes c.parts.held ++ s) c.range.ensures.value in
     let all : string_bytes c.push_meaning.new.held ≡ means ++ meaning_of c.in-Escape.meaning =
     c.in_ok-push_meaning-in-Escape.ensures ∙ ap (λ s. s ++ meaning_of c.in-Escape.meaning) held in
-    (c.in-Escape.ensures.goes.1, subst (λ s. IsRead kind text c.args.first s true c.in-Escape.next) (sym all) next)
+    (c.in-Escape.ensures.goes.1, subst (λ s. IsStringRead kind text c.args.first s true c.in-Escape.next) (sym all) next)
 
 pub returns-in-Broken-clause-answer : goal.returns-in-Broken-clause-answer
 returns-in-Broken-clause-answer c =

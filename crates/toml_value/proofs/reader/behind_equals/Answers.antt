@@ -1,5 +1,5 @@
 use Rattle.std.proofs.Common.{◌≡◌, ℕ, ◌+◌, ◌-◌, length, Ok, Err, subst, arith}
-use Rattle.toml_subset.specs.Answer.{Answers}
+use Rattle.toml_subset.specs.Answer.{AnswersToml}
 use Rattle.toml_subset.specs.Reading.{value_at, pair_put}
 use Rattle.toml_value.specs.LevelViews.{cursor_view, pending_view}
 use Rattle.toml_value.specs.StackViews.{value_found}
@@ -35,4 +35,4 @@ returns-in-Err-clause-answer c seen way =
     let keys = p.awaiting.keys in
     let above : ℕ = p.above + (length keys - 1) in
     refused_line value_found (pair_put text keys seen) (value_at text above c.args.place) c.in-Err.error
-    (subst (λ n. Answers value_found (value_at text n c.args.place) (Err c.in-Err.error)) c.inside.ensures c.in-Err.ensures.answer)
+    (subst (λ n. AnswersToml value_found (value_at text n c.args.place) (Err c.in-Err.error)) c.inside.ensures c.in-Err.ensures.answer)

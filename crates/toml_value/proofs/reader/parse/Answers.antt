@@ -2,7 +2,7 @@ use Rattle.std.proofs.Common.{◌≡◌, ◌<◌, ◌≤◌, ℕ, length, Ok, Er
 use Rattle.toml_subset.specs.Places.{after_blanks}
 use Rattle.toml_subset.specs.Reading.{line_from}
 use Rattle.toml_subset.proofs.Law.Whole.{text_sound, line_forward}
-use Rattle.toml_frames.specs.LinesRead.{AreRead}
+use Rattle.toml_frames.specs.LinesRead.{AreLinesRead}
 use Rattle.toml_frames.proofs.LinesRead.{lines_begin, lines_end}
 use Rattle.toml_places.proofs.Texts.{text_placed}
 use Rattle.toml_value.specs.LevelViews.{cursor_view, IsLineRead}
@@ -11,7 +11,7 @@ use Rattle.toml_value.proofs.ReaderLemmas.{way_low, line_on, text_refused, outsi
 use Rattle.toml_value.proofs.reader.parse.Goals as goal
 
 pub lines-init : goal.lines-init
-lines-init c = subst (λ x. AreRead c.args.text.now x 0) (sym c.new-document.ensures) (lines_begin c.args.text.now)
+lines-init c = subst (λ x. AreLinesRead c.args.text.now x 0) (sym c.new-document.ensures) (lines_begin c.args.text.now)
 
 pub read_line-requires-clause-shallow : goal.read_line-requires-clause-shallow
 read_line-requires-clause-shallow c = way_low c.lines.invariant.document (cursor_view c.lines.document) c.lines.invariant.way

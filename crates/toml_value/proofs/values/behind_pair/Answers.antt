@@ -1,7 +1,7 @@
 use Rattle.std.proofs.Common.{◌+◌, ◌<◌, sym, arith}
 use Rattle.toml_frames.proofs.Goings.{entries_shallow}
 use Rattle.toml_frames.proofs.Turns.{table_behind}
-use Rattle.toml_frames.specs.Between.{place_of}
+use Rattle.toml_frames.specs.Between.{next_place}
 use Rattle.toml_frames.specs.Frames.{in_table, on_with, table_on}
 use Rattle.toml_value.specs.StackViews.{value_found}
 use Rattle.toml_value.specs.TreeViews.{tree_view}
@@ -22,7 +22,7 @@ returns-in-Ok c =
     let new = tree_view c.in_ok-tree.tree in
     let v = value_found (c.args.value, c.args.next) in
     let low = entries_shallow at.place at.above (tree_view a.tree) a.keys v new c.requires.shallow c.requires.value c.in_ok-tree.ensures in
-    let ahead : c.args.next < place_of c.in-Ok.next = c.in-Ok.ensures.goes in
-    takes_same text (c.args.next + 1) (place_of c.in-Ok.next) at.above (table_on text at.place at.above new c.in-Ok.next)
+    let ahead : c.args.next < next_place c.in-Ok.next = c.in-Ok.ensures.goes in
+    takes_same text (c.args.next + 1) (next_place c.in-Ok.next) at.above (table_on text at.place at.above new c.in-Ok.next)
     (on_with text (in_table at.place at.above (tree_view a.tree) a.keys) v) c.table_turn.result (omega arith)
     (table_behind text at.place at.above (tree_view a.tree) a.keys v new c.in-Ok.next c.in_ok-tree.ensures low (sym c.in-Ok.ensures.next)) c.table_turn.ensures

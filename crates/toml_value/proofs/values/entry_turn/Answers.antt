@@ -3,7 +3,7 @@ use Rattle.toml_subset.specs.StringReading.{KeysFound}
 use Rattle.toml_subset.specs.TableFaults.{put_fault}
 use Rattle.toml_frames.proofs.Turns.{entry_turn_is}
 use Rattle.toml_frames.specs.declared.between.Next.TheVariants.{Further}
-use Rattle.toml_frames.specs.Frames.{in_table, waits, table_on, IsTurn}
+use Rattle.toml_frames.specs.Frames.{in_table, waits, table_on, IsValueStep}
 use Rattle.toml_value.specs.TreeViews.{tree_view}
 use Rattle.toml_value.proofs.TurnLemmas.{awaited}
 use Rattle.toml_value.proofs.values.entry_turn.Goals as goal
@@ -17,5 +17,5 @@ returns-in-Ok-await_value c =
     let left : KeysFound = (c.in-Ok.keys, c.in-Ok.next) in
     let is = awaited (put_fault c.in-Ok.keys tree (at.above + 1)) c.in-Ok.keys tree a c.in-Ok-await_value.ensures in
     let frame = ap (λ t. in_table at.place at.above t a.keys) is.tree_is ∙ ap (λ keys. in_table at.place at.above tree keys) is.keys_are in
-    subst (λ f. IsTurn text c.args.place at.above (table_on text at.place at.above tree (Further c.args.place)) (waits f c.in-Ok.next)) (sym frame)
+    subst (λ f. IsValueStep text c.args.place at.above (table_on text at.place at.above tree (Further c.args.place)) (waits f c.in-Ok.next)) (sym frame)
     (entry_turn_is text at.place at.above tree c.args.place left c.requires.shallow c.in-Ok.ensures.answer is.free c.in-Ok.ensures.within)

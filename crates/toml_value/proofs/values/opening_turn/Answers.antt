@@ -5,8 +5,8 @@ use Rattle.toml_subset.specs.Places.{stands}
 use Rattle.toml_subset.specs.Reading.{value_at}
 use Rattle.toml_subset.specs.Tables.{Branches}
 use Rattle.toml_frames.proofs.Turns.{array_opens, table_opens}
-use Rattle.toml_frames.specs.Between.{place_of, entry_place}
-use Rattle.toml_frames.specs.Frames.{array_turn, table_on, IsTurn}
+use Rattle.toml_frames.specs.Between.{next_place, entry_place}
+use Rattle.toml_frames.specs.Frames.{array_turn, table_on, IsValueStep}
 use Rattle.toml_value.specs.TreeViews.{tree_view}
 use Rattle.toml_value.proofs.TurnLemmas.{takes_same}
 use Rattle.toml_value.proofs.values.opening_turn.Goals as goal
@@ -16,7 +16,7 @@ returns-in-Ok c =
     let text = c.args.text.now in
     let at = c.args.at in
     let array : stands text at.place open_bracket ≡ true = sym (rw c.as_bytes.ensures.value at c.stands.ensures) ∙ c.if-stands.true in
-    subst (IsTurn text (at.place + 1) at.above (value_at text at.above at.place))
+    subst (IsValueStep text (at.place + 1) at.above (value_at text at.above at.place))
     (sym (c.array_turn.ensures ∙ ap (λ (items : Items). array_turn at.place at.above items c.in-Ok.next) c.new.ensures))
     (array_opens text at.above at.place c.in-Ok.next c.requires.opens c.requires.shallow array (sym c.in-Ok.ensures.next) c.in-Ok.ensures.goes c.in-Ok.ensures.within)
 
@@ -30,5 +30,5 @@ returns-else-stands c =
     let goes = c.entry_place-next.ensures.goes in
     let same = ap (λ (t : Branches). table_on text at.place at.above t (entry_place text (at.place + 1))) (sym c.new-else-stands.ensures)
     ∙ ap (table_on text at.place at.above new) (sym c.entry_place-next.ensures.next) in
-    takes_same text (at.place + 1) (place_of next) at.above (table_on text at.place at.above new next) (value_at text at.above at.place) c.table_turn.result goes
+    takes_same text (at.place + 1) (next_place next) at.above (table_on text at.place at.above new next) (value_at text at.above at.place) c.table_turn.result goes
     (table_opens text at.above at.place c.requires.opens c.requires.shallow table ∙ same) c.table_turn.ensures

@@ -1,7 +1,7 @@
 use Rattle.std.proofs.Common.{◌≡◌, ◌++◌, List, map, sym, ap, ◌∙◌, append-nil}
 use Rattle.tree_core.specs.Answer.{listed}
 use Rattle.tree_core.specs.Content.{Place}
-use Rattle.tree_core.specs.declared.nodes.Stored.{Stored}
+use Rattle.tree_core.specs.declared.nodes.StoredNode.{StoredNode}
 use Rattle.tree_core.proofs.ListingLemmas.{listing_of, least_in-is_forward, listing_of-between, entries_in-content_of, IsInNameOrder-listing_of}
 use Rattle.tree_core.proofs.nodes.entries_at.Goals as goal
 
@@ -16,7 +16,7 @@ nodes-init c =
 
 all_listed : (c : goal.In-None) → map listed c.nodes.entries ≡ listing_of c.args.folder.now c.args.nodes.now.entries
 all_listed c =
-    sym (append-nil _) ∙ ap (λ (left : List (Place × Stored)). map listed c.nodes.entries ++ listing_of c.args.folder.now left) (sym c.in-None.ensures.steps.0) ∙ c.nodes.invariant
+    sym (append-nil _) ∙ ap (λ (left : List (Place × StoredNode)). map listed c.nodes.entries ++ listing_of c.args.folder.now left) (sym c.in-None.ensures.steps.0) ∙ c.nodes.invariant
 
 pub returns-clause-answer : goal.returns-clause-answer
 returns-clause-answer c = all_listed c ∙ sym (entries_in-content_of c.args.folder.now c.args.nodes.now.entries c.requires)

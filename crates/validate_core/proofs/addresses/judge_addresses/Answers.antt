@@ -1,6 +1,6 @@
 use Rattle.std.proofs.Common.{◌≡◌, ◌∙◌, sym, ap, ◌+◌, [], ◌∷◌, ◌++◌, take}
 use Rattle.std.proofs.lemmas.List.{take_more}
-use Rattle.validate_core.specs.Valid.{address_judged, kept_by, told_by}
+use Rattle.validate_core.specs.Valid.{address_judged, kept_by, findings_by_each}
 use Rattle.validate_core.proofs.JudgedLemmas.{held_more, found_more}
 use Rattle.validate_core.proofs.addresses.judge_addresses.Goals as goal
 
@@ -20,5 +20,5 @@ strings-preserved c =
       told =
           found_more judge (take i strings) string c.in_ok-judged.judged c.args.found.now c.strings.found c.push_judged.new.found
           c.in_ok-judged.ensures c.in_ok-push_judged.ensures.told c.strings.invariant.told
-          ∙ ap (λ items. c.args.found.now ++ told_by judge items) more;
+          ∙ ap (λ items. c.args.found.now ++ findings_by_each judge items) more;
     }

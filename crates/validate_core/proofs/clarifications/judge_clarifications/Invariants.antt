@@ -2,11 +2,11 @@
 use Rattle.std.proofs.Common.{◌≡◌, ◌++◌}
 use Rattle.std.specs.List.{AllZip}
 use Rattle.validate_core.specs.Order.{PutsFilesInOrder}
-use Rattle.validate_core.specs.Valid.{clarification_judged, kept_by, told_by}
+use Rattle.validate_core.specs.Valid.{clarification_judged, kept_by, findings_by_each}
 use Rattle.validate_core.proofs.clarifications.judge_clarifications.Given as goal
 
 abbrev pub invariant-clarifications : goal.invariant-clarifications
 invariant-clarifications g l = record {
   kept : AllZip PutsFilesInOrder (kept_by (clarification_judged (g.C.Catalog.lists l.catalog) l.file) l.yielded) l.kept;
-  told : l.found ≡ l.fn.found ++ told_by (clarification_judged (g.C.Catalog.lists l.catalog) l.file) l.yielded;
+  told : l.found ≡ l.fn.found ++ findings_by_each (clarification_judged (g.C.Catalog.lists l.catalog) l.file) l.yielded;
 }

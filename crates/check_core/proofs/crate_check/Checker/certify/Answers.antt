@@ -3,9 +3,9 @@ use Rattle.graph_core.specs.Krate.{record_of}
 use Rattle.certificate_core.specs.declared.verdict.Hit.{Hit}
 use Rattle.diag_core.specs.declared.pack.Diag.{Diag}
 use Rattle.valid_policy.specs.View.{policy_of}
-use Rattle.evaluate_core.specs.Evaluation.{Evaluation, kept_of}
+use Rattle.evaluate_core.specs.Evaluation.{Evaluation, term_hits}
 use Rattle.verdict_findings.specs.Findings as findings
-use Rattle.verdict_findings.specs.Findings.{labels_of}
+use Rattle.verdict_findings.specs.Findings.{verdict_labels}
 use Rattle.check_core.proofs.crate_check.Checker.certify.Goals as goal
 
 pub returns-clause-pack : goal.returns-clause-pack
@@ -14,11 +14,11 @@ returns-clause-pack g c =
     let krate = record_of license.krate.now in
     let expression = c.args.expr.now in
     let nfo = c.args.nfo.now in
-    let hits : c.hits-hits.result.now ≡ kept_of (policy_of c.args.policy.now) krate expression.terms =
+    let hits : c.hits-hits.result.now ≡ term_hits (policy_of c.args.policy.now) krate expression.terms =
     c.hits-hits.ensures ∙ ap (λ (e : Evaluation). e.hits) c.evaluate-accepted.ensures.evaluator in
     c.in_ok-pack.ensures
     ∙ ap₂ (λ (gathered : List Diag) (told : Diag). findings.pack_of krate (gathered ++ told ∷ [])) c.items-2.ensures
     (c.in_ok-told.ensures
-    ∙ ap (λ (notes : List (List ℕ)). findings.judged c.evaluate-accepted.result (labels_of expression nfo c.hits-hits.result.now) notes) c.items.ensures
-    ∙ ap₂ (λ (accepted : Bool) (kept : List (Option Hit)). findings.judged accepted (labels_of expression nfo kept) license.notes)
+    ∙ ap (λ (notes : List (List ℕ)). findings.judged c.evaluate-accepted.result (verdict_labels expression nfo c.hits-hits.result.now) notes) c.items.ensures
+    ∙ ap₂ (λ (accepted : Bool) (kept : List (Option Hit)). findings.judged accepted (verdict_labels expression nfo kept) license.notes)
     c.evaluate-accepted.ensures.answer hits)

@@ -1,7 +1,7 @@
 use Rattle.std.proofs.Common.{◌≡◌, ◌++◌, [], ◌∷◌, length, is_some, true, false, sym, ap, subst, ◌∙◌, IfOk}
 use Rattle.std.specs.FinMap.{insert}
 use Rattle.deny_text.specs.Path.{key_of}
-use Rattle.diag_core.specs.File.{id_at}
+use Rattle.diag_core.specs.File.{file_id_at}
 use Rattle.diag_core.proofs.FileLemmas.{finds_pushed}
 use Rattle.diag_core.proofs.files.Files.add.Goals as goal
 
@@ -11,8 +11,8 @@ invariant_of-self-in-Ok c =
     let ids = c.self.inside.ids in
     let files = c.self.inside.files.items in
     let path = c.args.path in
-    let asked = c.looked_up-there.ensures.number ∙ ap (id_at c.args.self.now) c.as_path.ensures ∙ ap (λ held. id_at held path) (sym c.self.view_is) in
-    let unknown : false ≡ is_some (id_at files path) = c.if-is_some.ensures ∙ ap is_some asked in
+    let asked = c.looked_up-there.ensures.number ∙ ap (file_id_at c.args.self.now) c.as_path.ensures ∙ ap (λ held. file_id_at held path) (sym c.self.view_is) in
+    let unknown : false ≡ is_some (file_id_at files path) = c.if-is_some.ensures ∙ ap is_some asked in
     let known : c.in_ok-key.key ≡ key_of c.as_path.result.now = subst (λ r. IfOk r (λ k. k ≡ key_of c.as_path.result.now)) c.in_ok-key.was c.looked_up-there.ensures.key in
     let key : c.in_ok-key.key ≡ key_of path = known ∙ ap key_of c.as_path.ensures in
     let added : c.insert.new.self ≡ insert ids (key_of path) (length files) = c.in-Ok.ensures.ok ∙ ap (λ k. insert ids k c.in_ok-id.id) key ∙ ap (insert ids (key_of path)) c.in_ok-id.ensures.number in

@@ -5,10 +5,10 @@ use Rattle.certificate_core.specs.declared.verdict.Hit.{Hit}
 use Rattle.certificate_core.specs.Certificates.{has_hit}
 use Rattle.certificate_core.specs.Choices.{is_accepted}
 use Rattle.certificate_core.specs.Stack.{first_of}
-use Rattle.policy_spec.specs.Index.{names_of}
+use Rattle.policy_spec.specs.Index.{spec_names}
 use Rattle.valid_policy.specs.View.{policy_of}
 use Rattle.evaluate_core.specs.Answers.{answers_over}
-use Rattle.evaluate_core.specs.Evaluation.{Evaluation, kept_of}
+use Rattle.evaluate_core.specs.Evaluation.{Evaluation, term_hits}
 use Rattle.evaluate_core.proofs.AnswerLemmas.{answered_whole}
 use Rattle.evaluate_core.proofs.EvaluationLemmas.{specs_are, spec_of, kept_is, with_hits}
 use Rattle.evaluate_core.proofs.RoomLemmas.{few_terms}
@@ -16,8 +16,8 @@ use Rattle.evaluate_core.proofs.evaluator.Evaluator.evaluate.Goals as goal
 
 pub first-exception-requires : goal.first-exception-requires
 first-exception-requires g c =
-    ap (λ es. names_of (map spec_of es)) c.items.ensures
-    ∙ ap names_of (specs_are c.args.policy.now.exceptions)
+    ap (λ es. spec_names (map spec_of es)) c.items.ensures
+    ∙ ap spec_names (specs_are c.args.policy.now.exceptions)
     ∙ c.requires.exceptions
     ∙ sym (ap (λ (e : Evaluation). e.names) c.self.view_is)
 
@@ -47,4 +47,4 @@ returns-clause-evaluator g c =
     let is = kept_is c.args.policy.now (record_of c.args.krate.now) expression.terms c.requirements.result.now c.items.result.now c.first-exception.result
     c.keep_hits.new.kept.items c.items.ensures c.requirements.ensures.terms c.first-exception.ensures c.keep_hits.ensures.kept in
     ap (λ (hits : List (Option Hit)). with_hits (record { nodes = c.self.inside.nodes; names = c.self.inside.exceptions; hits = [] }) hits) is
-    ∙ ap (λ (e : Evaluation). with_hits e (kept_of (policy_of c.args.policy.now) (record_of c.args.krate.now) expression.terms)) c.self.view_is
+    ∙ ap (λ (e : Evaluation). with_hits e (term_hits (policy_of c.args.policy.now) (record_of c.args.krate.now) expression.terms)) c.self.view_is

@@ -1,5 +1,5 @@
 use Rattle.std.proofs.Common.{◌∙◌, ap, [], ℕ, List, map, Option}
-use Rattle.policy_spec.specs.Index.{names_of}
+use Rattle.policy_spec.specs.Index.{spec_names}
 use Rattle.certificate_core.specs.declared.verdict.Hit.{Hit}
 use Rattle.evaluate_core.specs.Evaluation.{Evaluation}
 use Rattle.evaluate_core.proofs.EvaluationLemmas.{specs_are, spec_of}
@@ -13,4 +13,4 @@ returns c =
     let policy = c.args.policy.now in
     ap (evaluation c.args.nodes c.in_ok-exceptions.exceptions) c.in_ok-kept.ensures.items
     ∙ ap (λ names. evaluation c.args.nodes names [])
-    (c.in_ok-exceptions.ensures ∙ ap (λ es. names_of (map spec_of es)) c.items.ensures ∙ ap names_of (specs_are policy.exceptions))
+    (c.in_ok-exceptions.ensures ∙ ap (λ es. spec_names (map spec_of es)) c.items.ensures ∙ ap spec_names (specs_are policy.exceptions))

@@ -1,6 +1,6 @@
 use Rattle.std.proofs.Common.{◌≡◌, suc, ◌++◌, List, ◌∷◌, ℕ, false, string_bytes, All, subst, sym, ap, ◌∙◌, append_assoc, arith}
 use Rattle.print_core.specs.Places.{LabelsAreInside}
-use Rattle.print_core.specs.Printed.{is_heard, printed_at, all_printed_at}
+use Rattle.print_core.specs.Printed.{is_printed, printed_at, all_printed_at}
 use Rattle.print_core.proofs.printer.DiagPrinter.push_pack_text.Goals as goal
 
 first_of_all : {A : Type 0} (P : A → Type 0) (items rest : List A) (item : A) → items ≡ item ∷ rest → All P items → P item
@@ -23,5 +23,5 @@ findings-preserved c =
       tt,
       written_step old _ (printed_at c.args.self.now c.args.files.now c.in-Some.finding.now.diag) _ _ c.in_ok-push_text.ensures.ok before,
       rest_of_all (λ finding. LabelsAreInside c.args.files.now finding.diag) _ _ c.in-Some.finding.now c.in-Some.ensures.steps c.findings.invariant.3,
-      λ below. rest_of_all (λ finding. is_heard c.args.self.now.log_level finding.diag.severity ≡ false) _ _ c.in-Some.finding.now c.in-Some.ensures.steps (c.findings.invariant.4 below),
+      λ below. rest_of_all (λ finding. is_printed c.args.self.now.log_level finding.diag.severity ≡ false) _ _ c.in-Some.finding.now c.in-Some.ensures.steps (c.findings.invariant.4 below),
     )

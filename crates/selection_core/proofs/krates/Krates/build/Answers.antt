@@ -3,7 +3,7 @@ use Rattle.std.proofs.Common.{◌≡◌, sym, ◌∙◌, ap}
 use Rattle.std.proofs.lemmas.Result.{err_from_is_err_and}
 use Rattle.graph_core.specs.Metadata.{Graph}
 use Rattle.selection_core.specs.Choice.{Choice, choice_of}
-use Rattle.selection_core.specs.Places.{kept, kinds_kept}
+use Rattle.selection_core.specs.Places.{marked_items, kinds_kept}
 use Rattle.selection_core.proofs.ChosenLemmas.{chosen-is}
 use Rattle.selection_core.proofs.CountLemmas.{needed-err, needed-ok}
 use Rattle.selection_core.proofs.krates.Krates.build.Goals as goal
@@ -22,8 +22,8 @@ returns-clause-chosen c =
     let parts = c.into_parts-parts.result in
     let without = c.in_ok-without.without in
     let marks = c.in_ok-marks.marks.items in
-    let e_crates : c.in_ok-crates.crates.items ≡ kept parts.crates.items marks =
-    c.in_ok-crates.ensures ∙ ap (kept parts.crates.items) c.deref-5.ensures.value in
+    let e_crates : c.in_ok-crates.crates.items ≡ marked_items parts.crates.items marks =
+    c.in_ok-crates.ensures ∙ ap (marked_items parts.crates.items) c.deref-5.ensures.value in
     let e_kinds : c.in_ok-kinds.kinds.items ≡ kinds_kept without.normal.items without.dev.items without.build.items 0 marks =
     c.in_ok-kinds.ensures
     ∙ ap (kinds_kept without.normal.items without.dev.items without.build.items 0) c.deref-4.ensures.value in

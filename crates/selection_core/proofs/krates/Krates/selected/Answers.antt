@@ -4,14 +4,14 @@ use Rattle.std.proofs.lemmas.Result.{IfOk-weaker}
 use Rattle.graph_core.specs.declared.edge.Kinds.{Kinds}
 use Rattle.graph_core.specs.declared.krate.Krate.{Krate}
 use Rattle.graph_core.specs.Krate.{Record}
-use Rattle.selection_core.specs.Listed.{IsListOf, Item, crates_in, is_selected, items_of, record_behind, selected_in}
+use Rattle.selection_core.specs.Listed.{IsListOf, ListedCrate, crates_in, is_selected, listed_crates, record_behind, selected_in}
 use Rattle.selection_core.specs.Places.{covers}
 use Rattle.selection_core.specs.Walks.{Selected}
 use Rattle.selection_core.proofs.SelectedLemmas.{covered-are, selected-lists}
 use Rattle.selection_core.proofs.krates.Krates.selected.Goals as goal
 
 abbrev covering : Kinds → List Krate → List Kinds → List Record
-covering needed crates without = crates_in (filter (λ (item : Item). covers needed item.without) (items_of crates without))
+covering needed crates without = crates_in (filter (λ (item : ListedCrate). covers needed item.without) (listed_crates crates without))
 
 pub returns-clause-listed : goal.returns-clause-listed
 returns-clause-listed c = λ graph choice chosen.
@@ -20,9 +20,9 @@ returns-clause-listed c = λ graph choice chosen.
     let without = c.deref-2.result.now in
     let same : covering c.left_out.result crates without ≡ selected_in include c.args.self.now =
     ap (λ needed. covering needed crates without) c.left_out.ensures
-    ∙ (covered-are include (items_of crates without)
-    ∙ (ap (λ list. crates_in (filter (λ (item : Item). is_selected include item.without) (items_of list without))) c.deref.ensures.value
-    ∙ (ap (λ list. crates_in (filter (λ (item : Item). is_selected include item.without) (items_of c.self.inside.crates.items list))) c.deref-2.ensures.value
+    ∙ (covered-are include (listed_crates crates without)
+    ∙ (ap (λ list. crates_in (filter (λ (item : ListedCrate). is_selected include item.without) (listed_crates list without))) c.deref.ensures.value
+    ∙ (ap (λ list. crates_in (filter (λ (item : ListedCrate). is_selected include item.without) (listed_crates c.self.inside.crates.items list))) c.deref-2.ensures.value
     ∙ ap (selected_in include) c.self.view_is))) in
     IfOk-weaker c.refs_covering.result (λ refs. map record_behind refs ≡ covering c.left_out.result crates without)
     (λ refs. IsListOf graph (Selected graph choice include) (map record_behind refs))

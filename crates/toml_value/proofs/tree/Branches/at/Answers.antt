@@ -1,6 +1,6 @@
 use Rattle.std.proofs.Common.{map, Some, option_map, sym, ap, ◌∙◌, arith}
 use Rattle.std.proofs.lemmas.List.{length-map}
-use Rattle.toml_subset.specs.TableFaults.{node_at}
+use Rattle.toml_subset.specs.TableFaults.{table_node_at}
 use Rattle.toml_value.specs.BranchViews.{node_view, is_whole_node}
 use Rattle.toml_value.proofs.TreeLemmas.{branches_view-is, opened_whole, is_found, is_missing, is_within, whole_at, seen-at}
 use Rattle.toml_value.proofs.tree.Branches.at.Goals as goal
@@ -10,7 +10,7 @@ returns-in_err-place-clause-value c =
     let table = c.args.self.now in
     ap (option_map (λ node. node_view node.now)) c.from_residual.ensures
     ∙ sym (is_missing c.args.key.now table.keys (map (λ n. node_view n) table.nodes.items) (sym c.in_err-place.ensures))
-    ∙ ap (node_at c.args.key.now) (sym (branches_view-is table))
+    ∙ ap (table_node_at c.args.key.now) (sym (branches_view-is table))
 
 pub index-requires : goal.index-requires
 index-requires c =
@@ -29,7 +29,7 @@ returns-clause-value c =
     let found = is_found c.args.key.now table.keys nodes c.in_ok-place.place (node_view node)
     (whole.same ∙ sym (length-map table.nodes.items (λ n. node_view n))) (sym c.in_ok-place.ensures) in
     ap Some (ap (λ n. node_view n) c.index.ensures ∙ sym (seen-at table.nodes.items c.in_ok-place.place node))
-    ∙ sym found ∙ ap (node_at c.args.key.now) (sym (branches_view-is table))
+    ∙ sym found ∙ ap (table_node_at c.args.key.now) (sym (branches_view-is table))
 
 pub returns-clause-whole : goal.returns-clause-whole
 returns-clause-whole c =

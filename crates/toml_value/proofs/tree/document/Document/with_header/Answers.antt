@@ -1,8 +1,8 @@
 use Rattle.std.proofs.Common.{◌∷◌, sym, ap, subst, ◌∙◌, length, arith}
 use Rattle.toml_frames.proofs.Levels.{part_low}
 use Rattle.toml_frames.specs.Levels.{at_root, into_parts}
-use Rattle.toml_frames.specs.declared.part.Part.TheVariants.{Through}
-use Rattle.toml_value.specs.LevelViews.{cursor_view, IsShallow}
+use Rattle.toml_frames.specs.declared.part.HeaderPart.TheVariants.{Through}
+use Rattle.toml_value.specs.LevelViews.{cursor_view, IsShallowCursor}
 use Rattle.toml_value.proofs.LevelLemmas.{header_step, header_stops, header_last}
 use Rattle.toml_value.proofs.tree.document.Document.with_header.Goals as goal
 
@@ -15,7 +15,7 @@ parts-init c =
     let keys = sym c.new-parts.ensures ∙ c.in-Some.ensures in (
       ap (λ ks. into_parts c.args.last ks (at_root (cursor_view c.args.self))) keys
           ∙ ap (into_parts c.args.last (c.in-Some.first ∷ c.next.new.self)) (sym c.at_root-document.ensures),
-      subst IsShallow (sym c.at_root-document.ensures) c.requires.shallow,
+      subst IsShallowCursor (sym c.at_root-document.ensures) c.requires.shallow,
     )
 
 pub parts-preserved : goal.parts-preserved
