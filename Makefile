@@ -4,7 +4,7 @@ PROJECT ?= examples/first
 POLICY ?= deny.toml
 PROGRAM = crates/cargo_deny/out/cargo_deny
 METADATA = $(CURDIR)/crates/cargo_deny/out/metadata.json
-COMPLETION = crates/completions/stdout
+COMPLETION = crates/run_completions/stdout
 
 FIRST = ../../examples/first
 
@@ -33,15 +33,15 @@ test:
 examples: build
 	@sh tools/examples.sh
 
-# Prints what each crate stands on and which crates use it, or of one crate: make map NAME=pack_core
+# Prints what each crate stands on and which crates use it, or of one crate: make map NAME=gather_files
 map:
 	@sh tools/map.sh $(NAME)
 
-# Tries the wrong bodies of a crate that the gate leaves out: make wrong NAME=pack_core
+# Tries the wrong bodies of a crate that the gate leaves out: make wrong NAME=gather_files
 wrong:
 	@sh tools/wrong.sh $(NAME)
 
-# Runs a program of rows or cases while memory is wanting: make starve NAME=licence_rows
+# Runs a program of rows or cases while memory is wanting: make starve NAME=tests_spdx
 starve:
 	@sh tools/starve.sh $(NAME)
 

@@ -13,7 +13,7 @@ public() {
     for root in crates/*/src/lib.rt; do
         crate=${root#crates/}
         crate=${crate%%/*}
-        case $crate in *_tests | case_files | case_runs) continue ;; esac
+        case $crate in tests_*) continue ;; esac
         find "crates/$crate/src" -name '*.rt' | sort | xargs awk -v crate="$crate" '
             FNR == 1 { type = ""; sign = "" }
             /^(impl|pub trait|trait)[ <]/ {
@@ -39,18 +39,18 @@ public() {
             }'
     done | sort -u
 }
-# What the list names, a line each: a program, its file, and its group or case; or `code_tests`, its file, and a test.
+# What the list names, a line each: a program, its file, and its group or case; or `tests_code`, its file, and a test.
 named() {
     sed -n 's/^| `[a-z0-9_]*` | `[A-Za-z0-9_:]*` | \(`.*\) |$/\1/p' docs/CALLS.md | sed 's/; `/\n`/g' |
         sed 's/ (it gives no error)$//; s/ (its [a-z]* row)$//' |
-        sed -e 's/^`code_tests`, `\([a-z_]*\)::\([a-z_]*\)`$/code_tests\t\1.rt\t\2/; t' \
+        sed -e 's/^`tests_code`, `\([a-z_]*\)::\([a-z_]*\)`$/tests_code\t\1.rt\t\2/; t' \
             -e 's/^`\([a-z_]*\)`, \([a-z_]*\.txt\), /\1\t\2\t/; t' \
             -e 's/^`\([a-z_]*\)`, \([a-z_]*\.txt\)$/\1\t\2\t/; t' \
             -e 's/^`\([a-z_]*\)`, /\1\t*.txt\t/' | sort -u
 }
 is_there() {
     case $1 in
-    code_tests) grep -qF "fn $3(" "crates/$1/src/$2" ;;
+    tests_code) grep -qF "fn $3(" "crates/$1/src/$2" ;;
     *) [ -z "$3" ] && [ -s "crates/$1/data/$2" ] || cat "crates/$1/data"/$2 | grep -qxF -e "[$3]" -e "case $3" ;;
     esac
 }

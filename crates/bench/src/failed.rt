@@ -1,15 +1,15 @@
 //! Why nothing was measured.
 use diag_core::{AddError, FilesErr};
-use load_core::LoadError;
-use print_core::PrintError;
-use records_core::MetaError;
-use selection_core::BuildError;
+use policy_load::LoadError;
+use diag_print::PrintError;
+use graph_metadata::MetaError;
+use graph_selection::BuildError;
 use spdx_core::ExprError;
 use std::alloc::AllocError;
 use std::io;
 use toml_subset::TomlError;
 use tree_core::PutError;
-use workspace_core::KratesError;
+use graph_workspace::KratesError;
 
 /// Why nothing was measured.
 #[derive(Debug, Drop)]

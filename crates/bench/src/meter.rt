@@ -1,5 +1,5 @@
 //! What measures, and tells what it measured.
-use case_files::AnswerText;
+use tests_files::AnswerText;
 use std::alloc::AllocError;
 use std::time::{Clock, Instant};
 

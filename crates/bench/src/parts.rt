@@ -2,17 +2,17 @@
 use crate::failed::BenchFailure;
 use crate::meter::Meter;
 use crate::{files, recipes};
-use catalog_core::{Catalog, Identifier, LicenseStore, Table};
+use spdx_catalog::{Catalog, Identifier, LicenseStore, Table};
 use deny_text::hash::hash;
 use deny_text::normal::normalize;
-use manifest_core::license_span;
-use records_core::{Metadata, records};
-use request_core::read::{CliAnswer, read};
-use request_core::{Request, Subcommand};
-use selection_core::{ExcludeSpecs, Include, Krates, Selection};
+use diag_texts::license_span;
+use graph_metadata::{Metadata, records};
+use run_request::read::{CliAnswer, read};
+use run_request::{Request, Subcommand};
+use graph_selection::{ExcludeSpecs, Include, Krates, Selection};
 use spdx_core::Expression;
 use std::alloc::{AllocError, Global};
-use term_core::ParseMode;
+use spdx_terms::ParseMode;
 use toml_value::parse;
 
 /// What is done with a text.

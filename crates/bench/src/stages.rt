@@ -3,25 +3,25 @@
 ghost use Rattle.std.specs.Prelude.{◌≡◌, [], All, IfOk, OnOk};
 ghost use Rattle.policy_core.specs.Places.{PolicyStands};
 ghost use Rattle.gather_core.specs.Premises.{IsPlacedAt};
-ghost use Rattle.unused_core.specs.Laws.{EntriesLie};
+ghost use Rattle.check_unused.specs.Laws.{EntriesLie};
 ghost use Rattle.check_core.specs.Labels.{PackLies};
 
 use crate::failed::BenchFailure;
 use crate::meter::Meter;
 use crate::parts::from_root;
-use catalog_core::LicenseStore;
+use spdx_catalog::LicenseStore;
 use check_core::{CheckCtx, judge_all};
 use deny_text::PathBuf;
 use diag_core::{ErrorSink, Files, LevelFilter, Pack};
-use evaluate_core::Verdict;
+use check_evaluate::Verdict;
 use gather_core::{Gatherer, LicenseInfo, Summary};
-use load_core::{PolicyPaths, ValidConfig, load, print_packs};
-use print_core::{Color, Format, LogContext};
-use selection_core::Krates;
+use diag_print::{Color, Format, LogContext, print_packs};
+use policy_load::{PolicyPaths, ValidConfig, load};
+use graph_selection::Krates;
 use spdx_core::Table;
 use std::alloc::{AllocError, Global};
 use tree_core::{MemSink, MemTree, Sink, Tree};
-use workspace_core::krates_at;
+use graph_workspace::krates_at;
 
 pub(crate) const METADATA: &str = "/w/metadata.json";
 

@@ -1,5 +1,5 @@
 //! Texts that are made in memory, of any size.
-use case_files::AnswerText;
+use tests_files::AnswerText;
 use std::alloc::{AllocError, Global};
 
 /// Puts a piece that stands behind a percent sign. Its first character is a mark: a digit stands for the number that is so much

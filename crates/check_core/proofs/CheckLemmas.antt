@@ -3,16 +3,16 @@ use Rattle.std.proofs.Common.{◌≡◌, ◌∙◌, refl, sym, ap, subst, ℕ, �
 use Rattle.std.specs.List.{All}
 use Rattle.std.proofs.lemmas.List.{map-append, map_push, take_all}
 use Rattle.std.proofs.lemmas.List.Elements.{All-push, All-weaker}
-use Rattle.certificate_core.specs.declared.verdict.Hit.{Hit}
-use Rattle.certificate_core.specs.declared.verdict.Verdict.{Verdict}
+use Rattle.spdx_certificates.specs.declared.verdict.Hit.{Hit}
+use Rattle.spdx_certificates.specs.declared.verdict.Verdict.{Verdict}
 use Rattle.diag_core.specs.declared.overrides.ErrorSink.{ErrorSink}
 use Rattle.diag_core.specs.Overrides.{pack_overridden}
 use Rattle.diag_core.specs.Pack.{PackOf}
 use Rattle.gather_core.specs.declared.summary.KrateLicense.{KrateLicense}
-use Rattle.valid_policy.specs.declared.policy.ValidConfig.{ValidConfig}
-use Rattle.valid_policy.specs.Policy.{Policy}
-use Rattle.valid_policy.specs.View.{policy_of}
-use Rattle.unused_core.specs.Flags.{Flags, flags_by}
+use Rattle.policy_valid.specs.declared.policy.ValidConfig.{ValidConfig}
+use Rattle.policy_valid.specs.Policy.{Policy}
+use Rattle.policy_valid.specs.View.{policy_of}
+use Rattle.check_unused.specs.Flags.{Flags, flags_by}
 use Rattle.check_core.specs.Check.{AreVerdicts, HasFront, all_hits, gained, packs_of}
 use Rattle.check_core.specs.Summary.{gathered_of_licenses}
 use Rattle.check_core.specs.Turns.{GatheredCrate, expression_of, hits_by, pack_by}

@@ -2,18 +2,18 @@
 use Rattle.std.proofs.Common.{◌≡◌, refl, sym, ap, subst, ℕ, zero, suc, ◌<◌, Bool, true, false, ◌⊎◌, inl, inr, List, [], ◌∷◌, ◌++◌, length, Option, Some, None, arith}
 use Rattle.std.specs.Prelude.{Any, slice_index_or}
 use Rattle.std.specs.Option.{option_to_list}
-use Rattle.term_core.specs.declared.term.ExpressionReq.{ExpressionReq}
+use Rattle.spdx_terms.specs.declared.term.ExpressionReq.{ExpressionReq}
 use Rattle.graph_core.specs.Krate.{Record}
-use Rattle.certificate_core.specs.declared.verdict.Hit.{Hit}
-use Rattle.certificate_core.specs.declared.verdict.Hit.TheVariants.{Allowed, Exception}
-use Rattle.certificate_core.specs.declared.verdict.Verdict.{Verdict}
-use Rattle.finding_core.specs.declared.license.LicenseInfo.{LicenseInfo}
-use Rattle.finding_core.specs.declared.license.LicenseInfo.TheVariants.{SpdxExpression, Unlicensed}
-use Rattle.valid_policy.specs.Policy.{Policy, hit_of}
-use Rattle.valid_policy.specs.View.{policy_of}
-use Rattle.evaluate_core.specs.Evaluation.{term_hits}
-use Rattle.unused_core.specs.Unused.{hits_in}
-use Rattle.unused_core.proofs.LawLemmas.{tells_the_unused}
+use Rattle.spdx_certificates.specs.declared.verdict.Hit.{Hit}
+use Rattle.spdx_certificates.specs.declared.verdict.Hit.TheVariants.{Allowed, Exception}
+use Rattle.spdx_certificates.specs.declared.verdict.Verdict.{Verdict}
+use Rattle.gather_findings.specs.declared.license.LicenseInfo.{LicenseInfo}
+use Rattle.gather_findings.specs.declared.license.LicenseInfo.TheVariants.{SpdxExpression, Unlicensed}
+use Rattle.policy_valid.specs.Policy.{Policy, hit_of}
+use Rattle.policy_valid.specs.View.{policy_of}
+use Rattle.check_evaluate.specs.Evaluation.{term_hits}
+use Rattle.check_unused.specs.Unused.{hits_in}
+use Rattle.check_unused.proofs.LawLemmas.{tells_the_unused}
 use Rattle.check_core.specs.Check.{all_hits}
 use Rattle.check_core.specs.Hits.{HasTerm, IsNeeded, Needs, TellsTheUnneeded, TermsAreTold}
 use Rattle.check_core.specs.Turns.{GatheredCrate, hits_by, hits_of}

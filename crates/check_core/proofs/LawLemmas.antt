@@ -2,15 +2,15 @@
 use Rattle.std.proofs.Common.{◌≡◌, ◌∙◌, refl, sym, ap, subst, ℕ, Bool, true, false, inl, inr, cond, IsTrue, List, Option, Some, None}
 use Rattle.std.specs.Prelude.{◌↔◌}
 use Rattle.std.proofs.lemmas.Bool.{both_ways}
-use Rattle.term_core.specs.declared.term.ExpressionReq.{ExpressionReq}
-use Rattle.term_core.specs.declared.term.LicenseReq.{LicenseReq}
+use Rattle.spdx_terms.specs.declared.term.ExpressionReq.{ExpressionReq}
+use Rattle.spdx_terms.specs.declared.term.LicenseReq.{LicenseReq}
 use Rattle.spdx_core.specs.Grammar.{ExpressionTree}
 use Rattle.spdx_core.specs.Reading.{ExpressionView}
 use Rattle.graph_core.specs.Krate.{Record}
-use Rattle.valid_policy.specs.Policy.{Grant, IsPrivate, Policy}
-use Rattle.evaluate_core.specs.Evaluation.{is_allowed}
-use Rattle.evaluate_core.specs.Laws.{with_allowed, with_exception}
-use Rattle.evaluate_core.proofs.MoreLemmas.{more_allowed, more_exceptions}
+use Rattle.policy_valid.specs.Policy.{Grant, IsPrivate, Policy}
+use Rattle.check_evaluate.specs.Evaluation.{is_allowed}
+use Rattle.check_evaluate.specs.Laws.{with_allowed, with_exception}
+use Rattle.check_evaluate.proofs.MoreLemmas.{more_allowed, more_exceptions}
 use Rattle.check_core.specs.Laws.{IsAsGood}
 use Rattle.check_core.specs.Verdicts.{Judgement, accepted, rejected, IsJudged, judgement_of, verdict_of}
 

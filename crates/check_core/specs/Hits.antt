@@ -1,21 +1,21 @@
 -- Hits, and which entries of a policy are told to be none, in other words than the packs.
 use Rattle.std.specs.Prelude.{◌≡◌, ◌↔◌, ◌⊎◌, ℕ, false, List, [], ◌∷◌, Some, Any}
 use Rattle.std.specs.List.{AllZip}
-use Rattle.term_core.specs.declared.term.ExpressionReq.{ExpressionReq}
+use Rattle.spdx_terms.specs.declared.term.ExpressionReq.{ExpressionReq}
 use Rattle.graph_core.specs.Krate.{Record}
-use Rattle.certificate_core.specs.declared.verdict.Hit.{Hit}
-use Rattle.certificate_core.specs.declared.verdict.Hit.TheVariants.{Allowed, Exception}
-use Rattle.certificate_core.specs.declared.verdict.Verdict.{Verdict}
-use Rattle.finding_core.specs.declared.license.LicenseExprInfo.{LicenseExprInfo}
-use Rattle.finding_core.specs.declared.license.LicenseInfo.{LicenseInfo}
-use Rattle.finding_core.specs.declared.license.LicenseInfo.TheVariants.{SpdxExpression, Unlicensed}
-use Rattle.valid_policy.specs.declared.policy.ValidConfig.{ValidConfig}
-use Rattle.valid_policy.specs.Policy.{Policy, hit_of}
-use Rattle.valid_policy.specs.View.{policy_of}
-use Rattle.evaluate_core.specs.Evaluation.{term_hits}
-use Rattle.verdict_findings.specs.Findings.{term_label, term_labels}
-use Rattle.unused_core.specs.Laws.{ExceptionIsHit, LicenseIsHit, TellUnused}
-use Rattle.unused_core.specs.Unused.{unused_findings}
+use Rattle.spdx_certificates.specs.declared.verdict.Hit.{Hit}
+use Rattle.spdx_certificates.specs.declared.verdict.Hit.TheVariants.{Allowed, Exception}
+use Rattle.spdx_certificates.specs.declared.verdict.Verdict.{Verdict}
+use Rattle.gather_findings.specs.declared.license.LicenseExprInfo.{LicenseExprInfo}
+use Rattle.gather_findings.specs.declared.license.LicenseInfo.{LicenseInfo}
+use Rattle.gather_findings.specs.declared.license.LicenseInfo.TheVariants.{SpdxExpression, Unlicensed}
+use Rattle.policy_valid.specs.declared.policy.ValidConfig.{ValidConfig}
+use Rattle.policy_valid.specs.Policy.{Policy, hit_of}
+use Rattle.policy_valid.specs.View.{policy_of}
+use Rattle.check_evaluate.specs.Evaluation.{term_hits}
+use Rattle.check_verdicts.specs.Findings.{term_label, term_labels}
+use Rattle.check_unused.specs.Laws.{ExceptionIsHit, LicenseIsHit, TellUnused}
+use Rattle.check_unused.specs.Unused.{unused_findings}
 use Rattle.check_core.specs.Check.{all_hits}
 use Rattle.check_core.specs.Turns.{GatheredCrate}
 use Rattle.check_core.specs.Verdicts.{is_skipped}

@@ -6,16 +6,16 @@ use Rattle.tree_core.specs.Content.{Content, resolve}
 use Rattle.tree_core.specs.declared.reads.ReadKind.TheVariants.{LicenseFile}
 use Rattle.spdx_core.specs.Reading.{ExpressionView}
 use Rattle.graph_core.specs.Krate.{Record}
-use Rattle.certificate_core.specs.declared.verdict.Verdict.{Verdict}
-use Rattle.reads_core.specs.Heard.{ReadResult, listing_heard, read_place, there_heard}
-use Rattle.pack_core.specs.Ears.{FolderReads}
-use Rattle.pack_core.specs.Pack.{license_files_in}
-use Rattle.expression_core.specs.Scanned.{Scanner}
-use Rattle.priority_core.specs.Clarification.{ClarificationView, named_in}
-use Rattle.priority_core.specs.Priority.{folder_of, priority_of}
+use Rattle.spdx_certificates.specs.declared.verdict.Verdict.{Verdict}
+use Rattle.tree_reads.specs.Heard.{ReadResult, listing_heard, read_place, there_heard}
+use Rattle.gather_files.specs.Ears.{FolderReads}
+use Rattle.gather_files.specs.Pack.{license_files_in}
+use Rattle.gather_expression.specs.Scanned.{Scanner}
+use Rattle.gather_licence.specs.Clarification.{ClarificationView, named_in}
+use Rattle.gather_licence.specs.Priority.{folder_of, priority_of}
 use Rattle.gather_core.specs.Entries.{clarifications_of, entries_of}
-use Rattle.valid_policy.specs.declared.policy.ValidConfig.{ValidConfig}
-use Rattle.valid_policy.specs.View.{policy_of}
+use Rattle.policy_valid.specs.declared.policy.ValidConfig.{ValidConfig}
+use Rattle.policy_valid.specs.View.{policy_of}
 use Rattle.check_core.specs.Verdicts.{IsVerdict}
 
 -- the expression of a crate, by what is heard

@@ -1,18 +1,18 @@
 -- What is told of each crate, and after all of them.
 use Rattle.std.specs.Prelude.{ℕ, Bool, true, false, List, [], ◌∷◌, ◌++◌}
 use Rattle.graph_core.specs.Krate.{Record}
-use Rattle.certificate_core.specs.declared.verdict.Hit.{Hit}
+use Rattle.spdx_certificates.specs.declared.verdict.Hit.{Hit}
 use Rattle.diag_core.specs.declared.pack.Diag.{Diag}
 use Rattle.diag_core.specs.Pack.{PackOf}
-pub use Rattle.finding_core.specs.License.{expression_of}
-use Rattle.finding_core.specs.declared.license.LicenseInfo.{LicenseInfo}
-use Rattle.finding_core.specs.declared.license.LicenseInfo.TheVariants.{SpdxExpression, Unlicensed}
-use Rattle.valid_policy.specs.Policy.{Policy}
-use Rattle.evaluate_core.specs.Evaluation.{is_allowed, term_hits}
-use Rattle.unused_core.specs.Flags.{Flags}
-use Rattle.unused_core.specs.Unused.{hits_in}
-use Rattle.verdict_findings.specs.Findings as findings
-use Rattle.verdict_findings.specs.Findings.{verdict_labels, judged, pack_of}
+pub use Rattle.gather_findings.specs.License.{expression_of}
+use Rattle.gather_findings.specs.declared.license.LicenseInfo.{LicenseInfo}
+use Rattle.gather_findings.specs.declared.license.LicenseInfo.TheVariants.{SpdxExpression, Unlicensed}
+use Rattle.policy_valid.specs.Policy.{Policy}
+use Rattle.check_evaluate.specs.Evaluation.{is_allowed, term_hits}
+use Rattle.check_unused.specs.Flags.{Flags}
+use Rattle.check_unused.specs.Unused.{hits_in}
+use Rattle.check_verdicts.specs.Findings as findings
+use Rattle.check_verdicts.specs.Findings.{verdict_labels, judged, pack_of}
 
 -- a crate, its licence, what was found on the way to that, and what is noted
 pub record GatheredCrate : Type 0 where

@@ -1,15 +1,15 @@
 //! The check of all crates.
 ghost use Rattle.std.specs.Prelude.{◌≡◌, ◌<◌, ◌≤◌, [], ◌∷◌, All, IfOk, None, OnOk, OnErr, List, length};
 ghost use Rattle.std.specs.Option.{option_map_or};
-ghost use Rattle.certificate_core.specs.declared.verdict.Hit.{Hit};
+ghost use Rattle.spdx_certificates.specs.declared.verdict.Hit.{Hit};
 ghost use Rattle.diag_core.specs.File.{source_of_file};
-ghost use Rattle.valid_policy.specs.View.{policy_of};
-ghost use Rattle.evaluate_core.specs.Evaluation.{exception_names};
-ghost use Rattle.unused_core.specs.Flags.{flags_by};
-ghost use Rattle.unused_core.specs.Laws.{EntriesLie};
-ghost use Rattle.unused_core.specs.Unused as unused;
-ghost use Rattle.verdict_findings.specs.Places.{PlaceFits};
-ghost use Rattle.finding_core.specs.License.{InfoStands, Stands};
+ghost use Rattle.policy_valid.specs.View.{policy_of};
+ghost use Rattle.check_evaluate.specs.Evaluation.{exception_names};
+ghost use Rattle.check_unused.specs.Flags.{flags_by};
+ghost use Rattle.check_unused.specs.Laws.{EntriesLie};
+ghost use Rattle.check_unused.specs.Unused as unused;
+ghost use Rattle.check_verdicts.specs.Places.{PlaceFits};
+ghost use Rattle.gather_findings.specs.License.{InfoStands, Stands};
 ghost use Rattle.gather_core.specs.Premises.{IsPlacedAt};
 ghost use Rattle.check_core.specs.Check.{AreVerdicts, HasFront, all_hits, findings_of, gained, packs_of};
 ghost use Rattle.check_core.specs.Labels.{GainLies, PackLies, VerdictPoints};
@@ -19,14 +19,14 @@ ghost use Rattle.check_core.specs.Summary.{InfoFits, IsExpressionIn, gathered_of
 use crate::crate_check::Checker;
 use deny_text::{ListOf, Steps};
 use diag_core::{ErrorSink, FileId, Files, LevelFilter};
-use evaluate_core::Verdict;
+use check_evaluate::Verdict;
 use gather_core::{KrateLicense, LicenseExprInfo, LicenseInfo, Summary};
-use selection_core::Krates;
+use graph_selection::Krates;
 use spdx_core::Expression;
 use std::alloc::{AllocError, Global};
 use std::marker::Brand;
 use std::sync::ledger::{Blank, Ledger};
-use valid_policy::ValidConfig;
+use policy_valid::ValidConfig;
 
 /// What a check is made with.
 #[derive(Drop)]

@@ -2,29 +2,29 @@
 ghost use Rattle.std.specs.Prelude.{◌≡◌, ◌≤◌, ◌++◌, ◌∷◌, [], List, IfOk, length, false};
 ghost use Rattle.graph_core.specs.Krate.{record_of};
 ghost use Rattle.spdx_core.specs.Reading.{postfix};
-ghost use Rattle.certificate_core.specs.declared.verdict.Hit.{Hit};
-ghost use Rattle.valid_policy.specs.View.{policy_of};
-ghost use Rattle.evaluate_core.specs.Evaluation.{exception_names};
-ghost use Rattle.unused_core.specs.Flags.{flags_by};
-ghost use Rattle.unused_core.specs.Unused as unused;
-ghost use Rattle.verdict_findings.specs.Findings as findings;
-ghost use Rattle.verdict_findings.specs.Places.{PlaceFits};
+ghost use Rattle.spdx_certificates.specs.declared.verdict.Hit.{Hit};
+ghost use Rattle.policy_valid.specs.View.{policy_of};
+ghost use Rattle.check_evaluate.specs.Evaluation.{exception_names};
+ghost use Rattle.check_unused.specs.Flags.{flags_by};
+ghost use Rattle.check_unused.specs.Unused as unused;
+ghost use Rattle.check_verdicts.specs.Findings as findings;
+ghost use Rattle.check_verdicts.specs.Places.{PlaceFits};
 ghost use Rattle.check_core.specs.Summary.{InfoFits, gathered_of_license, nodes_in};
 ghost use Rattle.check_core.specs.Turns.{expression_of, hits_by, hits_of, pack_by, verdict_finding};
 ghost use Rattle.check_core.specs.Verdicts.{IsCertifiedOrUnlicensed, IsCertified, IsVerdict, is_skipped};
 
 use deny_text::Steps;
 use diag_core::Pack;
-use evaluate_core::{Evaluator, Verdict};
+use check_evaluate::{Evaluator, Verdict};
 use gather_core::{KrateLicense, LicenseExprInfo, LicenseInfo};
 use graph_core::Krate;
 use spdx_core::Expression;
 use std::alloc::{AllocError, Global};
 use std::marker::Model;
 use std::sync::ledger::Ledger;
-use unused_core::{EntryHits, last_pack};
-use valid_policy::ValidConfig;
-use verdict_findings::{judged, pack_of, skipped, unlicensed};
+use check_unused::{EntryHits, last_pack};
+use policy_valid::ValidConfig;
+use check_verdicts::{judged, pack_of, skipped, unlicensed};
 
 /// What the check of a crate comes to.
 #[derive(Drop)]

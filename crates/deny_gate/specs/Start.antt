@@ -2,9 +2,9 @@
 use Rattle.std.specs.Prelude.{◌≡◌, ℕ, List, Result, Ok, Err, codes}
 use Rattle.std.specs.Option.{ForSome}
 use Rattle.tree_core.specs.Script.{FaultCounts, SinkTexts}
-use Rattle.catalog_core.specs.BuiltIn.{built_in}
-use Rattle.catalog_core.specs.Store.{match_of}
-use Rattle.catalog_core.specs.Table.{table_lists}
+use Rattle.spdx_catalog.specs.BuiltIn.{built_in}
+use Rattle.spdx_catalog.specs.Store.{match_of}
+use Rattle.spdx_catalog.specs.Table.{table_lists}
 use Rattle.deny_run.specs.declared.report.Outcome.{Outcome}
 use Rattle.deny_run.specs.Given.{RunArguments}
 use Rattle.deny_run.specs.Headline.{Headline, HeadlineRead}

@@ -4,7 +4,7 @@
 ghost use Rattle.std.specs.Prelude.{◌≡◌, ◌≤◌, IfOk, IfErr, OnOk, OnErr};
 ghost use Rattle.std.specs.Path.{path_buf_bytes};
 ghost use Rattle.std.specs.Process.{exit_status};
-ghost use Rattle.catalog_core.specs.BuiltIn.{built_in};
+ghost use Rattle.spdx_catalog.specs.BuiltIn.{built_in};
 ghost use Rattle.tree_core.specs.Hearing.{MadeSome};
 ghost use Rattle.tree_core.specs.Script.{LineWritten};
 ghost use Rattle.deny_run.specs.Hearing.{seen};

@@ -5,18 +5,18 @@ use Rattle.tree_core.specs.Hearing.{MadeSome}
 use Rattle.tree_core.proofs.MadeLemmas.{some_made}
 use Rattle.diag_core.specs.File.{File}
 use Rattle.graph_core.specs.Metadata.{Graph}
-use Rattle.selection_core.specs.Listed.{IsListOf}
-use Rattle.selection_core.specs.Roots.{HasRoot}
-use Rattle.selection_core.specs.Walks.{Selected}
-use Rattle.reads_core.specs.Read.{AreReads}
+use Rattle.graph_selection.specs.Listed.{IsListOf}
+use Rattle.graph_selection.specs.Roots.{HasRoot}
+use Rattle.graph_selection.specs.Walks.{Selected}
+use Rattle.tree_reads.specs.Read.{AreReads}
 use Rattle.gather_core.specs.Calls.{AreTurnsBy, CrateTurn, reads_of_all, turns_of}
 use Rattle.gather_core.specs.Entries.{entries_of}
 use Rattle.gather_core.specs.Gathered.{include_of, krate_of}
 use Rattle.gather_core.proofs.CrateTurns.{krates_told, own_turns}
-use Rattle.heard_core.specs.Cause.{Cause, no_memory, told, failed_read, refused_write}
-use Rattle.validate_core.specs.Order.{PutsPolicyInOrder}
-use Rattle.valid_policy.specs.View.{policy_of}
-use Rattle.valid_policy.specs.declared.policy.ValidConfig.{ValidConfig}
+use Rattle.tree_texts.specs.Cause.{Cause, no_memory, told, failed_read, refused_write}
+use Rattle.policy_validate.specs.Order.{PutsPolicyInOrder}
+use Rattle.policy_valid.specs.View.{policy_of}
+use Rattle.policy_valid.specs.declared.policy.ValidConfig.{ValidConfig}
 use Rattle.policy_core.specs.Policy.{PolicyFound}
 use Rattle.deny_run.specs.declared.error.Error.{Error}
 use Rattle.deny_run.specs.declared.check.CheckedCrates.{CheckedCrates}

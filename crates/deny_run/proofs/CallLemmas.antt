@@ -3,11 +3,11 @@ use Rattle.std.proofs.Common.{◌≡◌, ◌∙◌, inl, inr, refl, sym, ap, ℕ
 use Rattle.std.specs.Prelude.{unwrap_or}
 use Rattle.tree_core.specs.Call as call
 use Rattle.tree_core.specs.Call.{CallAnswer, Call}
-use Rattle.heard_core.specs.Heard.{text_answered}
-use Rattle.heard_core.specs.declared.fault.ReadFault.{ReadFault}
-use Rattle.heard_core.specs.declared.fault.ReadFault.TheVariants.{Absent}
-use Rattle.search_core.specs.Looked.{FindsByLooks, LookedUntil, look_of, absent_looks}
-use Rattle.search_core.specs.declared.search.SearchError.TheVariants as search
+use Rattle.tree_texts.specs.Heard.{text_answered}
+use Rattle.tree_texts.specs.declared.fault.ReadFault.{ReadFault}
+use Rattle.tree_texts.specs.declared.fault.ReadFault.TheVariants.{Absent}
+use Rattle.tree_texts.specs.Looked.{FindsByLooks, LookedUntil, look_of, absent_looks}
+use Rattle.tree_texts.specs.declared.search.SearchError.TheVariants as search
 use Rattle.deny_run.specs.Hearing.{LooksResult, look_failed, nowhere, at, is_heard, look_calls, looks_by, read_calls, text_by}
 
 -- ---- looks

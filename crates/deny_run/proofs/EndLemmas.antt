@@ -4,20 +4,20 @@ use Rattle.tree_core.specs.Call.{Call}
 use Rattle.tree_core.specs.Content.{Content}
 use Rattle.tree_core.specs.Hearing.{Made, MadeSome}
 use Rattle.tree_core.proofs.MadeLemmas.{made_as, made_joined, made_these}
-use Rattle.catalog_core.specs.Catalog.{CatalogLists}
+use Rattle.spdx_catalog.specs.Catalog.{CatalogLists}
 use Rattle.diag_core.specs.File.{File}
-use Rattle.expression_core.specs.Scanned.{Scanner}
-use Rattle.heard_core.specs.Cause.{Cause, no_memory, ReadCounts}
-use Rattle.heard_core.specs.Heard.{read_of}
-use Rattle.print_core.specs.declared.context.LogContext.{LogContext}
-use Rattle.search_core.specs.Search.{candidates}
-use Rattle.search_core.specs.declared.search.SoughtFile.TheVariants.{Exceptions}
+use Rattle.gather_expression.specs.Scanned.{Scanner}
+use Rattle.tree_texts.specs.Cause.{Cause, no_memory, ReadCounts}
+use Rattle.tree_texts.specs.Heard.{read_of}
+use Rattle.diag_print.specs.declared.context.LogContext.{LogContext}
+use Rattle.tree_texts.specs.Search.{candidates}
+use Rattle.tree_texts.specs.declared.search.SoughtFile.TheVariants.{Exceptions}
 use Rattle.policy_core.specs.declared.load.LoadedPolicy.{LoadedPolicy}
-use Rattle.load_core.specs.Answer.{IsCutLoad, LoadsBy, MayReadBoth, WriteCounts, load_cause}
-use Rattle.load_core.specs.Heard.{MayReadPolicy}
-use Rattle.load_core.specs.declared.error.LoadError.{LoadError}
-use Rattle.load_core.specs.declared.error.LoadError.TheVariants as load
-use Rattle.load_core.specs.declared.loading.PolicyPaths.{PolicyPaths}
+use Rattle.policy_load.specs.Answer.{IsCutLoad, LoadsBy, MayReadBoth, WriteCounts, load_cause}
+use Rattle.policy_load.specs.Heard.{MayReadPolicy}
+use Rattle.policy_load.specs.declared.error.LoadError.{LoadError}
+use Rattle.policy_load.specs.declared.error.LoadError.TheVariants as load
+use Rattle.policy_load.specs.declared.loading.PolicyPaths.{PolicyPaths}
 use Rattle.deny_run.specs.declared.error.Error.TheVariants.{Memory}
 use Rattle.deny_run.specs.declared.error.Refusal.{Refusal}
 use Rattle.deny_run.specs.declared.check.CheckedCrates.{CheckedCrates}

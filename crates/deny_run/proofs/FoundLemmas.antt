@@ -2,17 +2,17 @@
 use Rattle.std.proofs.Common.{◌≡◌, ◌∙◌, refl, ap, ℕ, List, [], ◌++◌, Option, Some, None, Result, Ok, Err}
 use Rattle.std.specs.Option.{option_and_then}
 use Rattle.graph_core.specs.Metadata.{Graph}
-use Rattle.records_core.specs.Records.{metadata_of}
-use Rattle.records_core.specs.Told.{MetadataReading}
-use Rattle.heard_core.specs.declared.fault.ReadFault.{ReadFault}
-use Rattle.search_core.specs.Search.{candidates}
-use Rattle.search_core.specs.declared.search.SoughtFile.TheVariants.{Exceptions}
-use Rattle.workspace_core.specs.Krates.{graph_or_error, sparse_dir}
+use Rattle.graph_metadata.specs.Records.{metadata_of}
+use Rattle.graph_metadata.specs.Told.{MetadataReading}
+use Rattle.tree_texts.specs.declared.fault.ReadFault.{ReadFault}
+use Rattle.tree_texts.specs.Search.{candidates}
+use Rattle.tree_texts.specs.declared.search.SoughtFile.TheVariants.{Exceptions}
+use Rattle.graph_workspace.specs.Krates.{graph_or_error, sparse_dir}
 use Rattle.policy_core.specs.Policy.{PolicyFound}
 use Rattle.policy_text.specs.Text.{config_text_of}
 use Rattle.gather_core.specs.Calls.{calls_of_all}
-use Rattle.load_core.specs.declared.error.LoadError.{LoadError}
-use Rattle.load_core.specs.declared.loading.PolicyPaths.{PolicyPaths}
+use Rattle.policy_load.specs.declared.error.LoadError.{LoadError}
+use Rattle.policy_load.specs.declared.loading.PolicyPaths.{PolicyPaths}
 use Rattle.deny_run.specs.declared.error.InputPart.TheVariants.{Words}
 use Rattle.deny_run.specs.declared.error.Error.{Error}
 use Rattle.deny_run.specs.declared.error.Error.TheVariants.{NotYet}

@@ -11,12 +11,12 @@ use Rattle.tree_core.specs.Script.{to_out, to_err, OutputSink, Script, FaultCoun
 use Rattle.tree_core.specs.Trace.{Says, fault_behind, faults_after}
 use Rattle.tree_core.proofs.MadeLemmas.{faults_after-later}
 use Rattle.diag_core.specs.declared.severity.Severity.TheVariants as severity
-use Rattle.valid_policy.specs.View.{policy_of}
-use Rattle.unused_core.specs.Unused.{last_pack}
+use Rattle.policy_valid.specs.View.{policy_of}
+use Rattle.check_unused.specs.Unused.{last_pack}
 use Rattle.check_core.specs.Check.{all_hits}
-use Rattle.heard_core.specs.Cause.{Cause, no_memory, failed_read, refused_write}
-use Rattle.heard_core.specs.Cause as causes
-use Rattle.reads_core.proofs.ReadLemmas.{rose_counted}
+use Rattle.tree_texts.specs.Cause.{Cause, no_memory, failed_read, refused_write}
+use Rattle.tree_texts.specs.Cause as causes
+use Rattle.tree_reads.proofs.ReadLemmas.{rose_counted}
 use Rattle.deny_run.specs.declared.error.InputPart.TheVariants.{Words}
 use Rattle.deny_run.specs.declared.error.Error.{Error}
 use Rattle.deny_run.specs.declared.error.Error.TheVariants.{Memory, NotCarried, ConfigRead, ConfigSyntax, ConfigShape, ConfigInvalid, MetadataRead, MetadataSyntax, MetadataShape, NoRoots, WriteFault, NotYet}

@@ -4,10 +4,10 @@ use Rattle.std.specs.Option.{option_and_then}
 use Rattle.tree_core.specs.Call as call
 use Rattle.tree_core.specs.Call.{CallKind, CallAnswer, Call}
 use Rattle.gather_core.specs.Calls.{calls_of_all}
-use Rattle.heard_core.specs.declared.fault.ReadFault.{ReadFault}
-use Rattle.load_core.specs.Heard.{LoadHeard}
-use Rattle.load_core.specs.Load.{load_of}
-use Rattle.load_core.specs.declared.loading.PolicyPaths.{PolicyPaths}
+use Rattle.tree_texts.specs.declared.fault.ReadFault.{ReadFault}
+use Rattle.policy_load.specs.Heard.{LoadHeard}
+use Rattle.policy_load.specs.Load.{load_of}
+use Rattle.policy_load.specs.declared.loading.PolicyPaths.{PolicyPaths}
 use Rattle.policy_text.specs.Text.{config_text_of}
 use Rattle.deny_run.specs.declared.error.Error.{Error}
 use Rattle.deny_run.specs.Given.{RunArguments}

@@ -1,23 +1,23 @@
 -- The reads of a load, as what they were answered.
 use Rattle.std.proofs.Common.{◌≡◌, ◌∙◌, inl, inr, refl, sym, ap, subst, ℕ, List, [], ◌∷◌, ◌++◌, append-nil, Option, Some, None, Result, Ok, Err}
-use Rattle.catalog_core.specs.Catalog.{CatalogLists}
+use Rattle.spdx_catalog.specs.Catalog.{CatalogLists}
 use Rattle.diag_core.specs.File.{File, file_id_at}
 use Rattle.tree_core.specs.Call as call
 use Rattle.tree_core.specs.Call.{CallAnswer, Call}
 use Rattle.tree_core.specs.Trace.{fault_behind}
-use Rattle.heard_core.specs.Heard.{read_of, text_answered}
-use Rattle.heard_core.specs.declared.fault.ReadFault.{ReadFault}
-use Rattle.heard_core.specs.declared.fault.ReadFault.TheVariants.{Absent, Failed}
+use Rattle.tree_texts.specs.Heard.{read_of, text_answered}
+use Rattle.tree_texts.specs.declared.fault.ReadFault.{ReadFault}
+use Rattle.tree_texts.specs.declared.fault.ReadFault.TheVariants.{Absent, Failed}
 use Rattle.policy_config.specs.declared.root.RootConfig.{RootConfig}
 use Rattle.policy_core.specs.Heard.{IsReadAt, IsReadOf, MayReadAt, MayReadOf, heard}
 use Rattle.policy_text.specs.Config.{config_of_text}
 use Rattle.policy_text.specs.Text.{config_text_of}
 use Rattle.policy_text.specs.declared.error.ConfigError.{ConfigError}
 use Rattle.policy_text.specs.declared.text.ConfigText.{ConfigText}
-use Rattle.load_core.specs.Answer.{MayReadFurther, ReadsBehind, ReadsFurther}
-use Rattle.load_core.specs.Heard.{exceptions_at, exceptions_heard}
-use Rattle.load_core.specs.Load.{load_by_config, load_by_text, with_policy}
-use Rattle.load_core.specs.declared.loading.PolicyPaths.{PolicyPaths}
+use Rattle.policy_load.specs.Answer.{MayReadFurther, ReadsBehind, ReadsFurther}
+use Rattle.policy_load.specs.Heard.{exceptions_at, exceptions_heard}
+use Rattle.policy_load.specs.Load.{load_by_config, load_by_text, with_policy}
+use Rattle.policy_load.specs.declared.loading.PolicyPaths.{PolicyPaths}
 use Rattle.deny_run.specs.Heard.{due_at, due_behind, due_by_text, unless_known}
 use Rattle.deny_run.specs.Hearing.{IsReadWhereDue, count_behind, read_calls, text_by}
 use Rattle.deny_run.proofs.CallLemmas.{heard_where, text_heard_by}

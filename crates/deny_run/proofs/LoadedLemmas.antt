@@ -5,17 +5,17 @@ use Rattle.tree_core.specs.Content.{Content}
 use Rattle.tree_core.specs.Hearing.{MadeSome}
 use Rattle.tree_core.specs.Trace.{fault_behind, faults_after}
 use Rattle.tree_core.proofs.MadeLemmas.{made_these}
-use Rattle.heard_core.specs.Heard.{IsTextRead, read_of, text_answered}
-use Rattle.heard_core.specs.declared.fault.ReadFault.{ReadFault}
-use Rattle.search_core.specs.Search.{candidates}
-use Rattle.search_core.specs.declared.search.SoughtFile.TheVariants.{Exceptions}
+use Rattle.tree_texts.specs.Heard.{IsTextRead, read_of, text_answered}
+use Rattle.tree_texts.specs.declared.fault.ReadFault.{ReadFault}
+use Rattle.tree_texts.specs.Search.{candidates}
+use Rattle.tree_texts.specs.declared.search.SoughtFile.TheVariants.{Exceptions}
 use Rattle.gather_core.specs.Calls.{CrateReads, calls_of_all}
 use Rattle.policy_text.specs.Config.{config_of_text}
 use Rattle.policy_text.specs.Text.{config_text_of}
-use Rattle.load_core.specs.Answer.{MayReadBoth, ReadsBehind}
-use Rattle.load_core.specs.Heard.{LoadHeard}
-use Rattle.load_core.specs.Load.{load_by_text, load_of, with_policy}
-use Rattle.load_core.specs.declared.loading.PolicyPaths.{PolicyPaths}
+use Rattle.policy_load.specs.Answer.{MayReadBoth, ReadsBehind}
+use Rattle.policy_load.specs.Heard.{LoadHeard}
+use Rattle.policy_load.specs.Load.{load_by_text, load_of, with_policy}
+use Rattle.policy_load.specs.declared.loading.PolicyPaths.{PolicyPaths}
 use Rattle.deny_run.specs.declared.words.CheckRequest.{CheckRequest}
 use Rattle.deny_run.specs.Given.{RunArguments}
 use Rattle.deny_run.specs.Heard.{HearsAllDue, calls_of, count_exceptions, count_looked, count_metadata, count_policy, due_behind, due_by_text, exceptions_by, exceptions_due, exceptions_path, load_at, load_heard, manifest_in, metadata_due, metadata_heard, paths_looked, policy_due}

@@ -5,9 +5,9 @@ use Rattle.diag_core.specs.File.{File}
 use Rattle.diag_core.specs.Pack.{PackOf}
 use Rattle.diag_core.specs.declared.label.Label.{Label}
 use Rattle.diag_core.specs.declared.pack.Diag.{Diag}
-use Rattle.finding_core.specs.Cuts.{LabelLies}
-use Rattle.load_core.specs.Print.{PacksAreInside}
-use Rattle.print_core.specs.Places.{AllLabelsAreInside, LabelIsInside, LabelsAreInside}
+use Rattle.gather_findings.specs.Cuts.{LabelLies}
+use Rattle.diag_print.specs.Findings.{PacksAreInside}
+use Rattle.diag_print.specs.Places.{AllLabelsAreInside, LabelIsInside, LabelsAreInside}
 use Rattle.check_core.specs.Labels.{FindingLies, PackLies}
 
 label_inside : (files : List File) (label : Label) → LabelLies files label → LabelIsInside files label

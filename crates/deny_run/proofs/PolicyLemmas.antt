@@ -1,23 +1,23 @@
 -- A policy's bytes: a load answers it exactly where its two files are one, in words of texts, values and shapes.
 use Rattle.std.proofs.Common.{◌≡◌, ◌∙◌, refl, sym, ap, subst, ℕ, Bool, true, false, cond, List, [], ◌∷◌, ◌++◌, map, Option, Some, None, Result, Ok, Err, ◌||◌}
 use Rattle.std.specs.List.{list_any}
-use Rattle.catalog_core.specs.Catalog.{CatalogLists}
-use Rattle.selection_core.specs.Choice.{is_uncarried}
+use Rattle.spdx_catalog.specs.Catalog.{CatalogLists}
+use Rattle.graph_selection.specs.Choice.{is_uncarried}
 use Rattle.diag_core.specs.File.{File, file_id_at}
 use Rattle.diag_core.specs.declared.diagnostic.Diagnostic.{Diagnostic}
-use Rattle.heard_core.specs.declared.fault.ReadFault.{ReadFault}
-use Rattle.load_core.specs.Heard.{LoadHeard, exceptions_at, exceptions_heard}
-use Rattle.load_core.specs.Load.{found_by, load_by_config, load_by_text, load_of, policy_file, unless_error}
-use Rattle.load_core.specs.Print.{is_error}
-use Rattle.load_core.specs.declared.error.LoadError.TheVariants.{ConfigInvalid}
-use Rattle.load_core.specs.declared.loading.PolicyPaths.{PolicyPaths}
+use Rattle.tree_texts.specs.declared.fault.ReadFault.{ReadFault}
+use Rattle.policy_load.specs.Heard.{LoadHeard, exceptions_at, exceptions_heard}
+use Rattle.policy_load.specs.Load.{found_by, load_by_config, load_by_text, load_of, policy_file, unless_error}
+use Rattle.diag_print.specs.Findings.{is_error}
+use Rattle.policy_load.specs.declared.error.LoadError.TheVariants.{ConfigInvalid}
+use Rattle.policy_load.specs.declared.loading.PolicyPaths.{PolicyPaths}
 use Rattle.policy_config.specs.Root.{root_of}
 use Rattle.policy_config.specs.declared.root.RootConfig.{RootConfig}
 use Rattle.policy_core.specs.Exceptions.{ExceptionsRead, exceptions_findings, shape_diagnostic}
 use Rattle.policy_core.specs.Heard.{heard, exceptions_read_of, value_or_fault}
 use Rattle.policy_core.specs.Policy.{PolicyFound, absence_findings, policy_found, load_findings, licences_in}
 use Rattle.policy_core.specs.Findings.{target_findings, graph_key_findings, output_key_findings}
-use Rattle.validate_core.specs.Valid.{address_findings, clarification_findings, removed_findings}
+use Rattle.policy_validate.specs.Valid.{address_findings, clarification_findings, removed_findings}
 use Rattle.policy_entries.specs.Exceptions.{exceptions_file_of}
 use Rattle.policy_text.specs.Config.{config_of_text, if_carried, or_shape, or_syntax, config_of_value, then_config}
 use Rattle.policy_text.specs.Text.{config_text_of}

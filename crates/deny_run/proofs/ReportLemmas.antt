@@ -7,35 +7,35 @@ use Rattle.tree_core.specs.Hearing.{Made, MadeSome}
 use Rattle.tree_core.specs.Trace.{fault_behind, faults_after}
 use Rattle.tree_core.proofs.MadeLemmas.{made_as, made_joined, made_none, made_these}
 use Rattle.graph_core.specs.Metadata.{Graph}
-use Rattle.heard_core.specs.Cause.{Cause, no_memory, failed_read, refused_write, ReadCounts}
-use Rattle.heard_core.specs.Cause as causes
-use Rattle.heard_core.specs.Heard.{read_of, text_answered}
-use Rattle.heard_core.specs.declared.fault.ReadFault.{ReadFault}
-use Rattle.heard_core.specs.declared.fault.ReadFault.TheVariants.{Failed, Absent, Folder, NotUtf8}
-use Rattle.search_core.specs.Looked.{LookedUntil}
-use Rattle.search_core.specs.Search.{candidates, search_cause}
-use Rattle.search_core.specs.declared.search.SoughtFile.TheVariants.{Exceptions}
-use Rattle.search_core.specs.declared.search.SearchError.{SearchError}
-use Rattle.search_core.specs.declared.search.SearchError.TheVariants as search
-use Rattle.selection_core.specs.Listed.{IsListOf}
-use Rattle.selection_core.specs.Roots.{HasRoot, LacksRoots}
-use Rattle.selection_core.specs.Walks.{Selected}
-use Rattle.workspace_core.specs.Krates.{graph_in}
-use Rattle.workspace_core.specs.declared.error.KratesError.{KratesError}
-use Rattle.workspace_core.specs.declared.error.KratesError.TheVariants as krates
-use Rattle.valid_policy.specs.declared.policy.ValidConfig.{ValidConfig}
+use Rattle.tree_texts.specs.Cause.{Cause, no_memory, failed_read, refused_write, ReadCounts}
+use Rattle.tree_texts.specs.Cause as causes
+use Rattle.tree_texts.specs.Heard.{read_of, text_answered}
+use Rattle.tree_texts.specs.declared.fault.ReadFault.{ReadFault}
+use Rattle.tree_texts.specs.declared.fault.ReadFault.TheVariants.{Failed, Absent, Folder, NotUtf8}
+use Rattle.tree_texts.specs.Looked.{LookedUntil}
+use Rattle.tree_texts.specs.Search.{candidates, search_cause}
+use Rattle.tree_texts.specs.declared.search.SoughtFile.TheVariants.{Exceptions}
+use Rattle.tree_texts.specs.declared.search.SearchError.{SearchError}
+use Rattle.tree_texts.specs.declared.search.SearchError.TheVariants as search
+use Rattle.graph_selection.specs.Listed.{IsListOf}
+use Rattle.graph_selection.specs.Roots.{HasRoot, LacksRoots}
+use Rattle.graph_selection.specs.Walks.{Selected}
+use Rattle.graph_workspace.specs.Krates.{graph_in}
+use Rattle.graph_workspace.specs.declared.error.KratesError.{KratesError}
+use Rattle.graph_workspace.specs.declared.error.KratesError.TheVariants as krates
+use Rattle.policy_valid.specs.declared.policy.ValidConfig.{ValidConfig}
 use Rattle.diag_core.specs.File.{File}
-use Rattle.reads_core.specs.Read.{AreReads}
+use Rattle.tree_reads.specs.Read.{AreReads}
 use Rattle.gather_core.specs.Calls.{CrateReads, calls_of_all, reads_of_all}
 use Rattle.gather_core.specs.Gathered.{include_of}
 use Rattle.policy_core.specs.Policy.{PolicyFound}
 use Rattle.policy_core.specs.declared.load.LoadedPolicy.{LoadedPolicy}
-use Rattle.load_core.specs.Answer.{AnswersLoad, Comes, IsPolicyOf, WriteCounts, load_cause}
-use Rattle.load_core.specs.Heard.{LoadHeard}
-use Rattle.load_core.specs.Load.{LoadResult, load_of}
-use Rattle.load_core.specs.declared.error.LoadError.{LoadError}
-use Rattle.load_core.specs.declared.error.LoadError.TheVariants as load
-use Rattle.load_core.specs.declared.loading.PolicyPaths.{PolicyPaths}
+use Rattle.policy_load.specs.Answer.{AnswersLoad, Comes, IsPolicyOf, WriteCounts, load_cause}
+use Rattle.policy_load.specs.Heard.{LoadHeard}
+use Rattle.policy_load.specs.Load.{LoadResult, load_of}
+use Rattle.policy_load.specs.declared.error.LoadError.{LoadError}
+use Rattle.policy_load.specs.declared.error.LoadError.TheVariants as load
+use Rattle.policy_load.specs.declared.loading.PolicyPaths.{PolicyPaths}
 use Rattle.deny_run.specs.declared.error.InputPart.TheVariants.{Words}
 use Rattle.deny_run.specs.declared.error.Error.{Error}
 use Rattle.deny_run.specs.declared.error.Error.TheVariants.{ConfigRead, Memory, NotYet}

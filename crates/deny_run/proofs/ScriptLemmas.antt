@@ -5,23 +5,23 @@ use Rattle.tree_core.proofs.GainedLemmas.{Gained-then}
 use Rattle.tree_core.specs.Faults.{Rose, Gained, GainedPrefix}
 use Rattle.tree_core.specs.Script.{to_out, to_err, Script, FaultCounts, SinkTexts, Gains, IsCut, LineWritten, RefusedBy, is_target, text_for}
 use Rattle.tree_core.specs.Script as script
-use Rattle.heard_core.specs.Cause.{Cause, no_memory, failed_read, refused_write}
-use Rattle.heard_core.specs.Cause as causes
-use Rattle.heard_core.specs.declared.fault.ReadFault.TheVariants.{Failed, Absent, Folder, NotUtf8}
-use Rattle.load_core.specs.Answer.{Prints, WriteCounts, load_cause}
-use Rattle.load_core.specs.declared.error.LoadError.{LoadError}
-use Rattle.load_core.specs.declared.error.LoadError.TheVariants as load
+use Rattle.tree_texts.specs.Cause.{Cause, no_memory, failed_read, refused_write}
+use Rattle.tree_texts.specs.Cause as causes
+use Rattle.tree_texts.specs.declared.fault.ReadFault.TheVariants.{Failed, Absent, Folder, NotUtf8}
+use Rattle.policy_load.specs.Answer.{Prints, WriteCounts, load_cause}
+use Rattle.policy_load.specs.declared.error.LoadError.{LoadError}
+use Rattle.policy_load.specs.declared.error.LoadError.TheVariants as load
 use Rattle.deny_run.specs.declared.error.Error.{Error}
 use Rattle.deny_run.specs.declared.error.Error.TheVariants.{Memory, WriteFault}
 use Rattle.deny_run.specs.declared.error.Refusal.{Refusal}
 use Rattle.deny_run.specs.declared.error.Refusal.TheVariants as refusal
-use Rattle.workspace_core.specs.declared.error.KratesError.{KratesError}
-use Rattle.workspace_core.specs.declared.error.KratesError.TheVariants as krates
+use Rattle.graph_workspace.specs.declared.error.KratesError.{KratesError}
+use Rattle.graph_workspace.specs.declared.error.KratesError.TheVariants as krates
 use Rattle.deny_run.specs.declared.report.Report.{Report}
 use Rattle.deny_run.specs.Counts.{summary_of}
-use Rattle.print_core.specs.declared.printer.PrintError.{PrintError}
-use Rattle.print_core.specs.declared.printer.PrintError.TheVariants as print
-use Rattle.load_core.specs.Print.{HasReasonSince}
+use Rattle.diag_print.specs.declared.printer.PrintError.{PrintError}
+use Rattle.diag_print.specs.declared.printer.PrintError.TheVariants as print
+use Rattle.diag_print.specs.Findings.{HasReasonSince}
 use Rattle.deny_run.specs.Error.{cause_of, error_of, error_of_load, error_of_print, fault_line}
 use Rattle.deny_run.specs.Given.{RunArguments}
 use Rattle.deny_run.specs.Heard.{IsRunHearing, calls_of}

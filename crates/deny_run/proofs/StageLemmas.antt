@@ -10,20 +10,20 @@ use Rattle.tree_core.specs.Hearing.{MadeSome}
 use Rattle.tree_core.specs.Trace.{fault_behind}
 use Rattle.tree_core.proofs.MadeLemmas.{made_as, made_joined, made_these}
 use Rattle.diag_core.specs.File.{File}
-use Rattle.expression_core.specs.Scanned.{Scanner}
+use Rattle.gather_expression.specs.Scanned.{Scanner}
 use Rattle.graph_core.specs.Krate.{Record}
 use Rattle.graph_core.specs.Metadata.{Graph}
-use Rattle.heard_core.specs.Heard.{read_of, text_answered}
-use Rattle.heard_core.specs.declared.fault.ReadFault.{ReadFault}
-use Rattle.reads_core.specs.Read.{AreReads, call_lost, calls_in}
-use Rattle.pack_core.specs.Calls.{IsFront}
-use Rattle.priority_core.specs.Priority.{folder_of}
-use Rattle.selection_core.specs.Choice.{Choice}
-use Rattle.selection_core.specs.Listed.{Chosen, IsChosen, IsListOf, selected_in}
-use Rattle.selection_core.specs.Walks.{Selected}
-use Rattle.selection_core.proofs.SelectedLemmas.{selected-lists}
-use Rattle.valid_policy.specs.View.{policy_of}
-use Rattle.valid_policy.specs.declared.policy.ValidConfig.{ValidConfig}
+use Rattle.tree_texts.specs.Heard.{read_of, text_answered}
+use Rattle.tree_texts.specs.declared.fault.ReadFault.{ReadFault}
+use Rattle.tree_reads.specs.Read.{AreReads, call_lost, calls_in}
+use Rattle.gather_files.specs.Calls.{IsFront}
+use Rattle.gather_licence.specs.Priority.{folder_of}
+use Rattle.graph_selection.specs.Choice.{Choice}
+use Rattle.graph_selection.specs.Listed.{Chosen, IsChosen, IsListOf, selected_in}
+use Rattle.graph_selection.specs.Walks.{Selected}
+use Rattle.graph_selection.proofs.SelectedLemmas.{selected-lists}
+use Rattle.policy_valid.specs.View.{policy_of}
+use Rattle.policy_valid.specs.declared.policy.ValidConfig.{ValidConfig}
 use Rattle.check_core.specs.Labels.{VerdictPoints}
 use Rattle.check_core.specs.Summary.{gathered_of_licenses}
 use Rattle.gather_core.specs.Calls.{AreTurnsByReads, CrateReads, HasOwnReads, StarvesGathering, calls_of_all, reads_of_all, turns_of}
@@ -32,9 +32,9 @@ use Rattle.gather_core.specs.Gathered.{include_of, krate_of}
 use Rattle.gather_core.proofs.CrateTurns.{krates_told, own_turns}
 use Rattle.gather_core.specs.declared.summary.KrateLicense.{KrateLicense}
 use Rattle.policy_core.specs.declared.load.LoadedPolicy.{LoadedPolicy}
-use Rattle.workspace_core.specs.Krates.{AreFrom, GathersBy, IsCarried}
-use Rattle.workspace_core.specs.declared.error.KratesError.{KratesError}
-use Rattle.workspace_core.specs.declared.error.KratesError.TheVariants as krates
+use Rattle.graph_workspace.specs.Krates.{AreFrom, GathersBy, IsCarried}
+use Rattle.graph_workspace.specs.declared.error.KratesError.{KratesError}
+use Rattle.graph_workspace.specs.declared.error.KratesError.TheVariants as krates
 use Rattle.deny_run.specs.declared.check.CheckedCrates.{CheckedCrates}
 use Rattle.deny_run.specs.Hearing.{MadeOn, TreeSeen, seen}
 use Rattle.deny_run.specs.Selection.{choice_by}

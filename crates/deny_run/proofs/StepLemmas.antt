@@ -9,10 +9,10 @@ use Rattle.diag_core.specs.File.{File}
 use Rattle.graph_core.specs.Krate.{Record}
 use Rattle.gather_core.specs.Calls.{StarvesGathering}
 use Rattle.gather_core.specs.Entries.{ClarificationEntry}
-use Rattle.expression_core.specs.Scanned.{Scanner}
-use Rattle.heard_core.specs.Cause.{Cause, no_memory, told, failed_read, refused_write, ReadCounts}
-use Rattle.print_core.specs.declared.printer.PrintError.{PrintError}
-use Rattle.print_core.specs.declared.printer.PrintError.TheVariants as print
+use Rattle.gather_expression.specs.Scanned.{Scanner}
+use Rattle.tree_texts.specs.Cause.{Cause, no_memory, told, failed_read, refused_write, ReadCounts}
+use Rattle.diag_print.specs.declared.printer.PrintError.{PrintError}
+use Rattle.diag_print.specs.declared.printer.PrintError.TheVariants as print
 use Rattle.deny_run.specs.Error.{cause_of, error_of_print}
 
 -- ---- counts

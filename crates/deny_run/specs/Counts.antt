@@ -6,8 +6,8 @@ use Rattle.diag_core.specs.Pack.{PackOf}
 use Rattle.diag_core.specs.Severity.{is_same_severity}
 use Rattle.diag_core.specs.declared.severity.Severity.{Severity}
 use Rattle.diag_core.specs.declared.severity.Severity.TheVariants as severity
-use Rattle.certificate_core.specs.declared.verdict.Verdict.{Verdict}
-use Rattle.certificate_core.specs.declared.verdict.Verdict.TheVariants.{Accepted, Rejected, Skipped, Unlicensed}
+use Rattle.spdx_certificates.specs.declared.verdict.Verdict.{Verdict}
+use Rattle.spdx_certificates.specs.declared.verdict.Verdict.TheVariants.{Accepted, Rejected, Skipped, Unlicensed}
 use Rattle.deny_run.specs.declared.report.Stats.{Stats}
 use Rattle.deny_run.specs.declared.report.AllStats.{AllStats}
 

@@ -1,16 +1,16 @@
 -- The errors' words, and why they come.
 use Rattle.std.specs.Prelude.{ℕ, List, ◌++◌, codes}
-use Rattle.heard_core.specs.declared.fault.ReadFault.TheVariants.{Failed}
-use Rattle.workspace_core.specs.declared.error.KratesError.{KratesError}
-use Rattle.workspace_core.specs.declared.error.KratesError.TheVariants as krates
-use Rattle.heard_core.specs.Cause.{Cause, no_memory, told, failed_read, refused_write}
-use Rattle.load_core.specs.declared.error.LoadError.{LoadError}
-use Rattle.load_core.specs.declared.error.LoadError.TheVariants as load
-use Rattle.print_core.specs.declared.printer.PrintError.{PrintError}
-use Rattle.print_core.specs.declared.printer.PrintError.TheVariants as print
-use Rattle.search_core.specs.declared.search.SearchError.{SearchError}
-use Rattle.search_core.specs.declared.search.SearchError.TheVariants as search
-use Rattle.workspace_core.specs.declared.error.What.TheVariants.{ExcludeSpec}
+use Rattle.tree_texts.specs.declared.fault.ReadFault.TheVariants.{Failed}
+use Rattle.graph_workspace.specs.declared.error.KratesError.{KratesError}
+use Rattle.graph_workspace.specs.declared.error.KratesError.TheVariants as krates
+use Rattle.tree_texts.specs.Cause.{Cause, no_memory, told, failed_read, refused_write}
+use Rattle.policy_load.specs.declared.error.LoadError.{LoadError}
+use Rattle.policy_load.specs.declared.error.LoadError.TheVariants as load
+use Rattle.diag_print.specs.declared.printer.PrintError.{PrintError}
+use Rattle.diag_print.specs.declared.printer.PrintError.TheVariants as print
+use Rattle.tree_texts.specs.declared.search.SearchError.{SearchError}
+use Rattle.tree_texts.specs.declared.search.SearchError.TheVariants as search
+use Rattle.graph_workspace.specs.declared.error.What.TheVariants.{ExcludeSpec}
 use Rattle.deny_run.specs.declared.error.InputPart.TheVariants.{Words}
 use Rattle.deny_run.specs.declared.error.Error.{Error}
 use Rattle.deny_run.specs.declared.error.Error.TheVariants.{Memory, NotCarried, ConfigRead, ConfigSyntax, ConfigShape, ConfigInvalid, MetadataRead, MetadataSyntax, MetadataShape, NoRoots, WriteFault, NotYet}

@@ -1,8 +1,8 @@
 -- What a run is given, but for its files.
 use Rattle.std.specs.Prelude.{ℕ, List}
 use Rattle.std.specs.declared.string.String.{String}
-use Rattle.catalog_core.specs.Catalog.{CatalogLists}
-use Rattle.catalog_core.specs.declared.identifier.Match.{Match}
+use Rattle.spdx_catalog.specs.Catalog.{CatalogLists}
+use Rattle.spdx_catalog.specs.declared.identifier.Match.{Match}
 use Rattle.deny_run.specs.Words.{texts}
 
 -- the catalogue's lists, what the identifier says of each text, the words and the working folder

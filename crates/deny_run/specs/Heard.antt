@@ -6,23 +6,23 @@ use Rattle.tree_core.specs.Call.{Call}
 use Rattle.tree_core.specs.Trace.{faults_after}
 use Rattle.tree_core.specs.declared.reads.ReadKind.TheVariants.{Manifest}
 use Rattle.tree_core.specs.declared.reads.ReadRecord.{ReadRecord}
-use Rattle.catalog_core.specs.Catalog.{CatalogLists}
+use Rattle.spdx_catalog.specs.Catalog.{CatalogLists}
 use Rattle.spdx_core.specs.Reading.{ExpressionView}
 use Rattle.graph_core.specs.Krate.{Record}
 use Rattle.graph_core.specs.Metadata.{Graph}
-use Rattle.reads_core.specs.Read.{records_of_reads}
-use Rattle.heard_core.specs.declared.fault.ReadFault.{ReadFault}
-use Rattle.heard_core.specs.declared.fault.ReadFault.TheVariants.{Failed}
-use Rattle.search_core.specs.Search.{candidates}
-use Rattle.search_core.specs.declared.search.SoughtFile.TheVariants.{Exceptions}
-use Rattle.workspace_core.specs.declared.error.KratesError.{KratesError}
-use Rattle.workspace_core.specs.Krates.{graph_in}
-use Rattle.pack_core.specs.Ears.{FolderReads, ears_by}
-use Rattle.expression_core.specs.Scanned.{Scanner}
-use Rattle.priority_core.specs.Clarification.{ClarificationView}
-use Rattle.priority_core.specs.Priority.{LicenseAnswer, is_nothing, priority_of, records_of}
+use Rattle.tree_reads.specs.Read.{records_of_reads}
+use Rattle.tree_texts.specs.declared.fault.ReadFault.{ReadFault}
+use Rattle.tree_texts.specs.declared.fault.ReadFault.TheVariants.{Failed}
+use Rattle.tree_texts.specs.Search.{candidates}
+use Rattle.tree_texts.specs.declared.search.SoughtFile.TheVariants.{Exceptions}
+use Rattle.graph_workspace.specs.declared.error.KratesError.{KratesError}
+use Rattle.graph_workspace.specs.Krates.{graph_in}
+use Rattle.gather_files.specs.Ears.{FolderReads, ears_by}
+use Rattle.gather_expression.specs.Scanned.{Scanner}
+use Rattle.gather_licence.specs.Clarification.{ClarificationView}
+use Rattle.gather_licence.specs.Priority.{LicenseAnswer, is_nothing, priority_of, records_of}
 use Rattle.diag_core.specs.File.{File, file_id_at}
-use Rattle.valid_policy.specs.declared.policy.ValidConfig.{ValidConfig}
+use Rattle.policy_valid.specs.declared.policy.ValidConfig.{ValidConfig}
 use Rattle.gather_core.specs.Calls.{CrateReads, CrateTurn, calls_of_all, turns_of}
 use Rattle.gather_core.specs.Entries.{clarifications_of, entries_of}
 use Rattle.gather_core.specs.Gathered.{threshold_of}
@@ -34,10 +34,10 @@ use Rattle.policy_text.specs.Config.{config_of_text}
 use Rattle.policy_text.specs.Text.{config_text_of}
 use Rattle.policy_text.specs.declared.error.ConfigError.{ConfigError}
 use Rattle.policy_text.specs.declared.text.ConfigText.{ConfigText}
-use Rattle.load_core.specs.Heard.{LoadHeard}
-use Rattle.load_core.specs.Load.{LoadResult, load_of, with_policy}
-use Rattle.load_core.specs.declared.error.LoadError.{LoadError}
-use Rattle.load_core.specs.declared.loading.PolicyPaths.{PolicyPaths}
+use Rattle.policy_load.specs.Heard.{LoadHeard}
+use Rattle.policy_load.specs.Load.{LoadResult, load_of, with_policy}
+use Rattle.policy_load.specs.declared.error.LoadError.{LoadError}
+use Rattle.policy_load.specs.declared.loading.PolicyPaths.{PolicyPaths}
 use Rattle.deny_run.specs.declared.error.InputPart.TheVariants.{Words}
 use Rattle.deny_run.specs.declared.error.Error.{Error}
 use Rattle.deny_run.specs.declared.error.Error.TheVariants.{ConfigRead, NotYet}

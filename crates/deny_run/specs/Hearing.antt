@@ -6,10 +6,10 @@ use Rattle.tree_core.specs.Content.{Content}
 use Rattle.tree_core.specs.Hearing.{Made}
 use Rattle.tree_core.specs.Trace.{fault_behind}
 use Rattle.graph_core.specs.Krate.{Record}
-use Rattle.heard_core.specs.Heard.{read_of, text_answered}
-use Rattle.heard_core.specs.declared.fault.ReadFault.{ReadFault}
-use Rattle.heard_core.specs.declared.fault.ReadFault.TheVariants.{Absent}
-use Rattle.search_core.specs.Looked.{look_of}
+use Rattle.tree_texts.specs.Heard.{read_of, text_answered}
+use Rattle.tree_texts.specs.declared.fault.ReadFault.{ReadFault}
+use Rattle.tree_texts.specs.declared.fault.ReadFault.TheVariants.{Absent}
+use Rattle.tree_texts.specs.Looked.{look_of}
 use Rattle.gather_core.specs.Calls.{CrateReads}
 
 -- What is heard in a run: the tree's count of faults when it began, and what its calls were answered: the looks for an exceptions file,

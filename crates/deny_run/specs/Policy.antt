@@ -1,14 +1,14 @@
 -- The policy's bytes: when its two files are a policy, in words of texts, values and shapes.
 use Rattle.std.specs.Prelude.{◌≡◌, ℕ, false, List, [], ◌∷◌, Option, Some, None, Result, Ok}
 use Rattle.std.specs.List.{list_any}
-use Rattle.catalog_core.specs.Catalog.{CatalogLists}
-use Rattle.selection_core.specs.Choice.{is_uncarried}
+use Rattle.spdx_catalog.specs.Catalog.{CatalogLists}
+use Rattle.graph_selection.specs.Choice.{is_uncarried}
 use Rattle.diag_core.specs.File.{File, file_id_at}
-use Rattle.heard_core.specs.declared.fault.ReadFault.{ReadFault}
-use Rattle.load_core.specs.Heard.{LoadHeard}
-use Rattle.load_core.specs.Load.{policy_file}
-use Rattle.load_core.specs.Print.{is_error}
-use Rattle.load_core.specs.declared.loading.PolicyPaths.{PolicyPaths}
+use Rattle.tree_texts.specs.declared.fault.ReadFault.{ReadFault}
+use Rattle.policy_load.specs.Heard.{LoadHeard}
+use Rattle.policy_load.specs.Load.{policy_file}
+use Rattle.diag_print.specs.Findings.{is_error}
+use Rattle.policy_load.specs.declared.loading.PolicyPaths.{PolicyPaths}
 use Rattle.policy_config.specs.Root.{root_of}
 use Rattle.policy_config.specs.declared.root.RootConfig.{RootConfig}
 use Rattle.policy_core.specs.Exceptions.{ExceptionsRead, no_file, value}

@@ -7,32 +7,32 @@ use Rattle.tree_core.specs.declared.reads.ReadRecord.{ReadRecord}
 use Rattle.spdx_core.specs.Reading.{ExpressionView}
 use Rattle.graph_core.specs.Krate.{Record}
 use Rattle.graph_core.specs.Metadata.{Graph}
-use Rattle.records_core.specs.Records.{metadata_of}
-use Rattle.selection_core.specs.Roots.{HasRoot}
-use Rattle.reads_core.specs.Read.{AreReads, call_lost, records_of_reads}
-use Rattle.pack_core.specs.Calls.{IsFront}
-use Rattle.workspace_core.specs.Krates.{sparse_dir}
-use Rattle.valid_policy.specs.View.{policy_of}
-use Rattle.valid_policy.specs.declared.policy.ValidConfig.{ValidConfig}
-use Rattle.certificate_core.specs.declared.verdict.Verdict.{Verdict}
-use Rattle.priority_core.specs.Priority.{LicenseAnswer, folder_of}
+use Rattle.graph_metadata.specs.Records.{metadata_of}
+use Rattle.graph_selection.specs.Roots.{HasRoot}
+use Rattle.tree_reads.specs.Read.{AreReads, call_lost, records_of_reads}
+use Rattle.gather_files.specs.Calls.{IsFront}
+use Rattle.graph_workspace.specs.Krates.{sparse_dir}
+use Rattle.policy_valid.specs.View.{policy_of}
+use Rattle.policy_valid.specs.declared.policy.ValidConfig.{ValidConfig}
+use Rattle.spdx_certificates.specs.declared.verdict.Verdict.{Verdict}
+use Rattle.gather_licence.specs.Priority.{LicenseAnswer, folder_of}
 use Rattle.diag_core.specs.File.{File}
-use Rattle.expression_core.specs.Scanned.{Scanner}
+use Rattle.gather_expression.specs.Scanned.{Scanner}
 use Rattle.gather_core.specs.Calls.{CrateReads, CrateTurn, HasOwnReads, files_behind_all, reads_of_all, turn_by, turns_of}
 use Rattle.gather_core.specs.Entries.{entries_of}
 use Rattle.gather_core.specs.Told.{notes_of, source_view}
 use Rattle.gather_core.specs.Turns.{IsCutOut, info_in, records_in}
-use Rattle.finding_core.specs.declared.license.LicenseExprSource.{LicenseExprSource}
-use Rattle.finding_core.specs.declared.license.LicenseInfo.{LicenseInfo}
-use Rattle.finding_core.specs.declared.license.LicenseInfo.TheVariants.{SpdxExpression}
-use Rattle.finding_core.specs.declared.license.LicenseInfo.TheVariants as license_info
+use Rattle.gather_findings.specs.declared.license.LicenseExprSource.{LicenseExprSource}
+use Rattle.gather_findings.specs.declared.license.LicenseInfo.{LicenseInfo}
+use Rattle.gather_findings.specs.declared.license.LicenseInfo.TheVariants.{SpdxExpression}
+use Rattle.gather_findings.specs.declared.license.LicenseInfo.TheVariants as license_info
 use Rattle.check_core.specs.Check.{AreVerdicts, findings_of}
 use Rattle.check_core.specs.Labels.{PackLies, VerdictPoints}
 use Rattle.check_core.specs.Verdicts.{IsVerdict}
-use Rattle.validate_core.specs.Order.{PutsPolicyInOrder}
-use Rattle.heard_core.specs.Cause.{Cause, no_memory, refused_write}
+use Rattle.policy_validate.specs.Order.{PutsPolicyInOrder}
+use Rattle.tree_texts.specs.Cause.{Cause, no_memory, refused_write}
 use Rattle.policy_core.specs.Policy.{PolicyFound}
-use Rattle.load_core.specs.declared.loading.PolicyPaths.{PolicyPaths}
+use Rattle.policy_load.specs.declared.loading.PolicyPaths.{PolicyPaths}
 use Rattle.deny_run.specs.declared.error.Error.{Error}
 use Rattle.deny_run.specs.declared.report.CrateReport.{CrateReport}
 use Rattle.deny_run.specs.declared.report.Report.{Report}

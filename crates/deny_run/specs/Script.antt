@@ -3,13 +3,13 @@ use Rattle.std.specs.Prelude.{◌≡◌, ◌⊎◌, ℕ, List, [], ◌∷◌, �
 use Rattle.tree_core.specs.Faults.{Rose, Gained, GainedPrefix}
 use Rattle.tree_core.specs.Script.{to_out, to_err, Script, FaultCounts, SinkTexts, Gains, IsCut, IsLineOrFront}
 use Rattle.diag_core.specs.declared.severity.LevelFilter.TheVariants.{Warn}
-use Rattle.heard_core.specs.Cause as causes
-use Rattle.heard_core.specs.Cause.{Cause, no_memory, refused_write}
-use Rattle.print_core.specs.declared.context.Color.TheVariants.{Auto}
-use Rattle.print_core.specs.declared.context.Format.TheVariants.{Human}
-use Rattle.print_core.specs.declared.context.LogContext.{LogContext}
-use Rattle.load_core.specs.Load.{LoadResult}
-use Rattle.load_core.specs.Print.{printed_findings, printed_packs}
+use Rattle.tree_texts.specs.Cause as causes
+use Rattle.tree_texts.specs.Cause.{Cause, no_memory, refused_write}
+use Rattle.diag_print.specs.declared.context.Color.TheVariants.{Auto}
+use Rattle.diag_print.specs.declared.context.Format.TheVariants.{Human}
+use Rattle.diag_print.specs.declared.context.LogContext.{LogContext}
+use Rattle.policy_load.specs.Load.{LoadResult}
+use Rattle.diag_print.specs.Findings.{printed_findings, printed_packs}
 use Rattle.deny_run.specs.declared.error.Error.{Error}
 use Rattle.deny_run.specs.declared.report.Report.{Report}
 use Rattle.deny_run.specs.Counts.{summary_of}

@@ -3,11 +3,11 @@ use Rattle.std.specs.Prelude.{◌≡◌, ℕ, List, false, Result, Ok, Err}
 use Rattle.std.specs.List.{filter_map}
 use Rattle.graph_core.specs.Krate.{Record}
 use Rattle.graph_core.specs.Metadata.{Graph}
-use Rattle.selection_core.specs.declared.selection.Include.{Include}
-use Rattle.selection_core.specs.Choice.{Choice, spec_read}
-use Rattle.selection_core.specs.Listed.{IsListOf}
-use Rattle.selection_core.specs.Roots.{LacksRoots}
-use Rattle.selection_core.specs.Walks.{Selected}
+use Rattle.graph_selection.specs.declared.selection.Include.{Include}
+use Rattle.graph_selection.specs.Choice.{Choice, spec_read}
+use Rattle.graph_selection.specs.Listed.{IsListOf}
+use Rattle.graph_selection.specs.Roots.{LacksRoots}
+use Rattle.graph_selection.specs.Walks.{Selected}
 use Rattle.policy_core.specs.Policy.{PolicyFound}
 use Rattle.gather_core.specs.Gathered.{include_of}
 use Rattle.deny_run.specs.declared.error.Error.{Error}

@@ -2,42 +2,42 @@
 use Rattle.std.specs.Prelude.{◌≡◌, ◌⊎◌, ℕ, List, [], ◌∷◌, ◌++◌, map, Option, Some, None, Result, Ok, Err, All}
 use Rattle.tree_core.specs.Call.{CallAnswer, Call}
 use Rattle.tree_core.specs.Trace.{fault_behind}
-use Rattle.catalog_core.specs.Catalog.{CatalogLists}
-use Rattle.catalog_core.specs.declared.identifier.Match.{Match}
+use Rattle.spdx_catalog.specs.Catalog.{CatalogLists}
+use Rattle.spdx_catalog.specs.declared.identifier.Match.{Match}
 use Rattle.spdx_core.specs.Reading.{ExpressionView}
 use Rattle.graph_core.specs.Krate.{Record}
 use Rattle.graph_core.specs.Metadata.{Graph}
 use Rattle.diag_core.specs.File.{File}
-use Rattle.reads_core.specs.Read.{AreReads}
-use Rattle.heard_core.specs.Heard.{read_of, text_answered}
-use Rattle.heard_core.specs.declared.fault.ReadFault.{ReadFault}
-use Rattle.search_core.specs.Looked.{FindsByLooks}
-use Rattle.search_core.specs.Search.{candidates}
-use Rattle.search_core.specs.declared.search.SoughtFile.TheVariants.{Exceptions}
-use Rattle.selection_core.specs.Choice.{Choice}
-use Rattle.selection_core.specs.Listed.{IsListOf}
-use Rattle.selection_core.specs.Roots.{HasRoot}
-use Rattle.selection_core.specs.Walks.{Selected}
-use Rattle.workspace_core.specs.Krates.{AreFrom, IsCarried, graph_in}
-use Rattle.workspace_core.specs.declared.error.KratesError.{KratesError}
-use Rattle.workspace_core.specs.declared.error.KratesError.TheVariants as krates
-use Rattle.expression_core.specs.Scanned.{Scanner}
-use Rattle.valid_policy.specs.View.{policy_of}
-use Rattle.valid_policy.specs.declared.policy.ValidConfig.{ValidConfig}
-use Rattle.finding_core.specs.declared.license.LicenseInfo.{LicenseInfo}
-use Rattle.finding_core.specs.declared.license.LicenseInfo.TheVariants.{SpdxExpression}
-use Rattle.finding_core.specs.declared.license.LicenseInfo.TheVariants as license_info
+use Rattle.tree_reads.specs.Read.{AreReads}
+use Rattle.tree_texts.specs.Heard.{read_of, text_answered}
+use Rattle.tree_texts.specs.declared.fault.ReadFault.{ReadFault}
+use Rattle.tree_texts.specs.Looked.{FindsByLooks}
+use Rattle.tree_texts.specs.Search.{candidates}
+use Rattle.tree_texts.specs.declared.search.SoughtFile.TheVariants.{Exceptions}
+use Rattle.graph_selection.specs.Choice.{Choice}
+use Rattle.graph_selection.specs.Listed.{IsListOf}
+use Rattle.graph_selection.specs.Roots.{HasRoot}
+use Rattle.graph_selection.specs.Walks.{Selected}
+use Rattle.graph_workspace.specs.Krates.{AreFrom, IsCarried, graph_in}
+use Rattle.graph_workspace.specs.declared.error.KratesError.{KratesError}
+use Rattle.graph_workspace.specs.declared.error.KratesError.TheVariants as krates
+use Rattle.gather_expression.specs.Scanned.{Scanner}
+use Rattle.policy_valid.specs.View.{policy_of}
+use Rattle.policy_valid.specs.declared.policy.ValidConfig.{ValidConfig}
+use Rattle.gather_findings.specs.declared.license.LicenseInfo.{LicenseInfo}
+use Rattle.gather_findings.specs.declared.license.LicenseInfo.TheVariants.{SpdxExpression}
+use Rattle.gather_findings.specs.declared.license.LicenseInfo.TheVariants as license_info
 use Rattle.gather_core.specs.Calls.{AreTurnsBy, CrateReads, calls_of_all, reads_of_all, turns_of}
 use Rattle.gather_core.specs.Entries.{entries_of}
 use Rattle.gather_core.specs.Gathered.{include_of, krate_of, threshold_of}
 use Rattle.gather_core.specs.declared.summary.KrateLicense.{KrateLicense}
 use Rattle.policy_core.specs.declared.load.LoadedPolicy.{LoadedPolicy}
-use Rattle.load_core.specs.declared.loading.PolicyPaths.{PolicyPaths}
+use Rattle.policy_load.specs.declared.loading.PolicyPaths.{PolicyPaths}
 use Rattle.deny_run.specs.declared.error.Refusal.{Refusal}
 use Rattle.deny_run.specs.declared.error.Refusal.TheVariants.{Memory, Krates}
 use Rattle.deny_run.specs.declared.report.CrateReport.{CrateReport}
 use Rattle.deny_run.specs.declared.check.CheckedCrates.{CheckedCrates}
-use Rattle.certificate_core.specs.declared.verdict.Verdict.{Verdict}
+use Rattle.spdx_certificates.specs.declared.verdict.Verdict.{Verdict}
 use Rattle.check_core.specs.Check.{AreVerdicts, findings_of}
 use Rattle.check_core.specs.Labels.{VerdictPoints}
 use Rattle.check_core.specs.Summary.{gathered_of_licenses}

@@ -1,12 +1,12 @@
 //! The licences of all crates, and the check of them.
 ghost use Rattle.std.specs.Prelude.{◌≡◌, ◌≤◌, All, IfOk, OnErr};
 ghost use Rattle.graph_core.specs.Metadata.{Graph};
-ghost use Rattle.selection_core.specs.Choice.{Choice};
-ghost use Rattle.selection_core.specs.Listed.{IsChosen};
-ghost use Rattle.valid_policy.specs.View.{policy_of};
+ghost use Rattle.graph_selection.specs.Choice.{Choice};
+ghost use Rattle.graph_selection.specs.Listed.{IsChosen};
+ghost use Rattle.policy_valid.specs.View.{policy_of};
 ghost use Rattle.policy_core.specs.Places.{PolicyStands};
 ghost use Rattle.gather_core.specs.Premises.{IsPlacedAt};
-ghost use Rattle.unused_core.specs.Laws.{EntriesLie};
+ghost use Rattle.check_unused.specs.Laws.{EntriesLie};
 ghost use Rattle.check_core.specs.Labels.{PackLies, VerdictPoints};
 ghost use Rattle.check_core.specs.Summary.{gathered_of_licenses};
 ghost use Rattle.deny_run.specs.Hearing.{seen};
@@ -16,13 +16,13 @@ use crate::report::CrateReport;
 use check_core::{CheckCtx, Verdicts, judge_all};
 use deny_text::{ListOf, Text};
 use diag_core::{ErrorSink, Files, LevelFilter, Packs};
-use evaluate_core::Verdict;
+use check_evaluate::Verdict;
 use gather_core::{Gatherer, KrateLicense, KrateLicenses, LicenseInfo, Summary};
 use spdx_core::{Catalog, Identifier};
 use std::alloc::{AllocError, Global};
 use tree_core::Tree;
-use valid_policy::ValidConfig;
-use workspace_core::Krates;
+use policy_valid::ValidConfig;
+use graph_workspace::Krates;
 
 /// What a check of all crates comes to, and the policy that it was made by.
 #[derive(Drop)]

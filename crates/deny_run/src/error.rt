@@ -2,11 +2,11 @@
 ghost use Rattle.std.specs.Prelude.{◌≡◌};
 ghost use Rattle.deny_run.specs.Error.{fault_line};
 
-use load_core::{Diagnostics, LoadError, ReadFault, ShapeErrors, SyntaxError};
-use print_core::PrintError;
-use search_core::SearchError;
+use policy_load::{Diagnostics, LoadError, ReadFault, ShapeErrors, SyntaxError};
+use diag_print::PrintError;
+use tree_texts::SearchError;
 use std::alloc::AllocError;
-use workspace_core::{KratesError, MetaFault, What};
+use graph_workspace::{KratesError, MetaFault, What};
 
 /// A part of the input, in the order in which they are looked at.
 #[derive(Debug, Drop)]

@@ -9,8 +9,8 @@ mod stages;
 pub mod words;
 
 pub use gather_core::LicenseExprSource;
-pub use load_core::{
+pub use policy_load::{
     Diagnostics, ErrorKind, ReadFault, ShapeError, ShapeErrors, SyntaxError, SyntaxReason,
     ValidConfig,
 };
-pub use print_core::{Color, DiagPrinter, Format, LogContext, OutputLock, PrintError};
+pub use diag_print::{Color, DiagPrinter, Format, LogContext, OutputLock, PrintError};

@@ -5,7 +5,7 @@ ghost use Rattle.deny_run.specs.Counts.{count_at, count_in};
 use crate::error::Error;
 use deny_text::{ListOf, Text};
 use diag_core::{Files, Notes, Pack, Packs, Severity};
-pub use evaluate_core::Verdict;
+pub use check_evaluate::Verdict;
 use gather_core::LicenseExprSource;
 use policy_core::ValidConfig;
 use spdx_core::Expression;

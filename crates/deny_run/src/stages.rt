@@ -1,10 +1,10 @@
 //! The stages of a run before its verdicts: where the policy's files are, and the crates that are checked.
 ghost use Rattle.std.specs.Prelude.{◌≡◌, ◌≤◌, All, IfErr, IfOk};
 ghost use Rattle.tree_core.specs.Hearing.{MadeSome};
-ghost use Rattle.heard_core.specs.Cause.{ReadCounts};
-ghost use Rattle.search_core.specs.Looked.{LookedUntil};
-ghost use Rattle.search_core.specs.Search.{candidates, search_cause};
-ghost use Rattle.selection_core.specs.Choice.{choice_of};
+ghost use Rattle.tree_texts.specs.Cause.{ReadCounts};
+ghost use Rattle.tree_texts.specs.Looked.{LookedUntil};
+ghost use Rattle.tree_texts.specs.Search.{candidates, search_cause};
+ghost use Rattle.graph_selection.specs.Choice.{choice_of};
 ghost use Rattle.policy_core.specs.Places.{PolicyStands};
 ghost use Rattle.check_core.specs.Labels.{PackLies};
 ghost use Rattle.deny_run.specs.Error.{cause_of, error_of};
@@ -18,13 +18,13 @@ use crate::error::Refusal;
 use deny_text::path::join;
 use deny_text::{PathBuf, Texts};
 use diag_core::Files;
-use load_core::{LoadedPolicy, PolicyPaths};
-use search_core::{SearchError, SoughtFile, find_upwards};
-use selection_core::read_specs;
+use policy_load::{LoadedPolicy, PolicyPaths};
+use tree_texts::{SearchError, SoughtFile, find_upwards};
+use graph_selection::read_specs;
 use spdx_core::{Catalog, Identifier};
 use std::alloc::{AllocError, Global};
 use tree_core::Tree;
-use workspace_core::{ExcludeSpecs, Selection, krates_at};
+use graph_workspace::{ExcludeSpecs, Selection, krates_at};
 
 /// Where the two files of a policy are, where the policy's path is given: the exceptions file is looked for
 /// in the folder `cwd` and those above it. `begun` is the tree's count of faults when the run began.

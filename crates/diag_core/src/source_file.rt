@@ -12,7 +12,7 @@ use crate::line_scan;
 use crate::position::{FilesErr, Location};
 use deny_text::path::compare;
 use deny_text::{PathBuf, Span, Text};
-use manifest_core::license_span;
+use diag_texts::license_span;
 use std::alloc::Global;
 use std::marker::Model;
 

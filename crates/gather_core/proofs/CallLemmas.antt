@@ -10,24 +10,24 @@ use Rattle.tree_core.specs.declared.reads.ReadKind.TheVariants.{Manifest, Listin
 use Rattle.tree_core.specs.declared.reads.ReadRecord.{ReadRecord}
 use Rattle.diag_core.specs.File.{File, Grows, file_id_at}
 use Rattle.graph_core.specs.Krate.{Record}
-use Rattle.reads_core.specs.Heard.{ReadResult, absent, is_kind, is_read}
-use Rattle.reads_core.specs.Read.{AnsweredRead, first_heard, read_heard, records_of_reads}
-use Rattle.reads_core.proofs.ReadLemmas.{lacked_behind, no_reads, reads_joined, reads_lacking, records_in-append}
-use Rattle.pack_core.specs.Calls.{IsFront, StarvesAmong}
-use Rattle.pack_core.specs.Ears.{FolderReads, ears_by}
-use Rattle.pack_core.specs.Pack.{reads_of}
-use Rattle.pack_core.specs.Steps.{file_record, records_by}
-use Rattle.pack_core.proofs.CallLemmas.{first_false, front_then, second_false}
-use Rattle.expression_core.specs.Scanned.{Scanner}
-use Rattle.finding_core.proofs.GrowLemmas.{grows_same}
-use Rattle.location_core.specs.declared.location.LocatedField.{LocatedField}
-use Rattle.location_core.specs.Calls.{IsLocatedBy, StarvesLocating, manifest_by}
-use Rattle.location_core.specs.Location.{located_by, located_of}
-use Rattle.priority_core.specs.declared.settle.SettledLicense.{SettledLicense}
-use Rattle.priority_core.specs.Calls.{IsByReads}
-use Rattle.priority_core.specs.Clarification.{ClarificationView, named_files}
-use Rattle.priority_core.specs.Priority.{folder_of, is_nothing, looks_at_files, records_of}
-use Rattle.priority_core.specs.Settled.{IsSettledBy}
+use Rattle.tree_reads.specs.Heard.{ReadResult, absent, is_kind, is_read}
+use Rattle.tree_reads.specs.Read.{AnsweredRead, first_heard, read_heard, records_of_reads}
+use Rattle.tree_reads.proofs.ReadLemmas.{lacked_behind, no_reads, reads_joined, reads_lacking, records_in-append}
+use Rattle.gather_files.specs.Calls.{IsFront, StarvesAmong}
+use Rattle.gather_files.specs.Ears.{FolderReads, ears_by}
+use Rattle.gather_files.specs.Pack.{reads_of}
+use Rattle.gather_files.specs.Steps.{file_record, records_by}
+use Rattle.gather_files.proofs.CallLemmas.{first_false, front_then, second_false}
+use Rattle.gather_expression.specs.Scanned.{Scanner}
+use Rattle.gather_findings.proofs.GrowLemmas.{grows_same}
+use Rattle.gather_location.specs.declared.location.LocatedField.{LocatedField}
+use Rattle.gather_location.specs.Calls.{IsLocatedBy, StarvesLocating, manifest_by}
+use Rattle.gather_location.specs.Location.{located_by, located_of}
+use Rattle.gather_licence.specs.declared.settle.SettledLicense.{SettledLicense}
+use Rattle.gather_licence.specs.Calls.{IsByReads}
+use Rattle.gather_licence.specs.Clarification.{ClarificationView, named_files}
+use Rattle.gather_licence.specs.Priority.{folder_of, is_nothing, looks_at_files, records_of}
+use Rattle.gather_licence.specs.Settled.{IsSettledBy}
 use Rattle.gather_core.specs.declared.turn.LocatedLicense.{LocatedLicense}
 use Rattle.gather_core.specs.Calls.{IsByOwnReads, StarvesTaking}
 use Rattle.gather_core.specs.Taken.{IsLocatedWhere, IsTaken, is_clarified, turn_with}

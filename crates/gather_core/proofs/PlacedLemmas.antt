@@ -6,27 +6,27 @@ use Rattle.std.specs.Option.{option_to_list}
 use Rattle.std.specs.Str.{IsCharBoundary}
 use Rattle.std.proofs.lemmas.List.Elements.{All-append, All-cons, All-filter, All-head, All-map, All-nil, All-tail, All-weaker}
 use Rattle.deny_text.specs.declared.span.Span.{Span}
-use Rattle.catalog_core.specs.Catalog.{CatalogLists}
-use Rattle.term_core.specs.declared.error.ParseError.{ParseError}
+use Rattle.spdx_catalog.specs.Catalog.{CatalogLists}
+use Rattle.spdx_terms.specs.declared.error.ParseError.{ParseError}
 use Rattle.spdx_core.specs.Reading.{ExpressionView}
 use Rattle.diag_core.specs.declared.label.Coord.{Coord}
 use Rattle.diag_core.specs.declared.label.Label.{Label}
 use Rattle.diag_core.specs.File.{File, file_id_at, source_of_file}
 use Rattle.graph_core.specs.Krate.{Record}
-use Rattle.reads_core.specs.Heard.{ReadResult, failed, absent, wrong_kind, not_utf8, text, entries}
-use Rattle.pack_core.specs.Ears.{FolderReads, holds, missing_from}
+use Rattle.tree_reads.specs.Heard.{ReadResult, failed, absent, wrong_kind, not_utf8, text, entries}
+use Rattle.gather_files.specs.Ears.{FolderReads, holds, missing_from}
 use Rattle.policy_spec.specs.Matching.{spec_matches}
-use Rattle.location_core.specs.Location.{files_by, files_with_manifest, joined_by, span_in}
-use Rattle.manifest_core.specs.Synthetic.{cut}
-use Rattle.finding_core.specs.Cuts.{LabelLies, labels_of, text_under}
-use Rattle.finding_core.proofs.GrowLemmas.{grows_itself}
-use Rattle.finding_core.proofs.LicenseLemmas.{info_grown, place_grown, stands_grown}
-use Rattle.priority_core.specs.declared.settling.FilesSeen.{FilesSeen}
-use Rattle.priority_core.specs.declared.settling.LicenseBasis.{LicenseBasis}
-use Rattle.priority_core.specs.declared.settling.LicenseBasis.TheVariants.{Clarified, Field, Files}
-use Rattle.priority_core.specs.Clarification.{ClarificationView, PlacedFile, held_in, named_in}
-use Rattle.priority_core.specs.Priority.{by_seen, field_of, files_scanned, holding, seen_by, settling_by}
-use Rattle.priority_core.specs.Settled.{missing_in, missing_of, span_at}
+use Rattle.gather_location.specs.Location.{files_by, files_with_manifest, joined_by, span_in}
+use Rattle.diag_texts.specs.Synthetic.{cut}
+use Rattle.gather_findings.specs.Cuts.{LabelLies, labels_of, text_under}
+use Rattle.gather_findings.proofs.GrowLemmas.{grows_itself}
+use Rattle.gather_findings.proofs.LicenseLemmas.{info_grown, place_grown, stands_grown}
+use Rattle.gather_licence.specs.declared.settling.FilesSeen.{FilesSeen}
+use Rattle.gather_licence.specs.declared.settling.LicenseBasis.{LicenseBasis}
+use Rattle.gather_licence.specs.declared.settling.LicenseBasis.TheVariants.{Clarified, Field, Files}
+use Rattle.gather_licence.specs.Clarification.{ClarificationView, PlacedFile, held_in, named_in}
+use Rattle.gather_licence.specs.Priority.{by_seen, field_of, files_scanned, holding, seen_by, settling_by}
+use Rattle.gather_licence.specs.Settled.{missing_in, missing_of, span_at}
 use Rattle.gather_core.specs.declared.summary.KrateLicense.{KrateLicense}
 use Rattle.gather_core.specs.declared.turn.LocatedLicense.{LocatedLicense}
 use Rattle.gather_core.specs.Entries.{ClarificationEntry, clarifications_of}

@@ -2,22 +2,22 @@
 use Rattle.std.proofs.Common.{◌≡◌, ◌∙◌, ℕ, true, false, not, ◌&&◌, cond, List, [], ◌∷◌, ◌++◌, Option, None, Some, is_some, is_none, refl, sym, ap}
 use Rattle.std.specs.Option.{option_to_list}
 use Rattle.std.specs.Prelude.{option_map, unwrap_or}
-use Rattle.catalog_core.specs.Catalog.{CatalogLists}
+use Rattle.spdx_catalog.specs.Catalog.{CatalogLists}
 use Rattle.tree_core.specs.declared.reads.ReadRecord.{ReadRecord}
 use Rattle.spdx_core.specs.Reading.{ExpressionView}
 use Rattle.diag_core.specs.File.{File}
 use Rattle.graph_core.specs.Krate.{Record}
-use Rattle.reads_core.specs.Heard.{ReadResult}
-use Rattle.pack_core.specs.Ears.{FolderReads}
-use Rattle.expression_core.specs.Scanned.{Scanner}
-use Rattle.location_core.specs.declared.location.LocatedField.{LocatedField}
-use Rattle.location_core.specs.Location.{IsLocated, files_after, located_of}
-use Rattle.priority_core.specs.declared.settle.SettledLicense.{SettledLicense}
-use Rattle.priority_core.specs.declared.settling.FilesSeen.{FilesSeen}
-use Rattle.priority_core.specs.declared.settling.LicenseBasis.{LicenseBasis}
-use Rattle.priority_core.specs.Clarification.{ClarificationView, held_in}
-use Rattle.priority_core.specs.Priority.{by_seen, field_of, files_scanned, holding, is_nothing, records_of, seen_by, settling_by, basis_of}
-use Rattle.priority_core.specs.Settled.{IsSettledBy}
+use Rattle.tree_reads.specs.Heard.{ReadResult}
+use Rattle.gather_files.specs.Ears.{FolderReads}
+use Rattle.gather_expression.specs.Scanned.{Scanner}
+use Rattle.gather_location.specs.declared.location.LocatedField.{LocatedField}
+use Rattle.gather_location.specs.Location.{IsLocated, files_after, located_of}
+use Rattle.gather_licence.specs.declared.settle.SettledLicense.{SettledLicense}
+use Rattle.gather_licence.specs.declared.settling.FilesSeen.{FilesSeen}
+use Rattle.gather_licence.specs.declared.settling.LicenseBasis.{LicenseBasis}
+use Rattle.gather_licence.specs.Clarification.{ClarificationView, held_in}
+use Rattle.gather_licence.specs.Priority.{by_seen, field_of, files_scanned, holding, is_nothing, records_of, seen_by, settling_by, basis_of}
+use Rattle.gather_licence.specs.Settled.{IsSettledBy}
 use Rattle.gather_core.specs.Taken.{IsLocatedWhere, IsTaken, is_clarified, turn_with}
 use Rattle.gather_core.specs.Turns.{asks_manifest, files_where, in_order, located_where, not_asked}
 

@@ -7,23 +7,23 @@ use Rattle.std.specs.Str.{IsCharBoundary}
 use Rattle.std.proofs.lemmas.List.{length-take-le}
 use Rattle.std.proofs.lemmas.List.Elements.{All-cons, All-head, All-nil, All-tail}
 use Rattle.deny_text.specs.declared.span.Span.{Span}
-use Rattle.catalog_core.specs.Catalog.{CatalogLists}
-use Rattle.term_core.specs.declared.mode.ParseMode.{ParseMode}
-use Rattle.term_core.specs.Faults.{first_fault}
-use Rattle.term_core.specs.Items.{items_of}
+use Rattle.spdx_catalog.specs.Catalog.{CatalogLists}
+use Rattle.spdx_terms.specs.declared.mode.ParseMode.{ParseMode}
+use Rattle.spdx_terms.specs.Faults.{first_fault}
+use Rattle.spdx_terms.specs.Items.{items_of}
 use Rattle.spdx_core.specs.Grammar.{ExpressionTree}
 use Rattle.spdx_core.specs.Reading.{ExpressionView, ReaderState, after_items, expression_if, expression_of_text, level_tree, nothing_read}
 use Rattle.graph_core.specs.Krate.{Record}
 use Rattle.diag_core.specs.declared.label.Coord.{Coord}
 use Rattle.diag_core.specs.File.{File, source_of_file}
-use Rattle.expression_core.specs.Taken.{field_read, lax, strict_with_slash}
-use Rattle.location_core.specs.Location.{PointsAt}
-use Rattle.finding_core.specs.Cuts.{LabelLies, StandsAtCoord, labels_of}
-use Rattle.priority_core.specs.declared.settling.FilesSeen.{FilesSeen}
-use Rattle.priority_core.specs.declared.settling.LicenseBasis.{LicenseBasis}
-use Rattle.priority_core.specs.declared.settling.LicenseBasis.TheVariants.{Clarified, Field, Files}
-use Rattle.priority_core.specs.Clarification.{ClarificationView, held_in}
-use Rattle.priority_core.specs.Priority.{by_seen, field_of, files_scanned, holding, seen_by, settling_by}
+use Rattle.gather_expression.specs.Taken.{field_read, lax, strict_with_slash}
+use Rattle.gather_location.specs.Location.{PointsAt}
+use Rattle.gather_findings.specs.Cuts.{LabelLies, StandsAtCoord, labels_of}
+use Rattle.gather_licence.specs.declared.settling.FilesSeen.{FilesSeen}
+use Rattle.gather_licence.specs.declared.settling.LicenseBasis.{LicenseBasis}
+use Rattle.gather_licence.specs.declared.settling.LicenseBasis.TheVariants.{Clarified, Field, Files}
+use Rattle.gather_licence.specs.Clarification.{ClarificationView, held_in}
+use Rattle.gather_licence.specs.Priority.{by_seen, field_of, files_scanned, holding, seen_by, settling_by}
 use Rattle.gather_core.specs.Premises.{ByStands, InfoStands, PlaceLies, StandsIn, TextIs}
 use Rattle.gather_core.specs.Told.{info_by, nowhere}
 use Rattle.gather_core.specs.Turns.{TurnInput, field_text, missing_findings, basis_in, text_settled}

@@ -3,14 +3,14 @@ use Rattle.std.proofs.Common.{◌≡◌, ◌∙◌, List, ◌++◌, map, Option,
 use Rattle.std.specs.List.{All}
 use Rattle.std.specs.Prelude.{unwrap_or}
 use Rattle.deny_text.specs.declared.span.Span.{Span}
-use Rattle.term_core.specs.declared.error.ParseError.{ParseError}
+use Rattle.spdx_terms.specs.declared.error.ParseError.{ParseError}
 use Rattle.diag_core.specs.declared.label.Coord.{Coord}
 use Rattle.diag_core.specs.File.{File}
-use Rattle.priority_core.specs.declared.settling.LicenseBasis.{LicenseBasis}
-use Rattle.priority_core.specs.Priority.{answer_in}
-use Rattle.priority_core.specs.Settled.{missing_of}
-use Rattle.finding_core.specs.declared.outcome.PlacedFindings.{PlacedFindings}
-use Rattle.finding_core.specs.Cuts.{LabelLies, labels_of, text_under}
+use Rattle.gather_licence.specs.declared.settling.LicenseBasis.{LicenseBasis}
+use Rattle.gather_licence.specs.Priority.{answer_in}
+use Rattle.gather_licence.specs.Settled.{missing_of}
+use Rattle.gather_findings.specs.declared.outcome.PlacedFindings.{PlacedFindings}
+use Rattle.gather_findings.specs.Cuts.{LabelLies, labels_of, text_under}
 use Rattle.gather_core.specs.declared.summary.KrateLicense.{KrateLicense}
 use Rattle.gather_core.specs.declared.turn.LocatedLicense.{LocatedLicense}
 use Rattle.gather_core.specs.Taken.{IsTaken}

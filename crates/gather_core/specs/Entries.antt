@@ -5,9 +5,9 @@ use Rattle.graph_core.specs.Krate.{Record}
 use Rattle.policy_parts.specs.declared.file_source.FileSource.{FileSource}
 use Rattle.policy_spec.specs.Matching.{spec_matches}
 use Rattle.policy_spec.specs.Spec.{Spec}
-use Rattle.valid_policy.specs.declared.policy.ValidClarification.{ValidClarification}
-use Rattle.valid_policy.specs.declared.policy.ValidConfig.{ValidConfig}
-use Rattle.priority_core.specs.Clarification.{ClarificationView, PlacedFile}
+use Rattle.policy_valid.specs.declared.policy.ValidClarification.{ValidClarification}
+use Rattle.policy_valid.specs.declared.policy.ValidConfig.{ValidConfig}
+use Rattle.gather_licence.specs.Clarification.{ClarificationView, PlacedFile}
 
 -- a clarification, and the crates that it is for
 pub record ClarificationEntry : Type 0 where

@@ -2,11 +2,11 @@
 use Rattle.std.specs.Prelude.{◌≡◌, ℕ, List, All, ⊤}
 use Rattle.diag_core.specs.File.{File}
 pub use Rattle.diag_core.specs.File.{Grows}
-use Rattle.finding_core.specs.Cuts.{LabelLies, labels_of}
-pub use Rattle.finding_core.specs.License.{InfoStands, PlaceLies, StandsIn}
-use Rattle.priority_core.specs.declared.settling.LicenseBasis.{LicenseBasis}
-use Rattle.priority_core.specs.declared.settling.LicenseBasis.TheVariants.{Clarified, Field, Files}
-use Rattle.priority_core.specs.Clarification.{ClarificationView, PlacedFile}
+use Rattle.gather_findings.specs.Cuts.{LabelLies, labels_of}
+pub use Rattle.gather_findings.specs.License.{InfoStands, PlaceLies, StandsIn}
+use Rattle.gather_licence.specs.declared.settling.LicenseBasis.{LicenseBasis}
+use Rattle.gather_licence.specs.declared.settling.LicenseBasis.TheVariants.{Clarified, Field, Files}
+use Rattle.gather_licence.specs.Clarification.{ClarificationView, PlacedFile}
 use Rattle.gather_core.specs.declared.summary.KrateLicense.{KrateLicense}
 use Rattle.gather_core.specs.Entries.{ClarificationEntry}
 

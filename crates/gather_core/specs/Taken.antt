@@ -1,15 +1,15 @@
 -- What is taken at a crate's turn.
 use Rattle.std.specs.Prelude.{◌≡◌, ℕ, Bool, true, false, List}
 use Rattle.graph_core.specs.Krate.{Record}
-use Rattle.reads_core.specs.Heard.{ReadResult}
-use Rattle.pack_core.specs.Ears.{FolderReads}
-use Rattle.expression_core.specs.Scanned.{Scanner}
+use Rattle.tree_reads.specs.Heard.{ReadResult}
+use Rattle.gather_files.specs.Ears.{FolderReads}
+use Rattle.gather_expression.specs.Scanned.{Scanner}
 use Rattle.diag_core.specs.File.{File}
-use Rattle.location_core.specs.declared.location.LocatedField.{LocatedField}
-use Rattle.priority_core.specs.Clarification.{ClarificationView}
-use Rattle.priority_core.specs.Settled.{missing_of}
-use Rattle.priority_core.specs.declared.settling.LicenseBasis.{LicenseBasis}
-use Rattle.priority_core.specs.declared.settling.LicenseBasis.TheVariants.{Clarified, Field, Files}
+use Rattle.gather_location.specs.declared.location.LocatedField.{LocatedField}
+use Rattle.gather_licence.specs.Clarification.{ClarificationView}
+use Rattle.gather_licence.specs.Settled.{missing_of}
+use Rattle.gather_licence.specs.declared.settling.LicenseBasis.{LicenseBasis}
+use Rattle.gather_licence.specs.declared.settling.LicenseBasis.TheVariants.{Clarified, Field, Files}
 use Rattle.gather_core.specs.declared.turn.LocatedLicense.{LocatedLicense}
 use Rattle.gather_core.specs.Turns.{TurnInput, files_located, files_where, located_in, located_where, records_in, basis_in}
 

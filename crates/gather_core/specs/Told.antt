@@ -2,15 +2,15 @@
 use Rattle.std.specs.Prelude.{ℕ, List, [], Option, Some, None, option_map}
 use Rattle.std.specs.Option.{option_map_or}
 use Rattle.diag_core.specs.declared.label.Coord.{Coord}
-use Rattle.priority_core.specs.declared.settling.LicenseBasis.{LicenseBasis}
-use Rattle.priority_core.specs.declared.settling.LicenseBasis.TheVariants.{Clarified, Field, Files}
-use Rattle.priority_core.specs.declared.settling.JoinedNames.{JoinedNames}
-use Rattle.priority_core.specs.Priority.{LicenseAnswer, ExpressionSource, metadata, user_override, license_files}
-use Rattle.finding_core.specs.declared.license.LicenseExprInfo.{LicenseExprInfo}
-use Rattle.finding_core.specs.declared.license.LicenseExprSource.{LicenseExprSource}
-use Rattle.finding_core.specs.declared.license.LicenseExprSource.TheVariants.{Metadata, UserOverride, LicenseFiles}
-use Rattle.finding_core.specs.declared.license.LicenseInfo.{LicenseInfo}
-use Rattle.finding_core.specs.declared.license.LicenseInfo.TheVariants.{SpdxExpression, Unlicensed}
+use Rattle.gather_licence.specs.declared.settling.LicenseBasis.{LicenseBasis}
+use Rattle.gather_licence.specs.declared.settling.LicenseBasis.TheVariants.{Clarified, Field, Files}
+use Rattle.gather_licence.specs.declared.settling.JoinedNames.{JoinedNames}
+use Rattle.gather_licence.specs.Priority.{LicenseAnswer, ExpressionSource, metadata, user_override, license_files}
+use Rattle.gather_findings.specs.declared.license.LicenseExprInfo.{LicenseExprInfo}
+use Rattle.gather_findings.specs.declared.license.LicenseExprSource.{LicenseExprSource}
+use Rattle.gather_findings.specs.declared.license.LicenseExprSource.TheVariants.{Metadata, UserOverride, LicenseFiles}
+use Rattle.gather_findings.specs.declared.license.LicenseInfo.{LicenseInfo}
+use Rattle.gather_findings.specs.declared.license.LicenseInfo.TheVariants.{SpdxExpression, Unlicensed}
 
 -- ---- where an expression's text stands
 

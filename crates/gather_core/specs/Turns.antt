@@ -4,30 +4,30 @@ use Rattle.std.specs.List.{All}
 use Rattle.std.specs.Option.{option_map_or, option_to_list}
 use Rattle.tree_core.specs.declared.reads.ReadRecord.{ReadRecord}
 use Rattle.deny_text.specs.declared.span.Span.{Span}
-use Rattle.term_core.specs.declared.error.ParseError.{ParseError}
+use Rattle.spdx_terms.specs.declared.error.ParseError.{ParseError}
 use Rattle.graph_core.specs.Krate.{Record}
-use Rattle.reads_core.specs.Heard.{ReadResult}
-use Rattle.pack_core.specs.Ears.{FolderReads}
-use Rattle.expression_core.specs.Scanned.{Scanner}
+use Rattle.tree_reads.specs.Heard.{ReadResult}
+use Rattle.gather_files.specs.Ears.{FolderReads}
+use Rattle.gather_expression.specs.Scanned.{Scanner}
 use Rattle.diag_core.specs.declared.label.Coord.{Coord}
 use Rattle.diag_core.specs.declared.pack.Diag.{Diag}
 use Rattle.diag_core.specs.File.{File}
-use Rattle.priority_core.specs.declared.settling.FilesSeen.{FilesSeen}
-use Rattle.priority_core.specs.declared.settling.FilesSeen.TheVariants.{Unlisted, Listed}
-use Rattle.priority_core.specs.declared.settling.JoinedNames.{JoinedNames}
-use Rattle.priority_core.specs.declared.settling.LicenseBasis.{LicenseBasis}
-use Rattle.priority_core.specs.declared.settling.LicenseBasis.TheVariants.{Clarified, Field, Files}
-use Rattle.priority_core.specs.Clarification.{ClarificationView}
-use Rattle.priority_core.specs.Priority.{answer_in, folder_of, holding, is_nothing, records_of, basis_of}
-use Rattle.priority_core.specs.Settled.{missing_of}
-use Rattle.location_core.specs.declared.location.LocatedField.{LocatedField}
-use Rattle.location_core.specs.Location.{files_after, located_of}
-use Rattle.finding_core.specs.declared.outcome.PlacedFindings.{PlacedFindings}
-use Rattle.finding_core.specs.Cuts.{LabelLies, labels_of, text_under, texts_by}
-use Rattle.finding_core.specs.Faults.{field_faults}
-use Rattle.finding_core.specs.Findings.{UnclarifiedCrateView, ExpressionBasisView, by_field, by_files, files_with, missing_file, points_of}
-use Rattle.finding_core.specs.Pieces.{SeenFilesView, unlisted, listed}
-use Rattle.finding_core.specs.declared.license.LicenseInfo.{LicenseInfo}
+use Rattle.gather_licence.specs.declared.settling.FilesSeen.{FilesSeen}
+use Rattle.gather_licence.specs.declared.settling.FilesSeen.TheVariants.{Unlisted, Listed}
+use Rattle.gather_licence.specs.declared.settling.JoinedNames.{JoinedNames}
+use Rattle.gather_licence.specs.declared.settling.LicenseBasis.{LicenseBasis}
+use Rattle.gather_licence.specs.declared.settling.LicenseBasis.TheVariants.{Clarified, Field, Files}
+use Rattle.gather_licence.specs.Clarification.{ClarificationView}
+use Rattle.gather_licence.specs.Priority.{answer_in, folder_of, holding, is_nothing, records_of, basis_of}
+use Rattle.gather_licence.specs.Settled.{missing_of}
+use Rattle.gather_location.specs.declared.location.LocatedField.{LocatedField}
+use Rattle.gather_location.specs.Location.{files_after, located_of}
+use Rattle.gather_findings.specs.declared.outcome.PlacedFindings.{PlacedFindings}
+use Rattle.gather_findings.specs.Cuts.{LabelLies, labels_of, text_under, texts_by}
+use Rattle.gather_findings.specs.Faults.{field_faults}
+use Rattle.gather_findings.specs.Findings.{UnclarifiedCrateView, ExpressionBasisView, by_field, by_files, files_with, missing_file, points_of}
+use Rattle.gather_findings.specs.Pieces.{SeenFilesView, unlisted, listed}
+use Rattle.gather_findings.specs.declared.license.LicenseInfo.{LicenseInfo}
 use Rattle.gather_core.specs.declared.summary.KrateLicense.{KrateLicense}
 use Rattle.gather_core.specs.Told.{info_by, notes_of, nowhere}
 

@@ -2,16 +2,16 @@
 ghost use Rattle.std.specs.Prelude.{◌≡◌, ◌++◌, map, option_map, IfOk, OnOk};
 ghost use Rattle.std.specs.Option.{option_to_list};
 ghost use Rattle.graph_core.specs.Krate.{record_of};
-ghost use Rattle.priority_core.specs.Clarification.{behind};
+ghost use Rattle.gather_licence.specs.Clarification.{behind};
 ghost use Rattle.gather_core.specs.Entries.{clarifications_of, clarification_entry, clarification_at, clarifications_at, placed_of};
 
 use graph_core::Krate;
 use policy_parts::FileSource;
 use policy_spec::{HasSpec, PackageSpec, SpecIndex};
-use priority_core::{ClarificationRef, FileRef};
+use gather_licence::{ClarificationRef, FileRef};
 use std::alloc::{AllocError, Global};
 use std::marker::Model;
-use valid_policy::ValidClarification;
+use policy_valid::ValidClarification;
 
 /// A clarification of a policy, and the crates that it is for.
 #[derive(Drop)]
@@ -22,7 +22,7 @@ struct EntryRef<'p> {
 
 impl<'p> Model for EntryRef<'p> {
     ghost use Rattle.std.specs.Coded.{codes};
-    ghost use Rattle.priority_core.specs.Clarification.{clarification_code};
+    ghost use Rattle.gather_licence.specs.Clarification.{clarification_code};
     ghost use Rattle.gather_core.specs.Entries.{ClarificationEntry};
 
     ghost Value = { ClarificationEntry };
@@ -54,7 +54,7 @@ impl<'p> Model for ClarificationIndex<'p> {
     ghost use Rattle.std.specs.Prelude.{◌≡◌, List};
     ghost use Rattle.std.specs.Coded.{codes};
     ghost use Rattle.policy_spec.specs.Index.{spec_names};
-    ghost use Rattle.priority_core.specs.Clarification.{clarification_code};
+    ghost use Rattle.gather_licence.specs.Clarification.{clarification_code};
     ghost use Rattle.gather_core.specs.Entries.{ClarificationEntry, specs_of};
 
     ghost Value = { List ClarificationEntry };

@@ -9,6 +9,6 @@ mod tell;
 mod told;
 mod turn;
 
-pub use finding_core::{Diags, LicenseExprInfo, LicenseExprSource, LicenseInfo};
+pub use gather_findings::{Diags, LicenseExprInfo, LicenseExprSource, LicenseInfo};
 pub use gatherer::Gatherer;
 pub use summary::{KrateLicense, KrateLicenses, Summary};

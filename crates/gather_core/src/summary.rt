@@ -1,7 +1,7 @@
 //! What was gathered.
 use deny_text::ListOf;
 use diag_core::Notes;
-use finding_core::{Diags, LicenseInfo};
+use gather_findings::{Diags, LicenseInfo};
 use graph_core::Krate;
 use tree_core::Reads;
 

@@ -2,10 +2,10 @@
 ghost use Rattle.std.specs.Prelude.{◌≡◌, IfOk, OnOk, IfSome, All, map, option_copied};
 ghost use Rattle.std.specs.Prelude.{option_map};
 ghost use Rattle.graph_core.specs.Krate.{record_of};
-ghost use Rattle.location_core.specs.Location.{PointsAt};
-ghost use Rattle.finding_core.specs.Cuts.{LabelLies, StandsAtCoord, labels_of, text_under};
-ghost use Rattle.finding_core.specs.Premises.{FaultsLie};
-ghost use Rattle.finding_core.specs.Views.{outcome_view, seen_view};
+ghost use Rattle.gather_location.specs.Location.{PointsAt};
+ghost use Rattle.gather_findings.specs.Cuts.{LabelLies, StandsAtCoord, labels_of, text_under};
+ghost use Rattle.gather_findings.specs.Premises.{FaultsLie};
+ghost use Rattle.gather_findings.specs.Views.{outcome_view, seen_view};
 ghost use Rattle.gather_core.specs.Gathered.{krate_of};
 ghost use Rattle.gather_core.specs.Premises.{ByStands, Grows, IsPlacedAt, PlaceLies, TextIs};
 ghost use Rattle.gather_core.specs.Taken.{IsTaken};
@@ -19,9 +19,9 @@ use crate::told::told_by;
 use crate::turn::{LocatedLicense, joined};
 use deny_text::Span;
 use diag_core::{Coord, FileId, Files};
-use finding_core::{UnclarifiedCrate, Diags, ParseErrors, PlacedFindings, SeenFiles, ExpressionBasis, find, missing_file};
+use gather_findings::{UnclarifiedCrate, Diags, ParseErrors, PlacedFindings, SeenFiles, ExpressionBasis, find, missing_file};
 use graph_core::Krate;
-use priority_core::{FilesSeen, JoinedNames, LicenseBasis, folder};
+use gather_licence::{FilesSeen, JoinedNames, LicenseBasis, folder};
 use std::alloc::{AllocError, Global};
 
 /// Findings of files of clarifications that are not there, by their places in the policy's file.

@@ -1,13 +1,13 @@
 //! What is told of a crate's licence, by what settles it.
 ghost use Rattle.std.specs.Prelude.{◌≡◌, None, unwrap_or};
-ghost use Rattle.priority_core.specs.Priority.{answer_in};
+ghost use Rattle.gather_licence.specs.Priority.{answer_in};
 ghost use Rattle.gather_core.specs.Told.{field_source, info_at, info_by, joined_info, joined_notes, notes_of};
 ghost use Rattle.gather_core.specs.Told.{nowhere};
 
 use deny_text::Span;
 use diag_core::{Coord, FileId, Notes};
-use finding_core::{LicenseExprInfo, LicenseExprSource, LicenseInfo};
-use priority_core::{HeldClarification, JoinedNames, LicenseBasis};
+use gather_findings::{LicenseExprInfo, LicenseExprSource, LicenseInfo};
+use gather_licence::{HeldClarification, JoinedNames, LicenseBasis};
 use spdx_core::Expression;
 use std::alloc::Global;
 

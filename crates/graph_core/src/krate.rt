@@ -10,7 +10,7 @@ ghost use Rattle.graph_core.specs.Krate.{krate_order, krate_order_total, record_
 
 use deny_text::{PathBuf, Text, TextMap, Texts};
 use semver::Version;
-use source_core::{Source, matches_address};
+use graph_source::{Source, matches_address};
 use std::cmp::Ordering;
 use std::fmt;
 use url::Url;

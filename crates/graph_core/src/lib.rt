@@ -8,4 +8,4 @@ pub mod metadata;
 pub use edge::{DepKind, Edge, Edges, Kinds};
 pub use krate::{FeatureMap, Krate};
 pub use metadata::{Metadata, MetadataParts};
-pub use source_core::{GitSpec, Source, SourceError, matches_address, normalize_git_url};
+pub use graph_source::{GitSpec, Source, SourceError, matches_address, normalize_git_url};

@@ -7,8 +7,8 @@ use Rattle.toml_subset.specs.declared.string.Key.{Key}
 use Rattle.toml_shapes.specs.Shaped.{ShapeReading}
 use Rattle.policy_toml.specs.HelperState.{given_value}
 use Rattle.policy_toml.specs.Readings.{boolean_of, text_of, list_of}
-use Rattle.key_rows.specs.Rows.{given, key_span, entries_besides}
-use Rattle.key_rows.proofs.RowLemmas.{none_is, found_behind, entry_behind}
+use Rattle.toml_rows.specs.Rows.{given, key_span, entries_besides}
+use Rattle.toml_rows.proofs.RowLemmas.{none_is, found_behind, entry_behind}
 use Rattle.policy_parts.specs.Values.{target_of}
 use Rattle.policy_parts.specs.declared.target.Target.{Target}
 use Rattle.policy_config.specs.Places.{places_there, places_of_keys}

@@ -1,12 +1,12 @@
 -- The table `licenses` of a policy: the rows of its keys, and what these stand for.
 use Rattle.std.specs.Prelude.{ℕ, pos, true, false, List, [], ◌∷◌, codes, unwrap_or}
-use Rattle.catalog_core.specs.Catalog.{CatalogLists}
+use Rattle.spdx_catalog.specs.Catalog.{CatalogLists}
 use Rattle.deny_text.specs.declared.span.Span.{Span}
 use Rattle.toml_subset.specs.Data.{Entries, Toml}
 use Rattle.toml_shapes.specs.Shaped.{ShapeReading}
 use Rattle.policy_toml.specs.Readings.{boolean_of, hundredths_of, i32_of, list_of}
 use Rattle.policy_toml.specs.declared.hundredths.Hundredths.{Hundredths}
-use Rattle.key_rows.specs.Rows.{KeyRow, key, passed_key, given, shaped_by, in_table}
+use Rattle.toml_rows.specs.Rows.{KeyRow, key, passed_key, given, shaped_by, in_table}
 use Rattle.policy_parts.specs.Names.{lint_of}
 use Rattle.policy_parts.specs.Tables.{private_of}
 use Rattle.policy_parts.specs.declared.names.LintLevel.TheVariants.{Warn}

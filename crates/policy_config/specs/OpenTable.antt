@@ -1,7 +1,7 @@
 -- A table that is read key by key, as the table helper's state.
 use Rattle.toml_value.specs.Lookup.{value_at}
 use Rattle.toml_value.specs.Views.{entries_view}
-use Rattle.key_rows.specs.Rows.{KeyRow}
+use Rattle.toml_rows.specs.Rows.{KeyRow}
 use Rattle.std.specs.Prelude.{List, [], ◌∷◌}
 use Rattle.policy_toml.specs.HelperState.{HelperState, with_faults, without_key}
 use Rattle.policy_config.specs.declared.open_table.OpenTable.{OpenTable}

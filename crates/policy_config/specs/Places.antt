@@ -3,7 +3,7 @@ use Rattle.std.specs.Prelude.{ℕ, List, Option}
 use Rattle.std.specs.List.{filter_map}
 use Rattle.deny_text.specs.declared.span.Span.{Span}
 use Rattle.toml_subset.specs.Data.{Entries}
-use Rattle.key_rows.specs.Rows.{key_span}
+use Rattle.toml_rows.specs.Rows.{key_span}
 
 -- those that are there
 abbrev pub places_there : List (Option Span) → List Span

@@ -1,12 +1,12 @@
 -- The whole policy: the rows of its keys, and what these stand for.
 use Rattle.std.specs.Prelude.{ℕ, false, List, [], ◌∷◌, codes, Option, None, unwrap_or}
 use Rattle.std.specs.Option.{option_or}
-use Rattle.catalog_core.specs.Catalog.{CatalogLists}
+use Rattle.spdx_catalog.specs.Catalog.{CatalogLists}
 use Rattle.deny_text.specs.declared.span.Span.{Span}
 use Rattle.toml_subset.specs.Data.{Entries, Toml}
 use Rattle.toml_shapes.specs.Shaped.{ShapeReading}
 use Rattle.policy_toml.specs.Readings.{boolean_of, text_of, u32_of, list_of}
-use Rattle.key_rows.specs.Rows.{KeyRow, key, passed_key, given, key_span, shaped_by, in_table}
+use Rattle.toml_rows.specs.Rows.{KeyRow, key, passed_key, given, key_span, shaped_by, in_table}
 use Rattle.policy_parts.specs.Tables.{graph_config_of, output_of}
 use Rattle.policy_parts.specs.Values.{target_of}
 use Rattle.policy_parts.specs.declared.graph.GraphConfig.{GraphConfig}

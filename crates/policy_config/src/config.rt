@@ -1,11 +1,11 @@
 //! The table `licenses` of a policy, as it is written.
 ghost use Rattle.std.specs.Prelude.{◌≡◌, [], unwrap_or};
-ghost use Rattle.key_rows.specs.Rows.{left_of_table};
+ghost use Rattle.toml_rows.specs.Rows.{left_of_table};
 ghost use Rattle.policy_config.specs.Config.{config_at, config_of, no_config, no_private};
 
 use crate::placed::{places_of, take_removed};
-use catalog_core::Catalog;
-use key_rows::{FromKeys, Spans, finish, or_empty, read_table};
+use spdx_catalog::Catalog;
+use toml_rows::{FromKeys, Spans, finish, or_empty, read_table};
 use policy_entries::{Clarifications, Exceptions, Licensees};
 use policy_parts::{LintLevel, Private};
 use policy_toml::{DeserError, Deserialize, Hundredths, TableHelper, Value};

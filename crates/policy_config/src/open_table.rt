@@ -1,6 +1,6 @@
 //! A table whose keys are read one after another, with the places of keys.
 ghost use Rattle.std.specs.Prelude.{◌≡◌, [], ◌++◌, false, IfOk, OnOk, option_map, option_to_list};
-ghost use Rattle.key_rows.specs.Rows.{key_span};
+ghost use Rattle.toml_rows.specs.Rows.{key_span};
 ghost use Rattle.policy_config.specs.OpenTable.{open_state};
 ghost use Rattle.policy_toml.specs.HelperState.{optional_of, after_optional, without_key, faults_at_end};
 ghost use Rattle.policy_toml.specs.HelperState.{given_value, faults_of};
@@ -11,7 +11,7 @@ ghost use Rattle.toml_value.specs.Views.{value_view, entries_view};
 
 use crate::placed::push_place;
 use deny_text::Span;
-use key_rows::Spans;
+use toml_rows::Spans;
 use policy_toml::{DeserError, Deserialize, Entries, ShapeErrors, Value, add_unexpected};
 use std::alloc::{AllocError, Global};
 use toml_shapes::answer;
@@ -32,7 +32,7 @@ pub(crate) struct OpenTable<'de> {
 }
 
 /// Takes a key out: where it stood, and its value.
-#[tactic(auto, using(key_rows::proofs::Keys::value_at_of_entry))]
+#[tactic(auto, using(toml_rows::proofs::Keys::value_at_of_entry))]
 fn take_placed<'de>(entries: &mut Entries<'de>, name: &str) -> (Option<Span>, Option<Value<'de>>)
     ensures place { result.0 ≡ key_span name.now (entries_view entries.old) }
     ensures value { option_map value_view result.1 ≡ value_at name.now (entries_view entries.old) }

@@ -1,11 +1,11 @@
 //! Keys that are taken with their places.
 ghost use Rattle.std.specs.Prelude.{◌≡◌, ◌++◌, IfOk, OnOk, option_to_list};
-ghost use Rattle.key_rows.specs.Rows.{key_span};
+ghost use Rattle.toml_rows.specs.Rows.{key_span};
 ghost use Rattle.policy_toml.specs.HelperState.{state_of, without_key};
 ghost use Rattle.policy_config.specs.Places.{places_there};
 
 use deny_text::Span;
-use key_rows::Spans;
+use toml_rows::Spans;
 use policy_toml::TableHelper;
 use std::alloc::{AllocError, Global};
 

@@ -1,6 +1,6 @@
 //! The whole policy, as it is written.
 ghost use Rattle.std.specs.Prelude.{◌≡◌, [], ◌++◌, IfOk, OnOk, unwrap_or, codes};
-ghost use Rattle.key_rows.specs.Rows.{left_of_table};
+ghost use Rattle.toml_rows.specs.Rows.{left_of_table};
 ghost use Rattle.policy_parts.specs.Tables.{graph_config_of};
 ghost use Rattle.policy_toml.specs.HelperState.{optional_of, after_optional};
 ghost use Rattle.policy_config.specs.OpenTable.{open_state, behind_rows};
@@ -12,9 +12,9 @@ ghost use Rattle.toml_shapes.specs.Shaped.{AnswersShape};
 
 use crate::config::Config;
 use crate::open_table::OpenTable;
-use catalog_core::Catalog;
+use spdx_catalog::Catalog;
 use deny_text::{Span, Texts};
-use key_rows::Spans;
+use toml_rows::Spans;
 use policy_parts::{GraphConfig, OutputConfig, Targets};
 use policy_toml::{DeserError, Deserialize, Value};
 use std::alloc::{AllocError, Global};

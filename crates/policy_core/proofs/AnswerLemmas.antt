@@ -2,15 +2,15 @@
 use Rattle.std.proofs.Common.{◌≡◌, true, false, ℕ, List, [], ◌∷◌, ◌++◌, length, Option, Some, Ok, Err, Result}
 use Rattle.std.specs.Prelude.{is_some, OnErr, OnOk}
 use Rattle.std.specs.declared.alloc.AllocError.{AllocError}
-use Rattle.catalog_core.specs.Catalog.{CatalogLists, IsCatalog}
+use Rattle.spdx_catalog.specs.Catalog.{CatalogLists, IsCatalog}
 use Rattle.diag_core.specs.File.{File, file_id_at}
 use Rattle.diag_core.specs.declared.diagnostic.Diagnostic.{Diagnostic}
-use Rattle.heard_core.specs.Heard.{IsTextRead}
-use Rattle.heard_core.specs.declared.fault.ReadFault.{ReadFault}
+use Rattle.tree_texts.specs.Heard.{IsTextRead}
+use Rattle.tree_texts.specs.declared.fault.ReadFault.{ReadFault}
 use Rattle.toml_subset.specs.Reading.{read_text}
 use Rattle.tree_core.specs.Call.{Call}
-use Rattle.valid_policy.specs.declared.policy.ValidConfig.{ValidConfig}
-use Rattle.valid_policy.specs.declared.policy.ValidException.{ValidException}
+use Rattle.policy_valid.specs.declared.policy.ValidConfig.{ValidConfig}
+use Rattle.policy_valid.specs.declared.policy.ValidException.{ValidException}
 use Rattle.policy_core.specs.Exceptions.{itself_finding, unread_finding}
 use Rattle.policy_core.specs.ExceptionsText.{Answer, HadMemory, ReadsBy, answer_exceptions, diagnostics_of}
 use Rattle.policy_core.specs.Heard.{IsFileText, LoadState, LoadsExceptionsBy, after_exceptions, fault_words, heard}

@@ -1,19 +1,19 @@
 -- What an exceptions file leaves, by what was heard and read of it.
 use Rattle.std.proofs.Common.{◌≡◌, ◌∙◌, refl, sym, ap, subst, ℕ, true, false, List, [], ◌∷◌, ◌++◌, append-nil, length, map, Option, Some, None, Ok, Err, Result, inl, inr}
 use Rattle.std.specs.Prelude.{is_some}
-use Rattle.catalog_core.specs.Catalog.{CatalogLists}
+use Rattle.spdx_catalog.specs.Catalog.{CatalogLists}
 use Rattle.deny_text.specs.declared.span.Span.{Span}
 use Rattle.diag_core.specs.File.{File, Grows, file_id_at}
 use Rattle.diag_core.specs.declared.diagnostic.Diagnostic.{Diagnostic}
-use Rattle.heard_core.specs.Heard.{IsTextRead, read_of as call_of}
-use Rattle.heard_core.specs.declared.fault.ReadFault.{ReadFault}
+use Rattle.tree_texts.specs.Heard.{IsTextRead, read_of as call_of}
+use Rattle.tree_texts.specs.declared.fault.ReadFault.{ReadFault}
 use Rattle.toml_subset.specs.Answer.{TomlReading}
 use Rattle.toml_subset.specs.Data.{Toml}
 use Rattle.toml_subset.specs.Reading.{read_text}
 use Rattle.toml_shapes.specs.Shaped.{faults_in}
 use Rattle.tree_core.specs.Call.{CallAnswer, Call}
-use Rattle.valid_policy.specs.declared.policy.ValidConfig.{ValidConfig}
-use Rattle.valid_policy.specs.declared.policy.ValidException.{ValidException}
+use Rattle.policy_valid.specs.declared.policy.ValidConfig.{ValidConfig}
+use Rattle.policy_valid.specs.declared.policy.ValidException.{ValidException}
 use Rattle.policy_core.specs.Exceptions.{valid_exceptions_in, exceptions_kept, exceptions_findings, with_exceptions, shape_diagnostic, syntax_finding, itself_finding, unread_finding}
 use Rattle.policy_core.specs.ExceptionsText.{Answer, HadMemory, ReadsBy, answer_exceptions, diagnostics_of}
 use Rattle.policy_core.specs.Heard.{ExceptionsHeard, IsFileText, IsReadAt, IsReadOf, LoadState, LoadsExceptionsBy, MayReadAt, MayReadOf, after_exceptions, fault_words, heard, the_policy, value_or_fault}

@@ -7,13 +7,13 @@ use Rattle.std.specs.Result.{result_ok}
 use Rattle.std.proofs.lemmas.List.{length-drop, length-take}
 use Rattle.std.proofs.lemmas.List.Elements.{All-from_recursion, recursion_from_All}
 use Rattle.std.proofs.lemmas.List.Sorted.{All-permutation}
-use Rattle.catalog_core.specs.Catalog.{CatalogLists, IsCatalog}
+use Rattle.spdx_catalog.specs.Catalog.{CatalogLists, IsCatalog}
 use Rattle.deny_text.specs.declared.span.Span.{Span}
 use Rattle.diag_core.specs.File.{File, source_of_file}
 use Rattle.diag_core.specs.declared.diagnostic.Diagnostic.{Diagnostic}
-use Rattle.entry_places.proofs.EntryPlaces.{exceptions_file_stays}
-use Rattle.entry_places.specs.Entries.{ClarificationKeeps, ExceptionKeeps, exceptions_file_keeps, licensee_keeps}
-use Rattle.entry_places.specs.Policies.{ConfigKeeps}
+use Rattle.policy_places.proofs.EntryPlaces.{exceptions_file_stays}
+use Rattle.policy_places.specs.Entries.{ClarificationKeeps, ExceptionKeeps, exceptions_file_keeps, licensee_keeps}
+use Rattle.policy_places.specs.Policies.{ConfigKeeps}
 use Rattle.policy_config.specs.declared.config.Config.{Config}
 use Rattle.policy_config.specs.declared.root.RootConfig.{RootConfig}
 use Rattle.policy_entries.specs.Exceptions.{exceptions_file_of}
@@ -25,9 +25,9 @@ use Rattle.policy_places.specs.Parts.{file_source_keeps}
 use Rattle.policy_places.specs.Places.{StaysIn, keeps_its_span}
 use Rattle.spdx_core.proofs.SpellingLemmas.{is_spelled}
 use Rattle.spdx_core.specs.Reading.{ExpressionView, expression_of_text}
-use Rattle.term_core.specs.Faults.{first_fault}
-use Rattle.term_core.specs.declared.error.ParseError.{ParseError}
-use Rattle.toml_places.proofs.Texts.{text_placed}
+use Rattle.spdx_terms.specs.Faults.{first_fault}
+use Rattle.spdx_terms.specs.declared.error.ParseError.{ParseError}
+use Rattle.toml_laws.proofs.Texts.{text_placed}
 use Rattle.deny_text.specs.Spans.{LiesBetween}
 use Rattle.toml_shapes.specs.Shaped.{ShapeReading}
 use Rattle.toml_subset.proofs.Law.Whole.{text_sound}
@@ -35,11 +35,11 @@ use Rattle.toml_subset.specs.Answer.{TomlReading}
 use Rattle.toml_subset.specs.Data.{Toml}
 use Rattle.toml_subset.specs.Reading.{read_text}
 use Rattle.tree_core.specs.Call.{Call}
-use Rattle.validate_core.specs.Order.{PutsFilesInOrder, PutsPolicyInOrder}
-use Rattle.validate_core.specs.Valid.{ItemOrFinding, clarification_judged, clarification_judged_by, exception_in, kept_by, strict, valid_part}
-use Rattle.valid_policy.specs.declared.policy.ValidClarification.{ValidClarification}
-use Rattle.valid_policy.specs.declared.policy.ValidConfig.{ValidConfig}
-use Rattle.valid_policy.specs.declared.policy.ValidException.{ValidException}
+use Rattle.policy_validate.specs.Order.{PutsFilesInOrder, PutsPolicyInOrder}
+use Rattle.policy_validate.specs.Valid.{ItemOrFinding, clarification_judged, clarification_judged_by, exception_in, kept_by, strict, valid_part}
+use Rattle.policy_valid.specs.declared.policy.ValidClarification.{ValidClarification}
+use Rattle.policy_valid.specs.declared.policy.ValidConfig.{ValidConfig}
+use Rattle.policy_valid.specs.declared.policy.ValidException.{ValidException}
 use Rattle.policy_core.specs.Exceptions.{valid_exceptions_in, exceptions_kept, with_exceptions}
 use Rattle.policy_core.specs.Heard.{ExceptionsHeard, IsFileText, IsTextHeard, LoadState, LoadsExceptionsBy, heard_file_of, heard, no_path, exceptions_read_of, the_policy, value_or_fault}
 use Rattle.policy_core.specs.Load.{LoadsPolicyBy, Surroundings}

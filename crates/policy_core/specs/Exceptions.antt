@@ -1,6 +1,6 @@
 -- What was read of an exceptions file, and what comes of it.
 use Rattle.std.specs.Prelude.{ℕ, List, [], ◌∷◌, ◌++◌, map, codes, Ok, Err}
-use Rattle.catalog_core.specs.Catalog.{CatalogLists}
+use Rattle.spdx_catalog.specs.Catalog.{CatalogLists}
 use Rattle.deny_text.specs.declared.span.Span.{Span}
 use Rattle.diag_core.specs.Diagnostic.{plain}
 use Rattle.diag_core.specs.declared.diagnostic.Diagnostic.{Diagnostic}
@@ -10,9 +10,9 @@ use Rattle.toml_shapes.specs.Shaped.{ShapeReading, faults_in}
 use Rattle.toml_shapes.specs.Shapes.{Fault, reason_text}
 use Rattle.policy_entries.specs.Exceptions.{exceptions_file_of}
 use Rattle.policy_entries.specs.declared.exception.ExceptionsFile.{ExceptionsFile}
-use Rattle.validate_core.specs.Valid.{error_at, exception_in}
-use Rattle.valid_policy.specs.declared.policy.ValidConfig.{ValidConfig}
-use Rattle.valid_policy.specs.declared.policy.ValidException.{ValidException}
+use Rattle.policy_validate.specs.Valid.{error_at, exception_in}
+use Rattle.policy_valid.specs.declared.policy.ValidConfig.{ValidConfig}
+use Rattle.policy_valid.specs.declared.policy.ValidException.{ValidException}
 
 pub data ExceptionsRead : Type 0 where
   -- there is none

@@ -1,17 +1,17 @@
 -- What is heard of an exceptions file, and what a call that loads it leaves.
 use Rattle.std.specs.Prelude.{◌≡◌, ◌⊎◌, ℕ, ◌<◌, ◌^◌, true, List, [], ◌∷◌, ◌++◌, codes, length, Option, Some, None, Result, Ok, Err, ⊤}
 use Rattle.std.specs.Str.{IsUtf8}
-use Rattle.catalog_core.specs.Catalog.{CatalogLists}
+use Rattle.spdx_catalog.specs.Catalog.{CatalogLists}
 use Rattle.diag_core.specs.File.{File, file_id_at}
 use Rattle.diag_core.specs.declared.diagnostic.Diagnostic.{Diagnostic}
-use Rattle.heard_core.specs.Heard.{IsTextRead, read_of as call_of}
-use Rattle.heard_core.specs.declared.fault.ReadFault.{ReadFault}
-use Rattle.heard_core.specs.declared.fault.ReadFault.TheVariants.{Failed, Absent, Folder, NotUtf8}
+use Rattle.tree_texts.specs.Heard.{IsTextRead, read_of as call_of}
+use Rattle.tree_texts.specs.declared.fault.ReadFault.{ReadFault}
+use Rattle.tree_texts.specs.declared.fault.ReadFault.TheVariants.{Failed, Absent, Folder, NotUtf8}
 use Rattle.toml_subset.specs.Answer.{TomlReading}
 use Rattle.toml_subset.specs.Data.{Toml}
 use Rattle.toml_subset.specs.Reading.{read_text}
 use Rattle.tree_core.specs.Call.{CallAnswer, Call}
-use Rattle.valid_policy.specs.declared.policy.ValidConfig.{ValidConfig}
+use Rattle.policy_valid.specs.declared.policy.ValidConfig.{ValidConfig}
 use Rattle.policy_core.specs.Exceptions.{ExceptionsRead, no_file, policy_itself, no_text, no_value, value, exceptions_kept, exceptions_findings, with_exceptions}
 
 pub data ExceptionsHeard : Type 0 where

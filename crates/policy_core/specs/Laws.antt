@@ -1,12 +1,12 @@
 -- What holds of every validation of a policy whose places lie in the text of its file.
 use Rattle.std.specs.Prelude.{◌≡◌, ℕ, List, Some}
-use Rattle.catalog_core.specs.Catalog.{CatalogLists, IsCatalog}
+use Rattle.spdx_catalog.specs.Catalog.{CatalogLists, IsCatalog}
 use Rattle.diag_core.specs.File.{File, source_of_file}
-use Rattle.entry_places.specs.Policies.{ConfigKeeps}
+use Rattle.policy_places.specs.Policies.{ConfigKeeps}
 use Rattle.policy_config.specs.declared.config.Config.{Config}
-use Rattle.valid_policy.specs.declared.policy.ValidConfig.{ValidConfig}
-use Rattle.validate_core.specs.Order.{PutsPolicyInOrder}
-use Rattle.validate_core.specs.Valid.{valid_part, validation_findings}
+use Rattle.policy_valid.specs.declared.policy.ValidConfig.{ValidConfig}
+use Rattle.policy_validate.specs.Order.{PutsPolicyInOrder}
+use Rattle.policy_validate.specs.Valid.{valid_part, validation_findings}
 use Rattle.policy_core.specs.Heard.{IsFileText}
 use Rattle.policy_core.specs.Places.{PointInto, PolicyStands}
 

@@ -1,11 +1,11 @@
 -- What loading a policy whose text was read leaves.
 use Rattle.std.specs.Prelude.{◌≡◌, ℕ, List, ◌++◌, length, Option}
-use Rattle.catalog_core.specs.Catalog.{CatalogLists}
+use Rattle.spdx_catalog.specs.Catalog.{CatalogLists}
 use Rattle.diag_core.specs.File.{File}
 use Rattle.diag_core.specs.declared.diagnostic.Diagnostic.{Diagnostic}
 use Rattle.tree_core.specs.Call.{Call}
 use Rattle.policy_config.specs.declared.root.RootConfig.{RootConfig}
-use Rattle.validate_core.specs.Order.{PutsPolicyInOrder}
+use Rattle.policy_validate.specs.Order.{PutsPolicyInOrder}
 use Rattle.policy_core.specs.Heard.{ExceptionsHeard, IsReadOf, IsTextHeard, heard_file_of, exceptions_read_of}
 use Rattle.policy_core.specs.Policy.{FileNumbers, PolicyFound, policy_found}
 use Rattle.policy_core.specs.declared.load.LoadedPolicy.{LoadedPolicy}

@@ -9,10 +9,10 @@ use Rattle.deny_text.specs.Spans.{LiesBetween}
 use Rattle.policy_config.specs.declared.root.RootConfig.{RootConfig}
 use Rattle.policy_entries.specs.declared.licensee.Licensee.{Licensee}
 use Rattle.policy_parts.specs.declared.file_source.FileSource.{FileSource}
-use Rattle.valid_policy.specs.declared.policy.ValidClarification.{ValidClarification}
-use Rattle.valid_policy.specs.declared.policy.ValidConfig.{ValidConfig}
-use Rattle.valid_policy.specs.declared.policy.ValidException.{ValidException}
-use Rattle.entry_places.specs.Policies.{RootKeeps}
+use Rattle.policy_valid.specs.declared.policy.ValidClarification.{ValidClarification}
+use Rattle.policy_valid.specs.declared.policy.ValidConfig.{ValidConfig}
+use Rattle.policy_valid.specs.declared.policy.ValidException.{ValidException}
+use Rattle.policy_places.specs.Policies.{RootKeeps}
 use Rattle.policy_core.specs.Heard.{IsFileText}
 
 -- a place lies in the text of the file of that number, between characters

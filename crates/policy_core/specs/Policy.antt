@@ -1,6 +1,6 @@
 -- The policy that was read: what is valid of it, and all that is told of it.
 use Rattle.std.specs.Prelude.{ℕ, Bool, if◌then◌else◌, List, [], ◌∷◌, ◌++◌, Option, is_some, unwrap_or}
-use Rattle.catalog_core.specs.Catalog.{CatalogLists}
+use Rattle.spdx_catalog.specs.Catalog.{CatalogLists}
 use Rattle.diag_core.specs.declared.diagnostic.Diagnostic.{Diagnostic}
 use Rattle.toml_subset.specs.Data.{Toml, table, no_entry}
 use Rattle.toml_shapes.specs.Shaped.{ShapeReading, shaped_map}
@@ -10,8 +10,8 @@ use Rattle.policy_config.specs.Config.{no_config}
 use Rattle.policy_config.specs.Root.{root_of}
 use Rattle.policy_config.specs.declared.config.Config.{Config}
 use Rattle.policy_config.specs.declared.root.RootConfig.{RootConfig}
-use Rattle.validate_core.specs.Valid.{valid_part, address_findings, clarification_findings, removed_findings}
-use Rattle.valid_policy.specs.declared.policy.ValidConfig.{ValidConfig}
+use Rattle.policy_validate.specs.Valid.{valid_part, address_findings, clarification_findings, removed_findings}
+use Rattle.policy_valid.specs.declared.policy.ValidConfig.{ValidConfig}
 use Rattle.policy_core.specs.Exceptions.{ExceptionsRead, exceptions_kept, exceptions_findings, with_exceptions}
 use Rattle.policy_core.specs.Findings.{absence_finding, target_findings, graph_key_findings, output_key_findings}
 

@@ -12,14 +12,14 @@ use crate::exceptions_text::{NoExceptions, read_exceptions};
 use crate::findings::{syntax, tell_itself, tell_shape, tell_unread};
 use deny_text::{PathBuf, Text};
 use diag_core::{FileId, Files};
-use heard_core::read_file_text;
+use tree_texts::read_file_text;
 use policy_entries::ExceptionsFile;
 use spdx_core::Catalog;
 use std::alloc::{AllocError, Global};
 use tree_core::Tree;
-use valid_policy::{ValidConfig, ValidExceptions};
-use validate_core::add_exceptions;
-use validation_core::Diagnostics;
+use policy_valid::{ValidConfig, ValidExceptions};
+use policy_validate::add_exceptions;
+use diag_lists::Diagnostics;
 
 /// Puts the exceptions that were read behind the others, or what is wrong with them behind the findings so
 /// far.

@@ -19,8 +19,8 @@ pub use policy_parts::{
     Reason, Scope, SpannedTexts, Target, Targets,
 };
 pub use policy_spec::{PackageSpec, PackageSpecOrExtended, match_krate, match_req};
-pub use valid_policy::{
+pub use policy_valid::{
     Urls, ValidClarification, ValidClarifications, ValidConfig, ValidException, ValidExceptions,
 };
-pub use validate_core::UnvalidatedConfig;
-pub use validation_core::{Diagnostics, SpannedList, ValidationContext};
+pub use policy_validate::UnvalidatedConfig;
+pub use diag_lists::{Diagnostics, SpannedList, ValidationContext};

@@ -4,8 +4,8 @@ ghost use Rattle.std.specs.Option.{ForSome, option_copied, option_to_list, optio
 ghost use Rattle.diag_core.specs.File.{Grows, file_id_at};
 ghost use Rattle.tree_core.specs.Hearing.{MadeSome};
 ghost use Rattle.policy_config.specs.Config.{no_config};
-ghost use Rattle.validate_core.specs.Order.{PutsPolicyInOrder};
-ghost use Rattle.validate_core.specs.Valid.{valid_part, validation_findings};
+ghost use Rattle.policy_validate.specs.Order.{PutsPolicyInOrder};
+ghost use Rattle.policy_validate.specs.Valid.{valid_part, validation_findings};
 ghost use Rattle.policy_core.specs.Findings.{moved_key_finding};
 ghost use Rattle.policy_core.specs.Findings.{target_findings, graph_key_findings, output_key_findings};
 ghost use Rattle.policy_core.specs.Heard.{LoadsExceptionsBy, MayReadOf};
@@ -22,9 +22,9 @@ use policy_parts::{GraphConfig, OutputConfig};
 use spdx_core::Catalog;
 use std::alloc::{AllocError, Global};
 use tree_core::Tree;
-use valid_policy::ValidConfig;
-use validate_core::UnvalidatedConfig;
-use validation_core::{Diagnostics, ValidationContext};
+use policy_valid::ValidConfig;
+use policy_validate::UnvalidatedConfig;
+use diag_lists::{Diagnostics, ValidationContext};
 
 /// What a policy asks for.
 #[derive(Drop)]

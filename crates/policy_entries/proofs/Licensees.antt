@@ -1,15 +1,15 @@
 -- The licensee of a string is what the reader of licensees answers.
 use Rattle.std.proofs.Common.{◌≡◌, ◌∙◌, refl, ap, List, Option, Some, None, Ok, Err}
-use Rattle.catalog_core.specs.Catalog.{CatalogLists}
+use Rattle.spdx_catalog.specs.Catalog.{CatalogLists}
 use Rattle.deny_text.specs.declared.span.Span.{Span}
 use Rattle.spdx_core.proofs.OnePart.{licensee_or_fault}
-use Rattle.term_core.specs.Faults.{licensee_fault}
-use Rattle.term_core.specs.Licensee.{IsLicensee, IsOnePart, alone, with_exception, part_of}
-use Rattle.term_core.specs.Reasons.{reason_text}
-use Rattle.term_core.specs.declared.error.ParseError.{ParseError}
-use Rattle.term_core.specs.declared.item.Item.{Item}
-use Rattle.term_core.specs.declared.mode.ParseMode.{ParseMode}
-use Rattle.term_core.specs.declared.term.LicenseReq.{LicenseReq}
+use Rattle.spdx_terms.specs.Faults.{licensee_fault}
+use Rattle.spdx_terms.specs.Licensee.{IsLicensee, IsOnePart, alone, with_exception, part_of}
+use Rattle.spdx_terms.specs.Reasons.{reason_text}
+use Rattle.spdx_terms.specs.declared.error.ParseError.{ParseError}
+use Rattle.spdx_terms.specs.declared.item.Item.{Item}
+use Rattle.spdx_terms.specs.declared.mode.ParseMode.{ParseMode}
+use Rattle.spdx_terms.specs.declared.term.LicenseReq.{LicenseReq}
 use Rattle.toml_subset.specs.Written.{WrittenString}
 use Rattle.toml_shapes.specs.Shapes.{fault_alone, custom}
 use Rattle.policy_entries.specs.Licensees.{policy_mode, place_in, licensee_by, licensee_in, part_in}

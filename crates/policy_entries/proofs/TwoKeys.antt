@@ -10,9 +10,9 @@ use Rattle.toml_shapes.specs.declared.shape.DeserError.{DeserError}
 use Rattle.toml_shapes.specs.declared.shape.DeserError.TheVariants.{Faults, Memory}
 use Rattle.toml_value.specs.Removal.{entries_without, names_in}
 use Rattle.policy_toml.specs.HelperState.{HelperState, without_key, required_of, faults_at_end, unexpected_faults}
-use Rattle.key_rows.specs.Rows.{needed, needed_at, shaped_by}
-use Rattle.key_rows.proofs.Keys.{value_at_without}
-use Rattle.key_rows.proofs.RowLemmas.{required_is}
+use Rattle.toml_rows.specs.Rows.{needed, needed_at, shaped_by}
+use Rattle.toml_rows.proofs.Keys.{value_at_without}
+use Rattle.toml_rows.proofs.RowLemmas.{required_is}
 
 abbrev ended : {A B C : Type 0} → List ℕ → List ℕ → (A → B → C) → Entries → Span → A → B → ShapeReading C
 ended first second make entries span x y = shaped_by (first ∷ second ∷ []) [] (λ _. make x y) entries span

@@ -6,7 +6,7 @@ use Rattle.toml_shapes.specs.Kinds.{kind_word}
 use Rattle.toml_shapes.specs.Shaped.{ShapeReading, shaped_map, shaped_then}
 use Rattle.toml_value.specs.Taken.{string_of}
 use Rattle.policy_toml.specs.Readings.{list_of}
-use Rattle.key_rows.specs.Rows.{needed, shaped_by}
+use Rattle.toml_rows.specs.Rows.{needed, shaped_by}
 use Rattle.policy_parts.specs.Values.{file_source_of}
 use Rattle.policy_entries.specs.WithSpec.{with_spec}
 use Rattle.policy_entries.specs.declared.clarification.Clarification.{Clarification}

@@ -1,11 +1,11 @@
 -- Exceptions, and the file that holds some.
 use Rattle.std.specs.Prelude.{List, [], ◌∷◌, codes}
-use Rattle.catalog_core.specs.Catalog.{CatalogLists}
+use Rattle.spdx_catalog.specs.Catalog.{CatalogLists}
 use Rattle.deny_text.specs.declared.span.Span.{Span}
 use Rattle.toml_subset.specs.Data.{Entries, Toml}
 use Rattle.toml_shapes.specs.Shaped.{ShapeReading, shaped_map, shaped_then}
 use Rattle.policy_toml.specs.Readings.{list_of}
-use Rattle.key_rows.specs.Rows.{in_table, needed, shaped_by}
+use Rattle.toml_rows.specs.Rows.{in_table, needed, shaped_by}
 use Rattle.policy_entries.specs.Licensees.{licensees_of}
 use Rattle.policy_entries.specs.WithSpec.{with_spec}
 use Rattle.policy_entries.specs.declared.exception.ExceptionLicenses.{ExceptionLicenses}

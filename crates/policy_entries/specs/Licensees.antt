@@ -1,14 +1,14 @@
 -- Licensees that a policy names: strings that are one licence or reference, perhaps with an exception.
 use Rattle.std.specs.Prelude.{ℕ, ◌^◌, ◌+◌, ◌-◌, min, Bool, true, false, if◌then◌else◌, List, [], codes, Option, Some, None, Ok, Err}
-use Rattle.catalog_core.specs.Catalog.{CatalogLists}
+use Rattle.spdx_catalog.specs.Catalog.{CatalogLists}
 use Rattle.deny_text.specs.declared.span.Span.{Span}
-use Rattle.term_core.specs.Faults.{licensee_fault, licensee_mode}
-use Rattle.term_core.specs.Items.{items_of}
-use Rattle.term_core.specs.Licensee.{part_of}
-use Rattle.term_core.specs.Reasons.{reason_text}
-use Rattle.term_core.specs.declared.error.ParseError.{ParseError}
-use Rattle.term_core.specs.declared.mode.ParseMode.{ParseMode}
-use Rattle.term_core.specs.declared.term.LicenseReq.{LicenseReq}
+use Rattle.spdx_terms.specs.Faults.{licensee_fault, licensee_mode}
+use Rattle.spdx_terms.specs.Items.{items_of}
+use Rattle.spdx_terms.specs.Licensee.{part_of}
+use Rattle.spdx_terms.specs.Reasons.{reason_text}
+use Rattle.spdx_terms.specs.declared.error.ParseError.{ParseError}
+use Rattle.spdx_terms.specs.declared.mode.ParseMode.{ParseMode}
+use Rattle.spdx_terms.specs.declared.term.LicenseReq.{LicenseReq}
 use Rattle.toml_subset.specs.Data.{Toml}
 use Rattle.toml_subset.specs.Written.{WrittenString}
 use Rattle.toml_shapes.specs.Shaped.{ShapeReading, shaped_then}

@@ -3,7 +3,7 @@ use Rattle.std.specs.Prelude.{Ok, Err}
 use Rattle.deny_text.specs.declared.span.Span.{Span}
 use Rattle.toml_subset.specs.Data.{Entries, Toml}
 use Rattle.toml_shapes.specs.Shaped.{ShapeReading, shaped_map, shaped_then}
-use Rattle.key_rows.specs.Rows.{in_table, left_of_table}
+use Rattle.toml_rows.specs.Rows.{in_table, left_of_table}
 use Rattle.policy_spec.specs.Reading.{spec_of, rest_of_spec}
 use Rattle.policy_spec.specs.Spec.{Spec}
 

@@ -5,7 +5,7 @@ ghost use Rattle.policy_entries.specs.WithSpec.{left_of_entry};
 
 use crate::with_spec::read_with_spec;
 use deny_text::{ListOf, Spanned, Text};
-use key_rows::{FromKeys, finish};
+use toml_rows::{FromKeys, finish};
 use policy_parts::FileSources;
 use policy_spec::PackageSpec;
 use policy_toml::{DeserError, Deserialize, TableHelper, Value};

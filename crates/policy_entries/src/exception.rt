@@ -1,14 +1,14 @@
 //! Exceptions: licensees that are allowed for some crates alone.
-ghost use Rattle.key_rows.specs.Rows.{left_of_table};
+ghost use Rattle.toml_rows.specs.Rows.{left_of_table};
 ghost use Rattle.policy_entries.specs.Exceptions.{allowed_at, exception_of};
 ghost use Rattle.policy_entries.specs.Exceptions.{exceptions_file_at, exceptions_file_of};
 ghost use Rattle.policy_entries.specs.WithSpec.{left_of_entry};
 
 use crate::licensee::Licensees;
 use crate::with_spec::read_with_spec;
-use catalog_core::Catalog;
+use spdx_catalog::Catalog;
 use deny_text::ListOf;
-use key_rows::{FromKeys, finish, read_table};
+use toml_rows::{FromKeys, finish, read_table};
 use policy_spec::PackageSpec;
 use policy_toml::{DeserError, Deserialize, TableHelper, Value};
 use std::alloc::Global;

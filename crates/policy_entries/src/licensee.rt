@@ -1,23 +1,23 @@
 //! Licensees that a policy names.
 ghost use Rattle.std.specs.Prelude.{◌≡◌, codes};
-ghost use Rattle.term_core.specs.Reasons.{reason_text};
+ghost use Rattle.spdx_terms.specs.Reasons.{reason_text};
 ghost use Rattle.toml_shapes.specs.Shaped.{AnswersShape, IsToldBy};
 ghost use Rattle.toml_shapes.specs.Shapes.{fault_alone, custom};
 ghost use Rattle.toml_value.specs.Taken.{left_by, string_of};
 ghost use Rattle.policy_entries.specs.Licensees as spec;
 ghost use Rattle.policy_entries.specs.Licensees.{licensee_of, licensee_in};
 
-use catalog_core::Catalog;
+use spdx_catalog::Catalog;
 use deny_text::{ListOf, Span, Spanned, Text};
 use policy_toml::{DeserError, Deserialize, ErrorKind, Str, Value};
 use std::alloc::Global;
-use term_core::{ExprError, ParseError, ParseMode};
+use spdx_terms::{ExprError, ParseError, ParseMode};
 use toml_shapes::one_fault;
 
 /// A licensee at the place of its string. Licensees are told apart and ordered by what they print; the place
 /// does not count.
 #[derive(Drop, PartialEq, Eq, PartialOrd, Ord)]
-pub struct Licensee(pub Spanned<term_core::Licensee>);
+pub struct Licensee(pub Spanned<spdx_terms::Licensee>);
 
 /// Licensees in order.
 pub type Licensees = ListOf<Licensee>;
@@ -58,7 +58,7 @@ fn read_licensee<C: Catalog>(
 ) -> Result<Licensee, DeserError>
     ensures { AnswersShape (licensee_in (C.lists catalog.now) string.now span) result }
 {
-    match term_core::Licensee::parse_mode(alloc, string.as_str(), POLICY, catalog) {
+    match spdx_terms::Licensee::parse_mode(alloc, string.as_str(), POLICY, catalog) {
         Ok(value) => Ok(Licensee(Spanned { value, span })),
         Err(ExprError::Parse(fault)) => Err(told(alloc, string, span, fault)),
         Err(ExprError::Memory) => Err(DeserError::Memory),

@@ -4,7 +4,7 @@ ghost use Rattle.toml_value.specs.Views.{value_view};
 ghost use Rattle.std.specs.Prelude.{◌≡◌};
 ghost use Rattle.policy_entries.specs.WithSpec.{with_spec, left_of_entry};
 
-use key_rows::{FromKeys, read_table};
+use toml_rows::{FromKeys, read_table};
 use policy_spec::PackageSpec;
 use policy_toml::{DeserError, Deserialize, Value};
 use std::alloc::Global;

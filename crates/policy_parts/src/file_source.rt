@@ -1,10 +1,10 @@
 //! Files that a clarification names.
 ghost use Rattle.std.specs.Prelude.{◌≡◌, IfOk};
-ghost use Rattle.key_rows.specs.Rows.{left_of_table};
+ghost use Rattle.toml_rows.specs.Rows.{left_of_table};
 ghost use Rattle.policy_parts.specs.Values.{file_source_at, file_source_of};
 
 use deny_text::{ListOf, PathBuf, Spanned, Text};
-use key_rows::{FromKeys, finish, read_table};
+use toml_rows::{FromKeys, finish, read_table};
 use policy_toml::{DeserError, Deserialize, TableHelper, Value};
 use std::alloc::{AllocError, Global};
 

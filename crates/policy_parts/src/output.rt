@@ -1,9 +1,9 @@
 //! How a policy wants its findings printed.
 ghost use Rattle.std.specs.Prelude.{[]};
-ghost use Rattle.key_rows.specs.Rows.{left_of_table, shaped_by};
+ghost use Rattle.toml_rows.specs.Rows.{left_of_table, shaped_by};
 ghost use Rattle.policy_parts.specs.Tables.{output_rows, output_in, output_of};
 
-use key_rows::{FromKeys, finish, read_table};
+use toml_rows::{FromKeys, finish, read_table};
 use policy_toml::{DeserError, Deserialize, TableHelper, Value};
 use std::alloc::Global;
 

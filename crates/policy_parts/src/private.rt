@@ -1,10 +1,10 @@
 //! Crates that a policy calls private.
 ghost use Rattle.std.specs.Prelude.{◌≡◌, [], false};
-ghost use Rattle.key_rows.specs.Rows.{left_of_table, shaped_by};
+ghost use Rattle.toml_rows.specs.Rows.{left_of_table, shaped_by};
 ghost use Rattle.policy_parts.specs.Tables.{private_rows, private_in, private_of};
 
 use deny_text::{ListOf, Spanned, Text, Texts};
-use key_rows::{FromKeys, finish, or_empty, read_table};
+use toml_rows::{FromKeys, finish, or_empty, read_table};
 use policy_toml::{DeserError, Deserialize, TableHelper, Value};
 use std::alloc::Global;
 

@@ -6,7 +6,7 @@ ghost use Rattle.toml_value.specs.Views.{value_view};
 ghost use Rattle.policy_parts.specs.Values.{target_at, target_by, target_of, left_of_target};
 
 use deny_text::{ListOf, Spanned, Text, Texts};
-use key_rows::{FromKeys, finish, or_empty, read_table};
+use toml_rows::{FromKeys, finish, or_empty, read_table};
 use policy_toml::{DeserError, Deserialize, TableHelper, Value, ValueInner};
 use std::alloc::Global;
 

@@ -4,11 +4,11 @@ use Rattle.std.specs.Prelude.{codes, unwrap_or}
 use Rattle.deny_text.specs.declared.span.Span.{Span}
 use Rattle.deny_text.specs.declared.span.Spanned.{Spanned}
 use Rattle.deny_text.specs.Spans.{LiesBetween}
-use Rattle.toml_places.specs.Placed.{IsContentPlaced}
+use Rattle.toml_laws.specs.Placed.{IsContentPlaced}
 use Rattle.toml_subset.specs.Data.{Content, string, integer, decimal, boolean, array, table}
 use Rattle.toml_value.specs.Lookup.{value_at}
 use Rattle.policy_toml.specs.Readings.{text_of, boolean_of, u32_of, list_of, spanned_of}
-use Rattle.key_rows.specs.Rows.{key, given, needed, shaped_by}
+use Rattle.toml_rows.specs.Rows.{key, given, needed, shaped_by}
 use Rattle.policy_parts.specs.Names.{scope_of, scope_names, agreement_of, agreement_names, lint_of, lint_names}
 use Rattle.policy_parts.specs.Tables.{private_rows, private_in, private_of, output_rows, output_in, output_of, graph_rows, graph_config_in, graph_config_of}
 use Rattle.policy_parts.specs.Values.{file_source_at, file_source_of, target_at, target_of, reason_by, reason_of}

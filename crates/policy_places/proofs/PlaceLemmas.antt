@@ -6,7 +6,7 @@ use Rattle.std.specs.Result.{result_ok}
 use Rattle.std.specs.Str.{bytes_eq}
 use Rattle.deny_text.specs.declared.span.Span.{Span}
 use Rattle.deny_text.specs.Spans.{LiesBetween}
-use Rattle.toml_places.specs.Placed.{IsPlaced, IsContentPlaced, AreItemsPlaced, AreEntriesPlaced}
+use Rattle.toml_laws.specs.Placed.{IsPlaced, IsContentPlaced, AreItemsPlaced, AreEntriesPlaced}
 use Rattle.toml_shapes.specs.Kinds.{kind_word}
 use Rattle.toml_shapes.specs.Shaped.{ShapeReading, shaped_map, shaped_then, faults_in, shaped_of}
 use Rattle.toml_shapes.specs.Shapes.{Fault}
@@ -18,7 +18,7 @@ use Rattle.toml_value.specs.Removal.{entries_without, names_in}
 use Rattle.toml_value.specs.Taken.{or_wanted, string_of, values_of}
 use Rattle.policy_toml.specs.HelperState.{given_value, faults_of, unexpected_faults}
 use Rattle.policy_toml.specs.Readings.{text_of, boolean_of, i64_of, u32_of, in_32_bits, or_out_of_range, spanned_of, array_of, list_of, name_of, or_unexpected, thing_of_name}
-use Rattle.key_rows.specs.Rows.{KeyRow, key, passed_key, given, rows_faults, shaped_by, in_table, needed, needed_at, entries_besides, names_of_rows}
+use Rattle.toml_rows.specs.Rows.{KeyRow, key, passed_key, given, rows_faults, shaped_by, in_table, needed, needed_at, entries_besides, names_of_rows}
 use Rattle.policy_places.specs.Places.{IsToldIn, StaysIn, KeepsPlacesIn, keeps_nothing, keeps_its_span, keeps_each, keeps_where}
 
 -- what a thing keeps, by the text

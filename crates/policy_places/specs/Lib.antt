@@ -1,2 +1,4 @@
 pub mod Parts
 pub mod Places
+pub mod Entries
+pub mod Policies

@@ -4,7 +4,7 @@ use Rattle.std.specs.Prelude.{ℕ, List, Option, Some, None, Ok, Err, ⊤}
 use Rattle.std.specs.List.{AllByRecursion}
 use Rattle.deny_text.specs.declared.span.Spanned.{Spanned}
 use Rattle.deny_text.specs.Spans.{LiesBetween}
-use Rattle.toml_places.specs.Placed.{IsPlaced}
+use Rattle.toml_laws.specs.Placed.{IsPlaced}
 use Rattle.toml_shapes.specs.Shaped.{ShapeReading}
 use Rattle.toml_shapes.specs.Shapes.{Fault}
 use Rattle.toml_subset.specs.Data.{Toml}

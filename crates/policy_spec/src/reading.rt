@@ -13,7 +13,7 @@ use crate::fault::missing_crate;
 use crate::package_spec::PackageSpec;
 use crate::text::{read_requirement, read_string};
 use deny_text::{Spanned, Text};
-use key_rows::take_value;
+use toml_rows::take_value;
 use policy_toml::{DeserError, Deserialize, Entries, Value};
 use semver::VersionReq;
 use std::alloc::Global;
@@ -61,7 +61,7 @@ fn read_taken(
 }
 
 /// Reads a spec from a table that was taken out of its value.
-#[tactic(auto, using(key_rows::proofs::Keys::without_absent))]
+#[tactic(auto, using(toml_rows::proofs::Keys::without_absent))]
 fn read_table<'de>(
     alloc: Global,
     mut entries: Entries<'de>,
@@ -81,7 +81,7 @@ fn read_table<'de>(
 }
 
 /// Reads a spec from a table without `crate`.
-#[tactic(auto, using(key_rows::proofs::Keys::value_at_without))]
+#[tactic(auto, using(toml_rows::proofs::Keys::value_at_without))]
 fn read_named_table<'de>(
     alloc: Global,
     mut entries: Entries<'de>,

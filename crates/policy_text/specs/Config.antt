@@ -1,7 +1,7 @@
 -- The policy as it is written, from its text, and why there is none.
 use Rattle.std.specs.Prelude.{◌≡◌, ℕ, List, Result, Ok, Err, if◌then◌else◌, ⊤}
 use Rattle.std.specs.List.{list_any}
-use Rattle.catalog_core.specs.Catalog.{CatalogLists}
+use Rattle.spdx_catalog.specs.Catalog.{CatalogLists}
 use Rattle.toml_subset.specs.Answer.{TomlReading}
 use Rattle.toml_subset.specs.Data.{Toml}
 use Rattle.toml_subset.specs.Reading.{read_text}
@@ -12,7 +12,7 @@ use Rattle.toml_shapes.specs.declared.shape.DeserError.{DeserError}
 use Rattle.toml_shapes.specs.declared.shape.DeserError.TheVariants as shape
 use Rattle.policy_config.specs.Root.{root_of}
 use Rattle.policy_config.specs.declared.root.RootConfig.{RootConfig}
-use Rattle.selection_core.specs.Choice.{is_uncarried}
+use Rattle.graph_selection.specs.Choice.{is_uncarried}
 use Rattle.policy_text.specs.declared.error.ConfigError.{ConfigError}
 use Rattle.policy_text.specs.declared.error.ConfigError.TheVariants.{Memory, ConfigRead, ConfigSyntax}
 use Rattle.policy_text.specs.declared.error.ConfigError.TheVariants.{ConfigShape, NotCarried}

@@ -1,7 +1,7 @@
 -- The text of a policy.
 use Rattle.std.specs.Prelude.{ℕ, true, false, List, [], Result, Ok, Err}
-use Rattle.heard_core.specs.declared.fault.ReadFault.{ReadFault}
-use Rattle.heard_core.specs.declared.fault.ReadFault.TheVariants.{Absent}
+use Rattle.tree_texts.specs.declared.fault.ReadFault.{ReadFault}
+use Rattle.tree_texts.specs.declared.fault.ReadFault.TheVariants.{Absent}
 use Rattle.policy_text.specs.declared.error.ConfigError.{ConfigError}
 use Rattle.policy_text.specs.declared.error.ConfigError.TheVariants.{ConfigRead}
 use Rattle.policy_text.specs.declared.text.ConfigText.{ConfigText}

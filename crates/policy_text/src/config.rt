@@ -5,10 +5,10 @@ ghost use Rattle.policy_text.specs.Config.{HasAFault, IsOfText, AnswersConfig, A
 ghost use Rattle.policy_text.specs.Config.{config_of_text, config_of_value, value_of_text};
 
 use crate::error::ConfigError;
-use catalog_core::Catalog;
+use spdx_catalog::Catalog;
 use policy_config::RootConfig;
 use policy_toml::{Deserialize, Value, parse};
-use selection_core::has_uncarried;
+use graph_selection::has_uncarried;
 use std::alloc::Global;
 
 /// The value that a text stands for.

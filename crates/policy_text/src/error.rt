@@ -2,7 +2,7 @@
 ghost use Rattle.std.specs.Prelude.{◌≡◌};
 ghost use Rattle.policy_text.specs.declared.error.ConfigError.TheVariants.{Memory};
 
-use heard_core::ReadFault;
+use tree_texts::ReadFault;
 use policy_toml::{DeserError, ShapeErrors, SyntaxError, TomlError};
 use std::alloc::AllocError;
 

@@ -1,11 +1,11 @@
 //! The text of a policy.
 ghost use Rattle.std.specs.Prelude.{◌≡◌, ◌≢◌, Err};
-ghost use Rattle.heard_core.specs.declared.fault.ReadFault.{ReadFault};
+ghost use Rattle.tree_texts.specs.declared.fault.ReadFault.{ReadFault};
 ghost use Rattle.policy_text.specs.Text.{config_text_of};
 
 use crate::error::ConfigError;
 use deny_text::Text;
-use heard_core::{TextHeard, ReadFault};
+use tree_texts::{TextHeard, ReadFault};
 use std::alloc::Global;
 
 /// The text that a policy is read from.

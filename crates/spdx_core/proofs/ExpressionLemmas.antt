@@ -2,14 +2,14 @@
 use Rattle.std.proofs.Common.{◌≡◌, ◌∙◌, refl, sym, ap, subst, ℕ, ◌<◌, List, [], ◌∷◌, append-nil, Some, None, length, arith}
 use Rattle.std.proofs.lemmas.List.{length-append}
 use Rattle.std.specs.Str.{IsUtf8}
-use Rattle.catalog_core.specs.Catalog.{CatalogLists, IsCatalog}
-use Rattle.term_core.specs.declared.mode.ParseMode.{ParseMode}
-use Rattle.term_core.specs.declared.item.Item.{Item}
-use Rattle.term_core.specs.declared.item.WantedItem.TheVariants.{Term as wants_term}
-use Rattle.term_core.specs.declared.term.ExpressionReq.{ExpressionReq}
-use Rattle.term_core.specs.Items.{items_of}
-use Rattle.term_core.specs.Faults.{fault_from, fault_of, first_fault}
-use Rattle.term_core.proofs.FaultLemmas.{no}
+use Rattle.spdx_catalog.specs.Catalog.{CatalogLists, IsCatalog}
+use Rattle.spdx_terms.specs.declared.mode.ParseMode.{ParseMode}
+use Rattle.spdx_terms.specs.declared.item.Item.{Item}
+use Rattle.spdx_terms.specs.declared.item.WantedItem.TheVariants.{Term as wants_term}
+use Rattle.spdx_terms.specs.declared.term.ExpressionReq.{ExpressionReq}
+use Rattle.spdx_terms.specs.Items.{items_of}
+use Rattle.spdx_terms.specs.Faults.{fault_from, fault_of, first_fault}
+use Rattle.spdx_terms.proofs.FaultLemmas.{no}
 use Rattle.spdx_core.specs.declared.node.ExprNode.{ExprNode}
 use Rattle.spdx_core.specs.declared.node.ExprNode.TheVariants.{Or as or_node}
 use Rattle.spdx_core.specs.Grammar.{ExpressionTree, Rule, ReadsAs, Spells, AllowedForms, simple, simple_with, grouped, one_part, and, one_conjunction, or}

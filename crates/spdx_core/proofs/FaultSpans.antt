@@ -7,22 +7,22 @@ use Rattle.std.proofs.lemmas.Str.{IsCharBoundary-start, IsCharBoundary-end}
 use Rattle.std.specs.Str.{IsUtf8, IsCharBoundary}
 use Rattle.deny_text.specs.declared.span.Span.{Span}
 use Rattle.deny_text.specs.Spans.{LiesBetween}
-use Rattle.catalog_core.specs.Catalog.{CatalogLists, IsCatalog}
-use Rattle.term_core.specs.declared.mode.ParseMode.{ParseMode}
-use Rattle.term_core.specs.declared.error.ParseError.{ParseError}
-use Rattle.term_core.specs.declared.error.ParseReason.{ParseReason}
-use Rattle.term_core.specs.declared.error.ParseReason.TheVariants.{Unexpected, DeprecatedId, GplNoPlus}
-use Rattle.term_core.specs.declared.term.LicenseItem.{LicenseItem}
-use Rattle.term_core.specs.declared.item.WantedItem.{WantedItem}
-use Rattle.term_core.specs.declared.item.WantedItem.TheVariants.{Term as wants_term}
-use Rattle.term_core.specs.declared.item.ItemKind.{ItemKind}
-use Rattle.term_core.specs.declared.item.ItemKind.TheVariants.{Term, Exception, And, Or, With, Open, Close, Plus, Word, Other}
-use Rattle.term_core.specs.declared.item.Item.{Item}
-use Rattle.term_core.specs.declared.item.Simple.{Simple}
-use Rattle.term_core.specs.Spans.{Rise}
-use Rattle.term_core.specs.Items.{item_at, term_of, plus_behind, items_of, wanted_after}
-use Rattle.term_core.specs.Faults.{unless, fault_over, takes_term, takes_exception, takes_operator, takes_with, word_reason, mark_fault, first_of, item_fault, opened_after, has_open, last_open, end_fault, fault_from, fault_of, first_fault, is_alone, lone_fault, licensee_mode, licensee_fault, licensee_fault_from, licensee_fault_of}
-use Rattle.term_core.proofs.ItemSpans.{items_rise}
+use Rattle.spdx_catalog.specs.Catalog.{CatalogLists, IsCatalog}
+use Rattle.spdx_terms.specs.declared.mode.ParseMode.{ParseMode}
+use Rattle.spdx_terms.specs.declared.error.ParseError.{ParseError}
+use Rattle.spdx_terms.specs.declared.error.ParseReason.{ParseReason}
+use Rattle.spdx_terms.specs.declared.error.ParseReason.TheVariants.{Unexpected, DeprecatedId, GplNoPlus}
+use Rattle.spdx_terms.specs.declared.term.LicenseItem.{LicenseItem}
+use Rattle.spdx_terms.specs.declared.item.WantedItem.{WantedItem}
+use Rattle.spdx_terms.specs.declared.item.WantedItem.TheVariants.{Term as wants_term}
+use Rattle.spdx_terms.specs.declared.item.ItemKind.{ItemKind}
+use Rattle.spdx_terms.specs.declared.item.ItemKind.TheVariants.{Term, Exception, And, Or, With, Open, Close, Plus, Word, Other}
+use Rattle.spdx_terms.specs.declared.item.Item.{Item}
+use Rattle.spdx_terms.specs.declared.item.Simple.{Simple}
+use Rattle.spdx_terms.specs.Spans.{Rise}
+use Rattle.spdx_terms.specs.Items.{item_at, term_of, plus_behind, items_of, wanted_after}
+use Rattle.spdx_terms.specs.Faults.{unless, fault_over, takes_term, takes_exception, takes_operator, takes_with, word_reason, mark_fault, first_of, item_fault, opened_after, has_open, last_open, end_fault, fault_from, fault_of, first_fault, is_alone, lone_fault, licensee_mode, licensee_fault, licensee_fault_from, licensee_fault_of}
+use Rattle.spdx_terms.proofs.ItemSpans.{items_rise}
 use Rattle.spdx_core.proofs.ItemKinds.{is_other, Kinds, Each, each_item}
 
 -- ---- where names end

@@ -2,20 +2,20 @@
 use Rattle.std.proofs.Common.{◌≡◌, ◌∙◌, refl, sym, ap, subst, ℕ, ◌+◌, false, cond, IsTrue, List, [], ◌∷◌, ◌++◌, map, append_assoc, append-nil, Option, Some, None, length, drop}
 use Rattle.std.proofs.lemmas.Bool.{true≢false}
 use Rattle.deny_text.specs.declared.span.Span.{Span}
-use Rattle.catalog_core.specs.Catalog.{CatalogLists}
-use Rattle.term_core.specs.declared.mode.ParseMode.{ParseMode}
-use Rattle.term_core.specs.declared.error.ParseError.{ParseError}
-use Rattle.term_core.specs.declared.error.ParseReason.TheVariants.{Unexpected, UnopenedParens}
-use Rattle.term_core.specs.declared.term.ExpressionReq.{ExpressionReq}
-use Rattle.term_core.specs.declared.item.WantedItem.{WantedItem}
-use Rattle.term_core.specs.declared.item.WantedItem.TheVariants.{Term as wants_term, Exception as wants_exception, AfterTerm, AfterPart}
-use Rattle.term_core.specs.declared.item.ItemKind.{ItemKind}
-use Rattle.term_core.specs.declared.item.ItemKind.TheVariants.{Term, Exception, And, Or, With, Open, Close, Plus, Word, Other}
-use Rattle.term_core.specs.declared.item.Item.{Item}
-use Rattle.term_core.specs.declared.item.Simple.{Simple}
-use Rattle.term_core.specs.Items.{items_of}
-use Rattle.term_core.specs.Faults.{fault_from, fault_of, first_fault, first_of, mark_fault, end_fault, last_open, unless, fault_over, takes_operator, has_open}
-use Rattle.term_core.proofs.FaultLemmas.{no, first_of-left, first_of-right, marks_taken}
+use Rattle.spdx_catalog.specs.Catalog.{CatalogLists}
+use Rattle.spdx_terms.specs.declared.mode.ParseMode.{ParseMode}
+use Rattle.spdx_terms.specs.declared.error.ParseError.{ParseError}
+use Rattle.spdx_terms.specs.declared.error.ParseReason.TheVariants.{Unexpected, UnopenedParens}
+use Rattle.spdx_terms.specs.declared.term.ExpressionReq.{ExpressionReq}
+use Rattle.spdx_terms.specs.declared.item.WantedItem.{WantedItem}
+use Rattle.spdx_terms.specs.declared.item.WantedItem.TheVariants.{Term as wants_term, Exception as wants_exception, AfterTerm, AfterPart}
+use Rattle.spdx_terms.specs.declared.item.ItemKind.{ItemKind}
+use Rattle.spdx_terms.specs.declared.item.ItemKind.TheVariants.{Term, Exception, And, Or, With, Open, Close, Plus, Word, Other}
+use Rattle.spdx_terms.specs.declared.item.Item.{Item}
+use Rattle.spdx_terms.specs.declared.item.Simple.{Simple}
+use Rattle.spdx_terms.specs.Items.{items_of}
+use Rattle.spdx_terms.specs.Faults.{fault_from, fault_of, first_fault, first_of, mark_fault, end_fault, last_open, unless, fault_over, takes_operator, has_open}
+use Rattle.spdx_terms.proofs.FaultLemmas.{no, first_of-left, first_of-right, marks_taken}
 use Rattle.spdx_core.specs.Grammar.{ExpressionTree, leaf, both, either, Rule, expression, conjunction, part, ReadsAs, Spells, AllowedForms, allowed_in, takes, simple, simple_with, grouped, one_part, and, one_conjunction, or, item}
 
 -- items can be read by a rule, from whatever place on

@@ -4,17 +4,17 @@ use Rattle.std.proofs.lemmas.List.{length-append}
 use Rattle.std.proofs.Math.Seq.{drop-append_seam}
 use Rattle.std.specs.Prelude.{codes}
 use Rattle.std.specs.List.{AllByRecursion, AllZip}
-use Rattle.catalog_core.specs.declared.catalog.LicenseEntry.{LicenseEntry}
-use Rattle.catalog_core.specs.Catalog.{CatalogLists, IsCatalog, entry_of}
-use Rattle.catalog_core.specs.Words.{ends_word}
-use Rattle.term_core.specs.declared.term.LicenseItem.TheVariants.{Spdx}
-use Rattle.term_core.specs.declared.term.ExpressionReq.{ExpressionReq}
-use Rattle.term_core.specs.declared.item.Simple.{Simple}
-use Rattle.term_core.specs.declared.item.Item.{Item}
-use Rattle.term_core.specs.declared.item.ItemKind.TheVariants.{Term, And}
-use Rattle.term_core.specs.declared.item.WantedItem.TheVariants.{Term as wants_term, AfterTerm}
-use Rattle.term_core.specs.Items.{item_at, plus_behind, items_of, items_from}
-use Rattle.term_core.proofs.ItemBorders.{step_white}
+use Rattle.spdx_catalog.specs.declared.catalog.LicenseEntry.{LicenseEntry}
+use Rattle.spdx_catalog.specs.Catalog.{CatalogLists, IsCatalog, entry_of}
+use Rattle.spdx_catalog.specs.Words.{ends_word}
+use Rattle.spdx_terms.specs.declared.term.LicenseItem.TheVariants.{Spdx}
+use Rattle.spdx_terms.specs.declared.term.ExpressionReq.{ExpressionReq}
+use Rattle.spdx_terms.specs.declared.item.Simple.{Simple}
+use Rattle.spdx_terms.specs.declared.item.Item.{Item}
+use Rattle.spdx_terms.specs.declared.item.ItemKind.TheVariants.{Term, And}
+use Rattle.spdx_terms.specs.declared.item.WantedItem.TheVariants.{Term as wants_term, AfterTerm}
+use Rattle.spdx_terms.specs.Items.{item_at, plus_behind, items_of, items_from}
+use Rattle.spdx_terms.proofs.ItemBorders.{step_white}
 use Rattle.spdx_core.specs.Grammar.{ExpressionTree, leaf, both, ReadsAs, conjunction, expression, allowed_in, simple, one_part, and, one_conjunction, item, term}
 use Rattle.spdx_core.specs.Printing.{named_mode, next_names, joined_names, with_names, IsKnown, IsNameOf, JoinedNamesAreRead}
 use Rattle.spdx_core.proofs.NameItems.{word_step, name_step}

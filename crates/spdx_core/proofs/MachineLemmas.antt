@@ -2,17 +2,17 @@
 use Rattle.std.proofs.Common.{◌≡◌, ◌∙◌, refl, sym, ap, ℕ, Bool, true, false, cond, List, [], ◌∷◌, ◌++◌, map, append_assoc, append-nil, Option, Some, None, is_some, length}
 use Rattle.std.proofs.lemmas.Bool.{false≢true}
 use Rattle.deny_text.specs.declared.span.Span.{Span}
-use Rattle.term_core.specs.declared.mode.ParseMode.{ParseMode}
-use Rattle.term_core.specs.declared.error.ParseReason.TheVariants.{Unexpected, UnopenedParens}
-use Rattle.term_core.specs.declared.item.WantedItem.{WantedItem}
-use Rattle.term_core.specs.declared.item.WantedItem.TheVariants.{Term as wants_term, Exception as wants_exception, AfterTerm, AfterPart}
-use Rattle.term_core.specs.declared.item.ItemKind.{ItemKind}
-use Rattle.term_core.specs.declared.item.ItemKind.TheVariants.{Term, Exception, And, Or, With, Open, Close, Plus, Word, Other}
-use Rattle.term_core.specs.declared.item.Item.{Item}
-use Rattle.term_core.specs.declared.term.ExpressionReq.{ExpressionReq}
-use Rattle.term_core.specs.Items.{wanted_after}
-use Rattle.term_core.specs.Faults.{fault_from, item_fault, unless, fault_over, takes_operator, takes_with, takes_exception, has_open, opened_after}
-use Rattle.term_core.proofs.FaultLemmas.{no, first_of-left, first_of-right}
+use Rattle.spdx_terms.specs.declared.mode.ParseMode.{ParseMode}
+use Rattle.spdx_terms.specs.declared.error.ParseReason.TheVariants.{Unexpected, UnopenedParens}
+use Rattle.spdx_terms.specs.declared.item.WantedItem.{WantedItem}
+use Rattle.spdx_terms.specs.declared.item.WantedItem.TheVariants.{Term as wants_term, Exception as wants_exception, AfterTerm, AfterPart}
+use Rattle.spdx_terms.specs.declared.item.ItemKind.{ItemKind}
+use Rattle.spdx_terms.specs.declared.item.ItemKind.TheVariants.{Term, Exception, And, Or, With, Open, Close, Plus, Word, Other}
+use Rattle.spdx_terms.specs.declared.item.Item.{Item}
+use Rattle.spdx_terms.specs.declared.term.ExpressionReq.{ExpressionReq}
+use Rattle.spdx_terms.specs.Items.{wanted_after}
+use Rattle.spdx_terms.specs.Faults.{fault_from, item_fault, unless, fault_over, takes_operator, takes_with, takes_exception, has_open, opened_after}
+use Rattle.spdx_terms.proofs.FaultLemmas.{no, first_of-left, first_of-right}
 use Rattle.spdx_core.specs.declared.node.ExprNode.{ExprNode}
 use Rattle.spdx_core.specs.declared.node.ExprNode.TheVariants.{And as and_node, Or as or_node}
 use Rattle.spdx_core.specs.declared.reader.OpenOperators.{OpenOperators}

@@ -8,19 +8,19 @@ use Rattle.std.specs.Prelude.{codes}
 use Rattle.std.specs.Option.{option_map, option_or}
 use Rattle.std.specs.List.{list_all, prefix_len, starts_with}
 use Rattle.std.specs.Str.{bytes_eq}
-use Rattle.catalog_core.specs.declared.catalog.LicenseEntry.{LicenseEntry}
-use Rattle.catalog_core.specs.Catalog.{CatalogLists, IsCatalog, entry_of, names_of}
-use Rattle.catalog_core.specs.Words.{is_word_byte, is_word, is_name, is_operator, is_reference, ends_word}
-use Rattle.term_core.specs.declared.mode.ParseMode.{ParseMode}
-use Rattle.term_core.specs.declared.item.Token.TheVariants.{Word as a_word, Plus as a_plus, Open as an_open, Close as a_close, Slash as a_slash, Other as another}
-use Rattle.term_core.specs.declared.item.WantedItem.{WantedItem}
-use Rattle.term_core.specs.declared.item.WantedItem.TheVariants.{Term as wants_term, AfterTerm}
-use Rattle.term_core.specs.declared.item.Item.{Item}
-use Rattle.term_core.specs.declared.term.LicenseItem.{LicenseItem}
-use Rattle.term_core.specs.Tokens.{in_word, is_white, token_of, rest_len, after_prefix, own_licence, in_document, or_else, reference_of}
-use Rattle.term_core.specs.Items.{item_at, term_of, licence_of, licence_at, plus_behind, imprecise_if, plain_item, word_item, token_item, first_item, operator_of, items_of, items_from, item_here, with_item, wanted_behind, used_behind, wanted_after}
-use Rattle.term_core.proofs.ImpreciseLemmas.{both_true, and_true}
-use Rattle.term_core.proofs.ItemLemmas.{items_at, passed}
+use Rattle.spdx_catalog.specs.declared.catalog.LicenseEntry.{LicenseEntry}
+use Rattle.spdx_catalog.specs.Catalog.{CatalogLists, IsCatalog, entry_of, names_of}
+use Rattle.spdx_catalog.specs.Words.{is_word_byte, is_word, is_name, is_operator, is_reference, ends_word}
+use Rattle.spdx_terms.specs.declared.mode.ParseMode.{ParseMode}
+use Rattle.spdx_terms.specs.declared.item.Token.TheVariants.{Word as a_word, Plus as a_plus, Open as an_open, Close as a_close, Slash as a_slash, Other as another}
+use Rattle.spdx_terms.specs.declared.item.WantedItem.{WantedItem}
+use Rattle.spdx_terms.specs.declared.item.WantedItem.TheVariants.{Term as wants_term, AfterTerm}
+use Rattle.spdx_terms.specs.declared.item.Item.{Item}
+use Rattle.spdx_terms.specs.declared.term.LicenseItem.{LicenseItem}
+use Rattle.spdx_terms.specs.Tokens.{in_word, is_white, token_of, rest_len, after_prefix, own_licence, in_document, or_else, reference_of}
+use Rattle.spdx_terms.specs.Items.{item_at, term_of, licence_of, licence_at, plus_behind, imprecise_if, plain_item, word_item, token_item, first_item, operator_of, items_of, items_from, item_here, with_item, wanted_behind, used_behind, wanted_after}
+use Rattle.spdx_terms.proofs.ImpreciseLemmas.{both_true, and_true}
+use Rattle.spdx_terms.proofs.ItemLemmas.{items_at, passed}
 
 -- ---- words
 

@@ -2,18 +2,18 @@
 use Rattle.std.proofs.lemmas.Bool.{true≢false}
 use Rattle.std.proofs.Common.{◌≡◌, ◌∙◌, refl, sym, ap, ℕ, Bool, true, List, [], ◌∷◌, ◌++◌, append_assoc, append-nil, Option, None, is_some, length}
 use Rattle.deny_text.specs.declared.span.Span.{Span}
-use Rattle.term_core.specs.declared.mode.ParseMode.{ParseMode}
-use Rattle.term_core.specs.declared.error.ParseError.{ParseError}
-use Rattle.term_core.specs.declared.error.ParseReason.TheVariants.{Unexpected}
-use Rattle.term_core.specs.declared.term.ExpressionReq.{ExpressionReq}
-use Rattle.term_core.specs.declared.item.WantedItem.{WantedItem}
-use Rattle.term_core.specs.declared.item.WantedItem.TheVariants.{Term as wants_term, AfterTerm, AfterPart}
-use Rattle.term_core.specs.declared.item.ItemKind.TheVariants.{And, Or, Close}
-use Rattle.term_core.specs.declared.item.Item.{Item}
-use Rattle.catalog_core.specs.Catalog.{CatalogLists}
-use Rattle.term_core.specs.Items.{items_of}
-use Rattle.term_core.specs.Faults.{fault_from, fault_of, first_fault, first_of, unless, takes_operator, end_fault}
-use Rattle.term_core.proofs.FaultLemmas.{marks_untold}
+use Rattle.spdx_terms.specs.declared.mode.ParseMode.{ParseMode}
+use Rattle.spdx_terms.specs.declared.error.ParseError.{ParseError}
+use Rattle.spdx_terms.specs.declared.error.ParseReason.TheVariants.{Unexpected}
+use Rattle.spdx_terms.specs.declared.term.ExpressionReq.{ExpressionReq}
+use Rattle.spdx_terms.specs.declared.item.WantedItem.{WantedItem}
+use Rattle.spdx_terms.specs.declared.item.WantedItem.TheVariants.{Term as wants_term, AfterTerm, AfterPart}
+use Rattle.spdx_terms.specs.declared.item.ItemKind.TheVariants.{And, Or, Close}
+use Rattle.spdx_terms.specs.declared.item.Item.{Item}
+use Rattle.spdx_catalog.specs.Catalog.{CatalogLists}
+use Rattle.spdx_terms.specs.Items.{items_of}
+use Rattle.spdx_terms.specs.Faults.{fault_from, fault_of, first_fault, first_of, unless, takes_operator, end_fault}
+use Rattle.spdx_terms.proofs.FaultLemmas.{marks_untold}
 use Rattle.spdx_core.specs.Grammar.{ExpressionTree, Rule, expression, ReadsAs, Spells, allowed_in, simple, simple_with, grouped, one_part, and, one_conjunction, or, item}
 
 -- the faults of items behind what was read are those from a place that takes an operator

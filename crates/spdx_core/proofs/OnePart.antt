@@ -1,14 +1,14 @@
 -- A licensee's text is one part exactly where it has no fault.
 use Rattle.std.proofs.Common.{◌≡◌, ap, ◌↔◌, ℕ, List, None, length}
-use Rattle.catalog_core.specs.Catalog.{CatalogLists}
-use Rattle.term_core.specs.declared.mode.ParseMode.{ParseMode}
-use Rattle.term_core.specs.declared.item.Item.{Item}
-use Rattle.term_core.specs.declared.term.LicenseReq.{LicenseReq}
-use Rattle.term_core.specs.Items.{items_of}
-use Rattle.term_core.specs.Faults.{first_of, licensee_mode, licensee_fault, licensee_fault_of}
-use Rattle.term_core.specs.Licensee.{IsLicensee, IsOnePart, alone, with_exception}
-use Rattle.term_core.proofs.FaultLemmas.{marks_untold}
-use Rattle.term_core.proofs.LicenseeLemmas.{one_part}
+use Rattle.spdx_catalog.specs.Catalog.{CatalogLists}
+use Rattle.spdx_terms.specs.declared.mode.ParseMode.{ParseMode}
+use Rattle.spdx_terms.specs.declared.item.Item.{Item}
+use Rattle.spdx_terms.specs.declared.term.LicenseReq.{LicenseReq}
+use Rattle.spdx_terms.specs.Items.{items_of}
+use Rattle.spdx_terms.specs.Faults.{first_of, licensee_mode, licensee_fault, licensee_fault_of}
+use Rattle.spdx_terms.specs.Licensee.{IsLicensee, IsOnePart, alone, with_exception}
+use Rattle.spdx_terms.proofs.FaultLemmas.{marks_untold}
+use Rattle.spdx_terms.proofs.LicenseeLemmas.{one_part}
 
 fine : (mode : ParseMode) (len : ℕ) (items : List Item) (req : LicenseReq) → IsOnePart mode items req → licensee_fault_of mode len items ≡ None
 fine mode len _ _ (alone named span ok) = ap (λ fault. first_of fault None) (marks_untold mode named span ok)

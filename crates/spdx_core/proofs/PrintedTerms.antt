@@ -10,21 +10,21 @@ use Rattle.std.specs.Prelude.{codes}
 use Rattle.std.specs.Option.{option_map, option_or}
 use Rattle.std.specs.List.{list_all, list_any, before_first, after_first}
 use Rattle.std.specs.Str.{bytes_eq}
-use Rattle.catalog_core.specs.declared.catalog.LicenseEntry.{LicenseEntry}
-use Rattle.catalog_core.specs.Catalog.{CatalogLists, IsCatalog}
-use Rattle.catalog_core.specs.Words.{is_word_byte, is_word, is_name, ends_word}
-use Rattle.term_core.specs.declared.term.LicenseItem.{LicenseItem}
-use Rattle.term_core.specs.declared.term.LicenseItem.TheVariants.{Spdx, Reference}
-use Rattle.term_core.specs.declared.term.ExpressionReq.{ExpressionReq}
-use Rattle.term_core.specs.declared.item.Simple.{Simple}
-use Rattle.term_core.specs.declared.item.Item.{Item}
-use Rattle.term_core.specs.declared.item.ItemKind.TheVariants.{Term, Exception, With}
-use Rattle.term_core.specs.declared.item.WantedItem.TheVariants.{Term as wants_term, Exception as wants_exception, AfterTerm, AfterPart}
-use Rattle.term_core.specs.Tokens.{in_word, is_colon, after_prefix, own_licence, in_document, or_else, reference_of, one_of}
-use Rattle.term_core.specs.Items.{item_at, term_of, licence_at, plus_behind, operator_of, word_item, items_from}
-use Rattle.term_core.specs.Terms.{reference_text, item_text, exception_text}
-use Rattle.term_core.proofs.ImpreciseLemmas.{both_true, and_true}
-use Rattle.term_core.proofs.ItemBorders.{step_white}
+use Rattle.spdx_catalog.specs.declared.catalog.LicenseEntry.{LicenseEntry}
+use Rattle.spdx_catalog.specs.Catalog.{CatalogLists, IsCatalog}
+use Rattle.spdx_catalog.specs.Words.{is_word_byte, is_word, is_name, ends_word}
+use Rattle.spdx_terms.specs.declared.term.LicenseItem.{LicenseItem}
+use Rattle.spdx_terms.specs.declared.term.LicenseItem.TheVariants.{Spdx, Reference}
+use Rattle.spdx_terms.specs.declared.term.ExpressionReq.{ExpressionReq}
+use Rattle.spdx_terms.specs.declared.item.Simple.{Simple}
+use Rattle.spdx_terms.specs.declared.item.Item.{Item}
+use Rattle.spdx_terms.specs.declared.item.ItemKind.TheVariants.{Term, Exception, With}
+use Rattle.spdx_terms.specs.declared.item.WantedItem.TheVariants.{Term as wants_term, Exception as wants_exception, AfterTerm, AfterPart}
+use Rattle.spdx_terms.specs.Tokens.{in_word, is_colon, after_prefix, own_licence, in_document, or_else, reference_of, one_of}
+use Rattle.spdx_terms.specs.Items.{item_at, term_of, licence_at, plus_behind, operator_of, word_item, items_from}
+use Rattle.spdx_terms.specs.Terms.{reference_text, item_text, exception_text}
+use Rattle.spdx_terms.proofs.ImpreciseLemmas.{both_true, and_true}
+use Rattle.spdx_terms.proofs.ItemBorders.{step_white}
 use Rattle.spdx_core.specs.Grammar.{leaf, ReadsAs, expression, part, Spells, allowed_in, simple, simple_with, one_part, one_conjunction, item, term}
 use Rattle.spdx_core.specs.Printing.{IsLicenceOf, IsWordIf, IsItemOf, IsExceptionOf, printed_mode, PrintedReadsBack}
 use Rattle.spdx_core.proofs.NameItems.{run_all, is_run, letters_in_word, IsNamed, name_parts, some_bytes, word_step, name_step}

@@ -3,16 +3,16 @@ use Rattle.std.proofs.Common.{◌≡◌, refl, ℕ, zero, suc, List, [], ◌∷�
 use Rattle.std.proofs.lemmas.Str.{IsCharBoundary-start}
 use Rattle.std.specs.Str.{IsUtf8, IsCharBoundary}
 use Rattle.deny_text.specs.declared.span.Span.{Span}
-use Rattle.catalog_core.specs.Catalog.{CatalogLists}
-use Rattle.term_core.specs.declared.mode.ParseMode.{ParseMode}
-use Rattle.term_core.specs.declared.error.ParseError.{ParseError}
-use Rattle.term_core.specs.declared.error.ParseReason.TheVariants.{Empty}
-use Rattle.term_core.specs.declared.item.WantedItem.{WantedItem}
-use Rattle.term_core.specs.declared.item.WantedItem.TheVariants.{Term as wants_term}
-use Rattle.term_core.specs.declared.item.Item.{Item}
-use Rattle.term_core.specs.Items.{items_of}
-use Rattle.term_core.specs.NextItem.{items_behind}
-use Rattle.term_core.specs.Faults.{fault, fault_from, fault_of, first_fault, end_fault, last_open}
+use Rattle.spdx_catalog.specs.Catalog.{CatalogLists}
+use Rattle.spdx_terms.specs.declared.mode.ParseMode.{ParseMode}
+use Rattle.spdx_terms.specs.declared.error.ParseError.{ParseError}
+use Rattle.spdx_terms.specs.declared.error.ParseReason.TheVariants.{Empty}
+use Rattle.spdx_terms.specs.declared.item.WantedItem.{WantedItem}
+use Rattle.spdx_terms.specs.declared.item.WantedItem.TheVariants.{Term as wants_term}
+use Rattle.spdx_terms.specs.declared.item.Item.{Item}
+use Rattle.spdx_terms.specs.Items.{items_of}
+use Rattle.spdx_terms.specs.NextItem.{items_behind}
+use Rattle.spdx_terms.specs.Faults.{fault, fault_from, fault_of, first_fault, end_fault, last_open}
 use Rattle.spdx_core.specs.Machine.{Machine, no_machine, run}
 
 -- what is wrong at the end of a text whose last item ends at a place: where there is none, the text is empty

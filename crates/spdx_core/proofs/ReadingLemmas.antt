@@ -3,9 +3,9 @@ use Rattle.std.proofs.Common.{◌≡◌, ◌∙◌, refl, sym, ap, ℕ, ◌+◌,
 use Rattle.std.proofs.lemmas.List.{length-append}
 use Rattle.std.proofs.lemmas.Bool.Decides.{nat_tests}
 use Rattle.std.specs.Option.{option_and_then}
-use Rattle.term_core.specs.declared.term.ExpressionReq.{ExpressionReq}
-use Rattle.term_core.specs.declared.item.ItemKind.TheVariants.{And, Or, Close}
-use Rattle.term_core.specs.declared.item.Item.{Item}
+use Rattle.spdx_terms.specs.declared.term.ExpressionReq.{ExpressionReq}
+use Rattle.spdx_terms.specs.declared.item.ItemKind.TheVariants.{And, Or, Close}
+use Rattle.spdx_terms.specs.declared.item.Item.{Item}
 use Rattle.spdx_core.specs.Grammar.{ExpressionTree, leaf, both, Rule, expression, conjunction, part, ReadsAs, AllowedForms, simple, simple_with, grouped, one_part, and, one_conjunction, or, item, term}
 use Rattle.spdx_core.specs.Reading.{ParenthesisLevel, ReaderState, nothing_read, joined, summed, level_tree, with_exception, after_items, numbered_from}
 

@@ -3,18 +3,18 @@ use Rattle.std.proofs.Common.{◌≡◌, ◌∙◌, refl, sym, ap, subst, ℕ, �
 use Rattle.std.specs.Option.{option_map}
 use Rattle.std.specs.Str.{IsUtf8}
 use Rattle.deny_text.specs.declared.span.Span.{Span}
-use Rattle.catalog_core.specs.Catalog.{CatalogLists, IsCatalog}
-use Rattle.term_core.specs.declared.mode.ParseMode.{ParseMode}
-use Rattle.term_core.specs.declared.error.ParseError.{ParseError}
-use Rattle.term_core.specs.declared.term.ExpressionReq.{ExpressionReq}
-use Rattle.term_core.specs.declared.item.Item.{Item}
-use Rattle.term_core.specs.declared.item.ItemKind.TheVariants.{And, Or, Close}
-use Rattle.term_core.specs.Items.{items_of}
-use Rattle.term_core.specs.Faults.{first_fault}
-use Rattle.term_core.specs.Spans.{Rise}
-use Rattle.term_core.specs.Laws.{with_slash, has_no_slash}
-use Rattle.term_core.proofs.ImpreciseLemmas.{some_same}
-use Rattle.term_core.proofs.ItemSpans.{items_rise, slash_same}
+use Rattle.spdx_catalog.specs.Catalog.{CatalogLists, IsCatalog}
+use Rattle.spdx_terms.specs.declared.mode.ParseMode.{ParseMode}
+use Rattle.spdx_terms.specs.declared.error.ParseError.{ParseError}
+use Rattle.spdx_terms.specs.declared.term.ExpressionReq.{ExpressionReq}
+use Rattle.spdx_terms.specs.declared.item.Item.{Item}
+use Rattle.spdx_terms.specs.declared.item.ItemKind.TheVariants.{And, Or, Close}
+use Rattle.spdx_terms.specs.Items.{items_of}
+use Rattle.spdx_terms.specs.Faults.{first_fault}
+use Rattle.spdx_terms.specs.Spans.{Rise}
+use Rattle.spdx_terms.specs.Laws.{with_slash, has_no_slash}
+use Rattle.spdx_terms.proofs.ImpreciseLemmas.{some_same}
+use Rattle.spdx_terms.proofs.ItemSpans.{items_rise, slash_same}
 use Rattle.spdx_core.specs.Grammar.{ExpressionTree, Rule, expression, ReadsAs, Spells, AllowedForms, allowed_in, simple, simple_with, grouped, one_part, and, one_conjunction, or}
 use Rattle.spdx_core.specs.Reading.{ExpressionView, ReaderState, nothing_read, after_items, expression_if, expression_of_text, numbered_from}
 use Rattle.spdx_core.proofs.NoFault.{no_fault}

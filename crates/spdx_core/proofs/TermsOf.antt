@@ -4,23 +4,23 @@ use Rattle.std.proofs.lemmas.Bool.{false≢true}
 use Rattle.std.proofs.lemmas.List.Elements.{All-from_recursion}
 use Rattle.std.specs.Prelude.{codes}
 use Rattle.std.specs.List.{AllByRecursion, before_first, after_first}
-use Rattle.catalog_core.specs.Catalog.{CatalogLists}
-use Rattle.catalog_core.specs.Words.{is_word}
-use Rattle.term_core.specs.declared.mode.ParseMode.{ParseMode}
-use Rattle.term_core.specs.declared.term.LicenseItem.{LicenseItem}
-use Rattle.term_core.specs.declared.term.LicenseItem.TheVariants.{Reference}
-use Rattle.term_core.specs.declared.term.LicenseReq.{LicenseReq}
-use Rattle.term_core.specs.declared.term.ExpressionReq.{ExpressionReq}
-use Rattle.term_core.specs.declared.item.LicenseMarks.{LicenseMarks}
-use Rattle.term_core.specs.declared.item.Item.{Item}
-use Rattle.term_core.specs.declared.item.ItemKind.{ItemKind}
-use Rattle.term_core.specs.declared.item.ItemKind.TheVariants.{Term, Exception, And, Or, With, Open, Close, Plus, Word, Other}
-use Rattle.term_core.specs.declared.item.WantedItem.TheVariants.{Term as wants_term}
-use Rattle.term_core.specs.Tokens.{is_colon, after_prefix, own_licence, in_document, or_else, reference_of, one_of}
-use Rattle.term_core.specs.Items.{items_of}
-use Rattle.term_core.specs.Faults.{licensee_mode}
-use Rattle.term_core.specs.Licensee.{IsLicensee, IsOnePart, alone, with_exception, without_plus}
-use Rattle.term_core.proofs.ImpreciseLemmas.{some_same}
+use Rattle.spdx_catalog.specs.Catalog.{CatalogLists}
+use Rattle.spdx_catalog.specs.Words.{is_word}
+use Rattle.spdx_terms.specs.declared.mode.ParseMode.{ParseMode}
+use Rattle.spdx_terms.specs.declared.term.LicenseItem.{LicenseItem}
+use Rattle.spdx_terms.specs.declared.term.LicenseItem.TheVariants.{Reference}
+use Rattle.spdx_terms.specs.declared.term.LicenseReq.{LicenseReq}
+use Rattle.spdx_terms.specs.declared.term.ExpressionReq.{ExpressionReq}
+use Rattle.spdx_terms.specs.declared.item.LicenseMarks.{LicenseMarks}
+use Rattle.spdx_terms.specs.declared.item.Item.{Item}
+use Rattle.spdx_terms.specs.declared.item.ItemKind.{ItemKind}
+use Rattle.spdx_terms.specs.declared.item.ItemKind.TheVariants.{Term, Exception, And, Or, With, Open, Close, Plus, Word, Other}
+use Rattle.spdx_terms.specs.declared.item.WantedItem.TheVariants.{Term as wants_term}
+use Rattle.spdx_terms.specs.Tokens.{is_colon, after_prefix, own_licence, in_document, or_else, reference_of, one_of}
+use Rattle.spdx_terms.specs.Items.{items_of}
+use Rattle.spdx_terms.specs.Faults.{licensee_mode}
+use Rattle.spdx_terms.specs.Licensee.{IsLicensee, IsOnePart, alone, with_exception, without_plus}
+use Rattle.spdx_terms.proofs.ImpreciseLemmas.{some_same}
 use Rattle.spdx_core.specs.Grammar.{ExpressionTree, Rule, AllowedForms, ReadsAs, Spells, simple, simple_with, grouped, one_part, and, one_conjunction, or, item}
 use Rattle.spdx_core.specs.Printing.{IsWordIf, IsItemOf, IsTermOf}
 use Rattle.spdx_core.proofs.ItemKinds.{is_other, Kinds, Each, each_item}

@@ -1,12 +1,12 @@
 -- What the private calls of the reader of expressions answer.
 use Rattle.std.specs.Prelude.{◌≡◌, ℕ, List, Some, None, Result, Ok, Err}
-use Rattle.catalog_core.specs.Catalog.{CatalogLists}
-use Rattle.term_core.specs.declared.mode.ParseMode.{ParseMode}
-use Rattle.term_core.specs.declared.error.ExprError.{ExprError}
-use Rattle.term_core.specs.declared.error.ExprError.TheVariants.{Parse, Memory}
-use Rattle.term_core.specs.declared.item.Item.{Item}
-use Rattle.term_core.specs.Items.{wanted_after, items_of}
-use Rattle.term_core.specs.Faults.{item_fault, first_fault, has_open, opened_after}
+use Rattle.spdx_catalog.specs.Catalog.{CatalogLists}
+use Rattle.spdx_terms.specs.declared.mode.ParseMode.{ParseMode}
+use Rattle.spdx_terms.specs.declared.error.ExprError.{ExprError}
+use Rattle.spdx_terms.specs.declared.error.ExprError.TheVariants.{Parse, Memory}
+use Rattle.spdx_terms.specs.declared.item.Item.{Item}
+use Rattle.spdx_terms.specs.Items.{wanted_after, items_of}
+use Rattle.spdx_terms.specs.Faults.{item_fault, first_fault, has_open, opened_after}
 use Rattle.spdx_core.specs.declared.reader.Reader.{Reader}
 use Rattle.spdx_core.specs.declared.read.Progress.{Progress}
 use Rattle.spdx_core.specs.Machine.{machine_of, no_machine, advanced, run}

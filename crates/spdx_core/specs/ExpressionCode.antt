@@ -1,8 +1,8 @@
 -- An expression is told apart by its text, its terms and its nodes: nodes in postfix form give their tree back.
 use Rattle.std.specs.Coded.{Coded, code_by, coded×, coded_ℕ, coded_list}
 use Rattle.std.proofs.Common.{◌≡◌, ◌∙◌, refl, sym, ap, ℕ, List, [], ◌∷◌, ◌++◌, append_assoc, append-nil}
-use Rattle.term_core.specs.contracts.term.ExpressionReq as req
-use Rattle.term_core.specs.declared.term.ExpressionReq.{ExpressionReq}
+use Rattle.spdx_terms.specs.contracts.term.ExpressionReq as req
+use Rattle.spdx_terms.specs.declared.term.ExpressionReq.{ExpressionReq}
 use Rattle.spdx_core.specs.contracts.node.ExprNode as node
 use Rattle.spdx_core.specs.declared.node.ExprNode.{ExprNode}
 use Rattle.spdx_core.specs.declared.node.ExprNode.TheVariants.{And as and_node, Or as or_node}

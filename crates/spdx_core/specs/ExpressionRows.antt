@@ -1,9 +1,9 @@
 -- Rows over a catalogue in which `mit or` is an imprecise text for MIT.
 use Rattle.std.specs.Prelude.{true, false, [], ◌∷◌, Option, Some, None, codes}
-use Rattle.term_core.specs.declared.mode.ParseMode.{ParseMode}
-use Rattle.term_core.specs.declared.error.ParseError.{ParseError}
-use Rattle.term_core.specs.declared.error.ParseReason.TheVariants.{Unexpected}
-use Rattle.term_core.specs.declared.term.LicenseItem.TheVariants.{Spdx}
+use Rattle.spdx_terms.specs.declared.mode.ParseMode.{ParseMode}
+use Rattle.spdx_terms.specs.declared.error.ParseError.{ParseError}
+use Rattle.spdx_terms.specs.declared.error.ParseReason.TheVariants.{Unexpected}
+use Rattle.spdx_terms.specs.declared.term.LicenseItem.TheVariants.{Spdx}
 use Rattle.spdx_core.specs.Grammar.{leaf, either, term}
 use Rattle.spdx_core.specs.Reading.{ExpressionView}
 

@@ -1,12 +1,12 @@
 -- What every expression keeps, and what reading one answers.
 use Rattle.std.specs.Prelude.{◌≡◌, ℕ, ◌<◌, List, Some, None, length, map, Result, Ok, Err}
-use Rattle.catalog_core.specs.Catalog.{CatalogLists}
-use Rattle.term_core.specs.declared.mode.ParseMode.{ParseMode}
-use Rattle.term_core.specs.declared.error.ExprError.{ExprError}
-use Rattle.term_core.specs.declared.error.ExprError.TheVariants.{Parse, Memory}
-use Rattle.term_core.specs.declared.term.ExpressionReq.{ExpressionReq}
-use Rattle.term_core.specs.Faults.{first_fault}
-use Rattle.term_core.specs.Spans.{Rise}
+use Rattle.spdx_catalog.specs.Catalog.{CatalogLists}
+use Rattle.spdx_terms.specs.declared.mode.ParseMode.{ParseMode}
+use Rattle.spdx_terms.specs.declared.error.ExprError.{ExprError}
+use Rattle.spdx_terms.specs.declared.error.ExprError.TheVariants.{Parse, Memory}
+use Rattle.spdx_terms.specs.declared.term.ExpressionReq.{ExpressionReq}
+use Rattle.spdx_terms.specs.Faults.{first_fault}
+use Rattle.spdx_terms.specs.Spans.{Rise}
 use Rattle.spdx_core.specs.declared.node.ExprNode.{ExprNode}
 use Rattle.spdx_core.specs.Grammar.{ExpressionTree, Spells}
 use Rattle.spdx_core.specs.Reading.{ExpressionView, postfix, tree_of, numbered_from}

@@ -1,15 +1,15 @@
 -- The grammar of licence expressions (SPDX 2.3, Annex D, as a profile), over the items of a text.
 use Rattle.std.specs.Prelude.{ℕ, ◌+◌, Bool, not, ◌&&◌, ◌||◌, IsTrue, List, [], ◌∷◌, ◌++◌, Option, Some, None, length}
-use Rattle.term_core.specs.declared.mode.ParseMode.{ParseMode}
-use Rattle.term_core.specs.declared.term.LicenseItem.{LicenseItem}
-use Rattle.term_core.specs.declared.term.ExpressionReq.{ExpressionReq}
-use Rattle.term_core.specs.declared.item.ItemKind.{ItemKind}
-use Rattle.term_core.specs.declared.item.ItemKind.TheVariants.{Term, Exception, And, Or, With, Open, Close}
-use Rattle.term_core.specs.declared.item.Item.{Item}
-use Rattle.term_core.specs.declared.item.Simple.{Simple}
-use Rattle.term_core.specs.declared.item.LicenseMarks.{LicenseMarks}
-use Rattle.catalog_core.specs.Catalog.{CatalogLists}
-use Rattle.term_core.specs.Items.{items_of}
+use Rattle.spdx_terms.specs.declared.mode.ParseMode.{ParseMode}
+use Rattle.spdx_terms.specs.declared.term.LicenseItem.{LicenseItem}
+use Rattle.spdx_terms.specs.declared.term.ExpressionReq.{ExpressionReq}
+use Rattle.spdx_terms.specs.declared.item.ItemKind.{ItemKind}
+use Rattle.spdx_terms.specs.declared.item.ItemKind.TheVariants.{Term, Exception, And, Or, With, Open, Close}
+use Rattle.spdx_terms.specs.declared.item.Item.{Item}
+use Rattle.spdx_terms.specs.declared.item.Simple.{Simple}
+use Rattle.spdx_terms.specs.declared.item.LicenseMarks.{LicenseMarks}
+use Rattle.spdx_catalog.specs.Catalog.{CatalogLists}
+use Rattle.spdx_terms.specs.Items.{items_of}
 
 -- the terms of an expression by their places, and how they are joined
 pub data ExpressionTree : Type 0 where

@@ -2,15 +2,15 @@
 use Rattle.std.specs.Prelude.{◌≡◌, ◌↔◌, ℕ, true, false, IsTrue, List, Option, Some, None, length, map}
 use Rattle.std.specs.Str.{IsUtf8}
 use Rattle.deny_text.specs.Spans.{LiesBetween}
-use Rattle.catalog_core.specs.Catalog.{CatalogLists, IsCatalog}
-use Rattle.term_core.specs.declared.error.ParseError.{ParseError}
-use Rattle.term_core.specs.declared.mode.ParseMode.{ParseMode}
-use Rattle.term_core.specs.declared.term.ExpressionReq.{ExpressionReq}
-use Rattle.term_core.specs.declared.term.LicenseReq.{LicenseReq}
-use Rattle.term_core.specs.Faults.{first_fault, licensee_fault}
-use Rattle.term_core.specs.Laws.{with_slash, has_no_slash}
-use Rattle.term_core.specs.Licensee.{IsLicensee}
-use Rattle.term_core.specs.Spans.{Rise}
+use Rattle.spdx_catalog.specs.Catalog.{CatalogLists, IsCatalog}
+use Rattle.spdx_terms.specs.declared.error.ParseError.{ParseError}
+use Rattle.spdx_terms.specs.declared.mode.ParseMode.{ParseMode}
+use Rattle.spdx_terms.specs.declared.term.ExpressionReq.{ExpressionReq}
+use Rattle.spdx_terms.specs.declared.term.LicenseReq.{LicenseReq}
+use Rattle.spdx_terms.specs.Faults.{first_fault, licensee_fault}
+use Rattle.spdx_terms.specs.Laws.{with_slash, has_no_slash}
+use Rattle.spdx_terms.specs.Licensee.{IsLicensee}
+use Rattle.spdx_terms.specs.Spans.{Rise}
 use Rattle.spdx_core.specs.Grammar.{ExpressionTree, Spells}
 use Rattle.spdx_core.specs.Reading.{ExpressionView, expression_of_text, numbered_from}
 

@@ -1,17 +1,17 @@
 -- Terms as they are printed, and names that are joined.
 use Rattle.std.specs.Prelude.{◌≡◌, ℕ, ◌+◌, Bool, true, false, ◌||◌, IsTrue, All, List, [], ◌∷◌, ◌++◌, Option, Some, None, length, codes}
 use Rattle.std.specs.List.{AllByRecursion, AllZip, flat_map}
-use Rattle.catalog_core.specs.declared.catalog.LicenseEntry.{LicenseEntry}
-use Rattle.catalog_core.specs.Catalog.{CatalogLists, IsCatalog, entry_of}
-use Rattle.catalog_core.specs.Words.{is_word}
-use Rattle.term_core.specs.declared.mode.ParseMode.{ParseMode}
-use Rattle.term_core.specs.declared.term.LicenseItem.{LicenseItem}
-use Rattle.term_core.specs.declared.term.LicenseItem.TheVariants.{Spdx, Reference}
-use Rattle.term_core.specs.declared.term.LicenseReq.{LicenseReq}
-use Rattle.term_core.specs.declared.term.ExpressionReq.{ExpressionReq}
-use Rattle.term_core.specs.Licensee.{IsLicensee}
-use Rattle.term_core.specs.Terms.{req_text}
-use Rattle.term_core.specs.Tokens.{one_of}
+use Rattle.spdx_catalog.specs.declared.catalog.LicenseEntry.{LicenseEntry}
+use Rattle.spdx_catalog.specs.Catalog.{CatalogLists, IsCatalog, entry_of}
+use Rattle.spdx_catalog.specs.Words.{is_word}
+use Rattle.spdx_terms.specs.declared.mode.ParseMode.{ParseMode}
+use Rattle.spdx_terms.specs.declared.term.LicenseItem.{LicenseItem}
+use Rattle.spdx_terms.specs.declared.term.LicenseItem.TheVariants.{Spdx, Reference}
+use Rattle.spdx_terms.specs.declared.term.LicenseReq.{LicenseReq}
+use Rattle.spdx_terms.specs.declared.term.ExpressionReq.{ExpressionReq}
+use Rattle.spdx_terms.specs.Licensee.{IsLicensee}
+use Rattle.spdx_terms.specs.Terms.{req_text}
+use Rattle.spdx_terms.specs.Tokens.{one_of}
 use Rattle.spdx_core.specs.Grammar.{ExpressionTree, leaf, both, Spells}
 
 -- ---- printed terms

@@ -1,5 +1,5 @@
 //! What holds of all licence expressions. These functions do nothing: their contracts are the laws.
-ghost use Rattle.term_core.specs.Faults.{first_fault, licensee_fault};
+ghost use Rattle.spdx_terms.specs.Faults.{first_fault, licensee_fault};
 ghost use Rattle.spdx_core.specs.Printing.{PrintedReadsBack, TermsAreOfCatalog, LicenseesAreOfCatalog};
 ghost use Rattle.spdx_core.specs.Printing.{JoinedNamesAreRead};
 ghost use Rattle.spdx_core.specs.Laws.{TreeOrFault, OneTree, ReadIsSpelled, SlashIsStrict, PlacesInOrder};

@@ -8,10 +8,10 @@ mod read;
 mod reader;
 mod stack;
 
-pub use catalog_core::{Catalog, Identifier, Imprecise, LicenseEntry, LicenseStore, Match, Table};
+pub use spdx_catalog::{Catalog, Identifier, Imprecise, LicenseEntry, LicenseStore, Match, Table};
 pub use expression::Expression;
 pub use node::ExprNode;
-pub use term_core::{
+pub use spdx_terms::{
     ExprError, ExpressionReq, Family, LicenseItem, LicenseReq, Licensee, ParseError, ParseMode,
     ParseReason,
 };

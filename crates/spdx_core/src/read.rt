@@ -1,17 +1,17 @@
 //! Reading the items of a text up to their first fault.
 ghost use Rattle.std.specs.Prelude.{◌≡◌, OnOk};
-ghost use Rattle.term_core.specs.Faults.{opened_after};
+ghost use Rattle.spdx_terms.specs.Faults.{opened_after};
 ghost use Rattle.spdx_core.specs.Answers.{StepAnswers, TextAnswer};
 
 use crate::reader::Reader;
 use crate::stack::Stack;
-use catalog_core::Catalog;
+use spdx_catalog::Catalog;
 use deny_text::Span;
 use std::alloc::{AllocError, Global};
-use term_core::fault::{empty_fault, end_fault, item_fault};
-use term_core::item::{Item, WantedItem, ItemKind};
-use term_core::items::next_item;
-use term_core::{ExprError, ParseMode};
+use spdx_terms::fault::{empty_fault, end_fault, item_fault};
+use spdx_terms::item::{Item, WantedItem, ItemKind};
+use spdx_terms::items::next_item;
+use spdx_terms::{ExprError, ParseMode};
 
 /// What was read, what is wanted behind it, and where the open parentheses stand.
 #[derive(Drop)]

@@ -9,8 +9,8 @@ use crate::node::ExprNode;
 use crate::stack::Stack;
 use deny_text::{Span, Text};
 use std::alloc::{AllocError, Global};
-use term_core::item::{Simple, ItemKind};
-use term_core::{ExpressionReq, LicenseReq};
+use spdx_terms::item::{Simple, ItemKind};
+use spdx_terms::{ExpressionReq, LicenseReq};
 
 /// What waits for its right side between two parentheses.
 #[derive(Clone, Copy)]

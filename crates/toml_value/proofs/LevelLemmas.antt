@@ -3,7 +3,7 @@ use Rattle.std.proofs.Common.{◌≡◌, ℕ, zero, suc, ◌+◌, ◌<◌, ◌&&
 use Rattle.std.proofs.lemmas.List.{length-map, map-append}
 use Rattle.std.specs.List.{list_all}
 use Rattle.deny_text.specs.declared.span.Span.{Span}
-use Rattle.key_index.specs.KeyPlaces.{first_key_place}
+use Rattle.toml_keys.specs.KeyPlaces.{first_key_place}
 use Rattle.toml_subset.specs.Answer.{AnswersToml, then_read}
 use Rattle.toml_subset.specs.TableFaults.{last_of}
 use Rattle.toml_subset.specs.Tables.{Node, Branches, growing, unbranched, branch, tables, same_key, added}

@@ -20,7 +20,7 @@ use Rattle.toml_subset.proofs.Law.Depths.{depth}
 use Rattle.toml_subset.proofs.Law.Headers.{section_inner}
 use Rattle.toml_subset.proofs.Law.Values.{value_sound}
 use Rattle.toml_subset.proofs.Law.Whole.{text_complete}
-use Rattle.toml_faults.proofs.FirstFault.{first_fault}
+use Rattle.toml_laws.proofs.FirstFault.{first_fault}
 use Rattle.toml_frames.specs.Levels.{Cursor, steps, all_plugged, at_root, IsWay, IsOpened}
 use Rattle.toml_frames.specs.LinesRead.{AreLinesRead}
 use Rattle.toml_frames.proofs.LinesRead.{line_goes_on, line_refused}

@@ -15,7 +15,7 @@ ghost use Rattle.toml_subset.specs.declared.error.SyntaxError.{SyntaxError as Sy
 ghost use Rattle.toml_subset.specs.Text.{IsText};
 ghost use Rattle.toml_frames.specs.Levels.{IsWay, IsOpened, at_root, into_header};
 ghost use Rattle.toml_frames.specs.LinesRead.{bracket_line};
-ghost use Rattle.toml_places.specs.Placed.{IsPlaced};
+ghost use Rattle.toml_laws.specs.Placed.{IsPlaced};
 ghost use Rattle.toml_value.specs.LevelViews.{cursor_view, pending_view, IsShallowCursor, IsLineRead};
 ghost use Rattle.toml_value.specs.ReaderViews.{OnSyntax};
 ghost use Rattle.toml_value.specs.Views.{value_view};

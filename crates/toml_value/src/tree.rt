@@ -1,6 +1,6 @@
 //! Tables that grow key by key, as the table rules of the subset have them.
 ghost use Rattle.std.specs.Prelude.{◌≡◌, ◌<◌, ◌++◌, [], ◌∷◌, length, get_or, set, false, IsTrue, IfOk, IfSome, option_map};
-ghost use Rattle.key_index.specs.KeyPlaces.{first_key_place};
+ghost use Rattle.toml_keys.specs.KeyPlaces.{first_key_place};
 ghost use Rattle.toml_subset.specs.TableFaults.{table_node_at};
 ghost use Rattle.toml_subset.specs.Tables.{unbranched, has_key, added};
 ghost use Rattle.toml_frames.specs.Levels.{size as size_of, replaced, hole as hole_at};
@@ -18,7 +18,7 @@ use crate::value::{Value, ValueInner};
 use deny_text::Span;
 pub(crate) use document::{Document, Pending};
 pub(crate) use fault::DEPTH_LIMIT;
-use key_index::KeyIndex;
+use toml_keys::KeyIndex;
 use std::alloc::{AllocError, Global};
 use std::mem;
 pub(crate) use tables::{Awaiting, TableTree};

@@ -1,5 +1,5 @@
 use Rattle.std.proofs.Common.{refl, ap}
-use Rattle.catalog_core.specs.Store.{match_of}
+use Rattle.spdx_catalog.specs.Store.{match_of}
 use Rattle.deny_run.specs.Words.{texts}
 use Rattle.deny_gate.proofs.run_started.Goals as goal
 

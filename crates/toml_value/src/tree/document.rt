@@ -12,7 +12,7 @@ ghost use Rattle.toml_value.specs.TreeViews.{tree_view};
 use super::levels::{Around, TableLevel, fresh, opened};
 use super::{Awaiting, Branches, TableTree, hole};
 use crate::value::{Entries, Value};
-use key_index::KeyParts;
+use toml_keys::KeyParts;
 use std::alloc::{AllocError, Global};
 use toml_frames::HeaderPart;
 use toml_subset::{Key, Keys, SyntaxError, SyntaxReason, TomlError};

@@ -9,7 +9,7 @@ ghost use Rattle.toml_value.specs.declared.tree.Node.{Node as NodeOf};
 use super::{Body, Branches, Node};
 use crate::value::{Entries, Value, ValueInner, Values};
 use deny_text::Span;
-use key_index::KeyParts;
+use toml_keys::KeyParts;
 use std::alloc::{AllocError, Global};
 
 /// What stands at a key, as a value.

@@ -11,7 +11,7 @@ ghost use Rattle.toml_value.specs.declared.tree.Branches.{out-Branches};
 use super::{Branches, Mark, Node};
 use crate::value::Value;
 use deny_text::Span;
-use key_index::KeyParts;
+use toml_keys::KeyParts;
 use std::alloc::{AllocError, Global};
 use toml_subset::Key;
 

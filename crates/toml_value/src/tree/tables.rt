@@ -8,7 +8,7 @@ use super::fault::key_fault;
 use super::finish::into_entries;
 use super::put::put_along;
 use crate::value::{Entries, Value};
-use key_index::KeyParts;
+use toml_keys::KeyParts;
 use std::alloc::{AllocError, Global};
 use toml_subset::{Key, Keys, SyntaxError};
 

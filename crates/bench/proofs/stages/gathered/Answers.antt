@@ -1,6 +1,6 @@
 use Rattle.std.proofs.lemmas.Result.{IfOk-weaker}
-use Rattle.unused_core.specs.Laws.{EntriesLie}
-use Rattle.placed_policy.proofs.PlaceLemmas.{are_placed, entries_lie}
+use Rattle.check_unused.specs.Laws.{EntriesLie}
+use Rattle.run_places.proofs.PlaceLemmas.{are_placed, entries_lie}
 use Rattle.bench.proofs.stages.gathered.Goals as goal
 
 pub returns-clause-placed : goal.returns-clause-placed

@@ -2,7 +2,7 @@ use Rattle.std.proofs.Common.{sym, subst, List}
 use Rattle.std.specs.List.{All}
 use Rattle.gather_core.specs.declared.summary.KrateLicense.{KrateLicense}
 use Rattle.gather_core.specs.Premises.{IsPlacedAt}
-use Rattle.valid_policy.specs.View.{policy_of}
+use Rattle.policy_valid.specs.View.{policy_of}
 use Rattle.check_core.specs.Labels.{VerdictPoints}
 use Rattle.check_core.specs.Summary.{gathered_of_licenses}
 use Rattle.check_core.proofs.LabelLemmas.{all_point, any_gain}

@@ -1,6 +1,6 @@
 use Rattle.std.proofs.Common.{◌≡◌, ◌∙◌, ap, sym, subst, take, ◌+◌, List, [], ◌∷◌, ◌++◌, arith}
 use Rattle.std.proofs.lemmas.List.{map_more}
-use Rattle.certificate_core.specs.declared.verdict.Verdict.{Verdict}
+use Rattle.spdx_certificates.specs.declared.verdict.Verdict.{Verdict}
 use Rattle.gather_core.specs.declared.summary.KrateLicense.{KrateLicense}
 use Rattle.check_core.specs.Summary.{gathered_of_licenses, gathered_of_license}
 use Rattle.check_core.specs.Turns.{GatheredCrate}

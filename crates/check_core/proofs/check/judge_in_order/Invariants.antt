@@ -1,7 +1,7 @@
 -- Of the crates so far.
 use Rattle.std.proofs.Common.{◌≡◌, ◌≤◌, take}
-use Rattle.valid_policy.specs.View.{policy_of}
-use Rattle.unused_core.specs.Flags.{flags_by}
+use Rattle.policy_valid.specs.View.{policy_of}
+use Rattle.check_unused.specs.Flags.{flags_by}
 use Rattle.check_core.specs.Check.{AreVerdicts, all_hits, gained, packs_of}
 use Rattle.check_core.specs.Summary.{gathered_of_licenses}
 use Rattle.check_core.proofs.check.judge_in_order.Given as goal

@@ -2,7 +2,7 @@
 use Rattle.std.proofs.Common.{◌≡◌, ◌⊎◌, ℕ, length, List, [], ◌∷◌, ◌++◌, refl, sym, ◌∙◌, ap, inl, inr, append-nil, append_assoc, arith}
 use Rattle.std.specs.Iterator.Adapters.{zip_first, zip_second}
 use Rattle.std.specs.Vec.Iter.{into_iter_items}
-use Rattle.certificate_core.specs.declared.verdict.Verdict.{Verdict}
+use Rattle.spdx_certificates.specs.declared.verdict.Verdict.{Verdict}
 use Rattle.gather_core.specs.declared.summary.KrateLicense.{KrateLicense}
 use Rattle.deny_run.specs.Steps.{reports_of, report_of}
 use Rattle.deny_run.proofs.check.reports_on.Goals as goal

@@ -5,23 +5,23 @@ use mir.Syntax.{w64}
 use mir.Val.{SFits}
 use Rattle.std.specs.Prelude.{All}
 use Rattle.graph_core.specs.Metadata.{Graph}
-use Rattle.selection_core.specs.Choice.{Choice}
-use Rattle.selection_core.specs.Listed.{IsChosen, selected_in}
+use Rattle.graph_selection.specs.Choice.{Choice}
+use Rattle.graph_selection.specs.Listed.{IsChosen, selected_in}
 use Rattle.tree_core.specs.Hearing.{Made}
 use Rattle.tree_core.proofs.MadeLemmas.{made-later}
-use Rattle.valid_policy.specs.View.{policy_of}
+use Rattle.policy_valid.specs.View.{policy_of}
 use Rattle.check_core.specs.Labels.{VerdictPoints}
 use Rattle.check_core.specs.Summary.{gathered_of_licenses}
-use Rattle.pack_core.proofs.CallLemmas.{on_err}
+use Rattle.gather_files.proofs.CallLemmas.{on_err}
 use Rattle.deny_run.proofs.CheckLemmas.{both_of}
 use Rattle.deny_run.proofs.StageLemmas.{check_cut, checked_on, gather_cut}
-use Rattle.expression_core.specs.Scanned.{Scanner}
+use Rattle.gather_expression.specs.Scanned.{Scanner}
 use Rattle.gather_core.specs.Calls.{AreTurnsByReads, StarvesGathering}
 use Rattle.gather_core.specs.Entries.{entries_of}
 use Rattle.gather_core.specs.Gathered.{include_of, scanner_of_gatherer, threshold_of}
 use Rattle.deny_run.specs.Hearing.{seen}
 use Rattle.deny_run.specs.Steps.{IsCheckOf, IsCheckedOn, scanner_of_policy}
-use Rattle.placed_policy.proofs.PlaceLemmas.{are_placed, entries_lie}
+use Rattle.run_places.proofs.PlaceLemmas.{are_placed, entries_lie}
 use Rattle.deny_run.proofs.StepLemmas.{gathering_later}
 use Rattle.deny_run.proofs.check.settle_and_judge.Goals as goal
 

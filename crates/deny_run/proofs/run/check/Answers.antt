@@ -2,10 +2,10 @@ use Rattle.std.proofs.Common.{◌≡◌, Result, Ok, Err, sym, subst}
 use Rattle.std.proofs.lemmas.Result.{err_from_is_err_and}
 use Rattle.tree_core.specs.Faults.{Gained, GainedPrefix}
 use Rattle.tree_core.specs.Script.{FaultCounts, SinkTexts}
-use Rattle.heard_core.specs.declared.fault.ReadFault.TheVariants.{Absent}
-use Rattle.load_core.specs.Print.{HasReasonSince, printed_packs}
-use Rattle.print_core.specs.declared.printer.PrintError.{PrintError}
-use Rattle.print_core.specs.declared.printer.PrintError.TheVariants as print
+use Rattle.tree_texts.specs.declared.fault.ReadFault.TheVariants.{Absent}
+use Rattle.diag_print.specs.Findings.{HasReasonSince, printed_packs}
+use Rattle.diag_print.specs.declared.printer.PrintError.{PrintError}
+use Rattle.diag_print.specs.declared.printer.PrintError.TheVariants as print
 use Rattle.deny_run.specs.declared.error.Error.{Error}
 use Rattle.deny_run.specs.declared.error.Error.TheVariants.{ConfigRead, NotYet}
 use Rattle.deny_run.specs.declared.error.InputPart.TheVariants.{Words}

@@ -1,7 +1,7 @@
 -- Each end of `report`: the words, the looks for the exceptions file, the load, the crates, and the report.
 use Rattle.std.proofs.Common.{Ok, Err, ◌∙◌, sym, subst, arith}
 use Rattle.std.proofs.lemmas.Result.{err_from_is_err_and}
-use Rattle.search_core.specs.Search.{search_cause}
+use Rattle.tree_texts.specs.Search.{search_cause}
 use Rattle.tree_core.proofs.MadeLemmas.{some-later}
 use Rattle.deny_run.specs.Error.{cause_of, error_of}
 use Rattle.deny_run.specs.Given.{run_arguments_of}

@@ -1,6 +1,6 @@
 use Rattle.std.proofs.Common.{arith}
 use Rattle.std.proofs.lemmas.Result.{err_from_is_err_and}
-use Rattle.selection_core.specs.Choice.{choice_of}
+use Rattle.graph_selection.specs.Choice.{choice_of}
 use Rattle.tree_core.proofs.MadeLemmas.{some-later}
 use Rattle.deny_run.specs.Steps.{scanner_of_policy}
 use Rattle.deny_run.proofs.StageLemmas.{checked_behind, cut_behind, no_crates_by}

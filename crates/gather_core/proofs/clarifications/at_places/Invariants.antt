@@ -1,5 +1,5 @@
 use Rattle.std.proofs.Common.{◌≡◌, map, take}
-use Rattle.priority_core.specs.Clarification.{behind}
+use Rattle.gather_licence.specs.Clarification.{behind}
 use Rattle.gather_core.specs.Entries.{clarifications_at}
 use Rattle.gather_core.proofs.clarifications.at_places.Given as goal
 

@@ -1,8 +1,8 @@
 -- The crates so far.
 use Rattle.std.proofs.Common.{◌≡◌, map, take}
 use Rattle.std.specs.List.{All}
-use Rattle.priority_core.specs.Settled.{scanner_of_scan}
-use Rattle.selection_core.specs.Listed.{record_behind}
+use Rattle.gather_licence.specs.Settled.{scanner_of_scan}
+use Rattle.graph_selection.specs.Listed.{record_behind}
 use Rattle.gather_core.specs.Calls.{AreTurnsByReads}
 use Rattle.gather_core.specs.Gathered.{krate_of}
 use Rattle.gather_core.specs.Premises.{ArePlacedIn, Grows, IsPlacedAt}

@@ -2,8 +2,8 @@ use Rattle.std.proofs.Common.{◌≡◌, ◌∙◌, Bool, true, false, not, ◌&
 use Rattle.std.specs.Option.{option_to_list}
 use Rattle.std.specs.Prelude.{IfOk, OnErr}
 use Rattle.graph_core.specs.Krate.{record_of}
-use Rattle.priority_core.specs.Priority.{folder_of}
-use Rattle.finding_core.proofs.GrowLemmas.{grows_itself}
+use Rattle.gather_licence.specs.Priority.{folder_of}
+use Rattle.gather_findings.proofs.GrowLemmas.{grows_itself}
 use Rattle.gather_core.specs.Calls.{IsByOwnReads, StarvesTaking}
 use Rattle.gather_core.specs.Taken.{IsLocatedWhere, is_clarified}
 use Rattle.gather_core.specs.Turns.{located_where}

@@ -4,8 +4,8 @@ use Rattle.std.specs.Prelude.{codes, option_to_list}
 use Rattle.toml_subset.specs.Data.{Entries}
 use Rattle.policy_toml.specs.HelperState.{HelperState}
 use Rattle.policy_toml.specs.Readings.{boolean_of, text_of, list_of}
-use Rattle.key_rows.specs.Rows.{key, key_span}
-use Rattle.key_rows.proofs.RowLemmas.{after_row, field, passed_span}
+use Rattle.toml_rows.specs.Rows.{key, key_span}
+use Rattle.toml_rows.proofs.RowLemmas.{after_row, field, passed_span}
 use Rattle.policy_parts.specs.Values.{target_of}
 use Rattle.policy_config.specs.OpenTable.{open_state}
 use Rattle.policy_config.proofs.RootLemmas.{none_yet, one_further, same_moved}

@@ -7,8 +7,8 @@ use Rattle.toml_shapes.specs.Shaped.{AnswersShape, shaped_of}
 use Rattle.toml_shapes.specs.Shapes.{Fault}
 use Rattle.policy_toml.specs.HelperState.{HelperState, optional_of}
 use Rattle.policy_toml.specs.Readings.{u32_of}
-use Rattle.key_rows.specs.Rows.{key, passed_key, given, table_faults}
-use Rattle.key_rows.proofs.RowLemmas.{after_row, begun, field, finished, passed_row, passed_span}
+use Rattle.toml_rows.specs.Rows.{key, passed_key, given, table_faults}
+use Rattle.toml_rows.proofs.RowLemmas.{after_row, begun, field, finished, passed_row, passed_span}
 use Rattle.policy_parts.specs.Tables.{graph_config_of, output_of}
 use Rattle.policy_parts.specs.declared.graph.GraphConfig.{GraphConfig}
 use Rattle.policy_parts.specs.declared.output.OutputConfig.{OutputConfig}

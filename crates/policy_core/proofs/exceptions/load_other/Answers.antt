@@ -1,6 +1,6 @@
 use Rattle.std.proofs.Common.{◌≡◌, refl, subst, [], ◌∷◌, ◌++◌, Ok, Err}
 use Rattle.std.specs.Prelude.{OnOk}
-use Rattle.heard_core.specs.Heard.{IsTextRead, read_of}
+use Rattle.tree_texts.specs.Heard.{IsTextRead, read_of}
 use Rattle.policy_core.specs.Exceptions.{unread_finding}
 use Rattle.policy_core.specs.Heard.{fault_words}
 use Rattle.policy_core.proofs.AnswerLemmas.{fault_by, on_err, text_by}

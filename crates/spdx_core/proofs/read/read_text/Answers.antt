@@ -1,5 +1,5 @@
 use Rattle.std.proofs.Common.{sym, subst, []}
-use Rattle.term_core.specs.declared.item.WantedItem.TheVariants.{Term as wants_term}
+use Rattle.spdx_terms.specs.declared.item.WantedItem.TheVariants.{Term as wants_term}
 use Rattle.spdx_core.specs.Machine.{machine_of}
 use Rattle.spdx_core.proofs.ReadText.{ReadsOn, reads_whole}
 use Rattle.spdx_core.proofs.read.read_text.Goals as goal

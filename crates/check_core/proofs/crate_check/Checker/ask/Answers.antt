@@ -1,8 +1,8 @@
 use Rattle.std.proofs.Common.{◌≡◌, sym, subst, [], ◌∷◌, ◌++◌, IfOk}
-use Rattle.finding_core.specs.declared.license.LicenseInfo.{LicenseInfo}
+use Rattle.gather_findings.specs.declared.license.LicenseInfo.{LicenseInfo}
 use Rattle.gather_core.specs.Gathered.{krate_of}
-use Rattle.valid_policy.specs.View.{policy_of}
-use Rattle.verdict_findings.specs.Findings.{pack_of}
+use Rattle.policy_valid.specs.View.{policy_of}
+use Rattle.check_verdicts.specs.Findings.{pack_of}
 use Rattle.check_core.specs.declared.crate_check.CrateCheck.{CrateCheck}
 use Rattle.check_core.specs.Turns.{verdict_finding}
 use Rattle.check_core.proofs.crate_check.Checker.ask.Goals as goal

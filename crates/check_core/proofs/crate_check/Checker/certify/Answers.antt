@@ -1,11 +1,11 @@
 use Rattle.std.proofs.Common.{◌∙◌, ap, ap₂, ◌≡◌, ℕ, Bool, List, [], ◌∷◌, ◌++◌, Option}
 use Rattle.graph_core.specs.Krate.{record_of}
-use Rattle.certificate_core.specs.declared.verdict.Hit.{Hit}
+use Rattle.spdx_certificates.specs.declared.verdict.Hit.{Hit}
 use Rattle.diag_core.specs.declared.pack.Diag.{Diag}
-use Rattle.valid_policy.specs.View.{policy_of}
-use Rattle.evaluate_core.specs.Evaluation.{Evaluation, term_hits}
-use Rattle.verdict_findings.specs.Findings as findings
-use Rattle.verdict_findings.specs.Findings.{verdict_labels}
+use Rattle.policy_valid.specs.View.{policy_of}
+use Rattle.check_evaluate.specs.Evaluation.{Evaluation, term_hits}
+use Rattle.check_verdicts.specs.Findings as findings
+use Rattle.check_verdicts.specs.Findings.{verdict_labels}
 use Rattle.check_core.proofs.crate_check.Checker.certify.Goals as goal
 
 pub returns-clause-pack : goal.returns-clause-pack

@@ -8,8 +8,8 @@ use Rattle.toml_shapes.specs.Shapes.{Fault}
 use Rattle.policy_toml.specs.HelperState.{HelperState, state_of}
 use Rattle.policy_toml.specs.Readings.{boolean_of, hundredths_of, i32_of, list_of}
 use Rattle.policy_toml.specs.declared.hundredths.Hundredths.{Hundredths}
-use Rattle.key_rows.specs.Rows.{key, passed_key, key_span, table_faults}
-use Rattle.key_rows.proofs.RowLemmas.{after_row, begun, field, finished, passed_row, passed_span}
+use Rattle.toml_rows.specs.Rows.{key, passed_key, key_span, table_faults}
+use Rattle.toml_rows.proofs.RowLemmas.{after_row, begun, field, finished, passed_row, passed_span}
 use Rattle.policy_parts.specs.Names.{lint_of}
 use Rattle.policy_parts.specs.Tables.{private_of}
 use Rattle.policy_parts.specs.declared.names.LintLevel.{LintLevel}

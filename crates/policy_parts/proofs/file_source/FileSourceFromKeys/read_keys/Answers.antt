@@ -8,8 +8,8 @@ use Rattle.toml_shapes.specs.Shapes.{Fault}
 use Rattle.toml_subset.specs.Data.{Entries}
 use Rattle.policy_toml.specs.HelperState.{state_of, without_key}
 use Rattle.policy_toml.specs.Readings.{text_of, u32_of, spanned_of}
-use Rattle.key_rows.specs.Rows.{needed, shaped_by, table_faults}
-use Rattle.key_rows.proofs.RowLemmas.{begun, finished}
+use Rattle.toml_rows.specs.Rows.{needed, shaped_by, table_faults}
+use Rattle.toml_rows.proofs.RowLemmas.{begun, finished}
 use Rattle.policy_parts.specs.Values.{file_source_at}
 use Rattle.policy_parts.specs.declared.file_source.FileSource.{FileSource}
 use Rattle.policy_parts.proofs.NeededKeys.{needed_behind, refused_then}

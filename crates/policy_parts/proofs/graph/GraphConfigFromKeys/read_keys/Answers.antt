@@ -6,8 +6,8 @@ use Rattle.toml_shapes.specs.Shaped.{AnswersShape, shaped_of}
 use Rattle.toml_shapes.specs.Shapes.{Fault}
 use Rattle.policy_toml.specs.HelperState.{HelperState, state_of}
 use Rattle.policy_toml.specs.Readings.{text_of, boolean_of, list_of}
-use Rattle.key_rows.specs.Rows.{key, table_faults}
-use Rattle.key_rows.proofs.RowLemmas.{after_row, begun, field, finished}
+use Rattle.toml_rows.specs.Rows.{key, table_faults}
+use Rattle.toml_rows.proofs.RowLemmas.{after_row, begun, field, finished}
 use Rattle.policy_parts.specs.Tables.{graph_rows}
 use Rattle.policy_parts.specs.Values.{target_of}
 use Rattle.policy_parts.specs.declared.graph.GraphConfig.{GraphConfig}

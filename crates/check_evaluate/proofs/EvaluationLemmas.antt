@@ -1,0 +1,32 @@
+-- What is kept is what the policy says of each term.
+use Rattle.std.proofs.Common.{◌≡◌, ◌∙◌, sym, ap, ℕ, List, map, Option}
+use Rattle.std.proofs.lemmas.Simd.{map-map}
+use Rattle.spdx_terms.specs.declared.term.ExpressionReq.{ExpressionReq}
+use Rattle.graph_core.specs.Krate.{Record}
+use Rattle.policy_spec.specs.Index.{first_of, matching}
+use Rattle.policy_spec.specs.Spec.{Spec}
+use Rattle.spdx_certificates.specs.declared.verdict.Hit.{Hit}
+use Rattle.policy_valid.specs.declared.policy.ValidException.{ValidException}
+use Rattle.policy_valid.specs.declared.policy.ValidConfig.{ValidConfig}
+use Rattle.policy_valid.specs.Policy.{Grant, hit_by, hit_of}
+use Rattle.policy_valid.specs.View.{grant_of, policy_of}
+use Rattle.check_evaluate.specs.Evaluation.{Evaluation, term_hits}
+
+abbrev pub spec_of : ValidException → Spec
+spec_of exception = exception.spec
+
+-- the specs of exceptions are those that contracts see
+pub specs_are : (exceptions : List ValidException) → map spec_of exceptions ≡ map (λ grant. grant.spec) (map grant_of exceptions)
+specs_are exceptions = sym (map-map (λ (grant : Grant). grant.spec) grant_of exceptions)
+
+pub kept_is : (policy : ValidConfig) (krate : Record) (terms asked : List ExpressionReq) (exceptions : List ValidException) (exception : Option ℕ) (kept : List (Option Hit))
+    → exceptions ≡ policy.exceptions → asked ≡ terms → exception ≡ first_of (matching (map spec_of exceptions) krate)
+    → kept ≡ map (λ term. hit_by (policy_of policy) exception term.req) asked → kept ≡ term_hits (policy_of policy) krate terms
+kept_is policy krate terms asked exceptions exception kept are is first h =
+    h
+    ∙ ap (λ place. map (λ (term : ExpressionReq). hit_by (policy_of policy) place term.req) asked)
+    (first ∙ ap (λ es. first_of (matching (map spec_of es) krate)) are ∙ ap (λ specs. first_of (matching specs krate)) (specs_are policy.exceptions))
+    ∙ ap (map (λ (term : ExpressionReq). hit_of (policy_of policy) krate term.req)) is
+
+abbrev pub with_hits : Evaluation → List (Option Hit) → Evaluation
+with_hits evaluation hits = record { nodes = evaluation.nodes; names = evaluation.names; hits = hits }

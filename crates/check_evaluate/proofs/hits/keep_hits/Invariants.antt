@@ -1,0 +1,14 @@
+use Rattle.std.proofs.Common.{◌≡◌, ◌≤◌, map, take, length, vec_len, vec_capacity}
+use Rattle.policy_valid.specs.Policy.{hit_by}
+use Rattle.policy_valid.specs.View.{policy_of}
+use Rattle.check_evaluate.proofs.hits.keep_hits.Given as goal
+
+-- the hits of the terms so far
+abbrev pub invariant-terms : goal.invariant-terms
+invariant-terms g l = record {
+  kept : l.kept.items ≡ map (λ term. hit_by (policy_of l.policy) l.exception term.req) (take l.term-index l.terms);
+  as_many : vec_len l.kept ≡ l.term-index;
+  room : length l.terms ≤ vec_capacity l.kept;
+  grown : vec_capacity l.fn.kept ≤ vec_capacity l.kept;
+  steps : l.fn.steps ≤ l.steps;
+}

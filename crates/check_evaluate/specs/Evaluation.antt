@@ -1,0 +1,29 @@
+-- What is found for the terms of a crate's expression under a policy, and whether they are enough.
+use Rattle.std.specs.Prelude.{ℕ, Bool, List, map, Option}
+use Rattle.spdx_terms.specs.declared.term.ExpressionReq.{ExpressionReq}
+use Rattle.spdx_core.specs.Grammar.{ExpressionTree}
+use Rattle.graph_core.specs.Krate.{Record}
+use Rattle.spdx_certificates.specs.declared.verdict.Hit.{Hit}
+use Rattle.spdx_certificates.specs.Certificates.{has_hit}
+use Rattle.spdx_certificates.specs.Choices.{is_accepted}
+use Rattle.policy_spec.specs.Index.{spec_names}
+use Rattle.policy_valid.specs.Policy.{Policy, hit_of}
+
+-- the hit of each term, or none, in text order
+abbrev pub term_hits : Policy → Record → List ExpressionReq → List (Option Hit)
+term_hits policy krate terms = map (λ term. hit_of policy krate term.req) terms
+
+-- some choice of the tree has a hit at each of its places
+abbrev pub is_allowed : Policy → Record → List ExpressionReq → ExpressionTree → Bool
+is_allowed policy krate terms tree = is_accepted (has_hit (term_hits policy krate terms)) tree
+
+-- An evaluator: for how many nodes it has room, the names of the exceptions that it was made for, place by place, and the
+-- hits that it keeps.
+pub record Evaluation : Type 0 where
+  pub nodes : ℕ
+  pub names : List (List ℕ)
+  pub hits : List (Option Hit)
+
+-- the names of a policy's exceptions, place by place
+abbrev pub exception_names : Policy → List (List ℕ)
+exception_names policy = spec_names (map (λ grant. grant.spec) policy.exceptions)

@@ -1,0 +1,105 @@
+//! Evaluators.
+ghost use Rattle.std.specs.Prelude.{◌≡◌, ◌≤◌, [], map, length, IfOk};
+ghost use Rattle.graph_core.specs.Krate.{record_of};
+ghost use Rattle.spdx_core.specs.Reading.{postfix};
+ghost use Rattle.spdx_certificates.specs.Certificates.{CertificateAnswers};
+ghost use Rattle.policy_spec.specs.Index.{spec_names};
+ghost use Rattle.policy_valid.specs.View.{policy_of};
+ghost use Rattle.check_evaluate.specs.Evaluation.{term_hits, is_allowed, exception_names};
+
+use crate::answers::is_accepted;
+use crate::hits::keep_hits;
+use spdx_certificates::{Hit, Verdict};
+use deny_text::Steps;
+use graph_core::Krate;
+use policy_spec::SpecIndex;
+use spdx_core::Expression;
+use std::alloc::{AllocError, Global};
+use std::marker::Model;
+use std::sync::ledger::Ledger;
+use policy_valid::ValidConfig;
+
+/// Evaluates expressions of crates under a policy. It has taken its memory when it was made, and keeps what
+/// allowed each term of the last expression.
+#[derive(Drop)]
+pub struct Evaluator {
+    nodes: usize,
+    exceptions: SpecIndex,
+    kept: Vec<Option<Hit>>,
+    answers: Vec<bool>,
+}
+
+impl Model for Evaluator {
+    ghost use Rattle.std.specs.Prelude.{◌≤◌, vec_capacity};
+    ghost use Rattle.check_evaluate.specs.Evaluation.{Evaluation};
+
+    ghost Value = { Evaluation };
+
+    ghost view = { λ e. record { nodes = e.nodes; names = e.exceptions; hits = e.kept.items } };
+
+    ghost invariant = { λ e. (e.nodes ≤ vec_capacity e.kept) × (e.nodes ≤ vec_capacity e.answers) };
+}
+
+impl Evaluator {
+    /// An evaluator with room for so many nodes of an expression, made for the exceptions of a policy.
+    pub fn with_room(
+        alloc: Global,
+        nodes: usize,
+        policy: &ValidConfig,
+    ) -> Result<Evaluator, AllocError>
+        ensures { let names = exception_names (policy_of policy.now) in
+            IfOk result (λ e. e ≡ record { nodes = nodes; names = names; hits = [] }) }
+    {
+        let exceptions = SpecIndex::of(alloc, policy.exceptions.items())?;
+        let kept = Vec::with_capacity(alloc, nodes)?;
+        let answers = Vec::with_capacity(alloc, nodes)?;
+        Ok(Evaluator {
+            nodes,
+            exceptions,
+            kept,
+            answers,
+        })
+    }
+
+    /// Whether a policy allows a crate to have an expression. It keeps what allows each term, also of those
+    /// that no choice needs, and takes no memory. A step is counted for each licensee that is asked.
+    pub fn evaluate<L: Ledger>(
+        &mut self,
+        expression: &Expression,
+        krate: &Krate,
+        policy: &ValidConfig,
+        steps: &mut Steps<L>,
+    ) -> bool
+        requires room { length (postfix expression.now.tree) ≤ self.old.nodes }
+        requires exceptions { exception_names (policy_of policy.now) ≡ self.old.names }
+        ensures answer { let policy = policy_of policy.now in
+            result ≡ is_allowed policy (record_of krate.now) expression.now.terms expression.now.tree }
+        ensures evaluator { let policy = policy_of policy.now in
+            self.new ≡ record self.old { hits = term_hits policy (record_of krate.now) expression.now.terms } }
+        ensures steps { steps.old ≤ steps.new }
+    {
+        let exception = self.exceptions.first(policy.exceptions.items(), krate);
+        keep_hits(
+            &mut self.kept,
+            policy,
+            exception,
+            expression.requirements(),
+            steps,
+        );
+        is_accepted(&mut self.answers, expression.nodes(), self.kept.as_slice())
+    }
+
+    /// What was kept for the terms of the last expression, in text order: what allows each, or nothing.
+    pub fn hits(&self) -> &[Option<Hit>]
+        ensures { result.now ≡ self.now.hits }
+    {
+        self.kept.as_slice()
+    }
+
+    /// The verdict on an expression with what shows it, from what was kept for its terms.
+    pub fn certificate(&self, alloc: Global, expression: &Expression) -> Result<Verdict, AllocError>
+        ensures { CertificateAnswers self.now.hits expression.now.tree result }
+    {
+        spdx_certificates::certificate(alloc, expression, self.kept.as_slice())
+    }
+}

@@ -1,0 +1,11 @@
+//! The evaluator: an expression of a crate and a valid policy in, a verdict with its certificate out.
+#![tactic(auto)]
+
+mod answers;
+pub mod evaluator;
+mod hits;
+pub mod laws;
+mod room;
+
+pub use spdx_certificates::{Hit, Hits, TermPlaces, Verdict};
+pub use evaluator::Evaluator;

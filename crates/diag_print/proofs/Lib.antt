@@ -1,0 +1,4 @@
+pub mod FlatLemmas
+pub mod JsonLemmas
+pub mod PrintedLemmas
+mod FindingsLemmas

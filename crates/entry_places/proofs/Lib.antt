@@ -1,4 +1,0 @@
-pub mod Borders
-pub mod SpecPlaces
-pub mod EntryPlaces
-pub mod PolicyPlaces

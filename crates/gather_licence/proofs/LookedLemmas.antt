@@ -1,0 +1,125 @@
+-- From what was looked at for a crate to what settles its licence.
+use Rattle.std.proofs.Common.{◌≡◌, ◌∙◌, ℕ, ◌++◌, true, false, cond, List, [], ◌∷◌, map, Option, None, Some, is_none, refl, sym, ap, subst}
+use Rattle.std.specs.Prelude.{option_map}
+use Rattle.std.specs.List.{flat_map, fold}
+use Rattle.std.proofs.lemmas.List.Sums.{fold-append}
+use Rattle.deny_text.specs.declared.span.Span.{Span}
+use Rattle.spdx_core.specs.Reading.{ExpressionView}
+use Rattle.graph_core.specs.Krate.{Record}
+use Rattle.tree_reads.specs.Heard.{ReadResult}
+use Rattle.tree_reads.specs.Read.{AnsweredRead}
+use Rattle.gather_files.specs.Calls.{TakesIn}
+use Rattle.gather_files.specs.Ears.{FolderReads, looked_of, tried_of}
+use Rattle.gather_files.specs.NamedFile.{NamedFileView}
+use Rattle.gather_files.specs.Pack.{license_files_in, in_path_order, pack_paths, reads_of, wanted_of}
+use Rattle.gather_files.specs.Steps.{Agrees, BeginsPack, records_by, with_path}
+use Rattle.gather_files.specs.View.{PackView, paths_of, paths_read}
+use Rattle.gather_files.proofs.CallLemmas.{agrees_before}
+use Rattle.gather_files.proofs.PathLemmas.{look_ups_keep_first_spellings}
+use Rattle.gather_expression.specs.Scanned.{Scanner, file_scanned}
+use Rattle.gather_licence.specs.declared.clarification.HeldClarification.{HeldClarification}
+use Rattle.gather_licence.specs.declared.settle.SettledLicense.{SettledLicense}
+use Rattle.gather_licence.specs.declared.settling.FilesSeen.{FilesSeen}
+use Rattle.gather_licence.specs.declared.settling.LicenseBasis.TheVariants.{Field}
+use Rattle.gather_licence.specs.Clarification.{ClarificationView, named_files, held_in}
+use Rattle.gather_licence.specs.Priority.{by_seen, field_of, files_heard, files_scanned, folder_of, holding, is_nothing, looks_at_files, records_with, seen_by, settling_by}
+use Rattle.gather_licence.specs.Settled.{IsSettledBy, missing_of}
+use Rattle.gather_licence.specs.Steps.{IsLooked, IsOrderedBy, seen_in}
+use Rattle.gather_licence.proofs.ApartLemmas.{AreApart, apart_in_order, apart_spellings, heard_at_paths}
+
+-- what was found and then looked up was read in the order of the reads
+pub paths_looked : (ears : FolderReads) (license_file : Option (List ℕ)) (clarifications : List (List NamedFileView)) (listing : ReadResult) (begun last : List (List ℕ))
+    → ears.listing ≡ listing → begun ≡ fold with_path [] (license_files_in listing license_file)
+    → last ≡ fold with_path begun (flat_map (looked_of ears) (tried_of ears clarifications)) → last ≡ reads_of ears license_file clarifications
+paths_looked ears license_file clarifications listing begun last same begins looks =
+    let more = flat_map (looked_of ears) (tried_of ears clarifications) in
+    looks
+    ∙ ap (λ paths. fold with_path paths more) begins
+    ∙ sym (fold-append with_path [] (license_files_in listing license_file) more)
+    ∙ ap (λ heard. fold with_path [] (license_files_in heard license_file ++ more)) (sym same)
+    ∙ look_ups_keep_first_spellings (license_files_in ears.listing license_file ++ more)
+
+pub looked : (krate : Record) (clarifications : List ClarificationView) (reads : List AnsweredRead) (begun new : PackView) (held : Option HeldClarification) (missing : List Span)
+    → BeginsPack (folder_of krate) krate.license_file begun
+    → TakesIn reads begun new
+    → ((ears : FolderReads) → Agrees ears new → paths_read new.reads ≡ fold with_path (paths_read begun.reads) (flat_map (looked_of ears) (tried_of ears (named_files clarifications))))
+    → ((ears : FolderReads) → Agrees ears new → held ≡ option_map held_in (holding ears clarifications))
+    → ((ears : FolderReads) → Agrees ears new → missing ≡ missing_of ears clarifications)
+    → IsLooked krate clarifications new held missing
+looked krate clarifications reads begun new held missing begins takes paths holds lacks =
+    let read : (ears : FolderReads) → Agrees ears new → paths_read new.reads ≡ reads_of ears krate.license_file (named_files clarifications) =
+    λ ears agrees. paths_looked ears krate.license_file (named_files clarifications) begun.listing (paths_read begun.reads) (paths_read new.reads)
+    (agrees_before reads begun new ears takes agrees).listing begins.paths (paths ears agrees) in
+    record {
+      folder = takes.folder ∙ begins.folder_is;
+      paths = read;
+      reads = λ ears agrees.
+          takes.records ears agrees (begins.records ears (agrees_before reads begun new ears takes agrees))
+          ∙ ap (λ folder. records_by ears folder (paths_read new.reads)) (takes.folder ∙ begins.folder_is)
+          ∙ ap (records_by ears (folder_of krate)) (read ears agrees);
+      held_is = holds;
+      missing_is = lacks;
+    }
+
+-- the files of the pack are what is heard of the paths of the pack
+files_looked : (ears : FolderReads) (pack : PackView) (paths : List (List ℕ)) → Agrees ears pack → paths_of pack.files ≡ in_path_order paths → AreApart paths
+    → pack.files ≡ files_heard ears (in_path_order paths)
+files_looked ears pack paths agrees sorted apart =
+    sym (heard_at_paths ears.file pack.files (subst AreApart (sym sorted) (apart_in_order paths apart)) agrees.files) ∙ ap (files_heard ears) sorted
+
+pub ordered : (scanner : Scanner) (krate : Record) (clarifications : List ClarificationView) (pack : PackView)
+    → (held : Option HeldClarification) (missing : List Span) (field : Option ExpressionView) (settled : SettledLicense) (ears : FolderReads) → IsLooked krate clarifications pack held missing
+    → paths_of pack.files ≡ in_path_order (paths_read settled.reads) → field ≡ field_of scanner.lists krate
+    → settled.by ≡ settling_by held field (by_seen scanner.lists (seen_in scanner pack)) → settled.missing ≡ missing → settled.reads ≡ pack.reads
+    → Agrees ears pack → IsOrderedBy scanner clarifications krate ears settled
+ordered scanner krate clarifications pack held missing field settled ears is sorted field_is by_is missing_is reads agrees =
+    let wanted = wanted_of ears krate.license_file (named_files clarifications) in
+    let files : pack.files ≡ files_heard ears (pack_paths ears krate.license_file (named_files clarifications)) =
+    files_looked ears pack (reads_of ears krate.license_file (named_files clarifications)) agrees (sorted ∙ ap (λ reads. in_path_order (paths_read reads)) reads ∙ ap in_path_order (is.paths ears agrees)) (apart_spellings wanted) in
+    let seen : seen_in scanner pack ≡ seen_by ears.listing (files_scanned scanner clarifications krate ears) =
+    ap (λ (files : List (List ℕ × ReadResult)). seen_by pack.listing (map (file_scanned scanner) files)) files
+    ∙ ap (λ listing. seen_by listing (files_scanned scanner clarifications krate ears)) (sym agrees.listing) in
+    record {
+      by =
+          by_is
+          ∙ ap (λ (one : Option HeldClarification). settling_by one field (by_seen scanner.lists (seen_in scanner pack))) (is.held_is ears agrees)
+          ∙ ap (λ (one : Option ExpressionView). settling_by (option_map held_in (holding ears clarifications)) one (by_seen scanner.lists (seen_in scanner pack))) field_is
+          ∙ ap (λ (seen : FilesSeen). settling_by (option_map held_in (holding ears clarifications)) (field_of scanner.lists krate) (by_seen scanner.lists seen)) seen;
+      missing = missing_is ∙ is.missing_is ears agrees;
+      reads = reads ∙ is.reads ears agrees;
+    }
+
+-- ---- the files were looked at, or were not
+
+pub settled_by_files : (scanner : Scanner) (clarifications : List ClarificationView) (krate : Record) (ears : FolderReads) (settled : SettledLicense)
+    → looks_at_files scanner clarifications krate ≡ true → IsOrderedBy scanner clarifications krate ears settled → IsSettledBy scanner clarifications krate ears settled
+settled_by_files scanner clarifications krate ears settled looks is = record {
+  by_is = is.by;
+  missing_is = is.missing;
+  reads_are = is.reads ∙ sym (ap (λ b. cond b (records_with clarifications krate ears) []) looks);
+}
+
+pub settled_by_field : (scanner : Scanner) (clarifications : List ClarificationView) (krate : Record) (ears : FolderReads) (settled : SettledLicense) (expression : ExpressionView)
+    → is_nothing clarifications ≡ true → Some expression ≡ field_of scanner.lists krate → settled ≡ record { by = Field expression; missing = []; reads = [] }
+    → IsSettledBy scanner clarifications krate ears settled
+settled_by_field scanner [] krate ears settled expression none field is =
+    record {
+      by_is =
+          ap (λ (s : SettledLicense). s.by) is
+          ∙ ap (λ (one : Option ExpressionView). settling_by None one (by_seen scanner.lists (seen_by ears.listing (files_scanned scanner [] krate ears)))) field;
+      missing_is = ap (λ (s : SettledLicense). s.missing) is;
+      reads_are = ap (λ (s : SettledLicense). s.reads) is ∙ ap (λ (one : Option ExpressionView). cond (is_none one) (records_with [] krate ears) []) field;
+    }
+settled_by_field scanner (first ∷ rest) krate ears settled expression none field is = cc
+
+pub looks_for_some : (scanner : Scanner) (clarifications : List ClarificationView) (krate : Record) → is_nothing clarifications ≡ false → looks_at_files scanner clarifications krate ≡ true
+looks_for_some scanner [] krate some = cc
+looks_for_some scanner (first ∷ rest) krate some = refl
+
+pub looks_for_none : (scanner : Scanner) (clarifications : List ClarificationView) (krate : Record) → None ≡ field_of scanner.lists krate → looks_at_files scanner clarifications krate ≡ true
+looks_for_none scanner [] krate none = ap (λ (one : Option ExpressionView). is_none one) (sym none)
+looks_for_none scanner (first ∷ rest) krate none = refl
+
+pub nothing_behind : {A B : Type 0} (f : A → B) (xs : List A) → is_nothing (map f xs) ≡ is_nothing xs
+nothing_behind f [] = refl
+nothing_behind f (x ∷ xs) = refl

@@ -1,0 +1,42 @@
+-- What the call that settles a crate's licence answers.
+use Rattle.std.specs.Prelude.{◌≡◌, ℕ, List, [], ◌∷◌, ◌++◌, slice_get, Option, option_copied, option_map, option_and_then, if◌then◌else◌}
+use Rattle.std.specs.Option.{option_to_list}
+use Rattle.deny_text.specs.declared.span.Span.{Span}
+use Rattle.spdx_catalog.specs.Catalog.{CatalogLists}
+use Rattle.spdx_catalog.specs.declared.identifier.Match.{Match}
+use Rattle.graph_core.specs.Krate.{Record}
+use Rattle.gather_files.specs.Ears.{FolderReads, holds, missing_from}
+use Rattle.gather_expression.specs.Scanned.{Scanner, match_by}
+use Rattle.gather_licence.specs.declared.scan.Scan.{Scan}
+use Rattle.gather_licence.specs.declared.settle.SettledLicense.{SettledLicense}
+use Rattle.gather_licence.specs.Clarification.{ClarificationView, PlacedFile, named_in}
+use Rattle.gather_licence.specs.Priority.{records_of, basis_of}
+
+-- what texts are identified by, of what was handed in
+abbrev pub scanner_of_scan : {I C : Type 0} → (C → CatalogLists) → (I → List ℕ → Match) → Scan I C → Scanner
+scanner_of_scan lists_of match_of scan = record {
+  lists = lists_of scan.catalog.now;
+  match_of = match_by match_of (option_copied scan.identifier);
+  threshold = scan.threshold;
+}
+
+-- ---- files of clarifications that are not there
+
+abbrev pub span_at : List PlacedFile → ℕ → Option Span
+span_at files number = option_map (λ file. file.span) (slice_get files number)
+
+-- the place of the first file that does not match, where nothing is there
+abbrev pub missing_in : FolderReads → ClarificationView → Option Span
+missing_in ears one = option_and_then (span_at one.files) (missing_from ears 0 (named_in one))
+
+-- of the clarifications that are tried, up to and with the first that holds
+abbrev pub missing_of : FolderReads → List ClarificationView → List Span
+missing_of ears [] = []
+missing_of ears (one ∷ more) = option_to_list (missing_in ears one) ++ (if holds ears (named_in one) then [] else missing_of ears more)
+
+-- A crate's licence is settled by what has priority by some ears; what is not there is told, and the reads are recorded by
+-- them.
+pub record IsSettledBy (scanner : Scanner) (clarifications : List ClarificationView) (krate : Record) (ears : FolderReads) (settled : SettledLicense) : Type 0 where
+  pub by_is : settled.by ≡ basis_of scanner clarifications krate ears
+  pub missing_is : settled.missing ≡ missing_of ears clarifications
+  pub reads_are : settled.reads ≡ records_of scanner clarifications krate ears

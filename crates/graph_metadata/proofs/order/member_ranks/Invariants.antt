@@ -1,0 +1,10 @@
+-- The ranks so far, and those of the rest, are all.
+use Rattle.std.proofs.Common.{◌≡◌, ◌++◌, map, drop}
+use Rattle.graph_metadata.specs.NodeRows.{member_of}
+use Rattle.graph_metadata.specs.Order.{rank_of_member}
+use Rattle.graph_metadata.proofs.order.member_ranks.Given as goal
+
+abbrev pub invariant-members : goal.invariant-members
+invariant-members l =
+    l.found.items ++ map (rank_of_member l.ranks) (map member_of (drop l.member-index l.members))
+    ≡ map (rank_of_member l.ranks) (map member_of l.members)

@@ -1,0 +1,79 @@
+//! Why there are no crates.
+ghost use Rattle.std.specs.Prelude.{◌≡◌};
+ghost use Rattle.graph_workspace.specs.Krates.{error_of_records, error_of_build};
+ghost use Rattle.graph_workspace.specs.declared.error.KratesError.TheVariants.{Memory};
+
+use tree_texts::ReadFault;
+use graph_metadata::{MetaError, MetaFault};
+use graph_selection::BuildError;
+use std::alloc::AllocError;
+
+/// What a request asks for that is not carried.
+#[derive(Clone, Copy, Debug, PartialEq, Eq)]
+pub enum What {
+    /// Metadata from no file: it has no path.
+    MetadataPath,
+    /// A spec of crates to be left out that holds a `/` or a `#`.
+    ExcludeSpec,
+}
+
+/// Why there are no crates.
+#[derive(Debug, Drop)]
+pub enum KratesError {
+    Memory,
+    NotCarried(What),
+    /// The metadata was not read.
+    MetadataRead(ReadFault),
+    /// The metadata is no JSON.
+    MetadataSyntax,
+    /// The metadata has not the stated shape.
+    MetadataShape(MetaFault),
+    /// No root crate is left.
+    NoRoots {
+        /// The crates that would be roots.
+        base: usize,
+        /// Those of them that a spec leaves out.
+        excluded: usize,
+        /// Those of the others that are published nowhere, where these are left out.
+        unpublished: usize,
+    },
+}
+
+impl From<AllocError> for KratesError {
+    ghost from_gives = { λ _ error. error ≡ Memory };
+
+    fn from(_: AllocError) -> KratesError {
+        KratesError::Memory
+    }
+}
+
+impl From<MetaError> for KratesError {
+    ghost from_gives = { λ refused error. error ≡ error_of_records refused };
+
+    fn from(refused: MetaError) -> KratesError {
+        match refused {
+            MetaError::Memory => KratesError::Memory,
+            MetaError::Syntax => KratesError::MetadataSyntax,
+            MetaError::Shape(fault) => KratesError::MetadataShape(fault),
+        }
+    }
+}
+
+impl From<BuildError> for KratesError {
+    ghost from_gives = { λ refused error. error ≡ error_of_build refused };
+
+    fn from(refused: BuildError) -> KratesError {
+        match refused {
+            BuildError::Memory => KratesError::Memory,
+            BuildError::NoRoots {
+                base,
+                excluded,
+                unpublished,
+            } => KratesError::NoRoots {
+                base,
+                excluded,
+                unpublished,
+            },
+        }
+    }
+}

@@ -1,0 +1,12 @@
+//! The crates that the metadata's file tells of.
+#![tactic(auto)]
+
+pub mod error;
+pub mod krates;
+
+pub use error::{KratesError, What};
+pub use graph_core::Krate;
+pub use tree_texts::ReadFault;
+pub use krates::krates_at;
+pub use graph_metadata::{MetaFault, MetaReason};
+pub use graph_selection::{ExcludeSpec, ExcludeSpecs, Include, KrateRefs, Krates, Selection};

@@ -1,7 +1,0 @@
-mod CallLemmas
-mod Examples
-mod HeardLemmas
-mod LoadLemmas
-mod PlaceLemmas
-mod PrintLemmas
-mod StageLemmas

@@ -1,6 +1,0 @@
-use Rattle.std.proofs.Common.{◌≡◌}
-use Rattle.load_core.proofs.print.index_each.Given as goal
-
--- the files are seen as they were
-abbrev pub invariant-packs : goal.invariant-packs
-invariant-packs l = l.files ≡ l.initial.files

@@ -1,7 +1,0 @@
-use Rattle.std.proofs.Common.{◌≡◌}
-use Rattle.load_core.proofs.print.index_pack.Given as goal
-
--- the files are seen as they were
-abbrev pub invariant-findings : goal.invariant-findings
-invariant-findings l =
-    (goal.iterator-findings).can_next l.finding-iterator × (goal.iterator-findings).is_finite l.finding-iterator × (l.files ≡ l.initial.files)

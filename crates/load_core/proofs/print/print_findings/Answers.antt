@@ -1,7 +1,0 @@
-use Rattle.std.proofs.Common.{refl}
-use Rattle.load_core.proofs.PrintLemmas.{off_is_silent, gained_nothing}
-use Rattle.load_core.proofs.print.print_findings.Goals as goal
-
-pub returns-in-None-clause-ok : goal.returns-in-None-clause-ok
-returns-in-None-clause-ok g c =
-    gained_nothing _ _ (off_is_silent c.args.context c.args.files.now c.args.findings.now (c.in-None.ensures.none.0 refl))

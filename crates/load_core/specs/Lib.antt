@@ -1,4 +1,0 @@
-pub mod Answer
-pub mod Heard
-pub mod Load
-pub mod Print

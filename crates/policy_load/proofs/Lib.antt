@@ -1,0 +1,6 @@
+mod CallLemmas
+mod Examples
+mod HeardLemmas
+mod LoadLemmas
+mod PlaceLemmas
+mod StageLemmas

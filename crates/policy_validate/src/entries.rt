@@ -1,0 +1,26 @@
+//! Exceptions, with the file that they stand in.
+ghost use Rattle.std.specs.Prelude.{◌≡◌, ◌++◌, OnOk, map};
+ghost use Rattle.policy_validate.specs.Valid.{exception_in};
+
+use diag_core::FileId;
+use policy_entries::Exceptions;
+use std::alloc::AllocError;
+use policy_valid::{ValidException, ValidExceptions};
+
+/// Puts the exceptions of a file behind the others, as they stand there.
+pub fn add_exceptions(
+    file: FileId,
+    exceptions: Exceptions,
+    valid: &mut ValidExceptions,
+) -> Result<(), AllocError>
+    ensures { OnOk result (valid.new ≡ valid.old ++ map (exception_in file) exceptions) }
+{
+    'exceptions: for exception in exceptions.into_vec() {
+        valid.push(ValidException {
+            spec: exception.spec,
+            allowed: exception.allow,
+            file_id: file,
+        })?;
+    }
+    Ok(())
+}

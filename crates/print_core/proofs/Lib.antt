@@ -1,3 +1,0 @@
-pub mod FlatLemmas
-pub mod JsonLemmas
-pub mod PrintedLemmas

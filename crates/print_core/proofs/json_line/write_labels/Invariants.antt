@@ -1,9 +1,0 @@
-use Rattle.std.proofs.Common.{take}
-use Rattle.print_core.specs.Json.{label_data}
-use Rattle.print_core.specs.JsonTokens.{Adds}
-use Rattle.print_core.proofs.JsonLemmas.{each_tokens}
-use Rattle.print_core.proofs.json_line.write_labels.Given as goal
-
--- the labels so far were written
-abbrev pub invariant-labels : goal.invariant-labels
-invariant-labels l = Adds l.initial.out l.out (each_tokens (label_data l.files) (take l.label-index l.labels))

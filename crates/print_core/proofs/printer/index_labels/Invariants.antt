@@ -1,6 +1,0 @@
-use Rattle.std.proofs.Common.{◌≡◌}
-use Rattle.print_core.proofs.printer.index_labels.Given as goal
-
--- the files are seen as they were
-abbrev pub invariant-labels : goal.invariant-labels
-invariant-labels l = l.files ≡ l.initial.files

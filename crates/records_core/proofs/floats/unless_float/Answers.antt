@@ -1,9 +1,0 @@
--- A value that holds no float passes.
-use Rattle.std.proofs.Common.{sym, ◌∙◌}
-use Rattle.serde_json.specs.View.{view}
-use Rattle.records_core.proofs.FloatWalks.{float-free}
-use Rattle.records_core.proofs.floats.unless_float.Goals as goal
-
-pub returns-then-not-holds_float : goal.returns-then-not-holds_float
-returns-then-not-holds_float c =
-    float-free (view c.args.value.now) (sym c.holds_float.ensures ∙ c.if-not-holds_float.true)

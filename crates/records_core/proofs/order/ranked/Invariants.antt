@@ -1,8 +1,0 @@
--- The edges so far, and those of the rest, are all.
-use Rattle.std.proofs.Common.{◌≡◌, ◌++◌, map, drop}
-use Rattle.records_core.specs.Order.{ranked_edge}
-use Rattle.records_core.proofs.order.ranked.Given as goal
-
-abbrev pub invariant-edges : goal.invariant-edges
-invariant-edges l =
-    l.list.items ++ map (ranked_edge l.ranks) (drop l.edge-index l.edges) ≡ map (ranked_edge l.ranks) l.edges

@@ -1,7 +1,0 @@
--- The spots so far, and those of the rest, are all.
-use Rattle.std.proofs.Common.{◌≡◌, ◌++◌, map}
-use Rattle.records_core.specs.Records.{spot_of, spots_of}
-use Rattle.records_core.proofs.order.spots_of.Given as goal
-
-abbrev pub invariant-spots : goal.invariant-spots
-invariant-spots l = l.spots.items ++ map (spot_of l.firsts) l.id-iterator ≡ spots_of l.known l.firsts

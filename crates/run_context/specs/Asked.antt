@@ -1,0 +1,49 @@
+-- What a request asks for, and the crates that it looks at.
+use Rattle.std.specs.Prelude.{◌≡◌, ◌↔◌, ◌⊎◌, ℕ, ◌||◌, List, ◌++◌, Option, Some, None, is_none, Result, Err, if◌then◌else◌}
+use Rattle.std.specs.List.{filter_map, list_any}
+use Rattle.tree_core.specs.Call.{Call}
+use Rattle.run_request.specs.declared.context.KrateContext.{KrateContext}
+use Rattle.graph_selection.specs.Choice.{Choice, is_uncarried, spec_read}
+use Rattle.graph_selection.specs.Listed.{Chosen}
+use Rattle.graph_workspace.specs.declared.error.KratesError.{KratesError}
+use Rattle.graph_workspace.specs.declared.error.KratesError.TheVariants.{Memory, NotCarried}
+use Rattle.graph_workspace.specs.declared.error.What.{What}
+use Rattle.graph_workspace.specs.declared.error.What.TheVariants.{MetadataPath, ExcludeSpec}
+use Rattle.graph_workspace.specs.Krates.{GathersBy}
+
+-- ---- what is not carried
+
+-- The first of the parts that are not carried: no path of metadata, a spec with such a sign, be it the request's or the
+-- policy's.
+abbrev pub uncarried : KrateContext → List (List ℕ) → Option What
+uncarried context cfg_excludes =
+    if is_none context.metadata_path then Some MetadataPath
+    else (if list_any is_uncarried context.exclude || list_any is_uncarried cfg_excludes then Some ExcludeSpec else None)
+
+-- ---- what it selects by
+
+-- the readable specs, those of the policy behind those of the request
+abbrev pub choice_asked : KrateContext → List (List ℕ) → Choice
+choice_asked context cfg_excludes = record {
+  workspace = context.workspace;
+  exclude = filter_map spec_read context.exclude ++ filter_map spec_read cfg_excludes;
+  exclude_dev = context.exclude_dev;
+  exclude_unpublished = context.exclude_unpublished;
+}
+
+-- ---- what is answered
+
+-- a request is refused as not carried exactly for the first such part
+abbrev pub IsRefused : KrateContext → List (List ℕ) → Result Chosen KratesError → Type 0
+IsRefused context cfg_excludes result =
+    (what : What) → (result ≡ Err (NotCarried what)) ↔ (uncarried context cfg_excludes ≡ Some what)
+
+-- where a part is not carried, no call is made
+abbrev pub IsUnasked : KrateContext → List (List ℕ) → List Call → List Call → Type 0
+IsUnasked context cfg_excludes old new = (what : What) → uncarried context cfg_excludes ≡ Some what → new ≡ old
+
+-- else the file at its path is read, and the crates are gathered by what its answer lets hear; memory may be wanting before the read
+abbrev pub IsAnswerBy : KrateContext → List (List ℕ) → ℕ → ℕ → List Call → List Call → Result Chosen KratesError → Type 0
+IsAnswerBy context cfg_excludes before after old new result =
+    (path : List ℕ) → context.metadata_path ≡ Some path → uncarried context cfg_excludes ≡ None
+    → ((result ≡ Err Memory) × (new ≡ old)) ⊎ GathersBy (choice_asked context cfg_excludes) before after old new path result

@@ -1,0 +1,29 @@
+-- What holds of the requests of words.
+use Rattle.std.specs.Prelude.{◌≡◌, ◌↔◌, List, [], ◌∷◌, Option, option_map, codes}
+use Rattle.clap.specs.Words.{Text}
+use Rattle.run_request.specs.declared.request.Request.{Request}
+use Rattle.run_request.specs.declared.read.CliAnswer.{CliAnswer}
+use Rattle.run_request.specs.Request.{request_of, without_deny}
+use Rattle.run_request.specs.Given.{IsGiven}
+
+-- A second word `deny` changes nothing: the words with it and without it have the same answers, where no further `deny` stands
+-- behind it.
+abbrev pub SecondDenyChangesNothing : Type 0
+SecondDenyChangesNothing = (program : Text) (words : List Text) (cwd : Text) (given : CliAnswer) → without_deny words ≡ words
+    → IsGiven (program ∷ codes "deny" ∷ words) cwd given ↔ IsGiven (program ∷ words) cwd given
+
+-- a path of which it is only known that it is there
+abbrev pub hidden : Option Text → Option Text
+hidden path = option_map (λ _. []) path
+
+-- the request without the paths that stand behind the working folder
+abbrev pub without_folder : Request → Request
+without_folder request = record request {
+  manifest_path = hidden request.manifest_path;
+  krate_ctx = record request.krate_ctx { manifest_path = []; metadata_path = hidden request.krate_ctx.metadata_path; cwd = [] };
+}
+
+-- the working folder shows in paths alone
+abbrev pub FolderShowsInPaths : Type 0
+FolderShowsInPaths = (words : List Text) (one other : Text)
+    → option_map without_folder (request_of words one) ≡ option_map without_folder (request_of words other)

@@ -1,0 +1,30 @@
+-- The rules of the rows of the table of options.
+use Rattle.std.specs.Prelude.{List, [], ◌∷◌, Option, None, Some}
+use Rattle.std.specs.Borrow.{Bor}
+use Rattle.clap.specs.Words.{Text, Rule, App, with_rule}
+use Rattle.run_request.specs.declared.options.OptionUse.{OptionUse}
+use Rattle.run_request.specs.declared.options.OptionUse.TheVariants.{One, Many, Flag, Words, Word}
+use Rattle.run_request.specs.declared.options.OptionRow.{OptionRow}
+use Rattle.run_request.specs.Cli.{option_rule, many_rule, flag_rule, words_rule, word_rule}
+
+-- a use of that kind, under this name
+abbrev pub rule_of_kind : OptionUse → Text → Rule
+rule_of_kind One name = option_rule name
+rule_of_kind Many name = many_rule name
+rule_of_kind Flag name = flag_rule name
+rule_of_kind Words name = words_rule name
+rule_of_kind Word name = word_rule name
+
+-- the values of an option that is not used
+abbrev pub defaults_of : Option (Bor Text) → List Text
+defaults_of None = []
+defaults_of (Some value) = value.now ∷ []
+
+-- the rule of a row
+abbrev pub rule_of_row : OptionRow → Rule
+rule_of_row row = record (rule_of_kind row.kind row.name.now) { short = row.letter; defaults = defaults_of row.default }
+
+-- a command with rules added in turn
+abbrev pub grown : List Rule → App → App
+grown [] app = app
+grown (rule ∷ rules) app = grown rules (with_rule app rule)

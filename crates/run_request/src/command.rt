@@ -1,0 +1,135 @@
+//! The command line as a value.
+ghost use Rattle.std.specs.Prelude.{◌≡◌, IfOk, false, true, map};
+ghost use Rattle.clap.specs.Words.{rule_of, new_rule, app_of, shape_of, with_subcommand};
+ghost use Rattle.run_request.specs.Cli.{cli, top_shape, alone, check_shape, list_shape, sample_shape};
+ghost use Rattle.run_request.specs.OptionRow.{rule_of_row, defaults_of, grown};
+
+use crate::options::{OptionUse, OptionRow, check_rows, list_rows, main_rows, sample_rows};
+use clap::{Arg, ArgAction, Command};
+use std::alloc::{AllocError, Global};
+
+static VERSION: &str = "0.20.2";
+
+/// The whole command line. Behind the program's name it takes what stands behind the `deny` of `cargo deny`.
+pub fn command<'a>(alloc: Global) -> Result<Command<'a>, AllocError>
+    ensures { IfOk result (λ command. app_of command ≡ cli) }
+{
+    let check = check_command(alloc)?;
+    match top_command(alloc) {
+        Ok(command) => add_subcommand(command, check),
+        Err(error) => {
+            let_go(check);
+            Err(error)
+        }
+    }
+}
+
+/// The command line without its subcommand.
+fn top_command<'a>(alloc: Global) -> Result<Command<'a>, AllocError>
+    ensures { IfOk result (λ command. app_of command ≡ alone top_shape) }
+{
+    let command = Command::new(alloc, "cargo-deny")
+        .version(VERSION)
+        .about("Checks the licences of a project's crates against a policy")
+        .subcommand_required(true);
+    let command = with_rows(alloc, command, main_rows())?;
+    Ok(command)
+}
+
+/// Lets a command go.
+fn let_go(_command: Command<'_>) {}
+
+/// The subcommand `check`.
+pub(crate) fn check_command<'a>(alloc: Global) -> Result<Command<'a>, AllocError>
+    ensures { IfOk result (λ command. app_of command ≡ alone check_shape) }
+{
+    let command = Command::new(alloc, "check").about("Checks a project's crates");
+    with_rows(alloc, command, check_rows())
+}
+
+/// The subcommand `list`.
+pub(crate) fn list_command<'a>(alloc: Global) -> Result<Command<'a>, AllocError>
+    ensures { IfOk result (λ command. app_of command ≡ alone list_shape) }
+{
+    let command = Command::new(alloc, "list").about("Lists the licences of a project's crates");
+    with_rows(alloc, command, list_rows())
+}
+
+/// The subcommand `sample`.
+pub(crate) fn sample_command<'a>(alloc: Global) -> Result<Command<'a>, AllocError>
+    ensures { IfOk result (λ command. app_of command ≡ alone sample_shape) }
+{
+    let command = Command::new(alloc, "sample").about("Checks a sample of made-up crates");
+    with_rows(alloc, command, sample_rows())
+}
+
+fn add_subcommand<'a>(command: Command<'a>, below: Command<'a>) -> Result<Command<'a>, AllocError>
+    requires { (app_of below).top.is_plain ≡ true }
+    ensures { IfOk result (λ r. app_of r ≡ with_subcommand (app_of command.entry) (shape_of below.entry)) }
+{
+    command.subcommand(below)
+}
+
+fn with_rows<'a>(
+    alloc: Global,
+    command: Command<'a>,
+    rows: &'static [OptionRow],
+) -> Result<Command<'a>, AllocError>
+    ensures { IfOk result (λ r. app_of r ≡ grown (map rule_of_row rows.now) (app_of command.entry)) }
+{
+    let mut command = command;
+    'rows: for row in rows {
+        command = command.arg(arg_of(alloc, row))?;
+    }
+    Ok(command)
+}
+
+/// The argument of a row.
+fn arg_of<'a>(alloc: Global, row: &'static OptionRow) -> Arg<'a>
+    ensures rule { rule_of result ≡ rule_of_row row.now }
+    ensures local { result.global ≡ false }
+{
+    let arg = defaulted(alloc, row);
+    match row.kind {
+        OptionUse::One => arg
+            .long(row.name)
+            .value_name(row.value)
+            .action(ArgAction::Set),
+        OptionUse::Many => arg
+            .long(row.name)
+            .value_name(row.value)
+            .action(ArgAction::Append),
+        OptionUse::Flag => arg.long(row.name).action(ArgAction::SetTrue),
+        OptionUse::Words => arg.value_name(row.value).action(ArgAction::Append),
+        OptionUse::Word => arg
+            .value_name(row.value)
+            .action(ArgAction::Set)
+            .required(true),
+    }
+}
+
+/// What each kind of argument has: its letter and its default.
+fn defaulted<'a>(alloc: Global, row: &'static OptionRow) -> Arg<'a>
+    ensures rule { rule_of result ≡ record (new_rule row.now.name.now) {
+      short = row.now.letter;
+      defaults = defaults_of row.now.default;
+    } }
+    ensures local { result.global ≡ false }
+{
+    let arg = lettered(alloc, row);
+    match row.default {
+        Some(value) => arg.default_value(value),
+        None => arg,
+    }
+}
+
+fn lettered<'a>(alloc: Global, row: &'static OptionRow) -> Arg<'a>
+    ensures rule { rule_of result ≡ record (new_rule row.now.name.now) { short = row.now.letter } }
+    ensures local { result.global ≡ false }
+{
+    let arg = Arg::new(alloc, row.name).help(row.help);
+    match row.letter {
+        Some(letter) => arg.short(letter),
+        None => arg,
+    }
+}

@@ -1,0 +1,13 @@
+//! What holds of the requests of words.
+ghost use Rattle.run_request.specs.Laws.{SecondDenyChangesNothing, FolderShowsInPaths};
+
+/// A second word `deny`, as `cargo deny` passes it on, changes no answer.
+pub fn second_deny_changes_nothing()
+    ensures { SecondDenyChangesNothing }
+{}
+
+/// The working folder shows in the paths of a request alone: in that of the manifest, of the metadata and of
+/// the folder itself.
+pub fn folder_shows_in_paths()
+    ensures { FolderShowsInPaths }
+{}

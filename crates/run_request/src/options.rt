@@ -1,0 +1,348 @@
+//! The options of the command line, in the order in which help lists them.
+ghost use Rattle.std.specs.Prelude.{◌≡◌, map};
+ghost use Rattle.run_request.specs.Cli.{main_rules, check_rules, list_rules, sample_rules};
+ghost use Rattle.run_request.specs.OptionRow.{rule_of_row};
+
+/// How an option is used.
+#[derive(Clone, Copy, Debug, PartialEq, Eq)]
+pub enum OptionUse {
+    /// With one value, once at most.
+    One,
+    /// With one value a use.
+    Many,
+    /// Without a value, once at most.
+    Flag,
+    /// As words without a name.
+    Words,
+    /// As one word without a name, which is required.
+    Word,
+}
+
+/// What the value of an option is, for help and completion.
+#[derive(Clone, Copy)]
+pub enum OptionValues {
+    /// Any text, or none.
+    Any,
+    /// The path of a file.
+    File,
+    /// The path of a folder.
+    Folder,
+    /// One of these names.
+    Names(&'static [&'static str]),
+}
+
+/// An option of the command line.
+#[derive(Clone, Copy)]
+pub struct OptionRow {
+    pub kind: OptionUse,
+    /// Behind `--`, but for words without a name.
+    pub name: &'static str,
+    /// Behind `-`.
+    pub letter: Option<char>,
+    /// The value where the option is not used.
+    pub default: Option<&'static str>,
+    /// What help calls the value.
+    pub value: &'static str,
+    pub values: OptionValues,
+    /// What the option does.
+    pub help: &'static str,
+}
+
+/// An option with one of some names.
+macro_rules! chosen {
+    (
+        $name:literal, $letter:literal, $default:literal, $value:literal,
+        [$first:literal $(, $other:literal)*], $help:literal
+    ) => {
+        OptionRow {
+            kind: OptionUse::One,
+            name: $name,
+            letter: Some($letter),
+            default: Some($default),
+            value: $value,
+            values: OptionValues::Names(&[$first $(, $other)*]),
+            help: concat!($help, " [possible values: ", $first $(, ", ", $other)*, "]"),
+        }
+    };
+}
+
+/// An option with a value.
+macro_rules! valued {
+    (
+        $kind:ident, $name:literal, $letter:expr, $default:expr, $value:literal,
+        $values:expr, $help:literal
+    ) => {
+        OptionRow {
+            kind: OptionUse::$kind,
+            name: $name,
+            letter: $letter,
+            default: $default,
+            value: $value,
+            values: $values,
+            help: $help,
+        }
+    };
+}
+
+/// An option without a value.
+macro_rules! flag {
+    ($name:literal, $letter:expr, $help:literal) => {
+        OptionRow {
+            kind: OptionUse::Flag,
+            name: $name,
+            letter: $letter,
+            default: None,
+            value: "",
+            values: OptionValues::Any,
+            help: $help,
+        }
+    };
+}
+
+/// A use of codes and levels.
+macro_rules! overriding {
+    ($name:literal, $letter:literal, $help:literal) => {
+        valued!(
+            Many, $name, Some($letter), None, "CODE",
+            OptionValues::Names(&[
+                "allowed", "warnings", "denied", "accepted", "rejected", "unlicensed",
+                "skipped-private-workspace-crate", "license-not-encountered",
+                "license-exception-not-encountered", "missing-clarification-file", "parse-error",
+                "empty-license-field", "no-license-field", "gather-failure", "deprecated",
+            ]),
+            $help
+        )
+    };
+}
+
+static MAIN: [OptionRow; 17] = [
+    chosen!(
+        "log-level",
+        'L',
+        "warn",
+        "LEVEL",
+        ["off", "error", "warn", "info", "debug", "trace"],
+        "The least level of findings that are written"
+    ),
+    chosen!(
+        "format",
+        'f',
+        "human",
+        "FORMAT",
+        ["human", "json", "sarif"],
+        "How findings and the summary are written; sarif is not carried"
+    ),
+    chosen!(
+        "color",
+        'c',
+        "auto",
+        "WHEN",
+        ["auto", "always", "never"],
+        "Whether text is coloured; read, and without effect"
+    ),
+    valued!(
+        One,
+        "manifest-path",
+        None,
+        None,
+        "PATH",
+        OptionValues::File,
+        "The project's Cargo.toml [default: that of the working folder]"
+    ),
+    valued!(
+        One,
+        "metadata-path",
+        None,
+        None,
+        "PATH",
+        OptionValues::File,
+        "The output of `cargo metadata --format-version 1`; it has to be given"
+    ),
+    valued!(
+        One,
+        "config",
+        None,
+        None,
+        "PATH",
+        OptionValues::File,
+        "The policy [default: the nearest deny.toml, .deny.toml or .cargo/deny.toml above the manifest]"
+    ),
+    valued!(
+        One,
+        "target",
+        Some('t'),
+        None,
+        "TARGET",
+        OptionValues::Any,
+        "Only what this target needs; not carried"
+    ),
+    valued!(
+        Many,
+        "exclude",
+        None,
+        None,
+        "SPEC",
+        OptionValues::Any,
+        "A crate that is left out, as name, name@version or name:version; one a use"
+    ),
+    valued!(
+        Many,
+        "features",
+        None,
+        None,
+        "FEATURES",
+        OptionValues::Any,
+        "Features, with commas between; read, and without effect"
+    ),
+    flag!("workspace", None, "Begins at every member of the workspace"),
+    flag!(
+        "all-features",
+        None,
+        "All features; read, and without effect"
+    ),
+    flag!(
+        "no-default-features",
+        None,
+        "No default features; read, and without effect"
+    ),
+    flag!("frozen", None, "Both --locked and --offline"),
+    flag!(
+        "offline",
+        None,
+        "Uses no network, as ever; read, and without effect"
+    ),
+    flag!(
+        "locked",
+        None,
+        "Changes no Cargo.lock, as ever; read, and without effect"
+    ),
+    flag!(
+        "exclude-dev",
+        None,
+        "Leaves dependencies of tests and examples out"
+    ),
+    flag!(
+        "exclude-unpublished",
+        None,
+        "Begins at no member that is never published"
+    ),
+];
+
+static CHECK: [OptionRow; 9] = [
+    valued!(
+        One,
+        "graph",
+        Some('g'),
+        None,
+        "FOLDER",
+        OptionValues::Folder,
+        "A folder for graphs of crates; not carried"
+    ),
+    flag!(
+        "hide-inclusion-graph",
+        None,
+        "Writes no graph of what includes a crate, as ever; read, and without effect"
+    ),
+    flag!(
+        "audit-compatible-output",
+        None,
+        "Writes as cargo-audit does; not carried"
+    ),
+    flag!(
+        "show-stats",
+        Some('s'),
+        "Writes the summary in its full form"
+    ),
+    overriding!(
+        "warn",
+        'W',
+        "Findings of this code, or of a level (allowed, warnings, denied), are warnings"
+    ),
+    overriding!("allow", 'A', "Findings of this code or level are notes"),
+    overriding!("deny", 'D', "Findings of this code or level are errors"),
+    valued!(
+        One,
+        "feature-depth",
+        None,
+        None,
+        "DEPTH",
+        OptionValues::Any,
+        "How deep graphs tell features, below 4294967296, not beside --hide-inclusion-graph; read, and \
+         without effect"
+    ),
+    valued!(
+        Words,
+        "WHICH",
+        None,
+        None,
+        "WHICH",
+        OptionValues::Names(&["advisories", "bans", "licenses", "sources", "all"]),
+        "The checks [possible values: advisories, bans, licenses, sources, all]; only licenses is carried"
+    ),
+];
+
+static LIST: [OptionRow; 3] = [
+    valued!(
+        One,
+        "threshold",
+        Some('t'),
+        Some("0.8"),
+        "SCORE",
+        OptionValues::Any,
+        "The least score at which a text is taken for a licence, from 0 to 1, with two decimals at most"
+    ),
+    chosen!(
+        "format",
+        'f',
+        "human",
+        "FORMAT",
+        ["human", "json", "tsv"],
+        "How the listing is written"
+    ),
+    chosen!(
+        "layout",
+        'l',
+        "license",
+        "LAYOUT",
+        ["crate", "license"],
+        "What the listing is grouped by"
+    ),
+];
+
+static SAMPLE: [OptionRow; 1] = [valued!(
+    Word,
+    "N",
+    None,
+    None,
+    "N",
+    OptionValues::Any,
+    "How many crates the sample has, from 1 to 20000"
+)];
+
+/// The options that stand before the subcommand.
+pub fn main_rows() -> &'static [OptionRow]
+    ensures { map rule_of_row result.now ≡ main_rules }
+{
+    &MAIN
+}
+
+/// The options and words of `check`.
+pub fn check_rows() -> &'static [OptionRow]
+    ensures { map rule_of_row result.now ≡ check_rules }
+{
+    &CHECK
+}
+
+/// The options of `list`.
+pub fn list_rows() -> &'static [OptionRow]
+    ensures { map rule_of_row result.now ≡ list_rules }
+{
+    &LIST
+}
+
+/// The word of `sample`.
+pub fn sample_rows() -> &'static [OptionRow]
+    ensures { map rule_of_row result.now ≡ sample_rules }
+{
+    &SAMPLE
+}

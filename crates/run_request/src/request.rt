@@ -1,0 +1,101 @@
+//! What the matches of a command line ask for.
+ghost use Rattle.std.specs.Prelude.{◌≡◌};
+ghost use Rattle.clap.specs.Words.{found_of, rows_of, subcommand_rows_of};
+ghost use Rattle.run_request.specs.Reading.{AnswersArgs};
+ghost use Rattle.run_request.specs.Request.{log_context_of, sample_of, subcommand_named, subcommand_asked};
+
+use crate::context::KrateContext;
+use crate::error::ArgsError;
+use crate::number::SampleSize;
+use crate::options::{OptionRow, check_rows, list_rows, sample_rows};
+use crate::rows::read_first;
+use crate::{check, list};
+use clap::ArgMatches;
+use deny_text::PathBuf;
+use diag_core::LevelFilter;
+use diag_print::{Color, Format, LogContext};
+use std::alloc::Global;
+
+/// A subcommand, and what it is asked for.
+#[derive(Drop)]
+pub enum Subcommand {
+    Check(check::Args),
+    List(list::Args),
+    /// A check of so many crates that are made up, from 1 to 20,000.
+    Sample(u32),
+}
+
+/// What the words of a command line ask for.
+#[derive(Drop)]
+pub struct Request {
+    pub log_ctx: LogContext,
+    /// The manifest that is given, joined to the working folder.
+    pub manifest_path: Option<PathBuf>,
+    pub krate_ctx: KrateContext,
+    pub command: Subcommand,
+}
+
+pub(crate) fn log_context(alloc: Global, matches: &ArgMatches<'_>) -> Result<LogContext, ArgsError>
+    ensures { AnswersArgs (log_context_of (rows_of (found_of matches.now))) result }
+{
+    let log_level: Option<LevelFilter> = read_first(alloc, matches, "log-level")?;
+    let format: Option<Format> = read_first(alloc, matches, "format")?;
+    let color: Option<Color> = read_first(alloc, matches, "color")?;
+    Ok(LogContext {
+        format: format.unwrap_or(Format::Human),
+        color: color.unwrap_or(Color::Auto),
+        log_level: log_level.unwrap_or(LevelFilter::Warn),
+    })
+}
+
+/// The options of the subcommand that was used.
+pub(crate) fn rows_below(matches: &ArgMatches<'_>) -> &'static [OptionRow] {
+    match matches.subcommand_name() {
+        Some("check") => check_rows(),
+        Some("list") => list_rows(),
+        Some("sample") => sample_rows(),
+        _ => &[],
+    }
+}
+
+pub(crate) fn subcommand_asked(
+    alloc: Global,
+    matches: &ArgMatches<'_>,
+) -> Result<Subcommand, ArgsError>
+    ensures { AnswersArgs (subcommand_asked (subcommand_rows_of matches.now)) result }
+{
+    match matches.subcommand() {
+        Some((name, below)) => subcommand_named(alloc, name, below),
+        None => Err(ArgsError::bad_value(alloc, "COMMAND", "")),
+    }
+}
+
+fn subcommand_named(
+    alloc: Global,
+    name: &str,
+    below: &ArgMatches<'_>,
+) -> Result<Subcommand, ArgsError>
+    ensures { AnswersArgs (subcommand_named name.now (rows_of (found_of below.now))) result }
+{
+    if name == "check" {
+        let args = check::Args::parse(alloc, below)?;
+        Ok(Subcommand::Check(args))
+    } else if name == "list" {
+        let args = list::Args::parse(alloc, below)?;
+        Ok(Subcommand::List(args))
+    } else if name == "sample" {
+        let size: Option<SampleSize> = read_first(alloc, below, "N")?;
+        sample_of(alloc, size)
+    } else {
+        Err(ArgsError::bad_value(alloc, "COMMAND", name))
+    }
+}
+
+fn sample_of(alloc: Global, size: Option<SampleSize>) -> Result<Subcommand, ArgsError>
+    ensures { AnswersArgs (sample_of size) result }
+{
+    match size {
+        Some(size) => Ok(Subcommand::Sample(size.0)),
+        None => Err(ArgsError::bad_value(alloc, "N", "")),
+    }
+}

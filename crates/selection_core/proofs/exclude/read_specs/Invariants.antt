@@ -1,9 +1,0 @@
-use Rattle.std.proofs.Common.{◌≡◌, ◌++◌, map, drop}
-use Rattle.std.specs.List.{filter_map}
-use Rattle.selection_core.specs.Choice.{exclude_spec_of, spec_read}
-use Rattle.selection_core.proofs.exclude.read_specs.Given as goal
-
--- the specs so far, and those of the texts that are left
-abbrev pub invariant-texts : goal.invariant-texts
-invariant-texts l =
-    map exclude_spec_of l.specs ++ filter_map spec_read (drop l.text-index l.texts) ≡ map exclude_spec_of l.fn.specs ++ filter_map spec_read l.texts

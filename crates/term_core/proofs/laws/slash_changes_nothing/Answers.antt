@@ -1,5 +1,0 @@
-use Rattle.term_core.proofs.laws.slash_changes_nothing.Goals as goal
-use Rattle.term_core.proofs.ItemSpans.{slash_same}
-
-pub returns : goal.returns
-returns c = λ mode lists text none. slash_same mode lists text none

@@ -1,8 +1,0 @@
--- A reference within its word.
-use Rattle.std.specs.Option.{option_map}
-use Rattle.term_core.specs.declared.term.LicenseItem.{LicenseItem}
-use Rattle.term_core.specs.declared.term.LicenseItem.TheVariants.{Reference}
-use Rattle.term_core.specs.declared.words.ReferenceParts.{ReferenceParts}
-
-abbrev pub parts_item : ReferenceParts → LicenseItem
-parts_item parts = Reference (option_map (λ doc. doc.now) parts.doc) parts.id.now

@@ -1,0 +1,23 @@
+//! What the definitions make of verdicts and of what is told of them.
+ghost use Rattle.std.specs.Prelude.{◌≡◌, map, take};
+ghost use Rattle.check_core.specs.Rows.{judged_row, rows};
+ghost use Rattle.check_unused.specs.Rows.{reported_row, unused_rows};
+ghost use Rattle.policy_valid.specs.Rows as hits;
+ghost use Rattle.check_verdicts.specs.Rows.{findings_meant, findings_said, label_rows, labelled};
+ghost use Rattle.check_verdicts.specs.Rows.{source_rows, worded};
+
+/// Does nothing: the definitions make of each row what was worked out by hand. Findings that name a crate are left
+/// out.
+fn rows_by_hand()
+    ensures labels { map labelled label_rows ≡ label_rows }
+    ensures findings { take 2 findings_said ≡ take 2 findings_meant }
+    ensures unused { map reported_row unused_rows ≡ unused_rows }
+    ensures sources { map worded source_rows ≡ source_rows }
+    ensures judged { map judged_row rows ≡ rows }
+    ensures hits { map hits.computed hits.rows ≡ hits.rows }
+{}
+
+#[test]
+fn definitions_of_verdicts() {
+    rows_by_hand();
+}

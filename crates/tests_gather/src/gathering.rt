@@ -1,0 +1,303 @@
+//! Crates of metadata, gathered over the policy, the table and the tree of a case; and the files of a crate in the folder `/w`: what
+//! is read and listed, where fields stand, its pack, and the names that are joined.
+use crate::given::{OF_FEED, World, first_word, policy_of, world_of};
+use tests_files::tree::text_of;
+use tests_files::{Case, CaseEntry, NameIdentifier, AnswerText};
+use deny_text::{PathBuf, Span, Text};
+use diag_core::{Diag, Files, Label, LabelStyle};
+use gather_expression::{joined, scan_pack};
+use gather_core::{Gatherer, KrateLicense, LicenseExprSource, LicenseInfo, Summary};
+use gather_location::{LocatedField, locate};
+use gather_files::{LicensePack, TriedClarification};
+use gather_licence::FileRef;
+use tree_reads::{FolderHeard, list_folder, listing_record, read_file};
+use graph_metadata::records;
+use graph_selection::{ExcludeSpecs, Krates, Selection};
+use spdx_core::Table;
+use std::alloc::Global;
+use tree_core::{MemTree, ReadRecord};
+use policy_valid::ValidConfig;
+
+/// The crates of the metadata of a case.
+fn krates(alloc: Global, case: &Case<'_>) -> Option<Krates> {
+    let text = text_of(alloc, case, case.entry("metadata")?).ok()?;
+    let metadata = records(alloc, str::from_utf8(&text).ok()?, "index").ok()?;
+    let selection = Selection {
+        workspace: true,
+        exclude: ExcludeSpecs::new(alloc),
+        exclude_dev: false,
+        exclude_unpublished: false,
+    };
+    Krates::build(alloc, metadata, &selection).ok()
+}
+
+/// Puts texts, each behind a mark.
+fn put_texts(out: &mut AnswerText, mark: &str, texts: &[Text]) {
+    for text in texts {
+        write!(out, "{mark}{text}");
+    }
+}
+
+fn put_info(out: &mut AnswerText, info: &LicenseInfo) {
+    let LicenseInfo::SpdxExpression { expr, nfo } = info else {
+        return out.put("unlicensed");
+    };
+    out.put(expr.as_ref());
+    match &nfo.source {
+        LicenseExprSource::Metadata(None) => out.put(" by the field"),
+        LicenseExprSource::Metadata(Some(_)) => out.put(" by the field at a place"),
+        LicenseExprSource::UserOverride => out.put(" by the policy"),
+        LicenseExprSource::LicenseFiles(paths) => {
+            out.put(" by files");
+            put_texts(out, " ", paths.items());
+        }
+    }
+}
+
+/// Each read, behind a `;`.
+pub fn put_reads(out: &mut AnswerText, reads: &[ReadRecord]) {
+    for read in reads {
+        write!(out, "; {:?} {} {:?}", read.kind, read.path, read.answer);
+    }
+}
+
+/// A line for each crate, behind its id where there is more than one: its expression and where it comes from; each note behind
+/// a `#`; each read.
+fn put_licences(out: &mut AnswerText, licences: &[KrateLicense<'_>]) {
+    for license in licences {
+        if licences.len() > 1 {
+            write!(out, "{}: ", license.krate.id);
+        }
+        put_info(out, &license.lic_info);
+        put_texts(out, " # ", license.notes.items());
+        put_reads(out, license.reads.items());
+        out.put("\n");
+    }
+}
+
+/// The place of a label, with lines and columns from 0, what it cuts out, and its text, with a mark where its style is primary.
+fn put_label(out: &mut AnswerText, files: &Files, label: &Label) {
+    let name = files.name(label.file_id).unwrap_or("no file");
+    if let Ok(at) = files.location(label.file_id, label.range.start) {
+        write!(out, " {name}:{}:{}", at.line, at.column);
+    }
+    let source = files.source(label.file_id).unwrap_or("");
+    let cut = source.get(label.range.start..label.range.end);
+    write!(out, " `{}`", cut.unwrap_or("no place"));
+    if !label.message.as_str().is_empty() {
+        write!(out, " {}", label.message);
+    }
+    if label.style == LabelStyle::Primary {
+        out.put(" !");
+    }
+}
+
+/// Each finding in a line: its code and its labels.
+pub fn put_findings(out: &mut AnswerText, files: &Files, findings: &[Diag]) {
+    for finding in findings {
+        match finding.code {
+            Some(code) => write!(out, "{code}"),
+            None => out.put("no code"),
+        }
+        for label in finding.diag.labels.items() {
+            put_label(out, files, label);
+        }
+        out.put("\n");
+    }
+}
+
+/// The file and the offset of an expression whose text stands there.
+fn put_place(out: &mut AnswerText, files: &Files, info: &LicenseInfo) {
+    if let LicenseInfo::SpdxExpression { expr, nfo } = info {
+        let source = files.source(nfo.file_id).unwrap_or("");
+        let there = source.get(nfo.offset..).unwrap_or("");
+        if there.starts_with(expr.as_ref()) {
+            let name = files.name(nfo.file_id).unwrap_or("no file");
+            write!(out, "> {name} {}\n", nfo.offset);
+        }
+    }
+}
+
+/// What is gathered, of which nothing is said: whoever calls this owes nothing of its contract.
+fn gathered<'k>(
+    alloc: Global,
+    krates: &'k Krates,
+    world: &mut World,
+    policy: &ValidConfig,
+    threshold: i64,
+) -> Option<Summary<'k>> {
+    let gatherer: Gatherer<'_, NameIdentifier> = Gatherer::default();
+    let gatherer = gatherer
+        .with_store(&NameIdentifier)
+        .with_confidence_threshold(threshold);
+    let files = &mut world.files;
+    gatherer
+        .gather(alloc, krates, files, policy, &mut world.tree, &Table)
+        .ok()
+}
+
+/// Puts the licence of each crate, what is found of each, or the text of the second file of the table.
+fn put_of(out: &mut AnswerText, key: &str, files: &Files, licences: &[KrateLicense<'_>]) {
+    match key {
+        "gathered" => put_licences(out, licences),
+        "found" => {
+            for license in licences {
+                put_findings(out, files, license.diags.items());
+                put_place(out, files, &license.lic_info);
+            }
+        }
+        _ => out.put(files.source(1).unwrap_or("no file")),
+    }
+}
+
+/// Puts what a key names of what is gathered in a case.
+pub fn put(alloc: Global, case: &Case<'_>, key: &str, out: &mut AnswerText) -> Option<()> {
+    let krates = krates(alloc, case)?;
+    let policy = policy_of(alloc, case)?;
+    let mut world = world_of(alloc, case)?;
+    let threshold = case.word("threshold").parse::<i64>().unwrap_or(80);
+    let summary = gathered(alloc, &krates, &mut world, &policy, threshold)?;
+    put_of(out, key, &world.files, summary.nfos.items());
+    Some(())
+}
+
+/// What the record of a listing answers, and the entries of the folder.
+fn put_folder(out: &mut AnswerText, path: &str, heard: &FolderHeard, record: &ReadRecord) {
+    write!(out, "{path}: {:?}\n", record.answer);
+    if let Ok(entries) = heard {
+        for entry in entries.items() {
+            let kind = if entry.is_file { "file" } else { "folder" };
+            write!(out, "  {} {kind}\n", entry.name);
+        }
+    }
+}
+
+/// Where a field stands, the read of its manifest, and how many files the table has then.
+fn put_located(out: &mut AnswerText, located: &LocatedField, files: &Files) {
+    match &located.location {
+        Some(at) => write!(out, "{}:{}..{}", at.file, at.span.start, at.span.end),
+        None => out.put("nowhere"),
+    }
+    if let Some(read) = &located.read {
+        write!(out, "; {} {:?}", read.path, read.answer);
+    }
+    let mut count: usize = 0;
+    for id in 0..4 {
+        if files.name(id).is_ok() {
+            count = count.saturating_add(1);
+        }
+    }
+    write!(out, "; {count} files\n");
+}
+
+fn put_read(alloc: Global, out: &mut AnswerText, tree: &mut MemTree, path: &str) -> Option<()> {
+    let heard = read_file(alloc, tree, "/w", path).ok()?;
+    match &heard {
+        Ok(text) => write!(out, "{path}: {:?}\n", text.as_str()),
+        Err(error) => write!(out, "{path}: {error:?}\n"),
+    }
+    Some(())
+}
+
+fn put_listed(alloc: Global, out: &mut AnswerText, tree: &mut MemTree, path: &str) -> Option<()> {
+    let heard = list_folder(alloc, tree, path).ok()?;
+    let record = listing_record(alloc, path, &heard).ok()?;
+    put_folder(out, path, &heard, &record);
+    Some(())
+}
+
+/// Puts where the field stands that is written behind a path.
+fn put_field(alloc: Global, out: &mut AnswerText, world: &mut World, words: &str) -> Option<()> {
+    let (path, field) = first_word(words);
+    let path = PathBuf::copy(alloc, path).ok()?;
+    let located = locate(alloc, &mut world.tree, &mut world.files, &path, field).ok()?;
+    put_located(out, &located, &world.files);
+    Some(())
+}
+
+/// Reads, lists or looks for what an entry names.
+fn put_entry(alloc: Global, out: &mut AnswerText, world: &mut World, entry: &CaseEntry) -> Option<()> {
+    let words = entry.word.as_str();
+    match entry.key.as_str() {
+        "read" => put_read(alloc, out, &mut world.tree, words),
+        "list" => put_listed(alloc, out, &mut world.tree, words),
+        "locate" => put_field(alloc, out, world, words),
+        _ => Some(()),
+    }
+}
+
+/// What is heard of each file by the key `read` and of each folder by the key `list`, and where each field by the key `locate` stands.
+pub fn put_each(alloc: Global, case: &Case<'_>, out: &mut AnswerText) -> Option<()> {
+    let mut world = world_of(alloc, case)?;
+    for entry in case.own {
+        put_entry(alloc, out, &mut world, entry)?;
+    }
+    Some(())
+}
+
+/// The pack of the crate, with the `license-file` that the case has, of which nothing is said.
+fn pack(alloc: Global, tree: &mut MemTree, case: &Case<'_>) -> Option<LicensePack> {
+    match case.entry("license-file") {
+        Some(entry) => {
+            let path = PathBuf::copy(alloc, entry.word.as_str()).ok()?;
+            LicensePack::read(alloc, tree, "/w", Some(&path)).ok()
+        }
+        None => LicensePack::read(alloc, tree, "/w", None).ok(),
+    }
+}
+
+/// The files of the clarification, by the key `clarified`.
+fn paths(alloc: Global, entries: &[CaseEntry]) -> Option<Vec<PathBuf>> {
+    let mut paths = Vec::new(alloc);
+    for entry in entries {
+        if entry.key.as_str() == "clarified" {
+            let path = PathBuf::copy(alloc, entry.word.as_str()).ok()?;
+            paths.push(path).ok()?;
+        }
+    }
+    Some(paths)
+}
+
+/// The files at some paths, each with the hash of one LF.
+fn files_at(alloc: Global, paths: &[PathBuf]) -> Option<Vec<FileRef<'_>>> {
+    let span = Span { start: 0, end: 0 };
+    let mut files = Vec::new(alloc);
+    for path in paths {
+        files.push(FileRef::new(path, OF_FEED, span)).ok()?;
+    }
+    Some(files)
+}
+
+fn tried(alloc: Global, case: &Case<'_>, files: &[FileRef<'_>]) -> Option<TriedClarification> {
+    let mut world = world_of(alloc, case)?;
+    let pack = pack(alloc, &mut world.tree, case)?;
+    pack.tries(alloc, &mut world.tree, files).ok()
+}
+
+/// Whether a clarification, whose files have the hash of one LF, holds by the crate's pack, and each read.
+pub fn put_tried(alloc: Global, case: &Case<'_>, out: &mut AnswerText) -> Option<()> {
+    let paths = paths(alloc, case.own)?;
+    let files = files_at(alloc, &paths)?;
+    let tried = tried(alloc, case, &files)?;
+    out.put(if tried.holds { "holds" } else { "differs" });
+    put_reads(out, tried.pack.into_reads().items());
+    Some(())
+}
+
+fn put_names(alloc: Global, pack: &LicensePack, threshold: u8, out: &mut AnswerText) -> Option<()> {
+    let files = scan_pack(alloc, Some(&NameIdentifier), threshold, pack, &Table).ok()?;
+    let joined = joined(alloc, files.items(), &Table).ok()?;
+    match &joined {
+        Some(read) => out.put(read.as_ref()),
+        None => out.put("none"),
+    }
+    Some(())
+}
+
+/// The expression that the names of the crate's files are joined to.
+pub fn put_joined(alloc: Global, case: &Case<'_>, out: &mut AnswerText) -> Option<()> {
+    let mut world = world_of(alloc, case)?;
+    let pack = pack(alloc, &mut world.tree, case)?;
+    let threshold = case.word("threshold").parse::<u8>().unwrap_or(80);
+    put_names(alloc, &pack, threshold, out)
+}

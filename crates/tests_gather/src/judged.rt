@@ -1,0 +1,321 @@
+//! Verdicts on expressions of a crate `a` under policies, crates that are passed over, and what the check tells of a crate, by what
+//! was gathered of it, and then of the policy.
+ghost use Rattle.std.specs.Prelude.{◌≡◌, ◌<◌};
+
+use crate::given::{
+    expression, first_word, krate, number, placed_text, policy, policy_of, span, table, texts,
+    value,
+};
+use tests_files::{Case, CaseEntry, AnswerText};
+use deny_text::{Steps, Text, Texts};
+use diag_core::licenses::Code;
+use diag_core::{Diag, Files, Label, Labels, LevelFilter, Notes, Pack, Severity};
+use check_evaluate::{Evaluator, Hit, Hits, TermPlaces, Verdict};
+use gather_core::{LicenseExprInfo, LicenseExprSource};
+use graph_core::{Krate, Source};
+use diag_print::{Color, DiagPrinter, Format, LogContext, pack_labels_are_inside};
+use spdx_core::Expression;
+use std::alloc::{AllocError, Global};
+use std::marker::Brand;
+use std::sync::ledger::{Blank, Ledger};
+use tree_core::MemSink;
+use check_unused::{EntryHits, last_pack};
+use policy_valid::ValidConfig;
+use check_verdicts::{finding, fits, judged, pack_of, skipped, unlicensed};
+
+fn put_places(out: &mut AnswerText, of: &str, places: &TermPlaces) {
+    out.put(of);
+    for place in places.items() {
+        write!(out, " {place}");
+    }
+}
+
+fn put_hits(out: &mut AnswerText, hits: &Hits) {
+    for hit in hits.items() {
+        match hit {
+            Hit::Allowed(entry) => write!(out, " allowed {entry}"),
+            Hit::Exception { exception, entry } => write!(out, " exception {exception} {entry}"),
+        }
+    }
+}
+
+fn put_certificate(out: &mut AnswerText, verdict: &Verdict) {
+    match verdict {
+        Verdict::Skipped | Verdict::Unlicensed => out.put(" none"),
+        Verdict::Accepted { choice, hits } => {
+            put_places(out, " choice", choice);
+            out.put(",");
+            put_hits(out, hits);
+        }
+        Verdict::Rejected { least, blocks } => {
+            put_places(out, " least", least);
+            put_places(out, ", blocks", blocks);
+        }
+    }
+}
+
+/// What an evaluator answers the second time that it is asked, and the certificate.
+fn asked_twice<L: Ledger>(
+    alloc: Global,
+    out: &mut AnswerText,
+    expression: &Expression,
+    krate: &Krate,
+    policy: &ValidConfig,
+    ledger: Blank,
+) -> Result<(), AllocError>
+    requires name { ledger.name ≡ L.name }
+    requires parts { ledger.parts ≡ L.parts }
+    requires some { 0 < ledger.parts }
+{
+    let nodes = expression.nodes().len();
+    let mut evaluator = Evaluator::with_room(alloc, nodes, policy)?;
+    let mut steps = Steps::<L>::new(ledger);
+    let _first = evaluator.evaluate(expression, krate, policy, &mut steps);
+    let accepts = evaluator.evaluate(expression, krate, policy, &mut steps);
+    let verdict = evaluator.certificate(alloc, expression)?;
+    out.put(if accepts { "accepted:" } else { "rejected:" });
+    put_certificate(out, &verdict);
+    Ok(())
+}
+
+/// The two texts beside a bar.
+fn beside_bar(text: &str) -> (&str, &str) {
+    let (one, other) = text.split_once('|').unwrap_or((text, ""));
+    (one.trim(), other.trim())
+}
+
+/// The verdict on an expression; behind bars stand the allowed licences and the exceptions.
+pub fn put_verdict(alloc: Global, text: &str, out: &mut AnswerText) -> Option<()> {
+    let (text, lists) = beside_bar(text);
+    let (allow, exceptions) = beside_bar(lists);
+    let expression = expression(alloc, text)?;
+    let krate = krate(alloc, "a", "a")?;
+    let policy = policy(alloc, allow, exceptions)?;
+    asked_twice::<Brand>(alloc, out, &expression, &krate, &policy, Blank::new(1)).ok()
+}
+
+/// Any registry, none, or these.
+fn registries(alloc: Global, words: &str) -> Option<Option<Texts>> {
+    match words {
+        "anywhere" => Some(None),
+        "nowhere" => Some(Some(Texts::new(alloc))),
+        _ => Some(Some(texts(alloc, words)?)),
+    }
+}
+
+fn source_of(alloc: Global, from: &str) -> Option<Option<Source>> {
+    match from {
+        "" => Some(None),
+        _ => Some(Some(Source::from_metadata(alloc, from, None, "index").ok()?)),
+    }
+}
+
+/// A crate that may be published to these registries. Behind the bar stands its source.
+fn published(alloc: Global, text: &str) -> Option<Krate> {
+    let (words, from) = beside_bar(text);
+    let publish = registries(alloc, words)?;
+    let source = source_of(alloc, from)?;
+    let mut krate = krate(alloc, "a", "a")?;
+    krate.publish = publish;
+    krate.source = source;
+    Some(krate)
+}
+
+fn yes_or_no(is_so: bool) -> &'static str {
+    if is_so { "yes" } else { "no" }
+}
+
+/// Whether a crate is passed over where private ones are, and where they are not.
+pub fn put_passed_over(alloc: Global, text: &str, out: &mut AnswerText) -> Option<()> {
+    let krate = published(alloc, text)?;
+    let mut policy = policy(alloc, "", "")?;
+    out.put(yes_or_no(policy.is_private(&krate)));
+    policy.private.ignore = false;
+    write!(out, " {}", yes_or_no(policy.is_private(&krate)));
+    Some(())
+}
+
+/// The place of an allowed licence, two places for an exception and an entry of it, or else nothing.
+fn hit_of(word: &str) -> Option<Hit> {
+    let (exception, entry) = word.split_once('/').unwrap_or((word, ""));
+    let exception = exception.parse::<usize>().ok()?;
+    match entry.parse::<usize>() {
+        Ok(entry) => Some(Hit::Exception { exception, entry }),
+        Err(_) => Some(Hit::Allowed(exception)),
+    }
+}
+
+/// What was found of the terms of an expression: a word for each.
+fn hits_of(alloc: Global, words: &str) -> Option<Vec<Option<Hit>>> {
+    let mut hits = Vec::new(alloc);
+    for word in words.split_whitespace() {
+        hits.push(hit_of(word)).ok()?;
+    }
+    Some(hits)
+}
+
+/// The field, the policy, or files by their paths.
+fn expr_source(alloc: Global, words: &str) -> Option<LicenseExprSource> {
+    let (from, paths) = first_word(words);
+    match from {
+        "field" => Some(LicenseExprSource::Metadata(None)),
+        "policy" => Some(LicenseExprSource::UserOverride),
+        _ => Some(LicenseExprSource::LicenseFiles(texts(alloc, paths)?)),
+    }
+}
+
+/// Where the expression stands: the number of the file, the offset, and perhaps the place of the string that the
+/// text was written as; and where it comes from.
+fn info_of(alloc: Global, case: &Case<'_>) -> Option<LicenseExprInfo> {
+    let (file, rest) = first_word(case.word("place"));
+    let (offset, whole) = first_word(rest);
+    Some(LicenseExprInfo {
+        file_id: number(file),
+        offset: number(offset),
+        whole: match whole {
+            "" => None,
+            _ => Some(span(whole, " ")),
+        },
+        source: expr_source(alloc, case.word("source"))?,
+    })
+}
+
+/// What is noted of the files of the crate.
+fn notes_of(alloc: Global, entries: &[CaseEntry]) -> Option<Notes> {
+    let mut notes = Notes::new(alloc);
+    for entry in entries {
+        if entry.key.as_str() == "note" {
+            let note = Text::copy(alloc, entry.word.as_str()).ok()?;
+            notes.push(note).ok()?;
+        }
+    }
+    Some(notes)
+}
+
+/// A label with a place and a text.
+fn labels_of(alloc: Global, words: &str) -> Option<Labels> {
+    let (file, words) = first_word(words);
+    let (span, text) = placed_text(words);
+    let label = Label::secondary(alloc, number(file), span);
+    let mut labels = Labels::new(alloc);
+    labels.push(label.with_message(text).ok()?).ok()?;
+    Some(labels)
+}
+
+/// A warning that was gathered: its code and its label, and its message below.
+fn warning(alloc: Global, entry: &CaseEntry) -> Option<Diag> {
+    let (code, words) = first_word(entry.word.as_str());
+    let code = Code::from_str(code).ok()?;
+    let message = str::from_utf8(&entry.text).ok()?;
+    let labels = labels_of(alloc, words)?;
+    let notes = Notes::new(alloc);
+    finding(alloc, Severity::Warning, code, message, labels, notes).ok()
+}
+
+fn warnings(alloc: Global, entries: &[CaseEntry]) -> Option<Vec<Diag>> {
+    let mut warnings = Vec::new(alloc);
+    for entry in entries {
+        if entry.key.as_str() == "gathered" {
+            let warning = warning(alloc, entry)?;
+            warnings.push(warning).ok()?;
+        }
+    }
+    Some(warnings)
+}
+
+/// The verdict on an expression, which has to fit into its file.
+fn judged_of(alloc: Global, case: &Case<'_>, notes: &[Text]) -> Option<Diag> {
+    let expression = expression(alloc, value(case, "expression")?)?;
+    let hits = hits_of(alloc, case.word("hits"))?;
+    let nfo = info_of(alloc, case)?;
+    if !fits(&nfo, expression.as_ref().len()) {
+        return None;
+    }
+    let accepted = case.word("verdict") == "accepted";
+    judged(alloc, accepted, &expression, &nfo, &hits, notes).ok()
+}
+
+/// The verdict on the crate.
+fn verdict_of(alloc: Global, case: &Case<'_>, krate: &Krate, notes: &[Text]) -> Option<Diag> {
+    match case.word("verdict") {
+        "skipped" => skipped(alloc, krate).ok(),
+        "unlicensed" => unlicensed(alloc, krate, notes).ok(),
+        _ => judged_of(alloc, case, notes),
+    }
+}
+
+/// The pack of the crate `a` of version 1.0.0.
+fn krate_pack(alloc: Global, case: &Case<'_>) -> Option<Pack> {
+    let krate = krate(alloc, "a 1.0.0", "a")?;
+    let notes = notes_of(alloc, case.own)?;
+    let warnings = warnings(alloc, case.own)?;
+    let verdict = verdict_of(alloc, case, &krate, notes.items())?;
+    pack_of(alloc, &krate, &warnings, verdict).ok()
+}
+
+/// The pack of the policy, after each crate of a case that is not passed over.
+fn policy_pack(alloc: Global, case: &Case<'_>) -> Option<Pack> {
+    let policy = policy_of(alloc, case)?;
+    let mut encountered = EntryHits::of(alloc, &policy).ok()?;
+    for entry in case.own {
+        if entry.key.as_str() == "crate" {
+            let hits = hits_of(alloc, entry.word.as_str())?;
+            encountered.mark_all(&hits);
+        }
+    }
+    last_pack(alloc, &policy, &encountered).ok()
+}
+
+/// A line for each finding with the crates that it is about.
+fn put_about(out: &mut AnswerText, pack: &Pack) {
+    for finding in pack.iter() {
+        for node in finding.graph_nodes.items() {
+            out.put(node.kid.as_str());
+        }
+        out.put("\n");
+    }
+}
+
+/// What is printed of a pack.
+fn put_printed(alloc: Global, out: &mut AnswerText, format: Format, pack: &Pack, files: &Files) {
+    let context = LogContext {
+        format,
+        color: Color::Auto,
+        log_level: LevelFilter::Info,
+    };
+    let sink = MemSink::new(alloc, 4000, 64);
+    let (Some(printer), Ok(mut sink)) = (DiagPrinter::new(context), sink) else {
+        return out.want_memory();
+    };
+    if !pack_labels_are_inside(pack, files) {
+        return out.put("labels outside of their files");
+    }
+    let printed = printer.lock(&mut sink).print_krate_pack(alloc, pack, files);
+    if printed.is_err() {
+        return out.want_memory();
+    }
+    out.put(str::from_utf8(sink.written()).unwrap_or("no UTF-8"));
+}
+
+/// What is printed of a pack, or else the crates that it is about.
+fn put_pack(alloc: Global, out: &mut AnswerText, key: &str, pack: &Pack, files: &Files) {
+    match key {
+        "human" => put_printed(alloc, out, Format::Human, pack, files),
+        "json" => put_printed(alloc, out, Format::Json, pack, files),
+        _ => put_about(out, pack),
+    }
+}
+
+/// What is told of the crate, where the case has a verdict on it, and of the policy, where it has one.
+pub fn put_told(alloc: Global, case: &Case<'_>, key: &str, out: &mut AnswerText) -> Option<()> {
+    let files = table(alloc, case)?;
+    if case.entry("verdict").is_some() {
+        let pack = krate_pack(alloc, case)?;
+        put_pack(alloc, out, key, &pack, &files);
+    }
+    if case.entry("allow").is_some() {
+        let pack = policy_pack(alloc, case)?;
+        put_pack(alloc, out, key, &pack, &files);
+    }
+    Some(())
+}

@@ -1,0 +1,284 @@
+//! Cases of policies: as they are written, and as they are loaded out of a tree in memory.
+use crate::show::{
+    put_all, put_clarified, put_config, put_findings, put_refusal, put_root, put_texts,
+};
+use tests_files::cases::{is_among, wanted};
+use tests_files::tree::{number, tree_of};
+use tests_files::{KeyAnswer, Case, Cases, AnswerText};
+use deny_text::PathBuf;
+use diag_core::{Files, LevelFilter};
+use policy_load::{LoadError, LoadedPolicy, PolicyPaths, load};
+use policy_core::{Config, Licensees, RootConfig, ValidExceptions};
+use policy_text::{ConfigError, read_config};
+use diag_print::{Color, Format, LogContext};
+use spdx_core::Table;
+use std::alloc::{AllocError, Global};
+use std::io;
+use tree_core::{MemSink, MemTree, Tree};
+
+/// The policy of a text, of which nothing is said: whoever calls this owes nothing of the contract.
+pub fn read_policy(alloc: Global, text: &str) -> Result<RootConfig, ConfigError> {
+    read_config(alloc, text, &Table)
+}
+
+/// Puts what a key names of a policy: the fields of the whole or of its table `licenses`, or that it has no faults.
+fn put_key(out: &mut AnswerText, key: &str, root: &RootConfig) {
+    match key {
+        "whole" => put_root(out, root),
+        "faults" | "whole-faults" => out.put("none"),
+        "read" => {
+            if let Some(config) = &root.licenses {
+                put_all(out, config.allow.items());
+            }
+            put_texts(out, "exclude", &root.graph.exclude);
+        }
+        _ => match &root.licenses {
+            Some(config) if key == "licenses" => put_config(out, config),
+            Some(config) => write!(out, "{}", config.confidence_threshold.0),
+            None => out.put("no licences"),
+        },
+    }
+}
+
+/// Puts what a key names of the policy that a text is, or why it is refused.
+pub fn put_policy(alloc: Global, key: &str, text: &str, out: &mut AnswerText) {
+    match read_policy(alloc, text) {
+        Ok(root) => put_key(out, key, &root),
+        Err(error) => put_refusal(out, &LoadError::from(error)),
+    }
+}
+
+/// What a load came to, the files that are known behind it, what was printed, and how often its tree had failed.
+#[derive(Drop)]
+struct LoadEnding {
+    answer: Result<LoadedPolicy, LoadError>,
+    files: Files,
+    sink: MemSink,
+    failures: u64,
+}
+
+/// The path that stands behind a key, if there is one.
+fn path_of(alloc: Global, word: &str) -> Result<Option<PathBuf>, AllocError> {
+    if word.is_empty() {
+        return Ok(None);
+    }
+    Ok(Some(PathBuf::copy(alloc, word)?))
+}
+
+fn paths_of(alloc: Global, case: &Case<'_>) -> Result<PolicyPaths, AllocError> {
+    let policy = path_of(alloc, case.word("at"))?;
+    let exceptions = path_of(alloc, case.word("exceptions"))?;
+    Ok(PolicyPaths { policy, exceptions })
+}
+
+fn context_of(case: &Case<'_>) -> LogContext {
+    LogContext {
+        format: Format::Human,
+        color: Color::Auto,
+        log_level: match case.word("level") {
+            "off" => LevelFilter::Off,
+            "error" => LevelFilter::Error,
+            _ => LevelFilter::Warn,
+        },
+    }
+}
+
+/// Loads the policy of a case over a tree, and prints what there is room for.
+fn ending_in(
+    alloc: Global,
+    case: &Case<'_>,
+    room: usize,
+    tree: &mut MemTree,
+) -> Result<LoadEnding, AllocError> {
+    let paths = paths_of(alloc, case)?;
+    let context = context_of(case);
+    let mut sink = MemSink::new(alloc, room, 1000)?;
+    let mut files = Files::new(alloc);
+    let answer = load(
+        alloc, paths, &mut files, context, tree, &mut sink, &Table, 0,
+    );
+    Ok(LoadEnding {
+        answer,
+        files,
+        sink,
+        failures: tree.faults(),
+    })
+}
+
+/// Loads the policy once, and then has the next call fail.
+fn load_first(
+    alloc: Global,
+    case: &Case<'_>,
+    room: usize,
+    tree: &mut MemTree,
+) -> Result<(), AllocError> {
+    let _ = ending_in(alloc, case, room, tree)?;
+    tree.fail_call(1)
+}
+
+/// The tree of a case, of which a call fails.
+fn failing_tree(alloc: Global, case: &Case<'_>) -> io::Result<MemTree> {
+    let mut tree = tree_of(alloc, case)?;
+    match number(case.word("fail")) {
+        Some(call) if call > 0 => tree.fail_call(call)?,
+        _ => {}
+    }
+    Ok(tree)
+}
+
+/// Loads the policy of a case, for a second time where the case wants that: the first read of the tree fails in both then.
+fn ending_of(alloc: Global, case: &Case<'_>, room: usize) -> io::Result<LoadEnding> {
+    let mut tree = failing_tree(alloc, case)?;
+    if case.entry("twice").is_some() {
+        load_first(alloc, case, room, &mut tree)?;
+    }
+    Ok(ending_in(alloc, case, room, &mut tree)?)
+}
+
+fn put_printed(out: &mut AnswerText, licensees: &Licensees) {
+    for licensee in licensees.items() {
+        write!(out, " {}", licensee.0.value);
+    }
+}
+
+/// Puts what a policy allows, how many exceptions it has and its settings, or why it is refused.
+fn put_answer(out: &mut AnswerText, answer: &Result<LoadedPolicy, LoadError>) {
+    match answer {
+        Ok(loaded) => {
+            let valid = &loaded.licenses;
+            write!(out, "file {}:", valid.file_id);
+            put_printed(out, &valid.allowed);
+            write!(out, ", {} exceptions;", valid.exceptions.items().len());
+            write!(out, " dev {}", valid.include_dev);
+            write!(out, ", build {}", valid.include_build);
+            write!(out, ", from {}", valid.confidence_threshold);
+        }
+        Err(error) => put_refusal(out, error),
+    }
+}
+
+fn put_excepted(out: &mut AnswerText, exceptions: &ValidExceptions) {
+    for exception in exceptions.items() {
+        write!(out, "{} in {}", exception.spec, exception.file_id);
+        put_printed(out, &exception.allowed);
+        out.put(";");
+    }
+}
+
+/// Puts the names of the files that are known, and whether their texts are empty.
+fn put_files(out: &mut AnswerText, files: &Files) {
+    for id in 0..3 {
+        match (files.name(id), files.source(id)) {
+            (Ok(name), Ok("")) => write!(out, "{name} (empty);"),
+            (Ok(name), _) => write!(out, "{name};"),
+            _ => {}
+        }
+    }
+}
+
+fn printed(sink: &MemSink) -> &str {
+    str::from_utf8(sink.written()).unwrap_or("no UTF-8")
+}
+
+/// Puts what a load came to whose findings found too little room, and whether it printed as much of them as there was room for.
+fn shown_cut(
+    alloc: Global,
+    ending: &LoadEnding,
+    whole: &str,
+    room: usize,
+) -> Result<String, AllocError> {
+    let mut out = AnswerText::new(alloc);
+    put_answer(&mut out, &ending.answer);
+    out.put(", ");
+    put_files(&mut out, &ending.files);
+    let printed = printed(&ending.sink);
+    let is_front = printed.len() == room && whole.starts_with(printed);
+    out.put(if is_front { " a front" } else { " no front" });
+    out.into_text()
+}
+
+fn cut_at(alloc: Global, case: &Case<'_>, whole: &str, room: usize) -> io::Result<String> {
+    let ending = ending_of(alloc, case, room)?;
+    Ok(shown_cut(alloc, &ending, whole, room)?)
+}
+
+fn put_other(out: &mut AnswerText, room: usize, one: &str, first: &str) {
+    if one != first {
+        write!(out, "{room}: {one}; ");
+    }
+}
+
+/// Puts what comes of a load in each room that is smaller than what is printed: how many there are and what comes of the
+/// smallest one, and before that the rooms where something else does.
+fn put_cuts(alloc: Global, case: &Case<'_>, whole: &str, out: &mut AnswerText) -> io::Result<()> {
+    let first = cut_at(alloc, case, whole, 0)?;
+    for room in 0..whole.len() {
+        let one = cut_at(alloc, case, whole, room)?;
+        put_other(out, room, one.as_str(), first.as_str());
+    }
+    write!(out, "{} rooms: {first}", whole.len());
+    Ok(())
+}
+
+/// Puts what a key names of a load. A policy that is refused has no lists.
+fn put_ending(key: &str, ending: &LoadEnding, out: &mut AnswerText) -> KeyAnswer {
+    match (key, &ending.answer) {
+        ("answer", answer) => put_answer(out, answer),
+        ("files", _) => put_files(out, &ending.files),
+        ("failures", _) => write!(out, "{}", ending.failures),
+        ("found", Err(LoadError::ConfigInvalid(found))) => put_findings(out, found),
+        ("printed" | "found", _) => out.put(printed(&ending.sink)),
+        ("allowed", Ok(loaded)) => put_all(out, loaded.licenses.allowed.items()),
+        ("clarified", Ok(loaded)) => put_clarified(out, &loaded.licenses.clarifications),
+        ("excepted", Ok(loaded)) => put_excepted(out, &loaded.licenses.exceptions),
+        ("allowed" | "clarified" | "excepted", Err(_)) => {}
+        _ => return KeyAnswer::NoSuchKey,
+    }
+    KeyAnswer::Yes
+}
+
+/// Puts what a key names of the load of a case.
+fn put_load(alloc: Global, case: &Case<'_>, key: &str, out: &mut AnswerText) -> io::Result<KeyAnswer> {
+    let ending = ending_of(alloc, case, 1000)?;
+    if key == "cut" {
+        put_cuts(alloc, case, printed(&ending.sink), out)?;
+        return Ok(KeyAnswer::Yes);
+    }
+    Ok(put_ending(key, &ending, out))
+}
+
+/// Puts the table `licenses` of a policy that has none.
+fn put_left_out(alloc: Global, out: &mut AnswerText) {
+    put_config(out, &Config::default(alloc));
+}
+
+/// The keys that say what is put in.
+const GIVEN: [&str; 7] = [
+    "policy",
+    "at",
+    "exceptions",
+    "file",
+    "level",
+    "fail",
+    "twice",
+];
+
+/// Cases of policies.
+pub struct PolicyCases;
+
+impl Cases for PolicyCases {
+    fn is_given(&self, key: &str) -> bool {
+        is_among(key, &GIVEN)
+    }
+
+    fn told(&self, alloc: Global, case: &Case<'_>, key: &str, out: &mut AnswerText) -> KeyAnswer {
+        match (key, case.entry("policy")) {
+            ("left-out", _) => put_left_out(alloc, out),
+            ("licenses" | "faults" | "whole" | "whole-faults" | "read", Some(policy)) => {
+                put_policy(alloc, key, wanted(policy), out);
+            }
+            _ => return put_load(alloc, case, key, out).unwrap_or(KeyAnswer::CantBeTried),
+        }
+        KeyAnswer::Yes
+    }
+}

@@ -1,0 +1,237 @@
+//! What was read, told or refused as one text: each field, or the faults with their places.
+use tests_files::AnswerText;
+use deny_text::{Span, Spanned, Texts};
+use diag_core::{Label, LabelStyle, Severity};
+use policy_load::{Diagnostics, LoadError};
+use policy_core::{
+    BlanketAgreement, Clarification, Config, Exception, ExceptionsFile, FileSource, GraphConfig,
+    Licensee, LintLevel, OutputConfig, Private, RootConfig, Scope, ValidClarifications,
+};
+use std::fmt::Display;
+
+pub fn put_span(out: &mut AnswerText, span: Span) {
+    write!(out, "{}..{}", span.start, span.end);
+}
+
+pub fn put_spans(out: &mut AnswerText, spans: &[Span]) {
+    for span in spans {
+        put_span(out, *span);
+        out.put(";");
+    }
+}
+
+/// Puts a value and where it stands.
+pub fn put_at<T: Display>(out: &mut AnswerText, item: &Spanned<T>) {
+    write!(out, "{} at ", item.value);
+    put_span(out, item.span);
+}
+
+pub fn put_texts(out: &mut AnswerText, name: &str, texts: &Texts) {
+    write!(out, " {name}=");
+    for text in texts.items() {
+        write!(out, "{text};");
+    }
+}
+
+/// What is shown by its fields.
+pub trait Fields {
+    fn put(&self, out: &mut AnswerText);
+}
+
+/// A level, with how grave what it finds is.
+impl Fields for LintLevel {
+    fn put(&self, out: &mut AnswerText) {
+        let level = *self;
+        write!(out, "{level:?} {:?}", Severity::from(level));
+    }
+}
+
+impl Fields for BlanketAgreement {
+    fn put(&self, out: &mut AnswerText) {
+        let agreement = *self;
+        write!(out, "{agreement:?}");
+    }
+}
+
+impl Fields for Scope {
+    fn put(&self, out: &mut AnswerText) {
+        out.put(self.as_str());
+    }
+}
+
+impl Fields for FileSource {
+    fn put(&self, out: &mut AnswerText) {
+        put_at(out, &self.path);
+        write!(out, " {}", self.hash);
+    }
+}
+
+impl Fields for Private {
+    fn put(&self, out: &mut AnswerText) {
+        write!(out, "ignore={} sources=", self.ignore);
+        for source in self.ignore_sources.items() {
+            put_at(out, source);
+            out.put(";");
+        }
+        put_texts(out, "registries", &self.registries);
+    }
+}
+
+impl Fields for OutputConfig {
+    fn put(&self, out: &mut AnswerText) {
+        match self.feature_depth {
+            Some(depth) => write!(out, "depth {depth}"),
+            None => out.put("no depth"),
+        }
+    }
+}
+
+impl Fields for GraphConfig {
+    fn put(&self, out: &mut AnswerText) {
+        for target in self.targets.items() {
+            put_at(out, &target.filter);
+            put_texts(out, "with", &target.features);
+            out.put("; ");
+        }
+        write!(out, "all={}", self.all_features);
+        write!(out, " none={}", self.no_default_features);
+        write!(out, " dev={}", self.exclude_dev);
+        write!(out, " unpublished={}", self.exclude_unpublished);
+        put_texts(out, "exclude", &self.exclude);
+        put_texts(out, "features", &self.features);
+    }
+}
+
+impl Fields for Licensee {
+    fn put(&self, out: &mut AnswerText) {
+        put_at(out, &self.0);
+        out.put(";");
+    }
+}
+
+impl Fields for Exception {
+    fn put(&self, out: &mut AnswerText) {
+        write!(out, "{}:", self.spec);
+        put_all(out, self.allow.items());
+    }
+}
+
+impl Fields for ExceptionsFile {
+    fn put(&self, out: &mut AnswerText) {
+        put_all(out, self.exceptions.items());
+    }
+}
+
+impl Fields for Clarification {
+    fn put(&self, out: &mut AnswerText) {
+        write!(out, "{}: ", self.spec);
+        put_at(out, &self.expression);
+        write!(out, " {};", self.escapes);
+        for file in self.license_files.items() {
+            write!(out, "{} {};", file.path.value, file.hash);
+        }
+    }
+}
+
+pub fn put_all<T: Fields>(out: &mut AnswerText, items: &[T]) {
+    for item in items {
+        item.put(out);
+    }
+}
+
+pub fn put_config(out: &mut AnswerText, config: &Config) {
+    config.private.put(out);
+    write!(out, "\nthreshold={}", config.confidence_threshold.0);
+    write!(out, "\nunused_allowed={:?}", config.unused_allowed_license);
+    let level = config.unused_license_exception;
+    write!(out, " unused_exception={level:?}");
+    write!(out, "\ndev={}", config.include_dev);
+    write!(out, " build={}\nallow=", config.include_build);
+    put_all(out, config.allow.items());
+    out.put("\nclarify=");
+    put_all(out, config.clarify.items());
+    out.put("\nexceptions=");
+    put_all(out, config.exceptions.items());
+    out.put("\ndeprecated=");
+    put_spans(out, config.deprecated_spans.items());
+    out.put("\n");
+}
+
+/// Puts a policy, its table `licenses` by whether it is there.
+pub fn put_root(out: &mut AnswerText, root: &RootConfig) {
+    write!(out, "licenses={}\n", root.licenses.is_some());
+    root.graph.put(out);
+    out.put("\ndeprecated=");
+    put_spans(out, root.graph_deprecated.items());
+    out.put("\n");
+    root.output.put(out);
+    if let Some(span) = root.output_deprecated {
+        out.put(" at ");
+        put_span(out, span);
+    }
+    out.put("\n");
+}
+
+pub fn put_clarified(out: &mut AnswerText, clarifications: &ValidClarifications) {
+    for clarification in clarifications.items() {
+        write!(out, "{} from ", clarification.expression);
+        match clarification.whole {
+            Some(span) => put_span(out, span),
+            None => write!(out, "{}", clarification.expr_offset),
+        }
+        for file in clarification.license_files.items() {
+            write!(out, " {} {}", file.path.value, file.hash);
+        }
+        out.put(";");
+    }
+}
+
+fn put_label(out: &mut AnswerText, label: &Label) {
+    match label.style {
+        LabelStyle::Primary => write!(out, " at {}:", label.file_id),
+        LabelStyle::Secondary => write!(out, " and {}:", label.file_id),
+    }
+    put_span(out, label.range);
+    if !label.message.as_str().is_empty() {
+        write!(out, " {}", label.message);
+    }
+}
+
+/// Puts findings in order, with the places that they are about, and their notes.
+pub fn put_findings(out: &mut AnswerText, found: &Diagnostics) {
+    for diag in found.items() {
+        write!(out, "{:?}", diag.severity);
+        if let Some(code) = &diag.code {
+            write!(out, " {code}");
+        }
+        write!(out, " {}", diag.message);
+        for label in diag.labels.items() {
+            put_label(out, label);
+        }
+        for note in diag.notes.items() {
+            write!(out, " ({note})");
+        }
+        out.put(";");
+    }
+}
+
+/// Puts why a policy or a part of it is refused.
+pub fn put_refusal(out: &mut AnswerText, error: &LoadError) {
+    match error {
+        LoadError::Memory => out.want_memory(),
+        LoadError::ConfigRead(fault) => write!(out, "{fault:?}"),
+        LoadError::ConfigSyntax(fault) => {
+            write!(out, "{:?} ", fault.reason);
+            put_span(out, fault.span);
+        }
+        LoadError::ConfigShape(faults) => {
+            for fault in faults.items() {
+                put_span(out, fault.span);
+                write!(out, " {fault};");
+            }
+        }
+        LoadError::NotCarried => out.put("not carried"),
+        LoadError::ConfigInvalid(found) => put_findings(out, found),
+        LoadError::WriteFault { before, after } => write!(out, "write {before} {after}"),
+    }
+}

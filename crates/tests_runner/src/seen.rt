@@ -1,0 +1,269 @@
+//! What is seen of how a run ended, under each key.
+use crate::counted::CountedSink;
+use crate::settings::Ending;
+use tests_files::AnswerText;
+use tests_files::cases::is_among;
+use tests_files::tree::number;
+use deny_run::error::{Error, InputPart};
+use deny_run::report::{CrateReport, RunEnd, Report, Stats, Verdict};
+use deny_run::{Color, DiagPrinter, Format, LicenseExprSource, LogContext};
+use deny_text::Span;
+use diag_core::LevelFilter;
+use diag_print::pack_labels_are_inside;
+use std::alloc::Global;
+use std::fmt::Display;
+
+/// The keys of every run, and then those of a report.
+const SEEN: [&str; 14] = [
+    "status", "ended", "out", "err", "load", "faults", "calls", "asked", "crates", "verdicts",
+    "found", "policy", "notes", "stats",
+];
+
+/// The number of the file whose text is wanted, by a key as `text-1`.
+fn file_in(key: &str) -> Option<usize> {
+    let file = number(key.strip_prefix("text-")?)?;
+    Some(file as usize)
+}
+
+/// Whether something is seen of a run under a key.
+pub fn is_seen(key: &str) -> bool {
+    is_among(key, &SEEN) || file_in(key).is_some()
+}
+
+fn put_span(out: &mut AnswerText, span: Span) {
+    write!(out, "{}..{}", span.start, span.end);
+}
+
+/// Puts texts or numbers, each behind a mark.
+fn put_each<D: Display>(out: &mut AnswerText, mark: &str, items: &[D]) {
+    for item in items {
+        write!(out, "{mark}{item}");
+    }
+}
+
+/// Puts a refusal. Of the faults of a policy it is the places alone.
+fn put_error(out: &mut AnswerText, error: &Error) {
+    match error {
+        Error::Memory => out.put("memory"),
+        Error::NotCarried(what) => write!(out, "not carried: {what:?}"),
+        Error::ConfigRead(fault) => write!(out, "policy: {fault:?}"),
+        Error::ConfigSyntax(fault) => {
+            write!(out, "syntax: {:?} ", fault.reason);
+            put_span(out, fault.span);
+        }
+        Error::ConfigShape(faults) => {
+            out.put("shape:");
+            for fault in faults.items() {
+                out.put(" ");
+                put_span(out, fault.span);
+            }
+        }
+        Error::ConfigInvalid(found) => {
+            out.put("invalid:");
+            for finding in found.items() {
+                for label in finding.labels.items() {
+                    write!(out, " {}:", label.file_id);
+                    put_span(out, label.range);
+                }
+            }
+        }
+        Error::MetadataRead(fault) => write!(out, "metadata: {fault:?}"),
+        Error::MetadataSyntax => out.put("no json"),
+        Error::MetadataShape(fault) => write!(out, "shape: {} {:?}", fault.place, fault.fault),
+        Error::NoRoots {
+            base,
+            excluded,
+            unpublished,
+        } => write!(out, "no roots: {base} {excluded} {unpublished}"),
+        Error::WriteFault { before, after } => write!(out, "write: {before} {after}"),
+        Error::NotYet(InputPart::Words) => out.put("words"),
+    }
+}
+
+/// Puts an expression, and the verdict in one word.
+fn put_judged(out: &mut AnswerText, checked: &CrateReport) {
+    match &checked.expression {
+        Some(expression) => out.put(expression.as_ref()),
+        None => out.put("none"),
+    }
+    out.put(match &checked.verdict {
+        Verdict::Skipped => " Skipped",
+        Verdict::Unlicensed => " Unlicensed",
+        Verdict::Accepted { .. } => " Accepted",
+        Verdict::Rejected { .. } => " Rejected",
+    });
+}
+
+/// Puts a verdict, and what shows it.
+fn put_verdict(out: &mut AnswerText, verdict: &Verdict) {
+    match verdict {
+        Verdict::Skipped => out.put("skipped"),
+        Verdict::Unlicensed => out.put("unlicensed"),
+        Verdict::Accepted { choice, hits } => {
+            out.put("accepted by");
+            put_each(out, " ", choice.items());
+            for hit in hits.items() {
+                write!(out, " {hit:?}");
+            }
+        }
+        Verdict::Rejected { least, blocks } => {
+            out.put("rejected, least");
+            put_each(out, " ", least.items());
+            out.put(", blocks");
+            put_each(out, " ", blocks.items());
+        }
+    }
+}
+
+fn put_source(out: &mut AnswerText, source: &LicenseExprSource) {
+    match source {
+        LicenseExprSource::Metadata(None) => out.put(" by the field"),
+        LicenseExprSource::Metadata(Some((file, span))) => {
+            write!(out, " by the field in file {file} at ");
+            put_span(out, *span);
+        }
+        LicenseExprSource::UserOverride => out.put(" by the policy"),
+        LicenseExprSource::LicenseFiles(paths) => {
+            out.put(" by files");
+            put_each(out, " ", paths.items());
+        }
+    }
+}
+
+/// Puts where an expression comes from, each note behind a `#`, and each read behind a `;`.
+fn put_gathered(out: &mut AnswerText, checked: &CrateReport) {
+    if let Some(source) = &checked.source {
+        put_source(out, source);
+    }
+    put_each(out, " # ", checked.notes.items());
+    for read in checked.reads.items() {
+        write!(out, "; {:?} {} {:?}", read.kind, read.path, read.answer);
+    }
+}
+
+/// Puts what each crate came to: in short with commas between, or a line for each with what shows it.
+fn put_crates(out: &mut AnswerText, report: &Report, key: &str) {
+    let mut front = "";
+    for checked in report.crates.items() {
+        write!(out, "{front}{}: ", checked.id);
+        match key {
+            "verdicts" => put_verdict(out, &checked.verdict),
+            _ => put_judged(out, checked),
+        }
+        match key {
+            "ended" => front = ", ",
+            "crates" => put_gathered(out, checked),
+            _ => {}
+        }
+        if key != "ended" {
+            out.put("\n");
+        }
+    }
+}
+
+/// Puts the policy's file, what it allows, and how many exceptions it has.
+fn put_policy(out: &mut AnswerText, report: &Report) {
+    write!(out, "file {}:", report.policy.file_id);
+    for licensee in report.policy.allowed.items() {
+        write!(out, " {}", licensee.0.value);
+    }
+    let number = report.policy.exceptions.items().len();
+    write!(out, ", {number} exceptions");
+}
+
+/// How many findings there are of each severity.
+fn put_stats(out: &mut AnswerText, stats: &Stats) {
+    let Stats {
+        errors,
+        warnings,
+        notes,
+        helps,
+    } = *stats;
+    write!(out, "{errors} errors, {warnings} warnings");
+    write!(out, ", {notes} notes, {helps} helps");
+}
+
+/// What is found from a level on. A pack that can't be printed counts as refused.
+fn printed(alloc: Global, report: &Report, log_level: LevelFilter) -> CountedSink {
+    let mut sink = CountedSink::new(alloc, usize::MAX, usize::MAX, 0);
+    let printer = DiagPrinter::new(LogContext {
+        format: Format::Human,
+        color: Color::Auto,
+        log_level,
+    });
+    let mut refused: u64 = 0;
+    if let Some(printer) = &printer {
+        for pack in report.findings.items() {
+            if !pack_labels_are_inside(pack, &report.files)
+                || printer
+                    .lock(&mut sink)
+                    .print_krate_pack(alloc, pack, &report.files)
+                    .is_err()
+            {
+                refused = refused.saturating_add(1);
+            }
+        }
+    }
+    sink.refused = refused;
+    sink
+}
+
+/// The whole of what is found.
+fn found(sink: &CountedSink) -> &str {
+    if sink.refused == 0 {
+        sink.text()
+    } else {
+        "a pack is not printed"
+    }
+}
+
+fn put_report(alloc: Global, out: &mut AnswerText, report: &Report, key: &str, err: &str) {
+    match key {
+        "ended" | "crates" | "verdicts" => put_crates(out, report, key),
+        "policy" => put_policy(out, report),
+        "notes" => {
+            let notes = report.stats.licenses.map_or(0, |stats| stats.notes);
+            write!(out, "{notes}");
+        }
+        "stats" => {
+            if let Some(stats) = &report.stats.licenses {
+                put_stats(out, stats);
+            }
+        }
+        "found" => out.put(found(&printed(alloc, report, LevelFilter::Info))),
+        // What stands before the findings.
+        "load" => {
+            let printed = printed(alloc, report, LevelFilter::Warn);
+            out.put(err.strip_suffix(found(&printed)).unwrap_or("no findings"));
+        }
+        _ => match file_in(key) {
+            Some(file) => out.put(report.files.source(file).unwrap_or("no such file")),
+            None => out.put("no such key"),
+        },
+    }
+}
+
+/// Puts what is seen of an ending under a key.
+pub fn put_seen(alloc: Global, out: &mut AnswerText, ending: &Ending, key: &str) {
+    let err = ending.err.text();
+    match key {
+        "status" => write!(out, "{}", ending.outcome.status),
+        "out" => out.put(ending.out.text()),
+        "err" => out.put(err),
+        "calls" => write!(out, "{}", ending.tree.calls),
+        "asked" => out.put_whole(&ending.tree.asked),
+        "faults" => {
+            write!(out, "tree {}", ending.tree.failed);
+            write!(out, ", out {}", ending.out.refused);
+            write!(out, ", err {}", ending.err.refused);
+        }
+        _ => match &ending.outcome.ended {
+            RunEnd::Checked(report) => put_report(alloc, out, report, key, err),
+            RunEnd::Refused(_) if key == "load" => out.put(err),
+            RunEnd::Refused(error) => {
+                out.put(if key == "ended" { "" } else { "refused: " });
+                put_error(out, error);
+            }
+        },
+    }
+}

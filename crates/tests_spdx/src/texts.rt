@@ -1,0 +1,106 @@
+//! Texts of licences, which rows name by their files, and what stores of texts find.
+use tests_files::AnswerText;
+use spdx_catalog::{Identifier, LicenseStore, StoreText, StoreTexts};
+use deny_text::Text;
+use std::alloc::{AllocError, Global};
+use std::rt::Runtime;
+use std::{fs, io};
+
+/// The texts of the files that rows name, and of a store, each behind its name.
+#[derive(Drop)]
+pub struct RowTexts {
+    items: Vec<(&'static str, String)>,
+}
+
+impl RowTexts {
+    /// The text of a file, or none.
+    fn text(&self, name: &str) -> &str {
+        for (known, text) in self.items.iter() {
+            if *known == name {
+                return text.as_str();
+            }
+        }
+        ""
+    }
+}
+
+const NAMES: [&str; 5] = [
+    "mit.txt",
+    "mit-capitals.txt",
+    "mit-words.txt",
+    "isc.txt",
+    "stored.txt",
+];
+
+fn push_file(rt: &HostRuntime, files: &mut RowTexts, name: &'static str) -> io::Result<()> {
+    let text = fs::read_to_string(rt, name)?;
+    files.items.push((name, text))?;
+    Ok(())
+}
+
+/// Reads the files that rows name.
+pub fn read(rt: &HostRuntime) -> io::Result<RowTexts> {
+    let items = Vec::new(rt.alloc());
+    let mut files = RowTexts { items };
+    for name in NAMES {
+        push_file(rt, &mut files, name)?;
+    }
+    Ok(files)
+}
+
+/// The licence that a text is by a group's texts, and how sure that is.
+pub fn put_found(
+    alloc: Global,
+    out: &mut AnswerText,
+    files: &RowTexts,
+    group: &str,
+    text: &str,
+) -> Result<(), AllocError> {
+    let text = filled(alloc, files, text)?;
+    let store = store_of(alloc, files, group)?;
+    let found = store.scan(alloc, text.as_str())?;
+    match &found.name {
+        Some(name) => out.put(name.as_str()),
+        None => out.put("none"),
+    }
+    let score = found.score;
+    write!(out, " {score}");
+    Ok(())
+}
+
+/// A text with that of a file in place of the file's name, which stands in braces.
+fn filled(alloc: Global, files: &RowTexts, text: &str) -> Result<String, AllocError> {
+    let (before, rest) = text.split_once('{').unwrap_or((text, ""));
+    let (name, behind) = rest.split_once('}').unwrap_or((rest, ""));
+    let there = files.text(name);
+    format!(in alloc; "{before}{there}{behind}")
+}
+
+fn store_of(alloc: Global, files: &RowTexts, group: &str) -> Result<LicenseStore, AllocError> {
+    match group {
+        "built-in texts" => LicenseStore::from_cache(alloc),
+        "no texts" => Ok(LicenseStore::default(alloc)),
+        _ => LicenseStore::new(alloc, listed(alloc, files.text("stored.txt"))?),
+    }
+}
+
+/// The texts of a list, each in a line behind its name.
+fn listed(alloc: Global, list: &str) -> Result<StoreTexts, AllocError> {
+    let mut texts = StoreTexts::new(alloc);
+    for line in list.lines() {
+        let (name, body) = line.split_once(": ").unwrap_or((line, ""));
+        push_text(alloc, &mut texts, name, body)?;
+    }
+    Ok(texts)
+}
+
+fn push_text(
+    alloc: Global,
+    texts: &mut StoreTexts,
+    name: &str,
+    body: &str,
+) -> Result<(), AllocError> {
+    let name = Text::copy(alloc, name)?;
+    let body = Text::copy(alloc, body)?;
+    texts.push(StoreText { name, body })
+}

@@ -1,0 +1,191 @@
+//! The words of a command line, what they are answered with, and the names that options list.
+use crate::calls::{MemoryResult, letters_of};
+use tests_files::AnswerText;
+use deny_text::{PathBuf, Texts};
+use diag_core::LevelFilter;
+use diag_print::{Color, Format};
+use run_request::options::{OptionRow, OptionValues, check_rows, list_rows, main_rows};
+use run_request::read::{CliAnswer, read};
+use run_request::{
+    ArgsError, CodeOrLevel, CodeOrLevels, FromWord, KrateContext, Layout, OutputFormat, Request,
+    Subcommand, WhichCheck, check, list,
+};
+use std::alloc::{AllocError, Global};
+
+/// The words of a text, which stand with a blank between, behind the program's name.
+fn words_of(alloc: Global, name: &str, text: &str) -> Result<Vec<String>, AllocError> {
+    let mut words = Vec::new(alloc);
+    for part in [name, text] {
+        for word in part.split(' ') {
+            if !part.is_empty() {
+                words.push(String::from_str(alloc, letters_of(word))?)?;
+            }
+        }
+    }
+    Ok(words)
+}
+
+/// The answer to the words of a text in the folder `/w`.
+fn given(alloc: Global, name: &str, text: &str) -> Result<CliAnswer, AllocError> {
+    let words = words_of(alloc, name, text)?;
+    read(alloc, &words, "/w")
+}
+
+/// Puts what words are answered with, or the text of it.
+fn put_answer(out: &mut AnswerText, given: &Result<CliAnswer, AllocError>, is_text: bool) {
+    match given {
+        Ok(CliAnswer::Asked(request)) => put_request(out, request),
+        Ok(CliAnswer::Shown(text) | CliAnswer::Usage(text)) if is_text => out.put(text.as_str()),
+        Ok(CliAnswer::Shown(text)) if text.as_str() == "cargo-deny 0.20.2\n" => out.put("version"),
+        Ok(CliAnswer::Shown(_)) => out.put("help"),
+        Ok(CliAnswer::Usage(_)) => out.put("usage"),
+        Err(_) => out.want_memory(),
+    }
+}
+
+fn put_given(out: &mut AnswerText, alloc: Global, name: &str, text: &str, is_text: bool) {
+    put_answer(out, &given(alloc, name, text), is_text);
+}
+
+fn put_path(out: &mut AnswerText, name: &str, path: &Option<PathBuf>) {
+    if let Some(path) = path {
+        write!(out, " {name}({path})");
+    }
+}
+
+fn put_texts(out: &mut AnswerText, name: &str, texts: &Texts) {
+    for text in texts.items() {
+        write!(out, " {name}({text})");
+    }
+}
+
+fn put_codes(out: &mut AnswerText, name: &str, codes: &CodeOrLevels) {
+    for code in codes.items() {
+        write!(out, " {name}({code:?})");
+    }
+}
+
+fn put_flag(out: &mut AnswerText, name: &str, is_set: bool) {
+    if is_set {
+        write!(out, " {name}");
+    }
+}
+
+fn put_check(out: &mut AnswerText, args: &check::Args) {
+    out.put(" check");
+    put_path(out, "graph", &args.graph);
+    put_flag(out, "hide", args.hide_inclusion_graph);
+    put_flag(out, "audit", args.audit_compatible_output);
+    put_flag(out, "stats", args.show_stats);
+    put_codes(out, "warn", &args.lint_levels.warn);
+    put_codes(out, "allow", &args.lint_levels.allow);
+    put_codes(out, "deny", &args.lint_levels.deny);
+    if let Some(depth) = args.feature_depth {
+        write!(out, " depth({depth})");
+    }
+    for which in args.which.items() {
+        write!(out, " {which:?}");
+    }
+}
+
+fn put_context(out: &mut AnswerText, context: &KrateContext) {
+    put_path(out, "metadata", &context.metadata_path);
+    put_path(out, "config", &context.config_path);
+    put_texts(out, "exclude", &context.exclude);
+    put_texts(out, "target", &context.targets);
+    put_texts(out, "feature", &context.features);
+    put_flag(out, "workspace", context.workspace);
+    put_flag(out, "no-default-features", context.no_default_features);
+    put_flag(out, "all-features", context.all_features);
+    put_flag(out, "frozen", context.frozen);
+    put_flag(out, "locked", context.locked);
+    put_flag(out, "offline", context.offline);
+    put_flag(out, "exclude-dev", context.exclude_dev);
+    put_flag(out, "exclude-unpublished", context.exclude_unpublished);
+}
+
+/// Puts level, format, colour and manifest of a request, and then what it has beside the defaults.
+fn put_request(out: &mut AnswerText, request: &Request) {
+    let (log, context) = (&request.log_ctx, &request.krate_ctx);
+    write!(out, "{:?} {:?}", log.log_level, log.format);
+    write!(out, " {:?} {}", log.color, context.manifest_path);
+    put_path(out, "given", &request.manifest_path);
+    put_context(out, context);
+    match &request.command {
+        Subcommand::Check(args) => put_check(out, args),
+        Subcommand::List(_) => out.put(" list"),
+        Subcommand::Sample(size) => write!(out, " sample {size}"),
+    }
+}
+
+fn put_list(out: &mut AnswerText, parsed: &Result<list::Args, ArgsError>) {
+    match parsed {
+        Ok(args) => write!(
+            out,
+            "{} {:?} {:?}",
+            args.threshold, args.format, args.layout
+        ),
+        Err(ArgsError::BadValue { option, value }) => write!(out, "{option}: {value}"),
+        Err(_) => out.put("refused"),
+    }
+}
+
+fn put_listing(out: &mut AnswerText, alloc: Global, text: &str) -> MemoryResult {
+    let words = words_of(alloc, "cargo-deny", text)?;
+    match list::Args::cmd(alloc)?.try_get_matches_from(&words) {
+        Ok(matches) => put_list(out, &list::Args::parse(alloc, &matches)),
+        Err(_) => out.put("not taken"),
+    }
+    Ok(())
+}
+
+/// Puts how many names an option lists, and how many of them are read as a value.
+fn put_names<T: FromWord + Drop>(out: &mut AnswerText, rows: &[OptionRow], option: &str) {
+    for row in rows {
+        if row.name == option
+            && let OptionValues::Names(names) = row.values
+        {
+            let read = count_read::<T>(names);
+            write!(out, "{read} of {}", names.len());
+        }
+    }
+}
+
+fn count_read<T: FromWord + Drop>(names: &[&str]) -> usize {
+    let mut count: usize = 0;
+    for name in names {
+        if T::from_word(name).is_some() {
+            count = count.saturating_add(1);
+        }
+    }
+    count
+}
+
+fn put_option(out: &mut AnswerText, option: &str) {
+    match option {
+        "log-level" => put_names::<LevelFilter>(out, main_rows(), option),
+        "format" => put_names::<Format>(out, main_rows(), option),
+        "color" => put_names::<Color>(out, main_rows(), option),
+        "check warn" => put_names::<CodeOrLevel>(out, check_rows(), "warn"),
+        "check WHICH" => put_names::<WhichCheck>(out, check_rows(), "WHICH"),
+        "list format" => put_names::<OutputFormat>(out, list_rows(), "format"),
+        _ => put_names::<Layout>(out, list_rows(), "layout"),
+    }
+}
+
+/// Puts what a text comes to in a group, and returns whether there is such a group.
+pub fn put(out: &mut AnswerText, alloc: Global, group: &str, text: &str) -> bool {
+    match group {
+        "words" => put_given(out, alloc, "cargo-deny", text, false),
+        "words without the program's name" => put_given(out, alloc, "", text, false),
+        "words behind list" => {
+            if put_listing(out, alloc, text).is_err() {
+                out.want_memory();
+            }
+        }
+        "names of an option that are read" => put_option(out, text),
+        "text" => put_given(out, alloc, "cargo-deny", text, true),
+        _ => return false,
+    }
+    true
+}

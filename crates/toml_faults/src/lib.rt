@@ -1,4 +1,0 @@
-//! The law of the first fault of a text of the subset.
-#![tactic(auto)]
-
-pub mod laws;

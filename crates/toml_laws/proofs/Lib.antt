@@ -1,0 +1,11 @@
+pub mod Borders
+pub mod FirstFault
+pub mod Front
+pub mod LineFaults
+pub mod Parts
+pub mod Stuck
+pub mod ValueFaults
+pub mod Edits
+pub mod Texts
+pub mod Trees
+pub mod Written

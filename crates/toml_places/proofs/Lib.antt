@@ -1,4 +1,0 @@
-pub mod Edits
-pub mod Texts
-pub mod Trees
-pub mod Written

@@ -1,5 +1,0 @@
--- What stands in a value is put with one less of the depth.
-use Rattle.toml_rows.proofs.printed.+put_value.Given as goal
-
-abbrev pub decreases-put_value : goal.decreases-put_value
-decreases-put_value l = l.depth

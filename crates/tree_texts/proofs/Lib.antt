@@ -1,0 +1,2 @@
+mod HeardLemmas
+mod SearchLemmas

@@ -1,0 +1,4 @@
+pub mod Cause
+pub mod Heard
+pub mod Looked
+pub mod Search
