@@ -1,15 +1,15 @@
 //! Why nothing was measured.
 use diag_core::{AddError, FilesErr};
-use policy_load::LoadError;
 use diag_print::PrintError;
 use graph_metadata::MetaError;
 use graph_selection::BuildError;
+use graph_workspace::KratesError;
+use policy_load::LoadError;
 use spdx_core::ExprError;
 use std::alloc::AllocError;
 use std::io;
 use toml_subset::TomlError;
 use tree_core::PutError;
-use graph_workspace::KratesError;
 
 /// Why nothing was measured.
 #[derive(Debug, Drop)]

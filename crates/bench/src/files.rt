@@ -35,7 +35,11 @@ fn found(files: &Files, text: &str, end: &str) -> usize {
 }
 
 /// How many paths are found in a table of all of them.
-pub(crate) fn looked_up(meter: &mut Meter<'_>, alloc: Global, text: &str) -> Result<usize, BenchFailure> {
+pub(crate) fn looked_up(
+    meter: &mut Meter<'_>,
+    alloc: Global,
+    text: &str,
+) -> Result<usize, BenchFailure> {
     let files = filled(alloc, text)?;
     meter.start();
     Ok(found(&files, text, ""))
@@ -66,7 +70,11 @@ fn columns(files: &Files, text: &str, file: usize) -> Result<usize, BenchFailure
 }
 
 /// The same of a text that is one of the table before.
-pub(crate) fn placed(meter: &mut Meter<'_>, alloc: Global, text: &str) -> Result<usize, BenchFailure> {
+pub(crate) fn placed(
+    meter: &mut Meter<'_>,
+    alloc: Global,
+    text: &str,
+) -> Result<usize, BenchFailure> {
     let mut files = Files::new(alloc);
     let name = Text::copy(alloc, "deny.toml")?;
     let source = Text::copy(alloc, text)?;

@@ -16,8 +16,8 @@ mod texts;
 
 use crate::failed::BenchFailure;
 use crate::meter::Meter;
-use crate::parts::{PARTS, BenchPart};
-use crate::runs::{RUNS, BenchRun};
+use crate::parts::{BenchPart, PARTS};
+use crate::runs::{BenchRun, RUNS};
 use crate::texts::made;
 use std::{env, fs};
 
@@ -69,7 +69,12 @@ fn measure_run(
 }
 
 /// Measures the part or the run of a name.
-fn measure(rt: &HostRuntime, meter: &mut Meter<'_>, name: &str, size: &str) -> Result<(), BenchFailure> {
+fn measure(
+    rt: &HostRuntime,
+    meter: &mut Meter<'_>,
+    name: &str,
+    size: &str,
+) -> Result<(), BenchFailure> {
     match (part_named(name), run_named(name)) {
         (Some(part), _) => measure_part(rt, meter, part, size),
         (None, Some(run)) => measure_run(rt, meter, run, size),

@@ -1,7 +1,7 @@
 //! What measures, and tells what it measured.
-use tests_files::AnswerText;
 use std::alloc::AllocError;
 use std::time::{Clock, Instant};
+use tests_files::AnswerText;
 
 /// A clock and the lines that were told by it.
 #[derive(Drop)]

@@ -2,17 +2,17 @@
 use crate::failed::BenchFailure;
 use crate::meter::Meter;
 use crate::{files, recipes};
-use spdx_catalog::{Catalog, Identifier, LicenseStore, Table};
 use deny_text::hash::hash;
 use deny_text::normal::normalize;
 use diag_texts::license_span;
 use graph_metadata::{Metadata, records};
+use graph_selection::{ExcludeSpecs, Include, Krates, Selection};
 use run_request::read::{CliAnswer, read};
 use run_request::{Request, Subcommand};
-use graph_selection::{ExcludeSpecs, Include, Krates, Selection};
+use spdx_catalog::{Catalog, Identifier, LicenseStore, Table};
 use spdx_core::Expression;
-use std::alloc::{AllocError, Global};
 use spdx_terms::ParseMode;
+use std::alloc::{AllocError, Global};
 use toml_value::parse;
 
 /// What is done with a text.
@@ -221,7 +221,12 @@ fn read_words(meter: &mut Meter<'_>, alloc: Global, text: &str) -> Result<usize,
 
 impl BenchPart {
     /// What comes of the part's work.
-    fn done(&self, meter: &mut Meter<'_>, alloc: Global, text: &str) -> Result<usize, BenchFailure> {
+    fn done(
+        &self,
+        meter: &mut Meter<'_>,
+        alloc: Global,
+        text: &str,
+    ) -> Result<usize, BenchFailure> {
         match self.work {
             Work::Hash => Ok(hash(text.as_bytes()) as usize),
             Work::Normal => normal_length(alloc, text),

@@ -110,7 +110,12 @@ impl RunTexts {
 }
 
 /// Puts a file at each path of a text.
-fn put_files(tree: &mut MemTree, files: &RunTexts, paths: &str, every: usize) -> Result<(), PutError> {
+fn put_files(
+    tree: &mut MemTree,
+    files: &RunTexts,
+    paths: &str,
+    every: usize,
+) -> Result<(), PutError> {
     for (place, path) in paths.lines().enumerate() {
         tree.put(path, files.at(path, place, every).as_bytes())?;
     }
@@ -118,17 +123,32 @@ fn put_files(tree: &mut MemTree, files: &RunTexts, paths: &str, every: usize) ->
 }
 
 impl BenchRun {
-    fn put_metadata(&self, tree: &mut MemTree, alloc: Global, size: usize) -> Result<(), BenchFailure> {
+    fn put_metadata(
+        &self,
+        tree: &mut MemTree,
+        alloc: Global,
+        size: usize,
+    ) -> Result<(), BenchFailure> {
         let text = made(alloc, self.metadata, self.crates.unwrap_or(size))?;
         Ok(tree.put(stages::METADATA, text.as_bytes())?)
     }
 
-    fn put_policy(&self, tree: &mut MemTree, alloc: Global, size: usize) -> Result<(), BenchFailure> {
+    fn put_policy(
+        &self,
+        tree: &mut MemTree,
+        alloc: Global,
+        size: usize,
+    ) -> Result<(), BenchFailure> {
         let text = made(alloc, self.policy, size)?;
         Ok(tree.put(stages::POLICY, text.as_bytes())?)
     }
 
-    fn put_paths(&self, tree: &mut MemTree, alloc: Global, size: usize) -> Result<(), BenchFailure> {
+    fn put_paths(
+        &self,
+        tree: &mut MemTree,
+        alloc: Global,
+        size: usize,
+    ) -> Result<(), BenchFailure> {
         let files = RunTexts::new(alloc)?;
         let paths = made(alloc, self.paths, size)?;
         Ok(put_files(tree, &files, paths.as_str(), self.every)?)

@@ -9,19 +9,19 @@ ghost use Rattle.check_core.specs.Labels.{PackLies};
 use crate::failed::BenchFailure;
 use crate::meter::Meter;
 use crate::parts::from_root;
-use spdx_catalog::LicenseStore;
 use check_core::{CheckCtx, judge_all};
+use check_evaluate::Verdict;
 use deny_text::PathBuf;
 use diag_core::{ErrorSink, Files, LevelFilter, Pack};
-use check_evaluate::Verdict;
-use gather_core::{Gatherer, LicenseInfo, Summary};
 use diag_print::{Color, Format, LogContext, print_packs};
-use policy_load::{PolicyPaths, ValidConfig, load};
+use gather_core::{Gatherer, LicenseInfo, Summary};
 use graph_selection::Krates;
+use graph_workspace::krates_at;
+use policy_load::{PolicyPaths, ValidConfig, load};
+use spdx_catalog::LicenseStore;
 use spdx_core::Table;
 use std::alloc::{AllocError, Global};
 use tree_core::{MemSink, MemTree, Sink, Tree};
-use graph_workspace::krates_at;
 
 pub(crate) const METADATA: &str = "/w/metadata.json";
 
@@ -80,7 +80,12 @@ fn gathered<'k>(
 }
 
 /// How many bytes are printed of what was found.
-fn printed(alloc: Global, format: Format, packs: &[Pack], files: &Files) -> Result<usize, BenchFailure>
+fn printed(
+    alloc: Global,
+    format: Format,
+    packs: &[Pack],
+    files: &Files,
+) -> Result<usize, BenchFailure>
     requires { All (PackLies files.now) packs.now }
 {
     let mut sink = MemSink::new(alloc, ROOM, LINE)?;

@@ -1,6 +1,6 @@
 //! Texts that are made in memory, of any size.
-use tests_files::AnswerText;
 use std::alloc::{AllocError, Global};
+use tests_files::AnswerText;
 
 /// Puts a piece that stands behind a percent sign. Its first character is a mark: a digit stands for the number that is so much
 /// higher, but for the last one at most, and a comma for itself, except in the last part.

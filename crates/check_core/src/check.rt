@@ -17,16 +17,16 @@ ghost use Rattle.check_core.specs.Summary as spec;
 ghost use Rattle.check_core.specs.Summary.{InfoFits, IsExpressionIn, gathered_of_licenses};
 
 use crate::crate_check::Checker;
+use check_evaluate::Verdict;
 use deny_text::{ListOf, Steps};
 use diag_core::{ErrorSink, FileId, Files, LevelFilter};
-use check_evaluate::Verdict;
 use gather_core::{KrateLicense, LicenseExprInfo, LicenseInfo, Summary};
 use graph_selection::Krates;
+use policy_valid::ValidConfig;
 use spdx_core::Expression;
 use std::alloc::{AllocError, Global};
 use std::marker::Brand;
 use std::sync::ledger::{Blank, Ledger};
-use policy_valid::ValidConfig;
 
 /// What a check is made with.
 #[derive(Drop)]

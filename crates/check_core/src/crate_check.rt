@@ -13,18 +13,18 @@ ghost use Rattle.check_core.specs.Summary.{InfoFits, gathered_of_license, nodes_
 ghost use Rattle.check_core.specs.Turns.{expression_of, hits_by, hits_of, pack_by, verdict_finding};
 ghost use Rattle.check_core.specs.Verdicts.{IsCertifiedOrUnlicensed, IsCertified, IsVerdict, is_skipped};
 
+use check_evaluate::{Evaluator, Verdict};
+use check_unused::{EntryHits, last_pack};
+use check_verdicts::{judged, pack_of, skipped, unlicensed};
 use deny_text::Steps;
 use diag_core::Pack;
-use check_evaluate::{Evaluator, Verdict};
 use gather_core::{KrateLicense, LicenseExprInfo, LicenseInfo};
 use graph_core::Krate;
+use policy_valid::ValidConfig;
 use spdx_core::Expression;
 use std::alloc::{AllocError, Global};
 use std::marker::Model;
 use std::sync::ledger::Ledger;
-use check_unused::{EntryHits, last_pack};
-use policy_valid::ValidConfig;
-use check_verdicts::{judged, pack_of, skipped, unlicensed};
 
 /// What the check of a crate comes to.
 #[derive(Drop)]

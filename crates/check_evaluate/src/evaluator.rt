@@ -9,15 +9,15 @@ ghost use Rattle.check_evaluate.specs.Evaluation.{term_hits, is_allowed, excepti
 
 use crate::answers::is_accepted;
 use crate::hits::keep_hits;
-use spdx_certificates::{Hit, Verdict};
 use deny_text::Steps;
 use graph_core::Krate;
 use policy_spec::SpecIndex;
+use policy_valid::ValidConfig;
+use spdx_certificates::{Hit, Verdict};
 use spdx_core::Expression;
 use std::alloc::{AllocError, Global};
 use std::marker::Model;
 use std::sync::ledger::Ledger;
-use policy_valid::ValidConfig;
 
 /// Evaluates expressions of crates under a policy. It has taken its memory when it was made, and keeps what
 /// allowed each term of the last expression.

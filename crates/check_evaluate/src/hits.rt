@@ -6,12 +6,12 @@ ghost use Rattle.policy_valid.specs.Policy as spec;
 ghost use Rattle.policy_valid.specs.View.{req_of, grant_of, policy_of};
 
 use crate::room::put;
-use spdx_certificates::Hit;
 use deny_text::Steps;
 use policy_entries::Licensee;
+use policy_valid::{ValidConfig, ValidException};
+use spdx_certificates::Hit;
 use spdx_core::{ExpressionReq, LicenseReq};
 use std::sync::ledger::Ledger;
-use policy_valid::{ValidConfig, ValidException};
 
 /// Whether a licensee satisfies a term. It takes one step.
 fn satisfies_term<L: Ledger>(licensee: &Licensee, term: &LicenseReq, steps: &mut Steps<L>) -> bool

@@ -7,5 +7,5 @@ mod hits;
 pub mod laws;
 mod room;
 
-pub use spdx_certificates::{Hit, Hits, TermPlaces, Verdict};
 pub use evaluator::Evaluator;
+pub use spdx_certificates::{Hit, Hits, TermPlaces, Verdict};

@@ -6,10 +6,10 @@ ghost use Rattle.policy_valid.specs.declared.policy.ValidConfig.{ValidConfig};
 ghost use Rattle.check_unused.specs.Flags.{Flags, flags_by, marked, marked_by, no_flags};
 ghost use Rattle.check_unused.specs.Unused.{hits_in};
 
+use policy_valid::ValidConfig;
 use spdx_certificates::Hit;
 use std::alloc::{AllocError, Global};
 use std::marker::Model;
-use policy_valid::ValidConfig;
 
 /// Which allowed licensees of a policy, and which exceptions, have allowed a term so far, by their places.
 #[derive(Drop)]

@@ -7,13 +7,13 @@ ghost use Rattle.check_unused.specs.Unused.{exception_findings, license_findings
 ghost use Rattle.check_unused.specs.Unused.{severity_asked, unhit, unused_exception, unused_license};
 
 use crate::encountered::EntryHits;
+use check_verdicts::finding;
 use diag_core::licenses::Code;
 use diag_core::{Check, Diag, FileId, Label, Labels, Notes, Pack, Severity};
 use policy_entries::Licensee;
 use policy_parts::LintLevel;
-use std::alloc::{AllocError, Global};
 use policy_valid::{ValidConfig, ValidException};
-use check_verdicts::finding;
+use std::alloc::{AllocError, Global};
 
 /// The level of what is told; nothing is told where the policy allows it.
 fn severity_of(level: LintLevel) -> Option<Severity>
@@ -224,11 +224,7 @@ fn push_unused_exceptions(
 }
 
 /// By the flags.
-fn pack_of(
-    alloc: Global,
-    policy: &ValidConfig,
-    encountered: &EntryHits,
-) -> Result<Pack, AllocError>
+fn pack_of(alloc: Global, policy: &ValidConfig, encountered: &EntryHits) -> Result<Pack, AllocError>
     ensures { IfOk result (λ pack. pack ≡ unused_pack policy.now encountered.now) }
 {
     let mut pack = Pack::new(alloc, Check::Licenses);

@@ -7,10 +7,10 @@ ghost use Rattle.check_verdicts.specs.Places.{PlaceFits, TermHasRoom};
 
 use crate::place::span_at;
 use crate::source::source_text;
-use spdx_certificates::Hit;
 use deny_text::Span;
 use diag_core::{Label, Labels};
 use gather_findings::LicenseExprInfo;
+use spdx_certificates::Hit;
 use spdx_core::{Expression, ExpressionReq};
 use std::alloc::{AllocError, Global};
 

@@ -7,12 +7,12 @@ ghost use Rattle.check_verdicts.specs.Places.{PlaceFits};
 
 use crate::copy::notes_copy;
 use crate::label::labels;
-use spdx_certificates::Hit;
 use deny_text::Text;
 use diag_core::licenses::Code;
 use diag_core::{Diag, Diagnostic, DiagnosticCode, Labels, Notes, Severity};
 use gather_findings::LicenseExprInfo;
 use graph_core::Krate;
+use spdx_certificates::Hit;
 use spdx_core::Expression;
 use std::alloc::{AllocError, Global};
 

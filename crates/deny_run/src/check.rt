@@ -14,15 +14,15 @@ ghost use Rattle.deny_run.specs.Steps.{IsCheckCut, IsCheckOf, IsCheckedOn, repor
 
 use crate::report::CrateReport;
 use check_core::{CheckCtx, Verdicts, judge_all};
+use check_evaluate::Verdict;
 use deny_text::{ListOf, Text};
 use diag_core::{ErrorSink, Files, LevelFilter, Packs};
-use check_evaluate::Verdict;
 use gather_core::{Gatherer, KrateLicense, KrateLicenses, LicenseInfo, Summary};
+use graph_workspace::Krates;
+use policy_valid::ValidConfig;
 use spdx_core::{Catalog, Identifier};
 use std::alloc::{AllocError, Global};
 use tree_core::Tree;
-use policy_valid::ValidConfig;
-use graph_workspace::Krates;
 
 /// What a check of all crates comes to, and the policy that it was made by.
 #[derive(Drop)]

@@ -2,11 +2,11 @@
 ghost use Rattle.std.specs.Prelude.{◌≡◌};
 ghost use Rattle.deny_run.specs.Error.{fault_line};
 
-use policy_load::{Diagnostics, LoadError, ReadFault, ShapeErrors, SyntaxError};
 use diag_print::PrintError;
-use tree_texts::SearchError;
-use std::alloc::AllocError;
 use graph_workspace::{KratesError, MetaFault, What};
+use policy_load::{Diagnostics, LoadError, ReadFault, ShapeErrors, SyntaxError};
+use std::alloc::AllocError;
+use tree_texts::SearchError;
 
 /// A part of the input, in the order in which they are looked at.
 #[derive(Debug, Drop)]

@@ -8,9 +8,9 @@ pub mod run;
 mod stages;
 pub mod words;
 
+pub use diag_print::{Color, DiagPrinter, Format, LogContext, OutputLock, PrintError};
 pub use gather_core::LicenseExprSource;
 pub use policy_load::{
     Diagnostics, ErrorKind, ReadFault, ShapeError, ShapeErrors, SyntaxError, SyntaxReason,
     ValidConfig,
 };
-pub use diag_print::{Color, DiagPrinter, Format, LogContext, OutputLock, PrintError};

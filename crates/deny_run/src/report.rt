@@ -3,9 +3,9 @@ ghost use Rattle.std.specs.Prelude.{◌≡◌};
 ghost use Rattle.deny_run.specs.Counts.{count_at, count_in};
 
 use crate::error::Error;
+pub use check_evaluate::Verdict;
 use deny_text::{ListOf, Text};
 use diag_core::{Files, Notes, Pack, Packs, Severity};
-pub use check_evaluate::Verdict;
 use gather_core::LicenseExprSource;
 use policy_core::ValidConfig;
 use spdx_core::Expression;

@@ -20,7 +20,7 @@ ghost use Rattle.deny_run.specs.Words.{check_request_of, texts};
 
 use crate::check::CheckedCrates;
 use crate::error::{Error, Refusal};
-use crate::report::{AllStats, RunEnd, Outcome, Report};
+use crate::report::{AllStats, Outcome, Report, RunEnd};
 use crate::stages::{check_crates, policy_paths};
 use crate::words::CheckRequest;
 use diag_core::{Files, LevelFilter};

@@ -18,13 +18,13 @@ use crate::error::Refusal;
 use deny_text::path::join;
 use deny_text::{PathBuf, Texts};
 use diag_core::Files;
-use policy_load::{LoadedPolicy, PolicyPaths};
-use tree_texts::{SearchError, SoughtFile, find_upwards};
 use graph_selection::read_specs;
+use graph_workspace::{ExcludeSpecs, Selection, krates_at};
+use policy_load::{LoadedPolicy, PolicyPaths};
 use spdx_core::{Catalog, Identifier};
 use std::alloc::{AllocError, Global};
 use tree_core::Tree;
-use graph_workspace::{ExcludeSpecs, Selection, krates_at};
+use tree_texts::{SearchError, SoughtFile, find_upwards};
 
 /// Where the two files of a policy are, where the policy's path is given: the exceptions file is looked for
 /// in the folder `cwd` and those above it. `begun` is the tree's count of faults when the run began.
@@ -46,7 +46,13 @@ pub(crate) fn policy_paths<T: Tree>(
         ReadCounts begun (T.fault_count tree.old) (T.fault_count tree.new) (search_cause error)) }
 {
     let manifest = join(alloc, cwd, "Cargo.toml")?;
-    let exceptions = find_upwards(alloc, tree, manifest.as_path(), SoughtFile::Exceptions, begun)?;
+    let exceptions = find_upwards(
+        alloc,
+        tree,
+        manifest.as_path(),
+        SoughtFile::Exceptions,
+        begun,
+    )?;
     Ok(PolicyPaths {
         policy: Some(config_path),
         exceptions,

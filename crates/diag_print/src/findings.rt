@@ -7,12 +7,12 @@ ghost use Rattle.diag_print.specs.Printed.{all_printed_at, printed_at};
 ghost use Rattle.diag_print.specs.Findings.{AreInside, HasReasonSince, IsPending, PacksAreInside, is_error};
 ghost use Rattle.diag_print.specs.Findings.{printed_findings, printed_packs};
 
-use diag_core::{Diagnostic, Files, Pack, Severity};
 use crate::context::LogContext;
 use crate::printer::{DiagPrinter, PrintError};
+use diag_core::{Diagnostic, Files, Pack, Severity};
+use diag_lists::Diagnostics;
 use std::alloc::Global;
 use tree_core::{Sink, SinkFailed, write_all};
-use diag_lists::Diagnostics;
 
 /// Whether one of the findings is an error.
 pub fn has_error(findings: &Diagnostics) -> bool

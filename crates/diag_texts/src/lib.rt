@@ -10,4 +10,4 @@ pub mod synthetic;
 pub use manifest::FileNote;
 pub use slashes::correct_span;
 pub use span_search::license_span;
-pub use synthetic::{TextPiece, Synthetic};
+pub use synthetic::{Synthetic, TextPiece};

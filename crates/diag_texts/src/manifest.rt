@@ -7,7 +7,7 @@ ghost use Rattle.diag_texts.specs.Pieces.{bit_of};
 ghost use Rattle.diag_texts.specs.declared.manifest.FileNote.TheVariants.{Unknown, Low, Unnamed, Bad};
 ghost use Rattle.diag_texts.specs.Synthetic.{written_all};
 
-use crate::synthetic::{TextPiece, Synthetic};
+use crate::synthetic::{Synthetic, TextPiece};
 use std::alloc::{AllocError, Global};
 
 /// What a line of the list tells of a file: its hash, and its score in hundredths with the name that was

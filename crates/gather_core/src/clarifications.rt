@@ -5,13 +5,13 @@ ghost use Rattle.graph_core.specs.Krate.{record_of};
 ghost use Rattle.gather_licence.specs.Clarification.{behind};
 ghost use Rattle.gather_core.specs.Entries.{clarifications_of, clarification_entry, clarification_at, clarifications_at, placed_of};
 
+use gather_licence::{ClarificationRef, FileRef};
 use graph_core::Krate;
 use policy_parts::FileSource;
 use policy_spec::{HasSpec, PackageSpec, SpecIndex};
-use gather_licence::{ClarificationRef, FileRef};
+use policy_valid::ValidClarification;
 use std::alloc::{AllocError, Global};
 use std::marker::Model;
-use policy_valid::ValidClarification;
 
 /// A clarification of a policy, and the crates that it is for.
 #[derive(Drop)]

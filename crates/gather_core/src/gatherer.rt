@@ -22,15 +22,15 @@ use crate::clarifications::ClarificationIndex;
 use crate::summary::{KrateLicense, KrateLicenses, Summary};
 use crate::tell::tell;
 use crate::turn::take;
-use spdx_catalog::{Catalog, Identifier};
 use diag_core::{FileId, Files};
-use gather_findings::{ParseErrors, FieldRead, read_field};
-use graph_core::Krate;
+use gather_findings::{FieldRead, ParseErrors, read_field};
 use gather_licence::Scan;
+use graph_core::Krate;
 use graph_selection::{Include, Krates};
+use policy_valid::ValidConfig;
+use spdx_catalog::{Catalog, Identifier};
 use std::alloc::{AllocError, Global};
 use tree_core::Tree;
-use policy_valid::ValidConfig;
 
 /// Settles under which licence each crate is.
 #[derive(Drop)]

@@ -19,9 +19,12 @@ use crate::told::told_by;
 use crate::turn::{LocatedLicense, joined};
 use deny_text::Span;
 use diag_core::{Coord, FileId, Files};
-use gather_findings::{UnclarifiedCrate, Diags, ParseErrors, PlacedFindings, SeenFiles, ExpressionBasis, find, missing_file};
-use graph_core::Krate;
+use gather_findings::{
+    Diags, ExpressionBasis, ParseErrors, PlacedFindings, SeenFiles, UnclarifiedCrate, find,
+    missing_file,
+};
 use gather_licence::{FilesSeen, JoinedNames, LicenseBasis, folder};
+use graph_core::Krate;
 use std::alloc::{AllocError, Global};
 
 /// Findings of files of clarifications that are not there, by their places in the policy's file.

@@ -13,12 +13,12 @@ ghost use Rattle.gather_core.specs.Premises.{Grows};
 ghost use Rattle.gather_core.specs.Taken.{IsLocatedWhere, IsTaken, is_clarified, turn_with};
 ghost use Rattle.gather_core.specs.Turns.{field_text, located_where, records_in};
 
-use spdx_catalog::Identifier;
 use deny_text::ListOf;
 use diag_core::{Coord, Files};
-use graph_core::Krate;
+use gather_licence::{ClarificationRef, LicenseBasis, Scan, Spans, settle_licence};
 use gather_location::{LocatedField, locate};
-use gather_licence::{ClarificationRef, Scan, LicenseBasis, Spans, settle_licence};
+use graph_core::Krate;
+use spdx_catalog::Identifier;
 use spdx_core::{Catalog, Expression};
 use std::alloc::{AllocError, Global};
 use tree_core::{ReadRecord, Reads, Tree};

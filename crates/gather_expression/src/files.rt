@@ -5,11 +5,11 @@ ghost use Rattle.gather_expression.specs.Scanned as spec;
 ghost use Rattle.gather_expression.specs.Scanned.{Scanner, begins_as_pixar, file_scanned, match_by, identified_name};
 ghost use Rattle.gather_expression.specs.Scanned.{name_taken, named_by, scanned_of, text_scanned};
 
-use spdx_catalog::{Catalog, Identifier, Match};
 use deny_text::{ListOf, PathBuf, Text};
-use gather_files::{LicenseText, LicensePack, PackFileData};
-use tree_reads::BadRead;
+use gather_files::{LicensePack, LicenseText, PackFileData};
+use spdx_catalog::{Catalog, Identifier, Match};
 use std::alloc::{AllocError, Global};
+use tree_reads::BadRead;
 
 /// The name that a text was identified by.
 #[derive(Drop)]
@@ -88,7 +88,11 @@ fn name_of(alloc: Global, normal: &str, name: Text) -> Result<IdentifiedName, Al
 }
 
 /// The name that is taken of what an identifier says of a text.
-fn name_taken(alloc: Global, normal: &str, found: Match) -> Result<Option<IdentifiedName>, AllocError>
+fn name_taken(
+    alloc: Global,
+    normal: &str,
+    found: Match,
+) -> Result<Option<IdentifiedName>, AllocError>
     ensures { IfOk result (λ taken. taken ≡ name_taken normal.now found) }
 {
     if found.score < 50 {
@@ -121,7 +125,13 @@ fn scan<I: Identifier>(
 }
 
 /// A name, by whether its score is enough and the catalogue knows it.
-fn named<C: Catalog>(threshold: u8, hash: u32, score: u8, name: IdentifiedName, catalog: &C) -> FileResult
+fn named<C: Catalog>(
+    threshold: u8,
+    hash: u32,
+    score: u8,
+    name: IdentifiedName,
+    catalog: &C,
+) -> FileResult
     ensures { result ≡ named_by (C.lists catalog.now) threshold hash score name }
 {
     if score < threshold {

@@ -4,5 +4,5 @@
 pub mod files;
 pub mod taken;
 
-pub use files::{IdentifiedName, FileResult, ScannedFile, scan_pack};
+pub use files::{FileResult, IdentifiedName, ScannedFile, scan_pack};
 pub use taken::{field, joined};

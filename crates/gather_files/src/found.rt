@@ -8,9 +8,9 @@ ghost use Rattle.gather_files.specs.Pack.{names_found, with_license_file};
 
 use deny_text::path::ends_with;
 use deny_text::{ListOf, PathBuf};
-use tree_reads::FolderHeard;
 use std::alloc::{AllocError, Global};
 use tree_core::Entry;
+use tree_reads::FolderHeard;
 
 /// Whether a name begins `LICENSE` or `COPYING`.
 fn is_licence_name(name: &str) -> bool

@@ -11,4 +11,4 @@ mod told;
 
 pub use license_text::LicenseText;
 pub use named_file::NamedFile;
-pub use pack::{LicensePack, PackFileData, LicensePackIter, TriedClarification};
+pub use pack::{LicensePack, LicensePackIter, PackFileData, TriedClarification};

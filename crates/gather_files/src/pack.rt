@@ -23,13 +23,13 @@ use crate::license_text::LicenseText;
 use crate::named_file::NamedFile;
 use crate::told::FileState;
 use deny_text::PathBuf;
-use tree_reads::{
-    BadRead, FileHeard, FolderHeard, file_record, list_folder, listing_record, read_file,
-};
 use std::alloc::{AllocError, Global};
 use std::collections::{BTreeMap, btree_map};
 use std::marker::Model;
 use tree_core::{ReadKind, Reads, Tree};
+use tree_reads::{
+    BadRead, FileHeard, FolderHeard, file_record, list_folder, listing_record, read_file,
+};
 
 /// A licence text in its normal form, or why there is none.
 pub type PackFileData = Result<LicenseText, BadRead>;
@@ -111,7 +111,11 @@ fn number_where(absent: bool, number: usize) -> Option<usize>
 
 impl LicensePack {
     /// A pack without files, by what was heard of the listing of the folder.
-    fn of_listing(alloc: Global, folder: &str, listing: FolderHeard) -> Result<LicensePack, AllocError>
+    fn of_listing(
+        alloc: Global,
+        folder: &str,
+        listing: FolderHeard,
+    ) -> Result<LicensePack, AllocError>
         ensures { IfOk result (λ pack. pack ≡ record {
           folder = folder.now;
           listing = heard_folder listing;
@@ -132,7 +136,12 @@ impl LicensePack {
     }
 
     /// The pack and a further file, which was just read, and what is told of that.
-    fn with_file(self, alloc: Global, key: FileKey, heard: FileHeard) -> Result<FileLookUp, AllocError>
+    fn with_file(
+        self,
+        alloc: Global,
+        key: FileKey,
+        heard: FileHeard,
+    ) -> Result<FileLookUp, AllocError>
         requires { file_at self.files key ≡ None }
         ensures pack { IfOk result (λ looked. looked.pack ≡ with_file self key (heard_file heard)) }
         ensures told { IfOk result (λ looked. looked.told ≡ file_state (normal_heard (heard_file heard))) }

@@ -2,8 +2,8 @@
 use diag_core::Coord;
 use gather_expression::ScannedFile;
 use graph_core::Krate;
-use tree_reads::BadRead;
 use spdx_core::ParseError;
+use tree_reads::BadRead;
 
 /// What is seen of a crate's licence files.
 #[derive(Clone, Copy)]

@@ -68,7 +68,11 @@ fn same_span(one: Span, other: Span) -> bool
 }
 
 /// The fault of the lax reading stands behind that of the strict one, but for one at the same place.
-fn faults(alloc: Global, strict: ParseError, lax: Option<ParseError>) -> Result<ParseErrors, AllocError>
+fn faults(
+    alloc: Global,
+    strict: ParseError,
+    lax: Option<ParseError>,
+) -> Result<ParseErrors, AllocError>
     ensures { IfOk result (λ faults. faults ≡ faults_by (Some strict) lax) }
 {
     let mut faults = ParseErrors::new(alloc);

@@ -11,8 +11,8 @@ mod marks;
 pub mod outcome;
 mod synthesis;
 
-pub use case::{UnclarifiedCrate, SeenFiles, ExpressionBasis};
-pub use field::{ParseErrors, FieldRead, read_field};
+pub use case::{ExpressionBasis, SeenFiles, UnclarifiedCrate};
+pub use field::{FieldRead, ParseErrors, read_field};
 pub use findings::{Diags, missing_file};
 pub use license::{LicenseExprInfo, LicenseExprSource, LicenseInfo};
 pub use outcome::{PlacedFindings, find};

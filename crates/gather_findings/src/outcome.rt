@@ -12,7 +12,7 @@ ghost use Rattle.gather_findings.specs.Cuts.{text_under, texts_by};
 ghost use Rattle.gather_findings.specs.Premises.{FaultsLie, IsFieldPlaced};
 ghost use Rattle.gather_findings.specs.Views.{case_view, seen_view};
 
-use crate::case::{UnclarifiedCrate, SeenFiles, ExpressionBasis};
+use crate::case::{ExpressionBasis, SeenFiles, UnclarifiedCrate};
 use crate::failures::failures_of;
 use crate::findings::{Diags, field_findings, push_failures, push_unlicensed};
 use crate::marks::Marks;
@@ -29,7 +29,11 @@ pub struct PlacedFindings {
 }
 
 /// By the field, which gives the expression and stands at its location.
-fn find_at(alloc: Global, case: &UnclarifiedCrate<'_>, at: Coord) -> Result<PlacedFindings, AllocError>
+fn find_at(
+    alloc: Global,
+    case: &UnclarifiedCrate<'_>,
+    at: Coord,
+) -> Result<PlacedFindings, AllocError>
     requires long { let field = unwrap_or (record_of case.now.krate.now).license [] in
         at.span.end ≡ at.span.start + length field }
     requires lie { let field = unwrap_or (record_of case.now.krate.now).license [] in
@@ -149,7 +153,11 @@ fn find_by_files(
 }
 
 /// By what settles the licence.
-fn find_points(alloc: Global, files: &mut Files, case: &UnclarifiedCrate<'_>) -> Result<PlacedFindings, AllocError>
+fn find_points(
+    alloc: Global,
+    files: &mut Files,
+    case: &UnclarifiedCrate<'_>,
+) -> Result<PlacedFindings, AllocError>
     requires { IsFieldPlaced (case_view case.now) files.old }
     ensures points { IfOk result (λ found. found ≡ points_of (case_view case.now) files.old) }
     ensures files { OnOk result (files.new ≡ spec.files_with (case_view case.now) files.old) }
@@ -167,7 +175,11 @@ fn find_points(alloc: Global, files: &mut Files, case: &UnclarifiedCrate<'_>) ->
 
 /// What is found of a crate, and where its expression stands. Where something points into it, a manifest is
 /// written in place of the crate's own, and joins the table under a name that no path finds.
-pub fn find(alloc: Global, files: &mut Files, case: &UnclarifiedCrate<'_>) -> Result<PlacedFindings, AllocError>
+pub fn find(
+    alloc: Global,
+    files: &mut Files,
+    case: &UnclarifiedCrate<'_>,
+) -> Result<PlacedFindings, AllocError>
     requires { IsFieldPlaced (case_view case.now) files.old }
     ensures points { IfOk result (λ found. found ≡ points_of (case_view case.now) files.old) }
     ensures files { OnOk result (files.new ≡ spec.files_with (case_view case.now) files.old) }

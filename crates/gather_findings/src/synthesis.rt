@@ -16,11 +16,11 @@ use crate::marks::Marks;
 use deny_text::Text;
 use deny_text::path::join;
 use diag_core::Files;
+use diag_texts::{FileNote, Synthetic};
 use gather_expression::{FileResult, ScannedFile};
 use graph_core::Krate;
-use diag_texts::{Synthetic, FileNote};
-use tree_reads::BadRead;
 use std::alloc::{AllocError, Global};
+use tree_reads::BadRead;
 
 /// Why there is no text, or no listing.
 fn words_of(error: BadRead) -> &'static str

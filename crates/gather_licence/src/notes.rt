@@ -7,7 +7,7 @@ ghost use Rattle.gather_licence.specs.Notes.{deprecated_note, file_notes, path_g
 
 use deny_text::{PathBuf, Text, Texts};
 use diag_core::Notes;
-use gather_expression::{IdentifiedName, FileResult, ScannedFile};
+use gather_expression::{FileResult, IdentifiedName, ScannedFile};
 use std::alloc::{AllocError, Global};
 
 /// Notes a file whose text was taken for that of `Pixar`.

@@ -7,14 +7,14 @@ ghost use Rattle.gather_licence.specs.Steps.{seen_in};
 use crate::clarification::HeldClarification;
 use crate::notes::{notes_of, paths_given};
 use crate::scan::Scan;
-use spdx_catalog::Identifier;
 use deny_text::{ListOf, Texts};
 use diag_core::Notes;
 use gather_expression::{ScannedFile, joined, scan_pack};
 use gather_files::LicensePack;
-use tree_reads::BadRead;
+use spdx_catalog::Identifier;
 use spdx_core::{Catalog, Expression};
 use std::alloc::{AllocError, Global};
+use tree_reads::BadRead;
 
 /// What is seen of a crate's licence files.
 #[derive(Drop)]

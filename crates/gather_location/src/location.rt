@@ -14,9 +14,9 @@ ghost use Rattle.gather_location.specs.Location.{in_heard, field_in_table, joine
 use crate::search::{counted_at, span_in};
 use deny_text::{PathBuf, Span, Text};
 use diag_core::{Coord, FileId, Files};
-use tree_reads::{FileHeard, file_record, read_file};
 use std::alloc::{AllocError, Global};
 use tree_core::{ReadKind, ReadRecord, Tree};
+use tree_reads::{FileHeard, file_record, read_file};
 
 /// Where a field stands, and the record of the read of its manifest, where that was read.
 #[derive(Drop)]

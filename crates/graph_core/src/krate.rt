@@ -9,8 +9,8 @@ ghost use Rattle.graph_core.specs.Krate as spec;
 ghost use Rattle.graph_core.specs.Krate.{krate_order, krate_order_total, record_of, title_of, SourceMatches};
 
 use deny_text::{PathBuf, Text, TextMap, Texts};
-use semver::Version;
 use graph_source::{Source, matches_address};
+use semver::Version;
 use std::cmp::Ordering;
 use std::fmt;
 use url::Url;

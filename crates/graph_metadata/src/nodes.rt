@@ -33,7 +33,14 @@ fn member_row<'v>(
     ensures { AnswersMeta member_of result (spec.member_row known.now index (view value.now)) }
 {
     let id = text_here(alloc, ObjectPlace::Root, "workspace_members", index, value)?;
-    let place = known_in(alloc, known, ObjectPlace::Root, "workspace_members", index, id)?;
+    let place = known_in(
+        alloc,
+        known,
+        ObjectPlace::Root,
+        "workspace_members",
+        index,
+        id,
+    )?;
     Ok(MemberRow { id, place })
 }
 
@@ -106,7 +113,11 @@ pub(crate) struct ResolveRow<'v> {
     pub(crate) root: Option<usize>,
 }
 
-fn known_or_null(alloc: Global, known: &IdPlaces, id: Option<&str>) -> Result<Option<usize>, MetaError>
+fn known_or_null(
+    alloc: Global,
+    known: &IdPlaces,
+    id: Option<&str>,
+) -> Result<Option<usize>, MetaError>
     ensures { AnswersMeta (λ root. root) result
         (spec.known_or_null known.now (key_place ObjectPlace.Resolve (codes "root")) (option_copied id.entry)) }
 {

@@ -110,7 +110,12 @@ fn feature_row(alloc: Global, index: usize, name: &str, value: &Value) -> Result
 {
     match value {
         Value::Array(items) => texts_in(alloc, ObjectPlace::Features(index), name, items),
-        _ => Err(fault_at(alloc, ObjectPlace::Features(index), name, MetaReason::WrongKind)),
+        _ => Err(fault_at(
+            alloc,
+            ObjectPlace::Features(index),
+            name,
+            MetaReason::WrongKind,
+        )),
     }
 }
 

@@ -8,11 +8,11 @@ ghost use Rattle.graph_workspace.specs.Krates.{GathersBy, AreFrom, AnswersGraph}
 
 use crate::error::KratesError;
 use graph_core::Metadata;
-use tree_texts::{TextHeard, read_file_text};
 use graph_metadata::records;
 use graph_selection::{Krates, Selection};
 use std::alloc::Global;
 use tree_core::Tree;
+use tree_texts::{TextHeard, read_file_text};
 
 /// The folder in which cargo keeps crates of the sparse index of crates.io.
 fn sparse_dir() -> &'static str

@@ -4,12 +4,12 @@ ghost use Rattle.toml_rows.specs.Rows.{left_of_table};
 ghost use Rattle.policy_config.specs.Config.{config_at, config_of, no_config, no_private};
 
 use crate::placed::{places_of, take_removed};
-use spdx_catalog::Catalog;
-use toml_rows::{FromKeys, Spans, finish, or_empty, read_table};
 use policy_entries::{Clarifications, Exceptions, Licensees};
 use policy_parts::{LintLevel, Private};
 use policy_toml::{DeserError, Deserialize, Hundredths, TableHelper, Value};
+use spdx_catalog::Catalog;
 use std::alloc::Global;
+use toml_rows::{FromKeys, Spans, finish, or_empty, read_table};
 
 /// What a policy says of licences.
 #[derive(Drop)]

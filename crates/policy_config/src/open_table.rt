@@ -11,9 +11,9 @@ ghost use Rattle.toml_value.specs.Views.{value_view, entries_view};
 
 use crate::placed::push_place;
 use deny_text::Span;
-use toml_rows::Spans;
 use policy_toml::{DeserError, Deserialize, Entries, ShapeErrors, Value, add_unexpected};
 use std::alloc::{AllocError, Global};
+use toml_rows::Spans;
 use toml_shapes::answer;
 
 /// A key's place, and what its value was read as. Where the key is not there it has neither.

@@ -5,9 +5,9 @@ ghost use Rattle.policy_toml.specs.HelperState.{state_of, without_key};
 ghost use Rattle.policy_config.specs.Places.{places_there};
 
 use deny_text::Span;
-use toml_rows::Spans;
 use policy_toml::TableHelper;
 use std::alloc::{AllocError, Global};
+use toml_rows::Spans;
 
 /// Takes a key out, whatever its value is, and tells where it stood.
 pub(crate) fn take_removed(table: &mut TableHelper<'_>, name: &str) -> Option<Span>

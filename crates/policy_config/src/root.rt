@@ -12,12 +12,12 @@ ghost use Rattle.toml_shapes.specs.Shaped.{AnswersShape};
 
 use crate::config::Config;
 use crate::open_table::OpenTable;
-use spdx_catalog::Catalog;
 use deny_text::{Span, Texts};
-use toml_rows::Spans;
 use policy_parts::{GraphConfig, OutputConfig, Targets};
 use policy_toml::{DeserError, Deserialize, Value};
+use spdx_catalog::Catalog;
 use std::alloc::{AllocError, Global};
+use toml_rows::Spans;
 use toml_value::refuse_kind;
 
 /// A policy file.

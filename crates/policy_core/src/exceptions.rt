@@ -12,14 +12,14 @@ use crate::exceptions_text::{NoExceptions, read_exceptions};
 use crate::findings::{syntax, tell_itself, tell_shape, tell_unread};
 use deny_text::{PathBuf, Text};
 use diag_core::{FileId, Files};
-use tree_texts::read_file_text;
+use diag_lists::Diagnostics;
 use policy_entries::ExceptionsFile;
+use policy_valid::{ValidConfig, ValidExceptions};
+use policy_validate::add_exceptions;
 use spdx_core::Catalog;
 use std::alloc::{AllocError, Global};
 use tree_core::Tree;
-use policy_valid::{ValidConfig, ValidExceptions};
-use policy_validate::add_exceptions;
-use diag_lists::Diagnostics;
+use tree_texts::read_file_text;
 
 /// Puts the exceptions that were read behind the others, or what is wrong with them behind the findings so
 /// far.

@@ -8,12 +8,12 @@ ghost use Rattle.policy_core.specs.Heard as heard;
 
 use deny_text::Span;
 use diag_core::{Deprecated, DeprecationReason, Diagnostic, FileId, Label, Severity};
-use tree_texts::ReadFault;
+use diag_lists::Diagnostics;
 use policy_parts::Target;
 use policy_toml::{ShapeError, ShapeErrors};
-use std::alloc::{AllocError, Global};
 use policy_validate::error_at;
-use diag_lists::Diagnostics;
+use std::alloc::{AllocError, Global};
+use tree_texts::ReadFault;
 
 /// That an exceptions file is the policy itself.
 fn itself(alloc: Global, path: &str) -> Result<Diagnostic, AllocError>

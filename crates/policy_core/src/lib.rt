@@ -7,6 +7,7 @@ pub mod findings;
 pub mod laws;
 pub mod load;
 
+pub use diag_lists::{Diagnostics, SpannedList, ValidationContext};
 pub use exceptions::load_exceptions;
 pub use findings::tell_shape;
 pub use load::{LoadedPolicy, PolicySource, load_policy};
@@ -23,4 +24,3 @@ pub use policy_valid::{
     Urls, ValidClarification, ValidClarifications, ValidConfig, ValidException, ValidExceptions,
 };
 pub use policy_validate::UnvalidatedConfig;
-pub use diag_lists::{Diagnostics, SpannedList, ValidationContext};

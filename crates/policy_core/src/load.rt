@@ -17,14 +17,14 @@ use crate::exceptions::load_exceptions;
 use crate::findings::{absent, moved, tell_moved, tell_targets};
 use deny_text::{PathBuf, Span};
 use diag_core::{FileId, Files};
+use diag_lists::{Diagnostics, ValidationContext};
 use policy_config::{Config, RootConfig};
 use policy_parts::{GraphConfig, OutputConfig};
+use policy_valid::ValidConfig;
+use policy_validate::UnvalidatedConfig;
 use spdx_core::Catalog;
 use std::alloc::{AllocError, Global};
 use tree_core::Tree;
-use policy_valid::ValidConfig;
-use policy_validate::UnvalidatedConfig;
-use diag_lists::{Diagnostics, ValidationContext};
 
 /// What a policy asks for.
 #[derive(Drop)]

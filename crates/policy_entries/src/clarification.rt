@@ -5,11 +5,11 @@ ghost use Rattle.policy_entries.specs.WithSpec.{left_of_entry};
 
 use crate::with_spec::read_with_spec;
 use deny_text::{ListOf, Spanned, Text};
-use toml_rows::{FromKeys, finish};
 use policy_parts::FileSources;
 use policy_spec::PackageSpec;
 use policy_toml::{DeserError, Deserialize, TableHelper, Value};
 use std::alloc::Global;
+use toml_rows::{FromKeys, finish};
 
 /// The expression of the crates of a spec, as long as their files are those that it was read from.
 #[derive(Drop)]

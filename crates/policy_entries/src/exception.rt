@@ -6,12 +6,12 @@ ghost use Rattle.policy_entries.specs.WithSpec.{left_of_entry};
 
 use crate::licensee::Licensees;
 use crate::with_spec::read_with_spec;
-use spdx_catalog::Catalog;
 use deny_text::ListOf;
-use toml_rows::{FromKeys, finish, read_table};
 use policy_spec::PackageSpec;
 use policy_toml::{DeserError, Deserialize, TableHelper, Value};
+use spdx_catalog::Catalog;
 use std::alloc::Global;
+use toml_rows::{FromKeys, finish, read_table};
 
 /// What is allowed for the crates of a spec, beside what is allowed for all.
 #[derive(Drop)]

@@ -7,11 +7,11 @@ ghost use Rattle.toml_value.specs.Taken.{left_by, string_of};
 ghost use Rattle.policy_entries.specs.Licensees as spec;
 ghost use Rattle.policy_entries.specs.Licensees.{licensee_of, licensee_in};
 
-use spdx_catalog::Catalog;
 use deny_text::{ListOf, Span, Spanned, Text};
 use policy_toml::{DeserError, Deserialize, ErrorKind, Str, Value};
-use std::alloc::Global;
+use spdx_catalog::Catalog;
 use spdx_terms::{ExprError, ParseError, ParseMode};
+use std::alloc::Global;
 use toml_shapes::one_fault;
 
 /// A licensee at the place of its string. Licensees are told apart and ordered by what they print; the place

@@ -4,10 +4,10 @@ ghost use Rattle.toml_value.specs.Views.{value_view};
 ghost use Rattle.std.specs.Prelude.{◌≡◌};
 ghost use Rattle.policy_entries.specs.WithSpec.{with_spec, left_of_entry};
 
-use toml_rows::{FromKeys, read_table};
 use policy_spec::PackageSpec;
 use policy_toml::{DeserError, Deserialize, Value};
 use std::alloc::Global;
+use toml_rows::{FromKeys, read_table};
 
 /// Reads a spec, and then a table out of what that leaves of the value.
 pub(crate) fn read_with_spec<T: FromKeys<X>, X>(

@@ -2,9 +2,9 @@
 ghost use Rattle.std.specs.Prelude.{◌≡◌};
 ghost use Rattle.policy_load.specs.declared.error.LoadError.TheVariants.{Memory};
 
+use diag_print::PrintError;
 use policy_core::Diagnostics;
 use policy_text::{ConfigError, ReadFault, ShapeErrors, SyntaxError};
-use diag_print::PrintError;
 use std::alloc::AllocError;
 
 /// Why a policy was not loaded.

@@ -20,14 +20,14 @@ ghost use Rattle.policy_load.specs.Load.{policy_file, policy_name, refusal_findi
 ghost use Rattle.diag_print.specs.Findings.{AreInside, HasReasonSince, printed_findings};
 
 use crate::error::LoadError;
-use diag_print::findings::{has_error, print_findings};
 use deny_text::{PathBuf, Text};
 use diag_core::{FileId, Files};
+use diag_print::findings::{has_error, print_findings};
+use diag_print::{LogContext, PrintError};
 use policy_core::{Diagnostics, LoadedPolicy, PolicySource, load_policy, tell_shape};
 use policy_text::{
-    ConfigError, ConfigText, TextHeard, ReadFault, RootConfig, ShapeErrors, read_config,
+    ConfigError, ConfigText, ReadFault, RootConfig, ShapeErrors, TextHeard, read_config,
 };
-use diag_print::{LogContext, PrintError};
 use spdx_core::Catalog;
 use std::alloc::{AllocError, Global};
 use tree_core::{Sink, Tree};

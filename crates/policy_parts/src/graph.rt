@@ -5,9 +5,9 @@ ghost use Rattle.policy_parts.specs.Tables.{graph_rows, graph_config_in, graph_c
 
 use crate::target::Targets;
 use deny_text::Texts;
-use toml_rows::{FromKeys, finish, or_empty, read_table};
 use policy_toml::{DeserError, Deserialize, TableHelper, Value};
 use std::alloc::Global;
+use toml_rows::{FromKeys, finish, or_empty, read_table};
 
 /// Which crates are looked at, and with which features.
 #[derive(Drop)]

@@ -5,9 +5,9 @@ ghost use Rattle.toml_value.specs.Views.{value_view};
 ghost use Rattle.policy_parts.specs.Values.{reason_by, reason_of, left_of_reason};
 
 use deny_text::{Span, Spanned, Text};
-use toml_rows::take_value;
 use policy_toml::{DeserError, Deserialize, ErrorKind, Value};
 use std::alloc::Global;
+use toml_rows::take_value;
 use toml_shapes::{ValueKind, refuse};
 use toml_value::refuse_kind;
 

@@ -6,9 +6,9 @@ ghost use Rattle.toml_value.specs.Views.{value_view};
 ghost use Rattle.policy_parts.specs.Values.{target_at, target_by, target_of, left_of_target};
 
 use deny_text::{ListOf, Spanned, Text, Texts};
-use toml_rows::{FromKeys, finish, or_empty, read_table};
 use policy_toml::{DeserError, Deserialize, TableHelper, Value, ValueInner};
 use std::alloc::Global;
+use toml_rows::{FromKeys, finish, or_empty, read_table};
 
 /// A platform that the graph is made for.
 #[derive(Drop)]

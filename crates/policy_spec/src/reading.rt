@@ -13,10 +13,10 @@ use crate::fault::missing_crate;
 use crate::package_spec::PackageSpec;
 use crate::text::{read_requirement, read_string};
 use deny_text::{Spanned, Text};
-use toml_rows::take_value;
 use policy_toml::{DeserError, Deserialize, Entries, Value};
 use semver::VersionReq;
 use std::alloc::Global;
+use toml_rows::take_value;
 
 impl<X> Deserialize<X> for PackageSpec {
     ghost reads = { λ _ value. spec_of value };

@@ -5,10 +5,10 @@ ghost use Rattle.policy_text.specs.Config.{HasAFault, IsOfText, AnswersConfig, A
 ghost use Rattle.policy_text.specs.Config.{config_of_text, config_of_value, value_of_text};
 
 use crate::error::ConfigError;
-use spdx_catalog::Catalog;
+use graph_selection::has_uncarried;
 use policy_config::RootConfig;
 use policy_toml::{Deserialize, Value, parse};
-use graph_selection::has_uncarried;
+use spdx_catalog::Catalog;
 use std::alloc::Global;
 
 /// The value that a text stands for.

@@ -2,9 +2,9 @@
 ghost use Rattle.std.specs.Prelude.{◌≡◌};
 ghost use Rattle.policy_text.specs.declared.error.ConfigError.TheVariants.{Memory};
 
-use tree_texts::ReadFault;
 use policy_toml::{DeserError, ShapeErrors, SyntaxError, TomlError};
 use std::alloc::AllocError;
+use tree_texts::ReadFault;
 
 /// Why a policy's file gives no policy.
 #[derive(Drop)]

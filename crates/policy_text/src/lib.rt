@@ -7,7 +7,7 @@ pub mod text;
 
 pub use config::read_config;
 pub use error::ConfigError;
-pub use tree_texts::{TextHeard, ReadFault};
 pub use policy_config::{Config, RootConfig};
 pub use policy_toml::{ErrorKind, ShapeError, ShapeErrors, SyntaxError, SyntaxReason};
 pub use text::ConfigText;
+pub use tree_texts::{ReadFault, TextHeard};

@@ -5,8 +5,8 @@ ghost use Rattle.policy_text.specs.Text.{config_text_of};
 
 use crate::error::ConfigError;
 use deny_text::Text;
-use tree_texts::{TextHeard, ReadFault};
 use std::alloc::Global;
+use tree_texts::{ReadFault, TextHeard};
 
 /// The text that a policy is read from.
 #[derive(Drop)]

@@ -12,7 +12,7 @@ ghost use Rattle.toml_value.specs.Views.{value_view, values_view};
 use crate::hundredths::Hundredths;
 use deny_text::{ListOf, Spanned, Text, Texts};
 use std::alloc::{AllocError, Global};
-use toml_shapes::{DeserError, ErrorKind, ValueKind, ShapeErrors, answer, refuse};
+use toml_shapes::{DeserError, ErrorKind, ShapeErrors, ValueKind, answer, refuse};
 use toml_value::{Value, ValueInner, Values, refuse_kind};
 
 /// A type that is read from a value, in a context.

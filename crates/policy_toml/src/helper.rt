@@ -15,7 +15,7 @@ use crate::deserialize::{Deserialize, read_value};
 use deny_text::{Span, Spanned};
 use std::alloc::{AllocError, Global};
 use std::mem;
-use toml_shapes::{DeserError, ErrorKind, ValueKind, ShapeError, ShapeErrors, answer};
+use toml_shapes::{DeserError, ErrorKind, ShapeError, ShapeErrors, ValueKind, answer};
 use toml_subset::Key;
 use toml_value::{Entries, Value, kind_fault};
 

@@ -7,11 +7,11 @@ ghost use Rattle.policy_validate.specs.Valid.{address_judged, kept_by, findings_
 use crate::findings::{ItemOrFinding, error_at, push_judged};
 use deny_text::{Spanned, Text};
 use diag_core::FileId;
+use diag_lists::Diagnostics;
 use graph_source::normalize_git_url;
+use policy_valid::Urls;
 use std::alloc::{AllocError, Global};
 use url::{ParseError, Url};
-use policy_valid::Urls;
-use diag_lists::Diagnostics;
 
 /// Bytes of an address at most.
 const ADDRESS_LIMIT: usize = 65_536;

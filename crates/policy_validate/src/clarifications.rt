@@ -9,11 +9,11 @@ use crate::findings::{ItemOrFinding, error_at, push_judged};
 use crate::order::sort_files;
 use deny_text::Span;
 use diag_core::{Diagnostic, FileId};
+use diag_lists::Diagnostics;
 use policy_entries::{Clarification, Clarifications};
+use policy_valid::{ValidClarification, ValidClarifications};
 use spdx_core::{Catalog, ExprError, Expression, ParseError, ParseMode};
 use std::alloc::{AllocError, Global};
-use policy_valid::{ValidClarification, ValidClarifications};
-use diag_lists::Diagnostics;
 
 /// A place in the expression's text, as a place in the file. Where the string has escapes it is the whole
 /// string.

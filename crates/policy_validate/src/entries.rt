@@ -4,8 +4,8 @@ ghost use Rattle.policy_validate.specs.Valid.{exception_in};
 
 use diag_core::FileId;
 use policy_entries::Exceptions;
-use std::alloc::AllocError;
 use policy_valid::{ValidException, ValidExceptions};
+use std::alloc::AllocError;
 
 /// Puts the exceptions of a file behind the others, as they stand there.
 pub fn add_exceptions(

@@ -5,8 +5,8 @@ ghost use Rattle.policy_validate.specs.Valid as spec;
 
 use deny_text::{ListOf, Span};
 use diag_core::{Deprecated, DeprecationReason, Diagnostic, FileId, Label, Severity};
-use std::alloc::{AllocError, Global};
 use diag_lists::Diagnostics;
+use std::alloc::{AllocError, Global};
 
 /// An item as it is kept, or what is told of it.
 pub type ItemOrFinding<T> = Result<T, Diagnostic>;

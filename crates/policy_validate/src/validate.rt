@@ -10,11 +10,11 @@ use crate::entries::add_exceptions;
 use crate::findings::tell_removed;
 use crate::order::sort_licensees;
 use diag_core::FileId;
+use diag_lists::{Diagnostics, ValidationContext};
 use policy_config::Config;
+use policy_valid::{ValidConfig, ValidExceptions};
 use spdx_core::Catalog;
 use std::alloc::{AllocError, Global};
-use policy_valid::{ValidConfig, ValidExceptions};
-use diag_lists::{Diagnostics, ValidationContext};
 
 /// A configuration that has its shape, and may still be wrong.
 pub trait UnvalidatedConfig<X> {

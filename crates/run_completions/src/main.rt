@@ -1,7 +1,7 @@
 //! Prints the completion of the command line for bash, which zsh reads through `bashcompinit`.
 #![tactic(auto)]
 
-use run_request::options::{OptionUse, OptionRow, OptionValues, check_rows, main_rows};
+use run_request::options::{OptionRow, OptionUse, OptionValues, check_rows, main_rows};
 use std::alloc::{AllocError, Global};
 use std::io;
 

@@ -8,11 +8,11 @@ ghost use Rattle.run_context.specs.Asked as spec;
 ghost use Rattle.run_context.specs.Asked.{IsAnswerBy, IsUnasked, choice_asked};
 
 use deny_text::Texts;
-use run_request::KrateContext;
 use graph_selection::{has_uncarried, read_specs};
+use graph_workspace::{ExcludeSpecs, Krates, KratesError, Selection, What, krates_at};
+use run_request::KrateContext;
 use std::alloc::{AllocError, Global};
 use tree_core::Tree;
-use graph_workspace::{ExcludeSpecs, Krates, KratesError, Selection, What, krates_at};
 
 /// The first part of a request that is not carried.
 fn uncarried(context: &KrateContext, cfg_excludes: &Texts) -> Option<What>

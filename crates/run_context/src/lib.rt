@@ -5,9 +5,9 @@ pub mod gather;
 pub mod paths;
 
 pub use gather::gather_krates;
-pub use paths::{config_path_since, get_config_path, get_local_exceptions_path};
-pub use run_request::KrateContext;
-pub use tree_texts::SearchError;
 pub use graph_workspace::{
     ExcludeSpec, ExcludeSpecs, Krates, KratesError, ReadFault, Selection, What,
 };
+pub use paths::{config_path_since, get_config_path, get_local_exceptions_path};
+pub use run_request::KrateContext;
+pub use tree_texts::SearchError;

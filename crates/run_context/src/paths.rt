@@ -9,9 +9,9 @@ ghost use Rattle.run_context.specs.Paths.{ConfigPathUntil, ExceptionsPathUntil};
 use deny_text::PathBuf;
 use deny_text::path::join;
 use run_request::KrateContext;
-use tree_texts::{SearchError, SoughtFile, find_upwards};
 use std::alloc::Global;
 use tree_core::Tree;
+use tree_texts::{SearchError, SoughtFile, find_upwards};
 
 /// The policy's path: the one that is given, joined to the folder of the call, at which nothing is looked
 /// for; else the one that is found. `begun` is the tree's count of faults when the run began.

@@ -4,7 +4,7 @@ ghost use Rattle.clap.specs.Words.{rule_of, new_rule, app_of, shape_of, with_sub
 ghost use Rattle.run_request.specs.Cli.{cli, top_shape, alone, check_shape, list_shape, sample_shape};
 ghost use Rattle.run_request.specs.OptionRow.{rule_of_row, defaults_of, grown};
 
-use crate::options::{OptionUse, OptionRow, check_rows, list_rows, main_rows, sample_rows};
+use crate::options::{OptionRow, OptionUse, check_rows, list_rows, main_rows, sample_rows};
 use clap::{Arg, ArgAction, Command};
 use std::alloc::{AllocError, Global};
 

@@ -1,6 +1,6 @@
 //! What is said of values that are refused.
 
-use crate::options::{OptionUse, OptionRow, OptionValues};
+use crate::options::{OptionRow, OptionUse, OptionValues};
 use std::alloc::{AllocError, Global};
 
 /// That a value is outside its table, and which values are possible.

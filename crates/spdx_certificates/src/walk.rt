@@ -76,7 +76,12 @@ impl WalkState {
                 walk.takes_both_of_and(),
                 right,
             ),
-            NodeMark::Or { right } => go_on(&mut self.flags, is_taken, walk.takes_both_of_or(), right),
+            NodeMark::Or { right } => go_on(
+                &mut self.flags,
+                is_taken,
+                walk.takes_both_of_or(),
+                right,
+            ),
         }
     }
 }

@@ -5,12 +5,12 @@ ghost use Rattle.spdx_core.specs.Reading.{postfix};
 
 use crate::node::ExprNode;
 use crate::read::read_text;
-use spdx_catalog::Catalog;
 use deny_text::Text;
+use spdx_catalog::Catalog;
+use spdx_terms::{ExprError, ExpressionReq, ParseMode};
 use std::alloc::{AllocError, Global};
 use std::fmt;
 use std::marker::Model;
-use spdx_terms::{ExprError, ExpressionReq, ParseMode};
 
 /// A licence expression as it was read: its text, its terms in text order, and how they are joined. It prints
 /// its text.

@@ -8,9 +8,9 @@ mod read;
 mod reader;
 mod stack;
 
-pub use spdx_catalog::{Catalog, Identifier, Imprecise, LicenseEntry, LicenseStore, Match, Table};
 pub use expression::Expression;
 pub use node::ExprNode;
+pub use spdx_catalog::{Catalog, Identifier, Imprecise, LicenseEntry, LicenseStore, Match, Table};
 pub use spdx_terms::{
     ExprError, ExpressionReq, Family, LicenseItem, LicenseReq, Licensee, ParseError, ParseMode,
     ParseReason,

@@ -5,13 +5,13 @@ ghost use Rattle.spdx_core.specs.Answers.{StepAnswers, TextAnswer};
 
 use crate::reader::Reader;
 use crate::stack::Stack;
-use spdx_catalog::Catalog;
 use deny_text::Span;
-use std::alloc::{AllocError, Global};
+use spdx_catalog::Catalog;
 use spdx_terms::fault::{empty_fault, end_fault, item_fault};
-use spdx_terms::item::{Item, WantedItem, ItemKind};
+use spdx_terms::item::{Item, ItemKind, WantedItem};
 use spdx_terms::items::next_item;
 use spdx_terms::{ExprError, ParseMode};
+use std::alloc::{AllocError, Global};
 
 /// What was read, what is wanted behind it, and where the open parentheses stand.
 #[derive(Drop)]

@@ -8,9 +8,9 @@ ghost use Rattle.spdx_core.specs.Reading.{with_exception, excepted as with_name}
 use crate::node::ExprNode;
 use crate::stack::Stack;
 use deny_text::{Span, Text};
-use std::alloc::{AllocError, Global};
-use spdx_terms::item::{Simple, ItemKind};
+use spdx_terms::item::{ItemKind, Simple};
 use spdx_terms::{ExpressionReq, LicenseReq};
+use std::alloc::{AllocError, Global};
 
 /// What waits for its right side between two parentheses.
 #[derive(Clone, Copy)]
@@ -153,7 +153,8 @@ impl Reader {
             ItemKind::Or => self.end_conjunction(),
             ItemKind::Open => self.open(),
             ItemKind::Close => self.close(),
-            ItemKind::And | ItemKind::With | ItemKind::Plus | ItemKind::Word | ItemKind::Other => Ok(()),
+            ItemKind::And | ItemKind::With | ItemKind::Plus | ItemKind::Word | ItemKind::Other =>
+                Ok(()),
         }
     }
 

@@ -5,7 +5,7 @@ ghost use Rattle.spdx_terms.specs.Faults.{word_reason, fault as fault_between, u
 ghost use Rattle.spdx_terms.specs.Faults.{mark_fault as mark_fault_of, item_fault, end_fault as end_fault_at};
 
 use crate::error::{ParseError, ParseReason};
-use crate::item::{Item, Simple, WantedItem, ItemKind};
+use crate::item::{Item, ItemKind, Simple, WantedItem};
 use crate::mode::ParseMode;
 use deny_text::Span;
 
@@ -89,7 +89,12 @@ fn mark_fault(simple: &Simple, mode: ParseMode, span: Span) -> Option<ParseError
 }
 
 /// What is wrong with an item, by what is wanted and by whether a parenthesis is open.
-pub fn item_fault(item: &Item, mode: ParseMode, wanted: WantedItem, is_open: bool) -> Option<ParseError>
+pub fn item_fault(
+    item: &Item,
+    mode: ParseMode,
+    wanted: WantedItem,
+    is_open: bool,
+) -> Option<ParseError>
     ensures { result ≡ item_fault mode wanted is_open item.now.what item.now.span }
 {
     let span = item.span;

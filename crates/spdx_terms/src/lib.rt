@@ -12,7 +12,7 @@ pub mod term;
 mod words;
 
 pub use error::{ExprError, ParseError, ParseReason};
-pub use item::{Item, LicenseMarks, Simple, WantedItem, ItemKind};
+pub use item::{Item, ItemKind, LicenseMarks, Simple, WantedItem};
 pub use licensee::Licensee;
 pub use mode::ParseMode;
 pub use term::{ExpressionReq, Family, LicenseItem, LicenseReq};

@@ -13,12 +13,12 @@ ghost use Rattle.std.specs.Option.{option_and_then};
 
 use crate::error::{ExprError, ParseError, ParseReason};
 use crate::fault::{empty_fault, end_fault, item_fault};
-use crate::item::{Item, LicenseMarks, WantedItem, ItemKind};
+use crate::item::{Item, ItemKind, LicenseMarks, WantedItem};
 use crate::items::item_vec;
 use crate::mode::ParseMode;
 use crate::term::{LicenseItem, LicenseReq};
-use spdx_catalog::Catalog;
 use deny_text::{Steps, Text};
+use spdx_catalog::Catalog;
 use std::alloc::{AllocError, Global};
 use std::cmp::Ordering;
 use std::fmt;

@@ -1,13 +1,13 @@
 //! What is told of files that can't be read, and of rows and cases that differ.
+use std::alloc::{AllocError, Global};
+use std::rt::Runtime;
+use std::test::Fail;
 use tests_files::cases::told_cases;
 use tests_files::rows::told_rows;
 use tests_files::told::{show, text_of};
 use tests_files::{
-    KeyAnswer, Case, Cases, Rows, AnswerText, Tally, compare_cases, compare_rows, exit_code,
+    AnswerText, Case, Cases, KeyAnswer, Rows, Tally, compare_cases, compare_rows, exit_code,
 };
-use std::alloc::{AllocError, Global};
-use std::rt::Runtime;
-use std::test::Fail;
 
 /// The group `same` answers each text by itself, and the key `said` by the word behind `say`.
 struct Same;

@@ -2,8 +2,8 @@
 ghost use Rattle.std.specs.Prelude.{◌≡◌};
 
 use deny_text::Span;
-use toml_keys::KeyIndex;
 use std::test::Fail;
+use toml_keys::KeyIndex;
 use toml_subset::{Key, plain_string};
 
 const PLACE: Span = Span { start: 0, end: 1 };

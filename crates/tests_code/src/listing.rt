@@ -2,8 +2,8 @@
 ghost use Rattle.std.specs.Prelude.{◌≡◌, [], ◌∷◌, IfOk, Contains, map, codes, true, false};
 ghost use Rattle.spdx_catalog.specs.Catalog.{IsCatalog, entry_of};
 
-use spdx_catalog::{Catalog, Imprecise, LicenseEntry};
 use deny_text::{ListOf, Text};
+use spdx_catalog::{Catalog, Imprecise, LicenseEntry};
 use std::alloc::{AllocError, Global};
 use std::test::Fail;
 

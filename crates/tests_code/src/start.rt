@@ -2,7 +2,7 @@
 use crate::made_up::Process;
 use deny_gate::{StartError, exit_code, gate_over, named_paths};
 use deny_run::error::{Error, InputPart};
-use deny_run::report::{CrateReport, RunEnd, Outcome, Verdict};
+use deny_run::report::{CrateReport, Outcome, RunEnd, Verdict};
 use std::alloc::{AllocError, Global};
 use std::io::ErrorKind;
 use std::process::ExitCode;

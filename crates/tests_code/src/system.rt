@@ -424,8 +424,16 @@ const ENTRIES: [(PathState, PathState, &str); 11] = [
         PathState::Link,
         "Failed 1",
     ),
-    (PathState::Fails(ErrorKind::NotFound), PathState::Link, "no file 0"),
-    (PathState::Fails(ErrorKind::NotFound), PathState::File(1), "Failed 1"),
+    (
+        PathState::Fails(ErrorKind::NotFound),
+        PathState::Link,
+        "no file 0",
+    ),
+    (
+        PathState::Fails(ErrorKind::NotFound),
+        PathState::File(1),
+        "Failed 1",
+    ),
     (
         PathState::Fails(ErrorKind::NotFound),
         PathState::Fails(ErrorKind::NotFound),
@@ -475,7 +483,11 @@ fn each_entry_is_looked_at(rt: HostRuntime) -> Result<(), Fail> {
 /// What stands at the path, whether the path is named, and what is told.
 const KINDS: [(PathState, bool, &str); 5] = [
     // A told length of 0 says nothing: the system has files that are made as they are read.
-    (PathState::File(0), false, "hello 0; WrongKind 0; yes 0; yes 0; "),
+    (
+        PathState::File(0),
+        false,
+        "hello 0; WrongKind 0; yes 0; yes 0; ",
+    ),
     (
         PathState::File(67_108_864),
         false,
@@ -487,7 +499,11 @@ const KINDS: [(PathState, bool, &str); 5] = [
         "Failed 1; WrongKind 0; yes 0; yes 0; ",
     ),
     // What is neither a file nor a folder, as a pipe.
-    (PathState::Link, false, "Failed 1; WrongKind 0; no 0; yes 0; "),
+    (
+        PathState::Link,
+        false,
+        "Failed 1; WrongKind 0; no 0; yes 0; ",
+    ),
     (PathState::Link, true, "hello 0; WrongKind 0; no 0; yes 0; "),
 ];
 

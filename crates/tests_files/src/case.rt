@@ -162,7 +162,12 @@ fn put_entry(
 }
 
 /// Takes a line that begins no block: an entry, or a line of the last one's text.
-fn put(alloc: Global, entries: &mut Vec<CaseEntry>, line: u64, text: &str) -> Result<(), UnreadLine> {
+fn put(
+    alloc: Global,
+    entries: &mut Vec<CaseEntry>,
+    line: u64,
+    text: &str,
+) -> Result<(), UnreadLine> {
     if text.starts_with(' ') {
         return Ok(put_entry(alloc, entries, line, text)?);
     }
@@ -197,7 +202,12 @@ fn put_block(
     Ok(blocks.push(block)?)
 }
 
-fn add_line(alloc: Global, blocks: &mut Vec<Block>, line: u64, text: &str) -> Result<(), UnreadLine> {
+fn add_line(
+    alloc: Global,
+    blocks: &mut Vec<Block>,
+    line: u64,
+    text: &str,
+) -> Result<(), UnreadLine> {
     if let Some((is_base, name)) = beginning(text) {
         return Ok(put_block(alloc, blocks, line, is_base, name)?);
     }

@@ -11,7 +11,7 @@ pub mod told;
 pub mod tree;
 
 pub use case::{Case, CaseEntry};
-pub use cases::{KeyAnswer, Cases, compare_cases};
+pub use cases::{Cases, KeyAnswer, compare_cases};
 pub use names::NameIdentifier;
 pub use rows::{Rows, compare_rows};
 pub use shown::AnswerText;

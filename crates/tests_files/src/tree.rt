@@ -72,7 +72,12 @@ pub fn text_of(alloc: Global, case: &Case<'_>, entry: &CaseEntry) -> Result<Vec<
     Ok(out)
 }
 
-fn put_file(alloc: Global, tree: &mut MemTree, case: &Case<'_>, entry: &CaseEntry) -> io::Result<()> {
+fn put_file(
+    alloc: Global,
+    tree: &mut MemTree,
+    case: &Case<'_>,
+    entry: &CaseEntry,
+) -> io::Result<()> {
     let bytes = text_of(alloc, case, entry)?;
     match tree.put(entry.word.as_str(), &bytes) {
         Ok(()) => Ok(()),

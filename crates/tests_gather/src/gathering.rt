@@ -1,22 +1,22 @@
 //! Crates of metadata, gathered over the policy, the table and the tree of a case; and the files of a crate in the folder `/w`: what
 //! is read and listed, where fields stand, its pack, and the names that are joined.
 use crate::given::{OF_FEED, World, first_word, policy_of, world_of};
-use tests_files::tree::text_of;
-use tests_files::{Case, CaseEntry, NameIdentifier, AnswerText};
 use deny_text::{PathBuf, Span, Text};
 use diag_core::{Diag, Files, Label, LabelStyle};
-use gather_expression::{joined, scan_pack};
 use gather_core::{Gatherer, KrateLicense, LicenseExprSource, LicenseInfo, Summary};
-use gather_location::{LocatedField, locate};
+use gather_expression::{joined, scan_pack};
 use gather_files::{LicensePack, TriedClarification};
 use gather_licence::FileRef;
-use tree_reads::{FolderHeard, list_folder, listing_record, read_file};
+use gather_location::{LocatedField, locate};
 use graph_metadata::records;
 use graph_selection::{ExcludeSpecs, Krates, Selection};
+use policy_valid::ValidConfig;
 use spdx_core::Table;
 use std::alloc::Global;
+use tests_files::tree::text_of;
+use tests_files::{AnswerText, Case, CaseEntry, NameIdentifier};
 use tree_core::{MemTree, ReadRecord};
-use policy_valid::ValidConfig;
+use tree_reads::{FolderHeard, list_folder, listing_record, read_file};
 
 /// The crates of the metadata of a case.
 fn krates(alloc: Global, case: &Case<'_>) -> Option<Krates> {
@@ -216,7 +216,12 @@ fn put_field(alloc: Global, out: &mut AnswerText, world: &mut World, words: &str
 }
 
 /// Reads, lists or looks for what an entry names.
-fn put_entry(alloc: Global, out: &mut AnswerText, world: &mut World, entry: &CaseEntry) -> Option<()> {
+fn put_entry(
+    alloc: Global,
+    out: &mut AnswerText,
+    world: &mut World,
+    entry: &CaseEntry,
+) -> Option<()> {
     let words = entry.word.as_str();
     match entry.key.as_str() {
         "read" => put_read(alloc, out, &mut world.tree, words),

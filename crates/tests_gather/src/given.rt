@@ -1,22 +1,22 @@
 //! What cases and rows are given: words, trees, tables, crates and policies, in which `MIT@21-24` is a name with its place, and
 //! `c@52-53: ISC@66-69` an exception for a crate. Each is none where it can't be read or has no memory.
-use tests_files::cases::wanted;
-use tests_files::tree::{text_of, tree_of};
-use tests_files::{Case, CaseEntry};
 use deny_text::{PathBuf, Span, Spanned, Text, TextMap, Texts};
 use diag_core::Files;
 use graph_core::Krate;
 use policy_entries::{Licensee, Licensees};
 use policy_parts::{FileSource, FileSources, LintLevel, Private, SpannedTexts};
 use policy_spec::PackageSpec;
-use semver::Version;
-use spdx_core::{Expression, ParseMode, Table};
-use std::alloc::Global;
-use tree_core::MemTree;
-use url::Url;
 use policy_valid::{
     Urls, ValidClarification, ValidClarifications, ValidConfig, ValidException, ValidExceptions,
 };
+use semver::Version;
+use spdx_core::{Expression, ParseMode, Table};
+use std::alloc::Global;
+use tests_files::cases::wanted;
+use tests_files::tree::{text_of, tree_of};
+use tests_files::{Case, CaseEntry};
+use tree_core::MemTree;
+use url::Url;
 
 /// The hash of one LF, as `xxhsum -H0` has it.
 pub const OF_FEED: u32 = 0x81c9_d352;

@@ -6,22 +6,22 @@ use crate::given::{
     expression, first_word, krate, number, placed_text, policy, policy_of, span, table, texts,
     value,
 };
-use tests_files::{Case, CaseEntry, AnswerText};
+use check_evaluate::{Evaluator, Hit, Hits, TermPlaces, Verdict};
+use check_unused::{EntryHits, last_pack};
+use check_verdicts::{finding, fits, judged, pack_of, skipped, unlicensed};
 use deny_text::{Steps, Text, Texts};
 use diag_core::licenses::Code;
 use diag_core::{Diag, Files, Label, Labels, LevelFilter, Notes, Pack, Severity};
-use check_evaluate::{Evaluator, Hit, Hits, TermPlaces, Verdict};
+use diag_print::{Color, DiagPrinter, Format, LogContext, pack_labels_are_inside};
 use gather_core::{LicenseExprInfo, LicenseExprSource};
 use graph_core::{Krate, Source};
-use diag_print::{Color, DiagPrinter, Format, LogContext, pack_labels_are_inside};
+use policy_valid::ValidConfig;
 use spdx_core::Expression;
 use std::alloc::{AllocError, Global};
 use std::marker::Brand;
 use std::sync::ledger::{Blank, Ledger};
+use tests_files::{AnswerText, Case, CaseEntry};
 use tree_core::MemSink;
-use check_unused::{EntryHits, last_pack};
-use policy_valid::ValidConfig;
-use check_verdicts::{finding, fits, judged, pack_of, skipped, unlicensed};
 
 fn put_places(out: &mut AnswerText, of: &str, places: &TermPlaces) {
     out.put(of);

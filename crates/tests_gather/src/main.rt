@@ -7,9 +7,11 @@ mod judged;
 mod pointed;
 mod texts;
 
-use tests_files::{KeyAnswer, Case, Cases, Rows, AnswerText, compare_cases, compare_rows, exit_code};
 use std::alloc::Global;
 use std::process::ExitCode;
+use tests_files::{
+    AnswerText, Case, Cases, KeyAnswer, Rows, compare_cases, compare_rows, exit_code,
+};
 
 /// Rows of texts.
 struct TextRows;

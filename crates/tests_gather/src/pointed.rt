@@ -4,16 +4,19 @@ ghost use Rattle.graph_core.specs.Krate.{record_of};
 
 use crate::gathering::put_findings;
 use crate::given::{World, file_told, first_word, krate, span, table, value, world_of};
-use tests_files::{Case, CaseEntry, AnswerText};
 use deny_text::{ListOf, PathBuf, Text};
 use diag_core::{Coord, Diag, Files};
-use gather_expression::{IdentifiedName, FileResult, ScannedFile};
-use gather_findings::{UnclarifiedCrate as Unsettled, PlacedFindings, SeenFiles, ExpressionBasis, find, missing_file, read_field};
-use graph_core::Krate;
+use gather_expression::{FileResult, IdentifiedName, ScannedFile};
+use gather_findings::{
+    ExpressionBasis, PlacedFindings, SeenFiles, UnclarifiedCrate as Unsettled, find, missing_file,
+    read_field,
+};
 use gather_location::locate;
-use tree_reads::BadRead;
+use graph_core::Krate;
 use spdx_core::Table;
 use std::alloc::Global;
+use tests_files::{AnswerText, Case, CaseEntry};
+use tree_reads::BadRead;
 
 fn bad_read(word: &str) -> Option<BadRead> {
     match word {
@@ -67,7 +70,11 @@ fn scanned_files(alloc: Global, entries: &[CaseEntry]) -> Option<ListOf<ScannedF
 }
 
 /// What settles the licence: the field, or else the files or why they were not listed, with what is joined.
-fn settles<'a>(case: &Case<'_>, files: &'a [ScannedFile], joined: Option<&'a str>) -> ExpressionBasis<'a> {
+fn settles<'a>(
+    case: &Case<'_>,
+    files: &'a [ScannedFile],
+    joined: Option<&'a str>,
+) -> ExpressionBasis<'a> {
     if case.word("settles") == "field" {
         return ExpressionBasis::Field;
     }
@@ -89,7 +96,12 @@ fn field_of(krate: &Krate) -> &str
 }
 
 /// What is found, of which nothing is said.
-fn found(alloc: Global, world: &mut World, krate: &Krate, settles: ExpressionBasis<'_>) -> Option<PlacedFindings> {
+fn found(
+    alloc: Global,
+    world: &mut World,
+    krate: &Krate,
+    settles: ExpressionBasis<'_>,
+) -> Option<PlacedFindings> {
     let field = field_of(krate);
     let read = read_field(alloc, field, &Table).ok()?;
     let files = &mut world.files;

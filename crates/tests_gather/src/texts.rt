@@ -1,10 +1,10 @@
 //! Fields, their places in manifests and in expressions with slashes, and texts that are written in place of a manifest.
 use crate::given::{file_told, first_word, placed_text};
-use tests_files::{Case, CaseEntry, AnswerText};
+use diag_texts::{FileNote, Synthetic, TextPiece, correct_span, license_span};
 use gather_expression::field;
-use diag_texts::{TextPiece, Synthetic, FileNote, correct_span, license_span};
 use spdx_core::Table;
 use std::alloc::{AllocError, Global};
+use tests_files::{AnswerText, Case, CaseEntry};
 
 /// How many terms the expression of a field has; none, where it is no expression.
 pub fn put_terms(alloc: Global, text: &str, out: &mut AnswerText) -> Option<()> {

@@ -4,12 +4,12 @@
 //! where its publish list is empty and `~` where a registry stands in it. Behind an arrow stand the crates that it depends on, each
 //! with its kinds, or with `none` for an empty list of kinds, or alone, where there is no such list.
 use crate::given;
-use tests_files::{Case, AnswerText};
 use graph_metadata::{Krate, MetaError, records};
 use graph_selection::{
     BuildError, DepKind, ExcludeSpec, ExcludeSpecs, Include, KrateRefs, Krates, Metadata, Selection,
 };
 use std::alloc::{AllocError, Global};
+use tests_files::{AnswerText, Case};
 
 /// A line's crate without what tells of its publish list, that list, and what it depends on.
 fn parts_of(line: &str) -> (&str, &'static str, &str) {

@@ -7,10 +7,12 @@ mod records;
 mod sources;
 mod trees;
 
-use tests_files::cases::{is_among, wanted};
-use tests_files::{KeyAnswer, Case, Cases, Rows, AnswerText, compare_cases, compare_rows, exit_code};
 use std::alloc::Global;
 use std::process::ExitCode;
+use tests_files::cases::{is_among, wanted};
+use tests_files::{
+    AnswerText, Case, Cases, KeyAnswer, Rows, compare_cases, compare_rows, exit_code,
+};
 
 /// The folder in which cargo keeps crates of the sparse index of crates.io.
 const SPARSE_DIR: &str = "index.crates.io-1949cf8c6b5b557f";

@@ -1,10 +1,10 @@
 //! The records that metadata tells, or what its fault is.
 use crate::SPARSE_DIR;
-use tests_files::AnswerText;
 use deny_text::Texts;
 use graph_metadata::{Edge, Krate, MetaError, Metadata, records};
 use std::alloc::Global;
 use std::fmt::Display;
+use tests_files::AnswerText;
 
 /// The metadata of one crate, in which a row puts one text in place of another.
 const ONE_CRATE: &str = r#"

@@ -1,9 +1,9 @@
 //! Sources, how they compare, the addresses that they match, and the normal form of git addresses.
 use crate::SPARSE_DIR;
-use tests_files::AnswerText;
 use graph_source::{Source, SourceError, matches_address, normalize_git_url};
 use std::alloc::Global;
 use std::cmp::Ordering;
+use tests_files::AnswerText;
 use url::Url;
 
 /// The source that metadata has, with the path of the crate's manifest behind ` at `; or `crates.io`, or `crates.io, sparse`.

@@ -1,12 +1,12 @@
 //! The crates that are gathered for a request, and the policy and the exceptions file that are found in a tree.
 use crate::graphs::put_ids;
-use tests_files::tree::{number, tree_of};
-use tests_files::{KeyAnswer, Case, AnswerText};
-use run_context::{KrateContext, Krates, KratesError, gather_krates};
 use deny_text::{PathBuf, Text, Texts};
-use tree_texts::{SearchError, SoughtFile, find_upwards};
+use run_context::{KrateContext, Krates, KratesError, gather_krates};
 use std::alloc::{AllocError, Global};
+use tests_files::tree::{number, tree_of};
+use tests_files::{AnswerText, Case, KeyAnswer};
 use tree_core::{MemTree, PutError, Tree};
+use tree_texts::{SearchError, SoughtFile, find_upwards};
 
 /// Makes the call with this number fail, or none where it is 0.
 fn fail_call(out: &mut AnswerText, tree: &mut MemTree, word: &str) {

@@ -2,18 +2,18 @@
 use crate::show::{
     put_all, put_clarified, put_config, put_findings, put_refusal, put_root, put_texts,
 };
-use tests_files::cases::{is_among, wanted};
-use tests_files::tree::{number, tree_of};
-use tests_files::{KeyAnswer, Case, Cases, AnswerText};
 use deny_text::PathBuf;
 use diag_core::{Files, LevelFilter};
-use policy_load::{LoadError, LoadedPolicy, PolicyPaths, load};
-use policy_core::{Config, Licensees, RootConfig, ValidExceptions};
-use policy_text::{ConfigError, read_config};
 use diag_print::{Color, Format, LogContext};
+use policy_core::{Config, Licensees, RootConfig, ValidExceptions};
+use policy_load::{LoadError, LoadedPolicy, PolicyPaths, load};
+use policy_text::{ConfigError, read_config};
 use spdx_core::Table;
 use std::alloc::{AllocError, Global};
 use std::io;
+use tests_files::cases::{is_among, wanted};
+use tests_files::tree::{number, tree_of};
+use tests_files::{AnswerText, Case, Cases, KeyAnswer};
 use tree_core::{MemSink, MemTree, Tree};
 
 /// The policy of a text, of which nothing is said: whoever calls this owes nothing of the contract.
@@ -238,7 +238,12 @@ fn put_ending(key: &str, ending: &LoadEnding, out: &mut AnswerText) -> KeyAnswer
 }
 
 /// Puts what a key names of the load of a case.
-fn put_load(alloc: Global, case: &Case<'_>, key: &str, out: &mut AnswerText) -> io::Result<KeyAnswer> {
+fn put_load(
+    alloc: Global,
+    case: &Case<'_>,
+    key: &str,
+    out: &mut AnswerText,
+) -> io::Result<KeyAnswer> {
     let ending = ending_of(alloc, case, 1000)?;
     if key == "cut" {
         put_cuts(alloc, case, printed(&ending.sink), out)?;

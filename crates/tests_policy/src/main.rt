@@ -5,10 +5,10 @@ mod cases;
 mod rows;
 mod show;
 
-use tests_files::{compare_cases, compare_rows, exit_code};
 use cases::PolicyCases;
 use rows::PolicyRows;
 use std::process::ExitCode;
+use tests_files::{compare_cases, compare_rows, exit_code};
 
 fn main(rt: HostRuntime) -> ExitCode {
     let parts = compare_rows(&rt, "parts.txt", &PolicyRows);

@@ -1,20 +1,20 @@
 //! Rows of the parts and entries of a policy, each a text that is one value, and of parts that are validated.
 use crate::cases::{put_policy, read_policy};
 use crate::show::{Fields, put_at, put_clarified, put_findings, put_refusal, put_spans};
-use tests_files::{Rows, AnswerText};
 use deny_text::{Span, Spanned, Text};
 use diag_core::{Diagnostic, Files, Severity};
-use toml_rows::{Spans, deprecated, finish};
-use policy_load::{Diagnostics, LoadError};
 use policy_core::{
     BlanketAgreement, Clarification, Config, Exception, ExceptionsFile, FileSource, GraphConfig,
     Licensee, LintLevel, OutputConfig, Private, Reason, Scope, SpannedList, UnvalidatedConfig,
     ValidConfig, ValidationContext,
 };
+use policy_load::{Diagnostics, LoadError};
 use policy_text::{ConfigError, ConfigText, ReadFault};
 use policy_toml::{Deserialize, TableHelper, Value};
 use spdx_core::Table;
 use std::alloc::{AllocError, Global};
+use tests_files::{AnswerText, Rows};
+use toml_rows::{Spans, deprecated, finish};
 use toml_value::read_value;
 
 fn value_of(alloc: Global, text: &str) -> Result<Value<'_>, ConfigError> {
@@ -91,7 +91,11 @@ fn put_reason(alloc: Global, value: &mut Value<'_>, out: &mut AnswerText) {
 }
 
 /// Puts what a key `old` that holds a flag and is no longer used gives, where it stands, and what is told at the table's end.
-fn put_removed(alloc: Global, value: &mut Value<'_>, out: &mut AnswerText) -> Result<(), ConfigError> {
+fn put_removed(
+    alloc: Global,
+    value: &mut Value<'_>,
+    out: &mut AnswerText,
+) -> Result<(), ConfigError> {
     let mut table = TableHelper::new(alloc, value)?;
     let mut spans = Spans::new(alloc);
     let flag: Option<bool> = deprecated(alloc, &mut table, "old", &mut spans, &())?;
@@ -104,7 +108,12 @@ fn put_removed(alloc: Global, value: &mut Value<'_>, out: &mut AnswerText) -> Re
 }
 
 /// Puts what a table comes to of which more is told than what its type reads.
-fn put_table(alloc: Global, group: &str, text: &str, out: &mut AnswerText) -> Result<(), ConfigError> {
+fn put_table(
+    alloc: Global,
+    group: &str,
+    text: &str,
+    out: &mut AnswerText,
+) -> Result<(), ConfigError> {
     let mut value = value_of(alloc, text)?;
     if group == "reason" {
         put_reason(alloc, &mut value, out);
@@ -152,7 +161,12 @@ fn put_valid(
 }
 
 /// Puts what is valid of a policy, and all that is told. The policy has the number 3.
-fn put_told(alloc: Global, group: &str, text: &str, out: &mut AnswerText) -> Result<(), ConfigError> {
+fn put_told(
+    alloc: Global,
+    group: &str,
+    text: &str,
+    out: &mut AnswerText,
+) -> Result<(), ConfigError> {
     let mut files = Files::new(alloc);
     let mut found = Diagnostics::new(alloc);
     let context = ValidationContext {
@@ -200,7 +214,12 @@ fn words_left<'t>(
 }
 
 /// Puts all that is told of some words, and those that are left.
-fn put_left(alloc: Global, group: &str, text: &str, out: &mut AnswerText) -> Result<(), ConfigError> {
+fn put_left(
+    alloc: Global,
+    group: &str,
+    text: &str,
+    out: &mut AnswerText,
+) -> Result<(), ConfigError> {
     let mut found = Diagnostics::new(alloc);
     let words = words_left(alloc, group, text, &mut found)?;
     put_findings(out, &found);
@@ -211,7 +230,12 @@ fn put_left(alloc: Global, group: &str, text: &str, out: &mut AnswerText) -> Res
 }
 
 /// Puts what a text comes to in a group of which several calls are made.
-fn put_called(alloc: Global, group: &str, text: &str, out: &mut AnswerText) -> Result<(), ConfigError> {
+fn put_called(
+    alloc: Global,
+    group: &str,
+    text: &str,
+    out: &mut AnswerText,
+) -> Result<(), ConfigError> {
     match group {
         "reason" | "removed key" => put_table(alloc, group, text, out),
         "two licensees" => put_order(alloc, text, out),

@@ -1,13 +1,13 @@
 //! What was read, told or refused as one text: each field, or the faults with their places.
-use tests_files::AnswerText;
 use deny_text::{Span, Spanned, Texts};
 use diag_core::{Label, LabelStyle, Severity};
-use policy_load::{Diagnostics, LoadError};
 use policy_core::{
     BlanketAgreement, Clarification, Config, Exception, ExceptionsFile, FileSource, GraphConfig,
     Licensee, LintLevel, OutputConfig, Private, RootConfig, Scope, ValidClarifications,
 };
+use policy_load::{Diagnostics, LoadError};
 use std::fmt::Display;
+use tests_files::AnswerText;
 
 pub fn put_span(out: &mut AnswerText, span: Span) {
     write!(out, "{}..{}", span.start, span.end);

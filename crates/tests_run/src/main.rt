@@ -2,9 +2,9 @@
 //! not as a person wrote it there.
 #![tactic(auto)]
 
+use std::process::ExitCode;
 use tests_files::exit_code;
 use tests_runner::compare_runs;
-use std::process::ExitCode;
 
 /// Files of cases: of the first path and failures, of metadata, of policies, of what is found, of what is read of each
 /// crate, and of the calls of the tree.

@@ -4,12 +4,12 @@ ghost use Rattle.tree_core.specs.Faults.{counted};
 
 use crate::seen::{is_seen, put_seen};
 use crate::settings::{Ending, Setting, calls_of, ending_of, rooms_of};
+use std::alloc::{AllocError, Global};
+use std::io;
 use tests_files::AnswerText;
 use tests_files::case::{Block, Case, CaseEntry, blocks_of};
 use tests_files::cases::{case_of, is_shared, number_of, wanted};
 use tests_files::told::{Tally, bytes_of, show, text_of};
-use std::alloc::{AllocError, Global};
-use std::io;
 
 /// What is told of the cases of a file, and how many runs and answers were compared.
 #[derive(Drop)]

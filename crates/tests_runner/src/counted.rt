@@ -2,9 +2,9 @@
 ghost use Rattle.std.specs.Prelude.{◌≡◌, ◌≤◌, Some};
 ghost use Rattle.tree_core.specs.Faults.{count_after};
 
-use tests_files::AnswerText;
 use deny_text::Bytes;
 use std::alloc::Global;
+use tests_files::AnswerText;
 use tree_core::{Entries, MemTree, Sink, SinkFailed, Tree, TreeError};
 
 /// A tree that counts its calls, and keeps a line for each: what was asked, the path, and the answer in a word.

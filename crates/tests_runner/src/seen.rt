@@ -1,17 +1,17 @@
 //! What is seen of how a run ended, under each key.
 use crate::counted::CountedSink;
 use crate::settings::Ending;
-use tests_files::AnswerText;
-use tests_files::cases::is_among;
-use tests_files::tree::number;
 use deny_run::error::{Error, InputPart};
-use deny_run::report::{CrateReport, RunEnd, Report, Stats, Verdict};
+use deny_run::report::{CrateReport, Report, RunEnd, Stats, Verdict};
 use deny_run::{Color, DiagPrinter, Format, LicenseExprSource, LogContext};
 use deny_text::Span;
 use diag_core::LevelFilter;
 use diag_print::pack_labels_are_inside;
 use std::alloc::Global;
 use std::fmt::Display;
+use tests_files::AnswerText;
+use tests_files::cases::is_among;
+use tests_files::tree::number;
 
 /// The keys of every run, and then those of a report.
 const SEEN: [&str; 14] = [

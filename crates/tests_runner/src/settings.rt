@@ -1,13 +1,13 @@
 //! The runs of a case: which calls of its tree fail, how much its sinks take, and how each run ends.
 use crate::counted::{CountedSink, CountedTree};
 use crate::identifiers::{CaseIdentifier, known_as};
+use deny_run::report::Outcome;
+use deny_run::run::run;
+use spdx_catalog::Table;
+use std::alloc::{AllocError, Global};
 use tests_files::Case;
 use tests_files::cases::wanted;
 use tests_files::tree::{number, range_of, tree_of};
-use spdx_catalog::Table;
-use deny_run::report::Outcome;
-use deny_run::run::run;
-use std::alloc::{AllocError, Global};
 use tree_core::MemTree;
 
 /// One run of a case.

@@ -1,9 +1,9 @@
 //! Texts as expressions, and the certificates of their verdicts.
 use crate::terms::{pair_of, put_fault, put_span};
-use tests_files::AnswerText;
 use spdx_certificates::{Hit, Hits, TermPlaces, Verdict, certificate};
 use spdx_core::{ExprError, ExprNode, Expression, ParseMode, Table};
 use std::alloc::{AllocError, Global};
+use tests_files::AnswerText;
 
 /// What is made of an expression; behind a bar stands what was found of its terms.
 pub fn put(alloc: Global, out: &mut AnswerText, group: &str, text: &str) {

@@ -6,11 +6,11 @@ mod expressions;
 mod terms;
 mod texts;
 
-use tests_files::{Rows, AnswerText, compare_rows, exit_code};
 use spdx_catalog::{Catalog, Table};
 use std::alloc::Global;
 use std::process::ExitCode;
 use std::rt::Runtime;
+use tests_files::{AnswerText, Rows, compare_rows, exit_code};
 use texts::RowTexts;
 
 impl Rows for RowTexts {

@@ -1,14 +1,14 @@
 //! Texts of licensees and terms, and pairs of them.
 ghost use Rattle.std.specs.Prelude.{◌≡◌, ◌<◌};
 
-use tests_files::AnswerText;
 use deny_text::{Span, Steps, Text};
 use spdx_core::Table;
+use spdx_terms::{ExprError, Item, ItemKind, LicenseReq, Licensee, ParseMode, items};
 use std::alloc::{AllocError, Global};
 use std::cmp::Ordering;
 use std::marker::Brand;
 use std::sync::ledger::{Blank, Ledger};
-use spdx_terms::{ExprError, Item, LicenseReq, Licensee, ParseMode, ItemKind, items};
+use tests_files::AnswerText;
 
 const NAMED: ParseMode = ParseMode {
     allow_deprecated: true,

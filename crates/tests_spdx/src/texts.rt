@@ -1,10 +1,10 @@
 //! Texts of licences, which rows name by their files, and what stores of texts find.
-use tests_files::AnswerText;
-use spdx_catalog::{Identifier, LicenseStore, StoreText, StoreTexts};
 use deny_text::Text;
+use spdx_catalog::{Identifier, LicenseStore, StoreText, StoreTexts};
 use std::alloc::{AllocError, Global};
 use std::rt::Runtime;
 use std::{fs, io};
+use tests_files::AnswerText;
 
 /// The texts of the files that rows name, and of a store, each behind its name.
 #[derive(Drop)]

@@ -1,11 +1,11 @@
 //! Texts of cases whose lines are calls, each with what it answers behind an arrow: `read a/x => "one"`. The calls
 //! are made in their order, and the same lines are told with what was seen. Paths alone have escapes.
+use std::alloc::{AllocError, Global};
+use std::fmt::Display;
 use tests_files::cases::wanted;
 use tests_files::escapes::unescaped;
 use tests_files::told::UnreadLine;
-use tests_files::{Case, AnswerText};
-use std::alloc::{AllocError, Global};
-use std::fmt::Display;
+use tests_files::{AnswerText, Case};
 
 /// Whether there was memory for something.
 pub type MemoryResult = Result<(), AllocError>;
@@ -21,7 +21,12 @@ pub struct CallWords<'l> {
 /// What calls are made to.
 pub trait Called {
     /// Puts an arrow and what a call answers, or nothing where nothing is to be told.
-    fn put_answer(&mut self, out: &mut AnswerText, alloc: Global, call: CallWords<'_>) -> MemoryResult;
+    fn put_answer(
+        &mut self,
+        out: &mut AnswerText,
+        alloc: Global,
+        call: CallWords<'_>,
+    ) -> MemoryResult;
 }
 
 /// A word, of which `''` has no letter.
@@ -41,7 +46,12 @@ pub fn number_in(text: &str) -> usize {
     text.parse::<usize>().unwrap_or(0)
 }
 
-fn put_call<C: Called>(out: &mut AnswerText, alloc: Global, line: &str, called: &mut C) -> MemoryResult {
+fn put_call<C: Called>(
+    out: &mut AnswerText,
+    alloc: Global,
+    line: &str,
+    called: &mut C,
+) -> MemoryResult {
     let (verb, rest) = line.split_once(' ').unwrap_or((line, ""));
     let (path, text) = rest.split_once(' ').unwrap_or((rest, ""));
     let text = letters_of(text);

@@ -1,7 +1,6 @@
 //! Codes and levels of findings, what overrides make of them, and keys that are no longer wanted.
 use crate::calls::{MemoryResult, number_in, put_made};
 use crate::paths::{pair_of, put_option};
-use tests_files::AnswerText;
 use deny_text::{PathBuf, Span, Text};
 use diag_core::{
     AddError, Check, CodeMap, Deprecated, DeprecationReason, Diag, Diagnostic, DiagnosticCode,
@@ -10,6 +9,7 @@ use diag_core::{
 };
 use run_request::FromWord;
 use std::alloc::{AllocError, Global};
+use tests_files::AnswerText;
 use tree_core::TreeError;
 
 pub fn severity_named(name: &str) -> Severity {

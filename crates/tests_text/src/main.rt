@@ -9,10 +9,12 @@ mod printing;
 mod trees;
 mod words;
 
-use tests_files::{KeyAnswer, Case, Cases, Rows, AnswerText, compare_cases, compare_rows, exit_code};
 use printing::Printing;
 use std::alloc::Global;
 use std::process::ExitCode;
+use tests_files::{
+    AnswerText, Case, Cases, KeyAnswer, Rows, compare_cases, compare_rows, exit_code,
+};
 use trees::Trees;
 
 /// What rows are about.

@@ -1,6 +1,5 @@
 //! Paths, the folders above them, home folders, texts in normal form, and hashes.
 use crate::calls::{number_in, put_made};
-use tests_files::AnswerText;
 use deny_text::ancestors::ancestors;
 use deny_text::hash::hash;
 use deny_text::home::{cargo_home, home};
@@ -8,6 +7,7 @@ use deny_text::normal::normalize;
 use deny_text::path::{components, ends_with, file_name, is_absolute, join, parent};
 use deny_text::{HomeEnv, HomeError, PathBuf, Text};
 use std::alloc::{AllocError, Global};
+use tests_files::AnswerText;
 
 /// What stands before a bar and behind it, without blanks at their ends.
 pub fn pair_of(text: &str) -> (&str, &str) {

@@ -6,9 +6,6 @@ ghost use Rattle.diag_print.specs.Printed.{printed_at};
 
 use crate::calls::{CallWords, Called, MemoryResult, lines_of, number_in, put_answered};
 use crate::findings::severity_named;
-use tests_files::cases::{is_among, wanted};
-use tests_files::tree::number;
-use tests_files::{KeyAnswer, Case, Cases, CaseEntry, AnswerText};
 use deny_text::{PathBuf, Span, Text};
 use diag_core::{
     AddError, Check, Coord, Diag, Diagnostic, Files, Label, LevelFilter, Pack, Severity,
@@ -18,6 +15,9 @@ use diag_print::{
 };
 use run_request::FromWord;
 use std::alloc::{AllocError, Global};
+use tests_files::cases::{is_among, wanted};
+use tests_files::tree::number;
+use tests_files::{AnswerText, Case, CaseEntry, Cases, KeyAnswer};
 use tree_core::{MemSink, Sink};
 
 /// The keys that say what is put in.
@@ -54,7 +54,11 @@ fn span_of(word: &str) -> Span {
 }
 
 /// A finding with what an entry adds to it.
-fn with_entry(alloc: Global, finding: Diagnostic, entry: &CaseEntry) -> Result<Diagnostic, AllocError> {
+fn with_entry(
+    alloc: Global,
+    finding: Diagnostic,
+    entry: &CaseEntry,
+) -> Result<Diagnostic, AllocError> {
     match entry.key.as_str() {
         "code" => finding.with_code(wanted(entry)),
         "message" => finding.with_message(wanted(entry)),
@@ -179,7 +183,12 @@ fn print(
 
 /// Whether a label lies in its file.
 impl Called for Files {
-    fn put_answer(&mut self, out: &mut AnswerText, alloc: Global, call: CallWords<'_>) -> MemoryResult {
+    fn put_answer(
+        &mut self,
+        out: &mut AnswerText,
+        alloc: Global,
+        call: CallWords<'_>,
+    ) -> MemoryResult {
         let label = Label::primary(alloc, number_in(call.verb), span_of(call.path));
         let finding = Diagnostic::new(alloc, Severity::Note).with_label(label)?;
         write!(out, " => {}", labels_are_inside(&finding, self));

@@ -1,11 +1,11 @@
 //! Trees of files, in memory and real, and sinks: what is put into them, and what their calls answer.
 use crate::calls::{CallWords, Called, MemoryResult, lines_of, number_in, put_answered};
-use tests_files::{KeyAnswer, Case, Cases, AnswerText};
 use deny_text::path::parent;
 use std::alloc::{AllocError, Global};
 use std::fs::{File, OpenFile};
 use std::rt::Files;
 use std::{fs, io};
+use tests_files::{AnswerText, Case, Cases, KeyAnswer};
 use tree_core::{Entry, FolderTree, MemSink, MemTree, Sink, Tree, TreeError, write_all};
 
 /// Bytes of which none is alike at a distance that reads are likely to have.
@@ -57,7 +57,13 @@ fn put_bytes(out: &mut AnswerText, alloc: Global, bytes: &[u8]) {
     }
 }
 
-fn put_read<T: Tree>(out: &mut AnswerText, alloc: Global, tree: &mut T, path: &str, is_length: bool) {
+fn put_read<T: Tree>(
+    out: &mut AnswerText,
+    alloc: Global,
+    tree: &mut T,
+    path: &str,
+    is_length: bool,
+) {
     match &tree.read(alloc, path) {
         Ok(bytes) if is_length => write!(out, "{}", bytes.items().len()),
         Ok(bytes) => put_bytes(out, alloc, bytes.items()),
@@ -190,7 +196,12 @@ impl<'r> Store<'r> {
 }
 
 impl<'r> Called for Store<'r> {
-    fn put_answer(&mut self, out: &mut AnswerText, alloc: Global, call: CallWords<'_>) -> MemoryResult {
+    fn put_answer(
+        &mut self,
+        out: &mut AnswerText,
+        alloc: Global,
+        call: CallWords<'_>,
+    ) -> MemoryResult {
         match call.verb {
             "put" => self.put(out, call.path, call.text.as_bytes()),
             "counted" => self.put(out, call.path, &counted(alloc, number_in(call.text))?),

@@ -1,6 +1,5 @@
 //! The words of a command line, what they are answered with, and the names that options list.
 use crate::calls::{MemoryResult, letters_of};
-use tests_files::AnswerText;
 use deny_text::{PathBuf, Texts};
 use diag_core::LevelFilter;
 use diag_print::{Color, Format};
@@ -11,6 +10,7 @@ use run_request::{
     Subcommand, WhichCheck, check, list,
 };
 use std::alloc::{AllocError, Global};
+use tests_files::AnswerText;
 
 /// The words of a text, which stand with a blank between, behind the program's name.
 fn words_of(alloc: Global, name: &str, text: &str) -> Result<Vec<String>, AllocError> {

@@ -7,9 +7,9 @@ mod texts;
 mod tokens;
 mod typed;
 
-use tests_files::{compare_rows, exit_code};
 use specs::Specs;
 use std::process::ExitCode;
+use tests_files::{compare_rows, exit_code};
 use texts::TomlRows;
 
 fn main(rt: HostRuntime) -> ExitCode {

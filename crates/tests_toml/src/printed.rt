@@ -1,7 +1,7 @@
 //! Values of TOML and faults as rows show them: each value with its place behind an `@`.
-use tests_files::AnswerText;
 use deny_text::{Span, Texts};
 use std::alloc::Global;
+use tests_files::AnswerText;
 use toml_shapes::DeserError;
 use toml_subset::{Key, Str, SyntaxError, TomlError};
 use toml_value::{Entries, Value, ValueInner};

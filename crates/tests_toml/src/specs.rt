@@ -3,13 +3,13 @@ ghost use Rattle.std.specs.Prelude.{◌≤◌, length};
 
 use crate::printed::{put_error, put_faults, put_span};
 use crate::typed::put_table;
-use tests_files::{Rows, AnswerText};
 use deny_text::{PathBuf, Span, Spanned, Text, TextMap, Texts};
 use graph_core::Krate;
 use policy_spec::{PackageSpec, PackageSpecOrExtended, SpecIndex, match_krate};
 use policy_toml::{Deserialize, Value};
 use semver::{Version, VersionReq};
 use std::alloc::{AllocError, Global};
+use tests_files::{AnswerText, Rows};
 use toml_value::read_value;
 
 pub struct Specs;
@@ -102,7 +102,12 @@ fn specs_of(alloc: Global, text: &str) -> Result<Vec<PackageSpec>, AllocError> {
 }
 
 /// What comes of a number, or of a list of specs and a spec or a crate behind a bar.
-fn put_made(alloc: Global, out: &mut AnswerText, group: &str, text: &str) -> Result<(), AllocError> {
+fn put_made(
+    alloc: Global,
+    out: &mut AnswerText,
+    group: &str,
+    text: &str,
+) -> Result<(), AllocError> {
     let (text, behind) = text.split_once(" | ").unwrap_or((text, ""));
     match group {
         "widened" | "narrowed" => put_converted(alloc, out, text),
@@ -130,7 +135,12 @@ fn put_number(out: &mut AnswerText, wide: &PackageSpecOrExtended<u32>) {
 }
 
 /// A spec, or how two specs compare, both ways, and whether they are equal.
-fn put_compared(alloc: Global, out: &mut AnswerText, one: &str, other: &str) -> Result<(), AllocError> {
+fn put_compared(
+    alloc: Global,
+    out: &mut AnswerText,
+    one: &str,
+    other: &str,
+) -> Result<(), AllocError> {
     let one = spec_at(alloc, one, 3)?;
     if other.is_empty() {
         write!(out, "{one}");

@@ -2,8 +2,8 @@
 use crate::printed::{DEPTH, names_of, put_error, put_inner, put_span, put_value};
 use crate::tokens;
 use crate::typed::{FIVE, put_at_a, put_table};
-use tests_files::{Rows, AnswerText};
 use std::alloc::Global;
+use tests_files::{AnswerText, Rows};
 use toml_value::{Value, parse};
 
 /// Tokens, values, whole texts, and the types that are read from them.
@@ -35,7 +35,13 @@ fn put(alloc: Global, out: &mut AnswerText, group: &str, text: &str) -> bool {
     }
 }
 
-fn put_root(alloc: Global, out: &mut AnswerText, group: &str, word: &str, root: &mut Value<'_>) -> bool {
+fn put_root(
+    alloc: Global,
+    out: &mut AnswerText,
+    group: &str,
+    word: &str,
+    root: &mut Value<'_>,
+) -> bool {
     match group {
         "texts" | "texts with faults" | "examples" | "examples with faults" | "refused keys" => {
             put_value(alloc, out, DEPTH, root)

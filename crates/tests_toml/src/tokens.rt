@@ -2,10 +2,10 @@
 ghost use Rattle.std.specs.Prelude.{◌≤◌, length};
 
 use crate::printed::{DEPTH, put_error, put_fault, put_key, put_span, put_string, put_value};
-use tests_files::AnswerText;
 use deny_text::Span;
 use std::alloc::Global;
 use std::fmt;
+use tests_files::AnswerText;
 use toml_frames::{Scalar, behind_entry, behind_item, entry_place, item_place, read_scalar};
 use toml_subset::{
     Keys, Number, Str, SyntaxError, TomlError, after_blanks, after_comment, after_white, char_end,

@@ -1,10 +1,10 @@
 //! Types that are read from values, key by key.
 use crate::printed::{put_faults, put_span, put_string};
-use tests_files::AnswerText;
 use deny_text::{Spanned, Text, Texts};
 use policy_toml::{DeserError, Deserialize, Hundredths, TableHelper, Value, deserialize_name};
 use std::alloc::Global;
 use std::fmt;
+use tests_files::AnswerText;
 
 /// The type that most groups read.
 pub const FIVE: [&str; 9] = [
@@ -56,7 +56,11 @@ fn put_kind(alloc: Global, out: &mut AnswerText, kind: &str, value: &mut Value<'
     }
 }
 
-fn put_whether<T: Deserialize<()> + Drop>(alloc: Global, out: &mut AnswerText, value: &mut Value<'_>) {
+fn put_whether<T: Deserialize<()> + Drop>(
+    alloc: Global,
+    out: &mut AnswerText,
+    value: &mut Value<'_>,
+) {
     match T::deserialize(alloc, value, &()) {
         Ok(_) => out.put("read"),
         Err(error) => put_faults(out, &error),
@@ -77,7 +81,12 @@ pub fn put_table(alloc: Global, out: &mut AnswerText, value: &mut Value<'_>, key
 
 type TypedRead = Result<(), DeserError>;
 
-fn put_keys(alloc: Global, out: &mut AnswerText, value: &mut Value<'_>, keys: &[&str]) -> TypedRead {
+fn put_keys(
+    alloc: Global,
+    out: &mut AnswerText,
+    value: &mut Value<'_>,
+    keys: &[&str],
+) -> TypedRead {
     let mut table = TableHelper::new(alloc, value)?;
     for key in keys {
         if *key == ".." {
@@ -89,7 +98,12 @@ fn put_keys(alloc: Global, out: &mut AnswerText, value: &mut Value<'_>, keys: &[
 }
 
 /// What a key is. A word that is none stands for itself.
-fn put_key(alloc: Global, out: &mut AnswerText, table: &mut TableHelper<'_>, key: &str) -> TypedRead {
+fn put_key(
+    alloc: Global,
+    out: &mut AnswerText,
+    table: &mut TableHelper<'_>,
+    key: &str,
+) -> TypedRead {
     match key {
         "count" => put_optional::<u32>(alloc, out, table, "count"),
         "level" => put_optional::<i32>(alloc, out, table, "level"),
@@ -118,7 +132,12 @@ fn put_optional<T: Deserialize<()> + fmt::Debug + Drop>(
     Ok(())
 }
 
-fn put_required(alloc: Global, out: &mut AnswerText, table: &mut TableHelper<'_>, key: &str) -> TypedRead {
+fn put_required(
+    alloc: Global,
+    out: &mut AnswerText,
+    table: &mut TableHelper<'_>,
+    key: &str,
+) -> TypedRead {
     if key == "on" {
         let flag: bool = table.required(alloc, "on", &())?;
         write!(out, "{flag}");

@@ -3,4 +3,6 @@
 
 pub mod shape;
 
-pub use shape::{DeserError, ErrorKind, ValueKind, ShapeError, ShapeErrors, answer, one_fault, refuse};
+pub use shape::{
+    DeserError, ErrorKind, ShapeError, ShapeErrors, ValueKind, answer, one_fault, refuse,
+};

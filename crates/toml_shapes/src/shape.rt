@@ -201,7 +201,11 @@ impl fmt::Display for ErrorKind {
             }
             ErrorKind::UnexpectedValue(expected) => {
                 let names = expected.items();
-                write!(f, "unexpected value, expected one of: {}", NameList { names })
+                write!(
+                    f,
+                    "unexpected value, expected one of: {}",
+                    NameList { names }
+                )
             }
             ErrorKind::Custom(text) => write!(f, "{text}"),
             ErrorKind::OutOfRange(name) => write!(f, "out of range of {name}"),

@@ -15,8 +15,8 @@ pub use fault::{control_character, fault_at, stuck};
 pub use keys::{Keys, read_keys, read_left};
 pub use number::{Number, are_digits, begins_number, classify, count, is_whole, read_number};
 pub use scan::{
-    RunKind, Space, after_blanks, after_comment, after_white, char_end, line_end, next_line, run_end,
-    space_from, stands,
+    RunKind, Space, after_blanks, after_comment, after_white, char_end, line_end, next_line,
+    run_end, space_from, stands,
 };
 pub use string::{Key, Str, escaped_string, plain_string};
 pub use strings::read_string;

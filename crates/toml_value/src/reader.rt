@@ -108,7 +108,12 @@ fn behind_equals<'de>(
 }
 
 /// A line with a key and a value.
-fn pair_line<'de>(alloc: Global, text: &'de str, document: Document<'de>, place: usize) -> NextLine<'de>
+fn pair_line<'de>(
+    alloc: Global,
+    text: &'de str,
+    document: Document<'de>,
+    place: usize,
+) -> NextLine<'de>
     requires inside { place ≤ length text.now }
     requires shallow { IsShallowCursor (cursor_view document) }
     ensures answer { (seen : DocumentOf) → IsWay seen (cursor_view document.entry)
@@ -259,7 +264,12 @@ fn header_line<'de>(
 }
 
 /// A line, what it says standing at a place behind its blanks.
-fn read_line<'de>(alloc: Global, text: &'de str, document: Document<'de>, place: usize) -> NextLine<'de>
+fn read_line<'de>(
+    alloc: Global,
+    text: &'de str,
+    document: Document<'de>,
+    place: usize,
+) -> NextLine<'de>
     requires inside { place ≤ length text.now }
     requires shallow { IsShallowCursor (cursor_view document) }
     requires root { IsShallowCursor (at_root (cursor_view document)) }

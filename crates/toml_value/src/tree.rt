@@ -18,10 +18,10 @@ use crate::value::{Value, ValueInner};
 use deny_text::Span;
 pub(crate) use document::{Document, Pending};
 pub(crate) use fault::DEPTH_LIMIT;
-use toml_keys::KeyIndex;
 use std::alloc::{AllocError, Global};
 use std::mem;
 pub(crate) use tables::{Awaiting, TableTree};
+use toml_keys::KeyIndex;
 use toml_subset::Key;
 
 /// What made a table.

@@ -74,7 +74,12 @@ fn inner_of(scalar: Scalar<'_>) -> ValueInner<'_>
 }
 
 /// A value that begins with no bracket and no brace.
-fn scalar_turn(alloc: Global, text: &str, above: usize, place: usize) -> Result<ValueStep<'_>, TomlError>
+fn scalar_turn(
+    alloc: Global,
+    text: &str,
+    above: usize,
+    place: usize,
+) -> Result<ValueStep<'_>, TomlError>
     requires inside { place ≤ length text.now }
     requires shallow { above ≤ depth_limit }
     requires scalar { (stands_at text.now place open_bracket || stands_at text.now place open_brace) ≡ false }
@@ -192,7 +197,12 @@ fn opening_turn(alloc: Global, text: &str, at: Opening) -> Result<ValueStep<'_>,
 }
 
 /// The first turn of a value.
-fn first_turn(alloc: Global, text: &str, above: usize, place: usize) -> Result<ValueStep<'_>, TomlError>
+fn first_turn(
+    alloc: Global,
+    text: &str,
+    above: usize,
+    place: usize,
+) -> Result<ValueStep<'_>, TomlError>
     requires inside { place ≤ length text.now }
     requires shallow { above ≤ depth_limit }
     ensures { TakesTurn text.now (place + 1) above (value_at text.now above place) result }

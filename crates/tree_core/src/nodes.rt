@@ -78,7 +78,12 @@ pub fn find<'a>(nodes: &'a Nodes, place: &Place) -> FoundNode<'a>
 }
 
 /// Puts a node in place of a file, or where nothing stands, and makes its missing parents folders.
-pub fn put_at(nodes: &mut Nodes, alloc: Global, place: &Place, node: StoredNode) -> Result<(), PutError>
+pub fn put_at(
+    nodes: &mut Nodes,
+    alloc: Global,
+    place: &Place,
+    node: StoredNode,
+) -> Result<(), PutError>
     requires { IsSound nodes.old.entries }
     ensures sound { IsSound nodes.new.entries }
     ensures ok { OnOk result

@@ -12,9 +12,9 @@ ghost use Rattle.toml_value.specs.TreeViews.{tree_view};
 use super::levels::{Around, TableLevel, fresh, opened};
 use super::{Awaiting, Branches, TableTree, hole};
 use crate::value::{Entries, Value};
-use toml_keys::KeyParts;
 use std::alloc::{AllocError, Global};
 use toml_frames::HeaderPart;
+use toml_keys::KeyParts;
 use toml_subset::{Key, Keys, SyntaxError, SyntaxReason, TomlError};
 
 /// The table that the last header opened, taken out of the tables around it. So a further key of it is looked
@@ -138,7 +138,12 @@ impl<'de> Document<'de> {
     }
 
     /// A part of a header.
-    fn enter(self, alloc: Global, key: Key<'de>, part: HeaderPart) -> Result<Document<'de>, TomlError>
+    fn enter(
+        self,
+        alloc: Global,
+        key: Key<'de>,
+        part: HeaderPart,
+    ) -> Result<Document<'de>, TomlError>
         requires { IsShallowCursor (cursor_view self) }
         ensures { AnswersToml cursor_view (into_part part key.entry (cursor_view self.entry)) result }
     {
@@ -185,7 +190,12 @@ impl<'de> Document<'de> {
     }
 
     /// A part of a header whose key the open table does not have.
-    fn enter_new(self, alloc: Global, key: Key<'de>, part: HeaderPart) -> Result<Document<'de>, TomlError>
+    fn enter_new(
+        self,
+        alloc: Global,
+        key: Key<'de>,
+        part: HeaderPart,
+    ) -> Result<Document<'de>, TomlError>
         requires shallow { IsShallowCursor (cursor_view self) }
         requires new { found_at key (cursor_view self).here ≡ None }
         ensures { AnswersToml cursor_view (into_part part key.entry (cursor_view self.entry)) result }

@@ -9,8 +9,8 @@ ghost use Rattle.toml_value.specs.declared.tree.Node.{Node as NodeOf};
 use super::{Body, Branches, Node};
 use crate::value::{Entries, Value, ValueInner, Values};
 use deny_text::Span;
-use toml_keys::KeyParts;
 use std::alloc::{AllocError, Global};
+use toml_keys::KeyParts;
 
 /// What stands at a key, as a value.
 #[cycle(finish)]

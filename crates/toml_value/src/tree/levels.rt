@@ -154,7 +154,11 @@ fn appended(alloc: Global, node: Node<'_>, at: Span) -> Result<OpenedTable<'_>, 
 }
 
 /// What a part of a header opens of what stands at it. Where memory ends, nothing is left.
-pub(crate) fn opened(alloc: Global, part: HeaderPart, node: Node<'_>) -> Result<OpenedTable<'_>, AllocError>
+pub(crate) fn opened(
+    alloc: Global,
+    part: HeaderPart,
+    node: Node<'_>,
+) -> Result<OpenedTable<'_>, AllocError>
     requires { IsTrue (is_whole_node node) }
     ensures view { let wanted = opened_in part (node_view node.entry) in
         IfOk result (λ found. option_map opened_view found ≡ wanted) }
@@ -179,9 +183,16 @@ pub(crate) fn fresh<'de>(
     ensures around { IfSome result (λ around. IsTrue (is_whole_around around)) }
 {
     match part {
-        HeaderPart::Through if above != DEPTH_LIMIT => Some(Around::Alone(key.span, Mark::Implicit)),
+        HeaderPart::Through if above != DEPTH_LIMIT => Some(Around::Alone(
+            key.span,
+            Mark::Implicit,
+        )),
         HeaderPart::Table(at) if above != DEPTH_LIMIT => Some(Around::Alone(at, Mark::Header)),
-        HeaderPart::Array(at) if above < DEPTH_LIMIT - 1 => Some(Around::Behind(at, Vec::new(alloc), at)),
+        HeaderPart::Array(at) if above < DEPTH_LIMIT - 1 => Some(Around::Behind(
+            at,
+            Vec::new(alloc),
+            at,
+        )),
         _ => None,
     }
 }

@@ -11,8 +11,8 @@ ghost use Rattle.toml_value.specs.declared.tree.Branches.{out-Branches};
 use super::{Branches, Mark, Node};
 use crate::value::Value;
 use deny_text::Span;
-use toml_keys::KeyParts;
 use std::alloc::{AllocError, Global};
+use toml_keys::KeyParts;
 use toml_subset::Key;
 
 /// The place and the keys of a table that a dotted key made.

@@ -8,8 +8,8 @@ use super::fault::key_fault;
 use super::finish::into_entries;
 use super::put::put_along;
 use crate::value::{Entries, Value};
-use toml_keys::KeyParts;
 use std::alloc::{AllocError, Global};
+use toml_keys::KeyParts;
 use toml_subset::{Key, Keys, SyntaxError};
 
 /// The table of a body or of an inline table, with all that dotted keys made in it.

@@ -51,8 +51,7 @@ no_refusal value error is = absurd (cc)
 
 pub returns-in_err-print_packs-clause-words : goal.returns-in_err-print_packs-clause-words
 returns-in_err-print_packs-clause-words g c =
-    let p = err_from_is_err_and c.from_residual.result c.from_residual.ensures.1 in
-    (
+    let p = err_from_is_err_and c.from_residual.result c.from_residual.ensures.1 in (
       λ told. absurd (words_apart c.from_residual.result p.0 c.in_err-print_packs.field-0.0 p.1 p.2 told),
       λ none. absurd (no_refusal c.in-Ok.report (NotYet Words) (c.in-Ok.ensures.words.1 none)),
     )
