@@ -6,7 +6,7 @@ use Rattle.deny_text.specs.declared.span.Span.{Span}
 use Rattle.spdx_terms.specs.declared.term.ExpressionReq.{ExpressionReq}
 use Rattle.spdx_terms.specs.Spans.{Rise}
 use Rattle.gather_findings.specs.declared.license.LicenseExprInfo.{LicenseExprInfo}
-use Rattle.check_verdicts.specs.Places.{PlaceFits, FitsBy, HasRoom, TermHasRoom}
+use Rattle.check_verdicts.specs.Places.{PlaceFits, FitsBy, SpanFits, TermFits}
 
 fits_by_less : (low high : ℕ) (whole : Option Span) → low ≤ high → FitsBy high whole → FitsBy low whole
 fits_by_less low high None below fits = omega arith
@@ -15,7 +15,7 @@ fits_by_less low high (Some whole) below fits = tt
 pub fits_less : (nfo : LicenseExprInfo) (near far : ℕ) → near ≤ far → PlaceFits nfo far → PlaceFits nfo near
 fits_less nfo near far below fits = fits_by_less (nfo.offset + near) (nfo.offset + far) nfo.whole (omega arith) fits
 
-pub has_room : (nfo : LicenseExprInfo) (span : Span) (far : ℕ) → span.start ≤ far → span.end ≤ far → PlaceFits nfo far → HasRoom nfo span
+pub has_room : (nfo : LicenseExprInfo) (span : Span) (far : ℕ) → span.start ≤ far → span.end ≤ far → PlaceFits nfo far → SpanFits nfo span
 has_room nfo span far start end fits = record { start = fits_less nfo span.start far start fits; end = fits_less nfo span.end far end fits }
 
 -- what rises up to a place lies before it
@@ -31,7 +31,7 @@ abbrev pub span_of : ExpressionReq → Span
 span_of term = term.span
 
 each_has_room : (nfo : LicenseExprInfo) (text : List ℕ) (place far : ℕ) (terms : List ExpressionReq) → Rise text place (map span_of terms) far → PlaceFits nfo far
-    → AllByRecursion (TermHasRoom nfo) terms
+    → AllByRecursion (TermFits nfo) terms
 each_has_room nfo text place far [] rise fits = tt
 each_has_room nfo text place far (term ∷ terms) rise fits =
     let some : term.span.start < term.span.end = rise.0.some in
@@ -40,5 +40,5 @@ each_has_room nfo text place far (term ∷ terms) rise fits =
 
 -- where the end of the text fits, each term does
 pub terms_have_room : (nfo : LicenseExprInfo) (text : List ℕ) (terms : List ExpressionReq) → Rise text 0 (map span_of terms) (length text) → PlaceFits nfo (length text)
-    → All (TermHasRoom nfo) terms
-terms_have_room nfo text terms rise fits = All-from_recursion (TermHasRoom nfo) terms (each_has_room nfo text 0 (length text) terms rise fits)
+    → All (TermFits nfo) terms
+terms_have_room nfo text terms rise fits = All-from_recursion (TermFits nfo) terms (each_has_room nfo text 0 (length text) terms rise fits)

@@ -26,12 +26,12 @@ abbrev pub PlaceFits : LicenseExprInfo → ℕ → Type 0
 PlaceFits nfo far = FitsBy (nfo.offset + far) nfo.whole
 
 -- both ends of a place in the text
-pub record HasRoom (nfo : LicenseExprInfo) (span : Span) : Type 0 where
+pub record SpanFits (nfo : LicenseExprInfo) (span : Span) : Type 0 where
   pub start : PlaceFits nfo span.start
   pub end : PlaceFits nfo span.end
 
-abbrev pub TermHasRoom : LicenseExprInfo → ExpressionReq → Type 0
-TermHasRoom nfo term = HasRoom nfo term.span
+abbrev pub TermFits : LicenseExprInfo → ExpressionReq → Type 0
+TermFits nfo term = SpanFits nfo term.span
 
 -- ---- in the table of files
 

@@ -3,7 +3,7 @@ ghost use Rattle.std.specs.Prelude.{◌≡◌, ◌++◌, IfOk, OnOk, All, length
 ghost use Rattle.spdx_certificates.specs.Certificates as certificates;
 ghost use Rattle.check_verdicts.specs.Findings as spec;
 ghost use Rattle.check_verdicts.specs.Findings.{hit_text, verdict_labels};
-ghost use Rattle.check_verdicts.specs.Places.{PlaceFits, TermHasRoom};
+ghost use Rattle.check_verdicts.specs.Places.{PlaceFits, TermFits};
 
 use crate::place::span_at;
 use crate::source::source_text;
@@ -41,7 +41,7 @@ fn term_label(
     term: &ExpressionReq,
     hit: Option<Hit>,
 ) -> Result<Label, AllocError>
-    requires { TermHasRoom nfo.now term.now }
+    requires { TermFits nfo.now term.now }
     ensures { IfOk result (λ label. label ≡ spec.term_label nfo.now term.now.span hit) }
 {
     let span = span_at(nfo, term.span);
@@ -56,7 +56,7 @@ fn push_terms(
     terms: &[ExpressionReq],
     hits: &[Option<Hit>],
 ) -> Result<(), AllocError>
-    requires { All (TermHasRoom nfo.now) terms.now }
+    requires { All (TermFits nfo.now) terms.now }
     ensures { OnOk result (labels.new ≡ labels.old ++ spec.term_labels nfo.now terms.now hits.now) }
 {
     'terms: for (place, term) in terms.iter().enumerate() {

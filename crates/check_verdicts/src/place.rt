@@ -1,7 +1,7 @@
 //! Places in the text of an expression, as places in its file.
 ghost use Rattle.std.specs.Prelude.{◌≡◌, ◌↔◌, IsTrue};
 ghost use Rattle.check_verdicts.specs.Places as spec;
-ghost use Rattle.check_verdicts.specs.Places.{PlaceFits, HasRoom};
+ghost use Rattle.check_verdicts.specs.Places.{PlaceFits, SpanFits};
 
 use deny_text::Span;
 use gather_findings::LicenseExprInfo;
@@ -19,7 +19,7 @@ pub fn fits(nfo: &LicenseExprInfo, far: usize) -> bool
 /// A place in the expression's text, as a place in the file. Where the string has escapes it is the whole
 /// string.
 pub(crate) fn span_at(nfo: &LicenseExprInfo, inner: Span) -> Span
-    requires { HasRoom nfo.now inner }
+    requires { SpanFits nfo.now inner }
     ensures { result ≡ spec.span_in_file nfo.now inner }
 {
     match nfo.whole {

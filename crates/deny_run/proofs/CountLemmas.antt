@@ -21,7 +21,8 @@ use Rattle.check_core.specs.Check.{AreVerdicts, packs_of}
 use Rattle.check_core.specs.Turns.{GatheredCrate, expression_of, pack_by, verdict_finding}
 use Rattle.check_core.specs.Verdicts.{IsVerdict, accepted, is_skipped, rejected, unlicensed, verdict_of}
 use Rattle.deny_run.specs.declared.report.CrateReport.{CrateReport}
-use Rattle.deny_run.specs.Counts.{count_in, is_against}
+use Rattle.diag_stats.specs.Counts.{count_in}
+use Rattle.deny_run.specs.Counts.{is_against}
 
 abbrev is_error : Diag → Bool
 is_error finding = is_same_severity finding.diag.severity severity.Error

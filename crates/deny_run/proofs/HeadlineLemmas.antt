@@ -24,7 +24,8 @@ use Rattle.deny_run.specs.declared.report.Report.{Report}
 use Rattle.deny_run.specs.declared.report.RunEnd.{RunEnd}
 use Rattle.deny_run.specs.declared.report.RunEnd.TheVariants.{Checked, Refused}
 use Rattle.deny_run.specs.declared.report.Outcome.{Outcome}
-use Rattle.deny_run.specs.Counts.{count_in, is_against, status_of}
+use Rattle.diag_stats.specs.Counts.{count_in}
+use Rattle.deny_run.specs.Counts.{is_against, status_of}
 use Rattle.deny_run.specs.Error.{cause_of, MayEndLawful}
 use Rattle.deny_run.specs.Given.{RunArguments}
 use Rattle.deny_run.specs.Headline.{EndsInReport, Headline, HeadlineRead, IsHeardOf, TellsContent}

@@ -37,7 +37,7 @@ use Rattle.deny_run.specs.declared.error.Error.{Error}
 use Rattle.deny_run.specs.declared.report.CrateReport.{CrateReport}
 use Rattle.deny_run.specs.declared.report.Report.{Report}
 use Rattle.deny_run.specs.declared.words.CheckRequest.{CheckRequest}
-use Rattle.deny_run.specs.Counts.{counts_of}
+use Rattle.diag_stats.specs.Counts.{counts_of}
 use Rattle.deny_run.specs.Error.{cause_of}
 use Rattle.deny_run.specs.Given.{RunArguments}
 use Rattle.deny_run.specs.Heard.{RunInput, HearsAllDue, HearsExceptions, HearsPolicy, IsRunHearing, LooksEnd, ReadsItsFiles, all_gathered, calls_of, count_metadata, exceptions_path, expression_in, files_loaded, run_input_of, load_heard, metadata_heard, priority_heard, scanner_of_given, turns_in}

@@ -42,7 +42,7 @@ use Rattle.check_core.specs.Check.{AreVerdicts, findings_of}
 use Rattle.check_core.specs.Labels.{VerdictPoints}
 use Rattle.check_core.specs.Summary.{gathered_of_licenses}
 use Rattle.deny_run.specs.declared.report.Report.{Report}
-use Rattle.deny_run.specs.Counts.{counts_of}
+use Rattle.diag_stats.specs.Counts.{counts_of}
 use Rattle.deny_run.specs.Heard.{manifest_in}
 use Rattle.deny_run.specs.Hearing.{MadeOn, TreeSeen, read_calls}
 use Rattle.deny_run.specs.Report.{HaveTurns, license_source}

@@ -12,7 +12,7 @@ use Rattle.diag_core.specs.Pack.{PackOf}
 use Rattle.diag_core.specs.declared.pack.Diag.{Diag}
 use Rattle.diag_print.specs.Printed.{all_printed_at, is_printed, printed_of}
 use Rattle.diag_print.specs.declared.context.LogContext.{LogContext}
-use Rattle.diag_print.specs.Findings.{IsPending, printed_findings, printed_packs}
+use Rattle.diag_print.specs.Findings.{LeavesPending, printed_findings, printed_packs}
 
 module _ {A : Type 0} (f : A → List ℕ) (xs : List A) where
   -- the whole text, cut before and behind an item
@@ -36,7 +36,7 @@ same_gained None = refl
 same_gained (Some bytes) = ap Some (sym (append-nil bytes))
 
 -- nothing was written
-pub still_pending : (held : Option (List ℕ)) (pending : List ℕ) → IsPending held held pending pending
+pub still_pending : (held : Option (List ℕ)) (pending : List ℕ) → LeavesPending held held pending pending
 still_pending held pending = record { front = []; gained = same_gained held; parts = refl }
 
 pub unwritten : {T E : Type 0} (result : Result T E) (held : Option (List ℕ)) (text : List ℕ) → OnErr result (GainedPrefix held held text)
@@ -44,12 +44,12 @@ unwritten (Ok value) held text = tt
 unwritten (Err error) held text = record { front = []; rest = text; parts = refl; gained = same_gained held }
 
 -- all that was pending was written
-pub all_written : (old new : Option (List ℕ)) (left pending : List ℕ) → Gained old new pending → left ≡ [] → IsPending old new left pending
+pub all_written : (old new : Option (List ℕ)) (left pending : List ℕ) → Gained old new pending → left ≡ [] → LeavesPending old new left pending
 all_written old new left pending gained none = record { front = pending; gained = gained; parts = ap (λ rest. pending ++ rest) none ∙ append-nil pending }
 
-module _ (old mid new : Option (List ℕ)) (pending text : List ℕ) (before : IsPending old mid pending text) where
+module _ (old mid new : Option (List ℕ)) (pending text : List ℕ) (before : LeavesPending old mid pending text) where
   -- a text was put behind what was pending
-  pub pending_more : (left more : List ℕ) → IsPending mid new left (pending ++ more) → IsPending old new left (text ++ more)
+  pub pending_more : (left more : List ℕ) → LeavesPending mid new left (pending ++ more) → LeavesPending old new left (text ++ more)
   pending_more left more next = record {
     front = before.front ++ next.front;
     gained = Gained-then old mid new before.front next.front before.gained next.gained;
@@ -87,14 +87,20 @@ module _ (old mid new : Option (List ℕ)) (pending text : List ℕ) (before : I
     gained = Gained-then old mid new before.front cut.front before.gained cut.gained;
   }
 
-module _ {A : Type 0} (f : A → List ℕ) (xs : List A) (i : ℕ) (x : A) (old mid new : Option (List ℕ)) (pending : List ℕ) (within : i < length xs) (at : x ≡ get_or xs i x) (before : IsPending old mid pending (flat_map f (take i xs))) where
+module _ {A : Type 0} (f : A → List ℕ) (xs : List A) (i : ℕ) (x : A) (old mid new : Option (List ℕ)) (pending : List ℕ) (within : i < length xs) (at : x ≡ get_or xs i x) (before : LeavesPending old mid pending (flat_map f (take i xs))) where
   -- the texts of one item more
-  pub one_pending : (left : List ℕ) → IsPending mid new left (pending ++ f x) → IsPending old new left (flat_map f (take (i + 1) xs))
-  one_pending left next = subst (IsPending old new left) (sym (text_more f xs i x within at)) (pending_more old mid new pending (flat_map f (take i xs)) before left (f x) next)
+  pub one_pending : (left : List ℕ) → LeavesPending mid new left (pending ++ f x) → LeavesPending old new left (flat_map f (take (i + 1) xs))
+  one_pending left next = subst (LeavesPending old new left) (sym (text_more f xs i x within at)) (pending_more old mid new pending (flat_map f (take i xs)) before left (f x) next)
 
   -- a front of them is a front of the whole
   pub one_pending_cut : GainedPrefix mid new (pending ++ f x) → GainedPrefix old new (flat_map f xs)
   one_pending_cut cut = pending_cut old mid new pending (flat_map f (take i xs)) before (f x) (flat_map f (drop (i + 1) xs)) (flat_map f xs) (text_cut f xs i x within at) cut
+
+module _ {A : Type 0} (f : A → List ℕ) (xs : List A) (i : ℕ) (old mid new : Option (List ℕ)) (pending : List ℕ) (before : LeavesPending old mid pending (flat_map f (take i xs))) (all : take i xs ≡ xs) where
+  -- behind the last item a front of what is pending is a front of the whole
+  pub all_left : {T E : Type 0} (result : Result T E) → OnErr result (GainedPrefix mid new pending) → OnErr result (GainedPrefix old new (flat_map f xs))
+  all_left (Ok value) cut = tt
+  all_left (Err error) cut = subst (λ items. GainedPrefix old new (flat_map f items)) all (pending_left old mid new pending (flat_map f (take i xs)) before cut)
 
 -- nothing is printed at level off
 pub off_is_silent : (context : LogContext) (files : List File) (findings : List Diagnostic) → context.log_level ≡ Off → printed_findings context files findings ≡ []

@@ -34,7 +34,7 @@ abbrev pub printed_packs : LogContext → List File → List PackOf → List ℕ
 printed_packs context files packs = flat_map (λ (pack : PackOf). all_printed_at context files pack.findings) packs
 
 -- what was written, and what is pending behind it, are the text
-pub record IsPending (old new : Option (List ℕ)) (pending text : List ℕ) : Type 0 where
+pub record LeavesPending (old new : Option (List ℕ)) (pending text : List ℕ) : Type 0 where
   pub front : List ℕ
   pub gained : Gained old new front
   pub parts : front ++ pending ≡ text

@@ -4,7 +4,7 @@ ghost use Rattle.std.specs.List.{list_any};
 ghost use Rattle.tree_core.specs.Faults.{Gained, GainedPrefix};
 ghost use Rattle.diag_print.specs.Places.{AllLabelsAreInside, LabelsAreInside};
 ghost use Rattle.diag_print.specs.Printed.{all_printed_at, printed_at};
-ghost use Rattle.diag_print.specs.Findings.{AreInside, HasReasonSince, IsPending, PacksAreInside, is_error};
+ghost use Rattle.diag_print.specs.Findings.{AreInside, HasReasonSince, LeavesPending, PacksAreInside, is_error};
 ghost use Rattle.diag_print.specs.Findings.{printed_findings, printed_packs};
 
 use crate::context::LogContext;
@@ -52,7 +52,7 @@ fn flush<S: Sink>(pending: &mut String, sink: &mut S, begun: u64) -> Result<(), 
 /// The same, once much is pending.
 fn flush_much<S: Sink>(pending: &mut String, sink: &mut S, begun: u64) -> Result<(), PrintError>
     requires { begun ≤ S.fault_count sink.old }
-    ensures ok { OnOk result (IsPending (S.written sink.old) (S.written sink.new)
+    ensures ok { OnOk result (LeavesPending (S.written sink.old) (S.written sink.new)
         (string_bytes pending.new) (string_bytes pending.old)) }
     ensures err { OnErr result
         (GainedPrefix (S.written sink.old) (S.written sink.new) (string_bytes pending.old)) }
@@ -77,7 +77,7 @@ fn add_one<S: Sink>(
 ) -> Result<(), PrintError>
     requires inside { LabelsAreInside files.now finding.now }
     requires begun { begun ≤ S.fault_count sink.old }
-    ensures ok { OnOk result (IsPending (S.written sink.old) (S.written sink.new) (string_bytes pending.new)
+    ensures ok { OnOk result (LeavesPending (S.written sink.old) (S.written sink.new) (string_bytes pending.new)
         (string_bytes pending.old ++ printed_at printer.now files.now finding.now)) }
     ensures err { OnErr result (GainedPrefix (S.written sink.old) (S.written sink.new)
         (string_bytes pending.old ++ printed_at printer.now files.now finding.now)) }
@@ -149,7 +149,7 @@ fn add_pack<S: Sink>(
 ) -> Result<(), PrintError>
     requires inside { AllLabelsAreInside files.now pack.now.findings }
     requires begun { begun ≤ S.fault_count sink.old }
-    ensures ok { OnOk result (IsPending (S.written sink.old) (S.written sink.new) (string_bytes pending.new)
+    ensures ok { OnOk result (LeavesPending (S.written sink.old) (S.written sink.new) (string_bytes pending.new)
         (string_bytes pending.old ++ all_printed_at printer.now files.now pack.now.findings)) }
     ensures err { OnErr result (GainedPrefix (S.written sink.old) (S.written sink.new)
         (string_bytes pending.old ++ all_printed_at printer.now files.now pack.now.findings)) }

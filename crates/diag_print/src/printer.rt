@@ -109,7 +109,7 @@ impl DiagPrinter {
     }
 
     /// Appends the lines of a finding, where it is at or above the level.
-    pub fn push_text(
+    pub(crate) fn push_text(
         &self,
         out: &mut String,
         alloc: Global,
@@ -130,7 +130,7 @@ impl DiagPrinter {
     }
 
     /// Appends the lines of the findings of a pack that are at or above the level, in order.
-    pub fn push_pack_text(
+    pub(crate) fn push_pack_text(
         &self,
         out: &mut String,
         alloc: Global,

@@ -33,6 +33,6 @@ abbrev pub AreSorted : List (Bor ExcludeSpec) → Type 0
 AreSorted refs = IsSortedBy (λ a b. is_lt (key_order (key_behind a) (key_behind b))) refs
 
 -- references to these specs, in order
-pub record AreOrdered (specs : List ExcludeSpec) (refs : List (Bor ExcludeSpec)) : Type 0 where
+pub record AreInSearchOrder (specs : List ExcludeSpec) (refs : List (Bor ExcludeSpec)) : Type 0 where
   pub same : (test : ExcludeSpec → Bool) → list_any (λ spec. test spec.now) refs ≡ list_any test specs
   pub sorted : AreSorted refs

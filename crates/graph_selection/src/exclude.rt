@@ -8,7 +8,7 @@ ghost use Rattle.semver.specs.Parse.{version_parts};
 ghost use Rattle.graph_core.specs.Krate.{record_of};
 ghost use Rattle.graph_selection.specs.Choice as spec;
 ghost use Rattle.graph_selection.specs.Choice.{exclude_spec_of, spec_read};
-ghost use Rattle.graph_selection.specs.ExcludeOrder.{AreOrdered, AreSorted, key_behind, key_of, key_order, key_with};
+ghost use Rattle.graph_selection.specs.ExcludeOrder.{AreInSearchOrder, AreSorted, key_behind, key_of, key_order, key_with};
 ghost use Rattle.graph_selection.specs.ExcludeOrder.{version_key};
 
 use deny_text::cut::{cut_at_colon, cut_at_sign};
@@ -200,7 +200,7 @@ fn refs_of(alloc: Global, specs: &[ExcludeSpec]) -> Result<SpecRefs<'_>, AllocEr
 
 /// References to specs in the order in which they are found.
 pub(crate) fn in_order(alloc: Global, specs: &[ExcludeSpec]) -> Result<SpecRefs<'_>, AllocError>
-    ensures { IfOk result (λ refs. AreOrdered specs.entry.now refs.items) }
+    ensures { IfOk result (λ refs. AreInSearchOrder specs.entry.now refs.items) }
 {
     let mut refs = refs_of(alloc, specs)?;
     refs.sort_by(|spec, other| compare_specs(*spec, *other))?;
@@ -219,7 +219,7 @@ fn finds(refs: &[&ExcludeSpec], name: &str, version: Option<&Version>) -> bool
 
 /// Whether one of the specs, which are handed in once more in order, leaves a crate out.
 pub(crate) fn is_excluded(specs: &[ExcludeSpec], refs: &[&ExcludeSpec], krate: &Krate) -> bool
-    requires { AreOrdered specs.now refs.now }
+    requires { AreInSearchOrder specs.now refs.now }
     ensures { result ≡ spec.is_excluded (map exclude_spec_of specs.now) (record_of krate.now) }
 {
     let _count = specs.len();

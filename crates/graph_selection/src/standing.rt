@@ -4,7 +4,7 @@ ghost use Rattle.std.specs.List.{list_any};
 ghost use Rattle.graph_core.specs.Krate.{record_of};
 ghost use Rattle.graph_core.specs.Metadata.{ArePlaces, AreRising, ids_of};
 ghost use Rattle.graph_selection.specs.Choice.{choice_of};
-ghost use Rattle.graph_selection.specs.ExcludeOrder.{AreOrdered};
+ghost use Rattle.graph_selection.specs.ExcludeOrder.{AreInSearchOrder};
 ghost use Rattle.graph_selection.specs.Places as spec;
 ghost use Rattle.graph_selection.specs.Places.{standings_in};
 ghost use Rattle.graph_selection.specs.Roots as roots;
@@ -112,7 +112,7 @@ fn standing_of(
     member: bool,
     base: bool,
 ) -> Standing
-    requires { AreOrdered selection.now.exclude excluded.now }
+    requires { AreInSearchOrder selection.now.exclude excluded.now }
     ensures { result ≡ spec.standing_with (choice_of selection.now) (record_of krate.now) member base }
 {
     Standing {

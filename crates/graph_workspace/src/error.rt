@@ -13,6 +13,16 @@ use tree_texts::ReadFault;
 pub enum What {
     /// Metadata from no file: it has no path.
     MetadataPath,
+    /// A check that is not the one of licences, or all checks.
+    Which,
+    /// A form of findings that is neither for people nor JSON.
+    Format,
+    /// The crates of some platforms alone.
+    Target,
+    /// A file with a picture of the graph.
+    Graph,
+    /// Advisories in the form of another tool.
+    Audit,
     /// A spec of crates to be left out that holds a `/` or a `#`.
     ExcludeSpec,
 }

@@ -49,14 +49,14 @@ pub record IsPolicyOf (found : PolicyFound) (valid : LoadedPolicy) : Type 0 wher
   pub output : valid.output ≡ found.output
 
 -- there is such a policy
-pub record IsFound (answer : Result PolicyFound LoadError) (valid : LoadedPolicy) : Type 0 where
+pub record GivesPolicy (answer : Result PolicyFound LoadError) (valid : LoadedPolicy) : Type 0 where
   pub found : PolicyFound
   pub is : answer ≡ Ok found
   pub valid_of : IsPolicyOf found valid
 
 -- A call answers what comes of the load. Want of memory and a refused write may come in the place of any answer.
 abbrev pub AnswersLoad : Result PolicyFound LoadError → Result LoadedPolicy LoadError → Type 0
-AnswersLoad answer (Ok valid) = IsFound answer valid
+AnswersLoad answer (Ok valid) = GivesPolicy answer valid
 AnswersLoad answer (Err Memory) = ⊤
 AnswersLoad answer (Err (WriteFault before after)) = ⊤
 AnswersLoad answer (Err error) = answer ≡ Err error

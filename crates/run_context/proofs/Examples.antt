@@ -1,8 +1,8 @@
 -- Computed examples: each row holds as it stands.
-use Rattle.std.proofs.Common.{◌≡◌, ℕ, List, [], ◌∷◌, codes, false, Option, Some, None, refl}
+use Rattle.std.proofs.Common.{◌≡◌, ℕ, List, [], ◌∷◌, codes, Bool, false, true, Option, Some, None, refl}
 use Rattle.run_request.specs.declared.context.KrateContext.{KrateContext}
 use Rattle.graph_workspace.specs.declared.error.What.TheVariants.{MetadataPath, ExcludeSpec}
-use Rattle.run_context.specs.Asked.{uncarried}
+use Rattle.run_context.specs.Asked.{LeavesOut, by_specs, choice_asked, uncarried}
 
 -- a request with a path of metadata, or none, and with such specs
 abbrev asks : Option (List ℕ) → List (List ℕ) → KrateContext
@@ -41,3 +41,22 @@ slash_of_the_policy = refl
 -- unreadable ones are carried
 unreadable : uncarried (asks (Some (codes "m.json")) (codes "a@1" ∷ [])) (codes "a:1.0.0@x" ∷ []) ≡ None
 unreadable = refl
+
+-- ---- what is left out
+
+-- what a policy leaves out by its flags alone
+abbrev by_flags : Bool → Bool → LeavesOut
+by_flags exclude_dev exclude_unpublished = record { exclude = []; exclude_dev = exclude_dev; exclude_unpublished = exclude_unpublished }
+
+-- without dev dependencies where the policy or the request says so
+dev_of_the_policy : (choice_asked (asks None []) (by_flags true false)).exclude_dev ≡ true
+dev_of_the_policy = refl
+
+dev_of_the_request : (choice_asked (record (asks None []) { exclude_dev = true }) (by_flags false false)).exclude_dev ≡ true
+dev_of_the_request = refl
+
+unpublished_of_the_policy : (choice_asked (asks None []) (by_flags false true)).exclude_unpublished ≡ true
+unpublished_of_the_policy = refl
+
+no_flag : (choice_asked (asks None []) (by_specs (codes "a" ∷ []))).exclude_dev ≡ false
+no_flag = refl

@@ -1,8 +1,9 @@
 -- What a request asks for, and the crates that it looks at.
-use Rattle.std.specs.Prelude.{◌≡◌, ◌↔◌, ◌⊎◌, ℕ, ◌||◌, List, ◌++◌, Option, Some, None, is_none, Result, Err, if◌then◌else◌}
+use Rattle.std.specs.Prelude.{◌≡◌, ◌↔◌, ◌⊎◌, ℕ, ◌||◌, Bool, false, List, ◌++◌, Option, Some, None, is_none, Result, Err, if◌then◌else◌}
 use Rattle.std.specs.List.{filter_map, list_any}
 use Rattle.tree_core.specs.Call.{Call}
 use Rattle.run_request.specs.declared.context.KrateContext.{KrateContext}
+use Rattle.run_context.specs.declared.gather.LeftOut.{LeftOut}
 use Rattle.graph_selection.specs.Choice.{Choice, is_uncarried, spec_read}
 use Rattle.graph_selection.specs.Listed.{Chosen}
 use Rattle.graph_workspace.specs.declared.error.KratesError.{KratesError}
@@ -22,13 +23,31 @@ uncarried context cfg_excludes =
 
 -- ---- what it selects by
 
--- the readable specs, those of the policy behind those of the request
-abbrev pub choice_asked : KrateContext → List (List ℕ) → Choice
-choice_asked context cfg_excludes = record {
+-- what a policy leaves out: specs, and where its flags say so dev dependencies and members that are published nowhere
+pub record LeavesOut : Type 0 where
+  pub exclude : List (List ℕ)
+  pub exclude_dev : Bool
+  pub exclude_unpublished : Bool
+
+abbrev pub left_out : LeftOut → LeavesOut
+left_out policy = record {
+  exclude = policy.exclude.now;
+  exclude_dev = policy.exclude_dev;
+  exclude_unpublished = policy.exclude_unpublished;
+}
+
+-- specs alone
+abbrev pub by_specs : List (List ℕ) → LeavesOut
+by_specs exclude = record { exclude = exclude; exclude_dev = false; exclude_unpublished = false }
+
+-- The readable specs, those of the policy behind those of the request; and what the request or the policy says of dev
+-- dependencies and of members that are published nowhere.
+abbrev pub choice_asked : KrateContext → LeavesOut → Choice
+choice_asked context policy = record {
   workspace = context.workspace;
-  exclude = filter_map spec_read context.exclude ++ filter_map spec_read cfg_excludes;
-  exclude_dev = context.exclude_dev;
-  exclude_unpublished = context.exclude_unpublished;
+  exclude = filter_map spec_read context.exclude ++ filter_map spec_read policy.exclude;
+  exclude_dev = context.exclude_dev || policy.exclude_dev;
+  exclude_unpublished = context.exclude_unpublished || policy.exclude_unpublished;
 }
 
 -- ---- what is answered
@@ -43,7 +62,7 @@ abbrev pub IsUnasked : KrateContext → List (List ℕ) → List Call → List C
 IsUnasked context cfg_excludes old new = (what : What) → uncarried context cfg_excludes ≡ Some what → new ≡ old
 
 -- else the file at its path is read, and the crates are gathered by what its answer lets hear; memory may be wanting before the read
-abbrev pub IsAnswerBy : KrateContext → List (List ℕ) → ℕ → ℕ → List Call → List Call → Result Chosen KratesError → Type 0
-IsAnswerBy context cfg_excludes before after old new result =
-    (path : List ℕ) → context.metadata_path ≡ Some path → uncarried context cfg_excludes ≡ None
-    → ((result ≡ Err Memory) × (new ≡ old)) ⊎ GathersBy (choice_asked context cfg_excludes) before after old new path result
+abbrev pub IsAnswerBy : KrateContext → LeavesOut → ℕ → ℕ → List Call → List Call → Result Chosen KratesError → Type 0
+IsAnswerBy context policy before after old new result =
+    (path : List ℕ) → context.metadata_path ≡ Some path → uncarried context policy.exclude ≡ None
+    → ((result ≡ Err Memory) × (new ≡ old)) ⊎ GathersBy (choice_asked context policy) before after old new path result

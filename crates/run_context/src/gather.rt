@@ -1,11 +1,11 @@
 //! The crates that a request looks at, from its metadata's file.
-ghost use Rattle.std.specs.Prelude.{◌≡◌, IfErr, IfOk};
+ghost use Rattle.std.specs.Prelude.{◌≡◌, ◌≤◌, IfErr, IfOk};
 ghost use Rattle.tree_core.specs.Hearing.{MadeSome};
 ghost use Rattle.graph_selection.specs.Choice.{choice_of};
 ghost use Rattle.tree_texts.specs.Cause.{ReadCounts};
 ghost use Rattle.graph_workspace.specs.Krates.{krates_cause};
 ghost use Rattle.run_context.specs.Asked as spec;
-ghost use Rattle.run_context.specs.Asked.{IsAnswerBy, IsUnasked, choice_asked};
+ghost use Rattle.run_context.specs.Asked.{IsAnswerBy, IsUnasked, by_specs, choice_asked, left_out};
 
 use deny_text::Texts;
 use graph_selection::{has_uncarried, read_specs};
@@ -27,31 +27,71 @@ fn uncarried(context: &KrateContext, cfg_excludes: &Texts) -> Option<What>
     }
 }
 
+/// What a policy leaves out, beside a request.
+#[derive(Clone, Copy)]
+pub struct LeftOut<'p> {
+    /// Specs of crates, which are read as those of the request are: unreadable ones are passed over.
+    pub exclude: &'p Texts,
+    /// Dependencies that serve development alone.
+    pub exclude_dev: bool,
+    /// Crates of the workspace that are never published.
+    pub exclude_unpublished: bool,
+}
+
 /// What a request selects by, with the policy's specs behind its own.
 fn selection_of(
     alloc: Global,
     context: &KrateContext,
-    cfg_excludes: &Texts,
+    policy: &LeftOut<'_>,
 ) -> Result<Selection, AllocError>
-    ensures { IfOk result (λ selection. choice_of selection ≡ choice_asked context.now cfg_excludes.now) }
+    ensures { IfOk result (λ selection. choice_of selection
+        ≡ choice_asked context.now (left_out policy.now)) }
 {
     let mut exclude = ExcludeSpecs::new(alloc);
     read_specs(alloc, &mut exclude, context.exclude.items())?;
-    read_specs(alloc, &mut exclude, cfg_excludes.items())?;
+    read_specs(alloc, &mut exclude, policy.exclude.items())?;
     Ok(Selection {
         workspace: context.workspace,
         exclude,
-        exclude_dev: context.exclude_dev,
-        exclude_unpublished: context.exclude_unpublished,
+        exclude_dev: context.exclude_dev || policy.exclude_dev,
+        exclude_unpublished: context.exclude_unpublished || policy.exclude_unpublished,
     })
 }
 
-/// The crates that a request looks at: those that its selection reaches in the metadata that it names.
-/// `cfg_excludes` are the policy's specs of crates to be left out, which are read as those of the request
-/// are: unreadable ones are passed over.
+/// The crates that a request looks at: those that its selection and what a policy leaves out reach in the
+/// metadata that the request names. `begun` is the tree's count of faults when the run began.
 ///
 /// It is refused where no metadata is named, where a spec holds a `/` or a `#`, and then as `krates_at` is.
-/// A failed read carries the tree's counts of faults at the start of this call and after the read.
+/// A failed read carries the tree's counts of faults when the run began and after the read.
+pub fn gather_krates_since<T: Tree>(
+    context: &KrateContext,
+    alloc: Global,
+    tree: &mut T,
+    policy: &LeftOut<'_>,
+    begun: u64,
+) -> Result<Krates, KratesError>
+    requires { begun ≤ T.fault_count tree.old }
+    ensures refused { spec.IsRefused context.now policy.now.exclude.now result }
+    ensures read { IsAnswerBy context.now (left_out policy.now) begun
+        (T.fault_count tree.new) (T.trace tree.old) (T.trace tree.new) result }
+    ensures unasked { IsUnasked context.now policy.now.exclude.now (T.trace tree.old) (T.trace tree.new) }
+    ensures made { MadeSome (T.content tree.old) (T.content tree.new) (T.fault_count tree.old)
+        (T.fault_count tree.new) (T.trace tree.old) (T.trace tree.new) }
+    ensures counts { IfErr result (λ error. ReadCounts begun
+        (T.fault_count tree.old) (T.fault_count tree.new) (krates_cause error)) }
+{
+    if let Some(what) = uncarried(context, policy.exclude) {
+        return Err(KratesError::NotCarried(what));
+    }
+    let selection = selection_of(alloc, context, policy)?;
+    match &context.metadata_path {
+        Some(path) => krates_at(alloc, tree, path.as_path(), &selection, begun),
+        None => Err(KratesError::NotCarried(What::MetadataPath)),
+    }
+}
+
+/// The crates that a request looks at, as `gather_krates_since` has them from the start of this call on, of a
+/// policy of which the specs alone are known.
 pub fn gather_krates<T: Tree>(
     context: KrateContext,
     alloc: Global,
@@ -59,7 +99,7 @@ pub fn gather_krates<T: Tree>(
     cfg_excludes: &Texts,
 ) -> Result<Krates, KratesError>
     ensures refused { spec.IsRefused context cfg_excludes.now result }
-    ensures read { IsAnswerBy context cfg_excludes.now (T.fault_count tree.old)
+    ensures read { IsAnswerBy context (by_specs cfg_excludes.now) (T.fault_count tree.old)
         (T.fault_count tree.new) (T.trace tree.old) (T.trace tree.new) result }
     ensures unasked { IsUnasked context cfg_excludes.now (T.trace tree.old) (T.trace tree.new) }
     ensures made { MadeSome (T.content tree.old) (T.content tree.new) (T.fault_count tree.old)
@@ -67,13 +107,11 @@ pub fn gather_krates<T: Tree>(
     ensures counts { IfErr result (λ error. ReadCounts (T.fault_count tree.old)
         (T.fault_count tree.old) (T.fault_count tree.new) (krates_cause error)) }
 {
-    if let Some(what) = uncarried(&context, cfg_excludes) {
-        return Err(KratesError::NotCarried(what));
-    }
     let begun = tree.faults();
-    let selection = selection_of(alloc, &context, cfg_excludes)?;
-    match &context.metadata_path {
-        Some(path) => krates_at(alloc, tree, path.as_path(), &selection, begun),
-        None => Err(KratesError::NotCarried(What::MetadataPath)),
-    }
+    let policy = LeftOut {
+        exclude: cfg_excludes,
+        exclude_dev: false,
+        exclude_unpublished: false,
+    };
+    gather_krates_since(&context, alloc, tree, &policy, begun)
 }

@@ -4,10 +4,12 @@
 pub mod gather;
 pub mod paths;
 
-pub use gather::gather_krates;
+pub use gather::{LeftOut, gather_krates, gather_krates_since};
 pub use graph_workspace::{
     ExcludeSpec, ExcludeSpecs, Krates, KratesError, ReadFault, Selection, What,
 };
-pub use paths::{config_path_since, get_config_path, get_local_exceptions_path};
+pub use paths::{
+    config_path_since, exceptions_path_since, get_config_path, get_local_exceptions_path,
+};
 pub use run_request::KrateContext;
 pub use tree_texts::SearchError;

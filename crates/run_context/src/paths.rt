@@ -58,7 +58,32 @@ pub fn get_config_path<T: Tree>(
     config_path_since(context, alloc, tree, begun)
 }
 
-/// The exceptions file's path, which is always looked for.
+/// The exceptions file's path, which is always looked for. `begun` is the tree's count of faults when the run
+/// began.
+pub fn exceptions_path_since<T: Tree>(
+    context: &KrateContext,
+    alloc: Global,
+    tree: &mut T,
+    begun: u64,
+) -> Result<Option<PathBuf>, SearchError>
+    requires { begun ≤ T.fault_count tree.old }
+    ensures looked { IfOk result (IsExceptionsPath context.now (T.trace tree.old) (T.trace tree.new)) }
+    ensures given_up { IfErr result (ExceptionsPathUntil context.now (T.trace tree.old) (T.trace tree.new)) }
+    ensures made { MadeSome (T.content tree.old) (T.content tree.new) (T.fault_count tree.old)
+        (T.fault_count tree.new) (T.trace tree.old) (T.trace tree.new) }
+    ensures counts { IfErr result (λ error.
+        ReadCounts begun (T.fault_count tree.old) (T.fault_count tree.new) (search_cause error)) }
+{
+    find_upwards(
+        alloc,
+        tree,
+        context.manifest_path.as_path(),
+        SoughtFile::Exceptions,
+        begun,
+    )
+}
+
+/// The exceptions file's path, as `exceptions_path_since` has it from the start of this call on.
 pub fn get_local_exceptions_path<T: Tree>(
     context: &KrateContext,
     alloc: Global,
@@ -72,11 +97,5 @@ pub fn get_local_exceptions_path<T: Tree>(
         (T.fault_count tree.old) (T.fault_count tree.new) (search_cause error)) }
 {
     let begun = tree.faults();
-    find_upwards(
-        alloc,
-        tree,
-        context.manifest_path.as_path(),
-        SoughtFile::Exceptions,
-        begun,
-    )
+    exceptions_path_since(context, alloc, tree, begun)
 }

@@ -1,5 +1,6 @@
 pub mod NumberLemmas
 pub mod RowLemmas
 pub mod ReadLemmas
+pub mod CommandLemmas
 pub mod PieceLemmas
 pub mod LawLemmas

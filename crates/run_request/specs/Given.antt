@@ -1,5 +1,5 @@
 -- Which answer words get.
-use Rattle.std.specs.Prelude.{◌≡◌, ◌≢◌, ◌⊎◌, Bool, true, false, not, List, [], Option, None, Some, Ok, is_err, map, string_bytes}
+use Rattle.std.specs.Prelude.{◌≡◌, ◌≢◌, ◌⊎◌, Bool, true, false, not, List, [], Option, None, Some, Ok, is_err, is_some, map, string_bytes}
 use Rattle.std.specs.List.{list_any}
 use Rattle.std.specs.declared.string.String.{String}
 use Rattle.clap.specs.Words.{Text, Row, Kinds, fault_of, found_of, rows_of, matches_of, subcommand_of, subcommand_rows_of}
@@ -10,7 +10,7 @@ use Rattle.run_request.specs.declared.request.Request.{Request}
 use Rattle.run_request.specs.declared.read.CliAnswer.{CliAnswer}
 use Rattle.run_request.specs.declared.read.CliAnswer.TheVariants.{Asked, Shown, Usage}
 use Rattle.run_request.specs.Cli.{cli}
-use Rattle.run_request.specs.Request.{gate_words, request_in, request_of_rows}
+use Rattle.run_request.specs.Request.{args_of, gate_words, request_in, request_of_rows}
 
 -- the words as texts
 abbrev pub texts : {A : Type 0} → List (String A) → List Text
@@ -49,6 +49,12 @@ IsGivenFor words cwd (Usage text) = (may_refuse (word_faults words) ≡ true) �
 -- the same of a command line, of which a second word `deny` is dropped
 abbrev pub IsGiven : List Text → Text → CliAnswer → Type 0
 IsGiven words cwd given = IsGivenFor (gate_words words) cwd given
+
+-- a request is one for the command `check`: words are taken with no other
+abbrev pub IsCheckAsked : CliAnswer → Type 0
+IsCheckAsked (Asked request) = is_some (args_of request.command) ≡ true
+IsCheckAsked (Shown text) = Unit {0}
+IsCheckAsked (Usage text) = Unit {0}
 
 -- a text to show
 abbrev pub IsShown : CliAnswer → Type 0

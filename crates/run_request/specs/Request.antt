@@ -12,6 +12,7 @@ use Rattle.diag_print.specs.declared.context.Format.TheVariants.{Human}
 use Rattle.diag_print.specs.declared.context.Color.TheVariants.{Auto}
 use Rattle.run_request.specs.declared.error.ArgsError.{ArgsError}
 use Rattle.run_request.specs.declared.error.ArgsError.TheVariants.{BadValue}
+use Rattle.run_request.specs.declared.check.Args.{Args as CheckArgs}
 use Rattle.run_request.specs.declared.context.KrateContext.{KrateContext}
 use Rattle.run_request.specs.declared.request.Request.{Request}
 use Rattle.run_request.specs.declared.request.Subcommand.{Subcommand}
@@ -77,6 +78,12 @@ subcommand_named name rows =
 abbrev pub subcommand_asked : Option (Text × List Row) → Result Subcommand ArgsError
 subcommand_asked None = Err (BadValue (codes "COMMAND") [])
 subcommand_asked (Some named) = subcommand_named named.0 named.1
+
+-- the options of the command `check`, where that is asked for
+abbrev pub args_of : Subcommand → Option CheckArgs
+args_of (Check args) = Some args
+args_of (Listing args) = None
+args_of (Sample size) = None
 
 -- what the rows ask for, or the first value that is outside its table, or a depth beside hidden graphs
 abbrev pub request_of_rows : List Row → Option (Text × List Row) → Text → Result Request ArgsError

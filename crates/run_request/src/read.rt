@@ -4,7 +4,7 @@ ghost use Rattle.clap.specs.Words.{HasKind, app_of, fault_of, found_of, kind_of,
 ghost use Rattle.run_request.specs.Cli.{cli};
 ghost use Rattle.run_request.specs.Request.{gate_words};
 ghost use Rattle.run_request.specs.Given.{AnswersHelp, AnswersMistake, AnswersRequest, HasMatches, IsAsked};
-ghost use Rattle.run_request.specs.Given.{IsGiven, IsGivenFor, IsErrorAnswer, IsUsage, texts};
+ghost use Rattle.run_request.specs.Given.{IsCheckAsked, IsGiven, IsGivenFor, IsErrorAnswer, IsUsage, texts};
 ghost use Rattle.run_request.specs.declared.error.ArgsError.TheVariants.{Memory};
 
 use crate::command::command;
@@ -35,6 +35,8 @@ pub enum CliAnswer {
 pub fn read(alloc: Global, words: &[String], cwd: &str) -> Result<CliAnswer, AllocError>
     ensures given { IfOk result (IsGiven (texts words.now) cwd.now) }
     ensures request { IfOk result (AnswersRequest (gate_words (texts words.now)) cwd.now) }
+    // Words are taken with the command `check` alone.
+    ensures command { IfOk result IsCheckAsked }
     ensures help { IfOk result (AnswersHelp (gate_words (texts words.now))) }
     ensures mistake { IfOk result (AnswersMistake (gate_words (texts words.now)) cwd.now) }
 {
@@ -45,6 +47,7 @@ pub fn read(alloc: Global, words: &[String], cwd: &str) -> Result<CliAnswer, All
 fn given_for(alloc: Global, words: &[&str], cwd: &str) -> Result<CliAnswer, AllocError>
     ensures given { IfOk result (IsGivenFor (map (λ word. word.now) words.now) cwd.now) }
     ensures request { IfOk result (AnswersRequest (map (λ word. word.now) words.now) cwd.now) }
+    ensures command { IfOk result IsCheckAsked }
     ensures help { IfOk result (AnswersHelp (map (λ word. word.now) words.now)) }
     ensures mistake { IfOk result (AnswersMistake (map (λ word. word.now) words.now) cwd.now) }
 {

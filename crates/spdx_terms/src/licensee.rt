@@ -4,7 +4,7 @@ ghost use Rattle.std.proofs.Common.{rules};
 ghost use Rattle.std.specs.Ordering.{eq_by_cmp};
 ghost use Rattle.std.specs.Cmp.{eq_by_cmp_equiv, partial_equiv_from_equiv, partial_order_from_total};
 ghost use Rattle.std.specs.Cmp.Rules.{comparing};
-ghost use Rattle.spdx_terms.specs.Terms.{req_text};
+ghost use Rattle.spdx_terms.specs.Terms.{family_of, req_text};
 ghost use Rattle.spdx_terms.specs.Satisfaction.{Satisfies};
 ghost use Rattle.spdx_terms.specs.Licensee.{HasNoPlus, printed_order, printed_order_total, without_plus};
 ghost use Rattle.spdx_terms.specs.Licensee.{exception_name_of, part_of, LicenseeAnswers};
@@ -16,7 +16,7 @@ use crate::fault::{empty_fault, end_fault, item_fault};
 use crate::item::{Item, ItemKind, LicenseMarks, WantedItem};
 use crate::items::item_vec;
 use crate::mode::ParseMode;
-use crate::term::{LicenseItem, LicenseReq};
+use crate::term::{Family, LicenseItem, LicenseReq};
 use deny_text::{Steps, Text};
 use spdx_catalog::Catalog;
 use std::alloc::{AllocError, Global};
@@ -85,6 +85,13 @@ impl Licensee {
         ensures { result.now ≡ req_text self.now }
     {
         self.printed.as_str()
+    }
+
+    /// The family of its licence; references have one of their own.
+    pub fn family(&self) -> Family
+        ensures { result ≡ family_of self.now }
+    {
+        self.req.family()
     }
 
     /// Whether the policy is content with a term. It takes one step.

@@ -46,7 +46,7 @@ pub struct ExpressionReq {
 }
 
 /// Whose terms may satisfy one another: those of one family, and references.
-#[derive(Clone, Copy, Debug, PartialEq, Eq)]
+#[derive(Clone, Copy, Debug, PartialEq, Eq, PartialOrd, Ord)]
 pub enum Family {
     Spdx(u32),
     Reference,

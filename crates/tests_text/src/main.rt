@@ -1,9 +1,10 @@
-//! Compares the files of data/ with what paths, trees, findings, printers and command lines come to: what differs is
+//! Compares the files of data/ with what paths, trees, findings, levels, printers and command lines come to: what differs is
 //! told, and how many rows each group has.
 #![tactic(auto)]
 
 mod calls;
 mod findings;
+mod levels;
 mod paths;
 mod printing;
 mod trees;
@@ -21,6 +22,7 @@ use trees::Trees;
 enum Subject {
     Paths,
     Findings,
+    Levels,
     Words,
 }
 
@@ -29,6 +31,7 @@ impl Rows for Subject {
         match self {
             Subject::Paths => paths::put(out, alloc, group, text),
             Subject::Findings => findings::put(out, alloc, group, text),
+            Subject::Levels => levels::put(out, alloc, group, text),
             Subject::Words => words::put(out, alloc, group, text),
         }
     }
@@ -55,8 +58,9 @@ fn main(rt: HostRuntime) -> ExitCode {
     let paths = compare_rows(&rt, "paths.txt", &Subject::Paths);
     let trees = compare_cases(&rt, "trees.txt", &Trees { rt: &rt });
     let findings = compare_rows(&rt, "findings.txt", &Subject::Findings);
+    let levels = compare_rows(&rt, "levels.txt", &Subject::Levels);
     let printing = compare_cases(&rt, "printing.txt", &Printing);
     let words = compare_rows(&rt, "words.txt", &Subject::Words);
     let help = compare_cases(&rt, "help.txt", &Help);
-    exit_code(paths && trees && findings && printing && words && help)
+    exit_code(paths && trees && findings && levels && printing && words && help)
 }

@@ -289,10 +289,10 @@ fn next_turn<'de>(
 }
 
 /// One more that stands open.
-fn open_further<'de>(open: &mut Vec<Frame<'de>>, frame: Frame<'de>) -> Result<(), AllocError>
-    ensures { OnOk result (open.new.items ≡ open.old.items ++ frame.entry ∷ []) }
+fn open_further<'de>(waiting: &mut Vec<Frame<'de>>, frame: Frame<'de>) -> Result<(), AllocError>
+    ensures { OnOk result (waiting.new.items ≡ waiting.old.items ++ frame.entry ∷ []) }
 {
-    open.push(frame)?;
+    waiting.push(frame)?;
     Ok(())
 }
 
@@ -300,19 +300,19 @@ fn open_further<'de>(open: &mut Vec<Frame<'de>>, frame: Frame<'de>) -> Result<()
 fn deeper<'de>(
     alloc: Global,
     text: &'de str,
-    open: &mut Vec<Frame<'de>>,
+    waiting: &mut Vec<Frame<'de>>,
     frame: Frame<'de>,
     place: usize,
 ) -> Result<ValueStep<'de>, TomlError>
     requires inside { place ≤ length text.now }
     requires shallow { IsShallowFrame (frame_view frame) }
     requires room { inside_of (frame_view frame) ≤ depth_limit }
-    ensures stack { OnOk result (open.new.items ≡ open.old.items ++ frame.entry ∷ []) }
+    ensures stack { OnOk result (waiting.new.items ≡ waiting.old.items ++ frame.entry ∷ []) }
     ensures turn { let above = inside_of (frame_view frame.entry) in
         TakesTurn text.now (place + 1) above (value_at text.now above place) result }
 {
     let above = frame.inside();
-    open_further(open, frame)?;
+    open_further(waiting, frame)?;
     first_turn(alloc, text, above, place)
 }
 
@@ -320,24 +320,24 @@ fn deeper<'de>(
 fn read_with<'de>(
     alloc: Global,
     text: &'de str,
-    open: &mut Vec<Frame<'de>>,
+    waiting: &mut Vec<Frame<'de>>,
     above: usize,
     place: usize,
 ) -> Result<(Value<'de>, usize), TomlError>
     requires inside { place ≤ length text.now }
     requires shallow { above ≤ depth_limit }
-    requires none { open.old.items ≡ [] }
+    requires none { waiting.old.items ≡ [] }
     ensures answer { AnswersToml value_found (value_at text.now above place) result }
     ensures within { IfOk result (λ found. found.1 ≤ length text.now) }
 {
     let mut turn = first_turn(alloc, text, above, place)?;
     'turns: loop {
         match turn {
-            ValueStep::Waits(frame, place) => match deeper(alloc, text, open, frame, place) {
+            ValueStep::Waits(frame, place) => match deeper(alloc, text, waiting, frame, place) {
                 Ok(first) => turn = first,
                 Err(error) => return Err(error),
             },
-            ValueStep::Read(value, next) => match open.pop() {
+            ValueStep::Read(value, next) => match waiting.pop() {
                 Some(frame) => match next_turn(alloc, text, frame, value, next) {
                     Ok(further) => turn = further,
                     Err(error) => return Err(error),
@@ -360,6 +360,6 @@ pub fn read_value(
     ensures answer { AnswersToml value_found (value_at text.now above place) result }
     ensures within { IfOk result (λ found. found.1 ≤ length text.now) }
 {
-    let mut open = Vec::new(alloc);
-    read_with(alloc, text, &mut open, above, place)
+    let mut waiting = Vec::new(alloc);
+    read_with(alloc, text, &mut waiting, above, place)
 }

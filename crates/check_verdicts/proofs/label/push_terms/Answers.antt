@@ -3,14 +3,14 @@ use Rattle.std.proofs.lemmas.List.Elements.{All-get_or}
 use Rattle.spdx_certificates.specs.declared.verdict.Hit.{Hit}
 use Rattle.diag_core.specs.declared.label.Label.{Label}
 use Rattle.check_verdicts.specs.Findings.{term_label, term_labels}
-use Rattle.check_verdicts.specs.Places.{TermHasRoom}
+use Rattle.check_verdicts.specs.Places.{TermFits}
 use Rattle.check_verdicts.proofs.LabelLemmas.{label_more}
 use Rattle.check_verdicts.proofs.label.push_terms.Goals as goal
 
 pub term_label-requires : goal.term_label-requires
 term_label-requires c =
     let term = c.index-terms-place.result in
-    subst (TermHasRoom c.args.nfo.now) (sym c.index-terms-place.is) (All-get_or (TermHasRoom c.args.nfo.now) c.args.terms.now c.terms.place term c.terms-test.true c.requires)
+    subst (TermFits c.args.nfo.now) (sym c.index-terms-place.is) (All-get_or (TermFits c.args.nfo.now) c.args.terms.now c.terms.place term c.terms-test.true c.requires)
 
 pub terms-preserved : goal.terms-preserved
 terms-preserved c =

@@ -1,5 +1,5 @@
-use Rattle.std.proofs.Common.{◌≡◌, ◌≤◌, length, Some, sym, subst, ◌∙◌}
-use Rattle.diag_core.specs.Kept.{LiesIn}
+use Rattle.std.proofs.Common.{◌≡◌, ◌≤◌, length, Some, IfSome, sym, subst, ◌∙◌}
+use Rattle.deny_text.specs.Spans.{LiesIn}
 use Rattle.gather_location.proofs.PlaceLemmas.{counted, none_counted, not_counted, value_cut_out}
 use Rattle.gather_location.proofs.search.counted_at.Goals as goal
 
@@ -9,7 +9,7 @@ returns-in-Some-clause-value c =
 
 pub returns-in-Some-clause-cuts : goal.returns-in-Some-clause-cuts
 returns-in-Some-clause-cuts c =
-    let inside = subst (LiesIn c.args.text.now) c.in-Some.is c.requires.inside in
+    let inside = subst (λ found. IfSome found (LiesIn c.args.text.now)) c.in-Some.is c.requires.inside in
     value_cut_out c.args.text.now c.args.field.now c.in-Some.span c.utf8.text (sym c.requires.value ∙ c.in-Some.is) inside.0
     (sym c.cuts_out.ensures ∙ c.if-cuts_out.true)
 

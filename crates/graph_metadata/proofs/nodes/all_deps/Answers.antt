@@ -16,7 +16,7 @@ lists-init c =
 
 pub returns-in_err-deps : goal.returns-in_err-deps
 returns-in_err-deps c =
-    let p = err_from_is_err_and c.from_residual.result c.from_residual.ensures.1 in
+    let p = err_from_is_err_and c.from_residual-in_err-deps.result c.from_residual-in_err-deps.ensures.1 in
     rw (p.1, p.2)
     (ends (λ j value. deps_in c.args.known.now j (node_of value)) c.args.nodes.now c.lists.i
     (map deps_of c.lists.lists.items) (all_deps c.args.known.now (map node_of c.args.nodes.now)) c.index-nodes-i.result

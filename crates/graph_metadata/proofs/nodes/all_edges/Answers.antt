@@ -15,7 +15,7 @@ lists-init c =
 
 pub returns-in_err-edges : goal.returns-in_err-edges
 returns-in_err-edges c =
-    let p = err_from_is_err_and c.from_residual.result c.from_residual.ensures.1 in
+    let p = err_from_is_err_and c.from_residual-in_err-edges.result c.from_residual-in_err-edges.ensures.1 in
     rw (p.1, p.2)
     (ends (λ j value. edges_in j (deps_of value)) c.args.lists.now c.lists.i
     c.lists.all.items (all_edges (map deps_of c.args.lists.now)) c.index-lists-i.result

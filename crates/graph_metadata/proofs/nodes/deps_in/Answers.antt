@@ -17,7 +17,7 @@ deps-init c =
 
 pub returns-in_err-dep : goal.returns-in_err-dep
 returns-in_err-dep c =
-    let p = err_from_is_err_and c.from_residual.result c.from_residual.ensures.1 in
+    let p = err_from_is_err_and c.from_residual-in_err-dep.result c.from_residual-in_err-dep.ensures.1 in
     rw (p.1, p.2)
     (ends (λ j value. dep_row c.args.known.now c.args.i j (view value)) c.args.node.now.deps.now c.deps.j
     (map dep_of c.deps.deps.items) (deps_in c.args.known.now c.args.i (node_of c.args.node.now)) c.index-items-j.result

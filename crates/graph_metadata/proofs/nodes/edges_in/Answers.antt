@@ -14,7 +14,7 @@ edges-init c =
 
 pub returns-in_err-edge : goal.returns-in_err-edge
 returns-in_err-edge c =
-    let p = err_from_is_err_and c.from_residual.result c.from_residual.ensures.1 in
+    let p = err_from_is_err_and c.from_residual-in_err-edge.result c.from_residual-in_err-edge.ensures.1 in
     rw (p.1, p.2)
     (ends (λ j value. edge_row c.args.i j (dep_of value)) c.args.deps.now c.edges.j
     c.edges.edges (edges_in c.args.i (map dep_of c.args.deps.now)) c.index-deps-j.result

@@ -17,7 +17,7 @@ members-init c =
 
 pub returns-in_err-member : goal.returns-in_err-member
 returns-in_err-member c =
-    let p = err_from_is_err_and c.from_residual.result c.from_residual.ensures.1 in
+    let p = err_from_is_err_and c.from_residual-in_err-member.result c.from_residual-in_err-member.ensures.1 in
     rw (p.1, p.2)
     (ends (λ j value. member_row c.args.known.now j (view value)) c.args.items.now c.members.index
     (map member_of c.members.members.items) (members_in c.args.known.now (items_view c.args.items.now)) c.index-items-index.result

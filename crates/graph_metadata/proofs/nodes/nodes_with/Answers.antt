@@ -17,7 +17,7 @@ nodes-init c =
 
 pub returns-in_err-node : goal.returns-in_err-node
 returns-in_err-node c =
-    let p = err_from_is_err_and c.from_residual.result c.from_residual.ensures.1 in
+    let p = err_from_is_err_and c.from_residual-in_err-node.result c.from_residual-in_err-node.ensures.1 in
     rw (p.1, p.2)
     (ends (λ j value. node_row c.args.known.now c.args.firsts.now j (view value)) c.args.items.now c.nodes.index
     (map node_of c.nodes.nodes.items) (nodes_with c.args.known.now c.args.firsts.now (items_view c.args.items.now)) c.index-items-index.result

@@ -17,7 +17,7 @@ packages-init c =
 
 pub returns-in_err-krate : goal.returns-in_err-krate
 returns-in_err-krate c =
-    let p = err_from_is_err_and c.from_residual.result c.from_residual.ensures.1 in
+    let p = err_from_is_err_and c.from_residual-in_err-krate.result c.from_residual-in_err-krate.ensures.1 in
     rw (p.1, p.2)
     (ends (λ j value. package_row c.args.sparse_dir.now c.args.known.now j (view value)) c.args.packages.now c.packages.index
     (map record_of c.packages.crates.items) (packages_in c.args.sparse_dir.now c.args.known.now (items_view c.args.packages.now)) c.index-packages-index.result

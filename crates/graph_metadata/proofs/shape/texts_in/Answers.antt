@@ -15,7 +15,7 @@ items-init c =
 
 pub returns-in_err-text : goal.returns-in_err-text
 returns-in_err-text c =
-    let p = err_from_is_err_and c.from_residual.result c.from_residual.ensures.1 in
+    let p = err_from_is_err_and c.from_residual-in_err-text.result c.from_residual-in_err-text.ensures.1 in
     rw (p.1, p.2)
     (ends (λ j value. text_here (item_place c.args.place c.args.key.now j) (view value)) c.args.items.now c.items.index
     c.items.texts (texts_in c.args.place c.args.key.now (items_view c.args.items.now)) c.index-items-index.result

@@ -15,7 +15,7 @@ turns-init c =
 pub deeper-requires-clause-shallow : goal.deeper-requires-clause-shallow
 deeper-requires-clause-shallow c =
     let text = c.args.text.now in
-    let stack = c.turns.open.items in
+    let stack = c.turns.waiting.items in
     let is = waiting text c.args.above c.args.place stack c.turns.turn c.in-Waits.frame c.in-Waits.place c.in-Waits.is c.turns.invariant in
     let low = waits_shallow text c.args.above c.args.place (map frame_view stack) (frame_view c.in-Waits.frame) c.in-Waits.place is in
     low.0
@@ -23,7 +23,7 @@ deeper-requires-clause-shallow c =
 pub deeper-requires-clause-room : goal.deeper-requires-clause-room
 deeper-requires-clause-room c =
     let text = c.args.text.now in
-    let stack = c.turns.open.items in
+    let stack = c.turns.waiting.items in
     let is = waiting text c.args.above c.args.place stack c.turns.turn c.in-Waits.frame c.in-Waits.place c.in-Waits.is c.turns.invariant in
     let low = waits_shallow text c.args.above c.args.place (map frame_view stack) (frame_view c.in-Waits.frame) c.in-Waits.place is in
     low.1
@@ -31,16 +31,16 @@ deeper-requires-clause-room c =
 pub turns-preserved-in-Ok : goal.turns-preserved-in-Ok
 turns-preserved-in-Ok c =
     let text = c.args.text.now in
-    let stack = c.turns.open.items in
+    let stack = c.turns.waiting.items in
     let frame = frame_view c.in-Waits.frame in
     let is = waiting text c.args.above c.args.place stack c.turns.turn c.in-Waits.frame c.in-Waits.place c.in-Waits.is c.turns.invariant in
-    pushed text c.args.above c.args.place stack c.deeper.new.open.items c.in-Waits.frame c.in-Ok.first c.in-Ok.ensures.stack
+    pushed text c.args.above c.args.place stack c.deeper.new.waiting.items c.in-Waits.frame c.in-Ok.first c.in-Ok.ensures.stack
     (waits_on text c.args.above c.args.place (map frame_view stack) frame c.in-Waits.place (c.in-Waits.place + 1) (turn_view c.in-Ok.first) is c.in-Ok.ensures.turn)
 
 pub returns-in-Err-clause-answer : goal.returns-in-Err-clause-answer
 returns-in-Err-clause-answer c =
     let text = c.args.text.now in
-    let stack = c.turns.open.items in
+    let stack = c.turns.waiting.items in
     let frame = frame_view c.in-Waits.frame in
     let is = waiting text c.args.above c.args.place stack c.turns.turn c.in-Waits.frame c.in-Waits.place c.in-Waits.is c.turns.invariant in
     refused_on text (c.in-Waits.place + 1) (inside frame) (value_at text (inside frame) c.in-Waits.place) (value_at text c.args.above c.args.place) c.in-Err.error
@@ -50,7 +50,7 @@ pub next_turn-requires-clause-shallow : goal.next_turn-requires-clause-shallow
 next_turn-requires-clause-shallow c =
     let text = c.args.text.now in
     let rest = c.pop.new.self.items in
-    let is = popped text c.args.above c.args.place c.turns.open.items rest c.in-Some.frame c.turns.turn c.in-Read.value c.in-Read.next c.in-Some.ensures.items c.in-Read.is c.turns.invariant in
+    let is = popped text c.args.above c.args.place c.turns.waiting.items rest c.in-Some.frame c.turns.turn c.in-Read.value c.in-Read.next c.in-Some.ensures.items c.in-Read.is c.turns.invariant in
     let low = reads_shallow text c.args.above c.args.place (map frame_view rest) (frame_view c.in-Some.frame) (value_found (c.in-Read.value, c.in-Read.next)) is in
     low.0
 
@@ -58,7 +58,7 @@ pub next_turn-requires-clause-value : goal.next_turn-requires-clause-value
 next_turn-requires-clause-value c =
     let text = c.args.text.now in
     let rest = c.pop.new.self.items in
-    let is = popped text c.args.above c.args.place c.turns.open.items rest c.in-Some.frame c.turns.turn c.in-Read.value c.in-Read.next c.in-Some.ensures.items c.in-Read.is c.turns.invariant in
+    let is = popped text c.args.above c.args.place c.turns.waiting.items rest c.in-Some.frame c.turns.turn c.in-Read.value c.in-Read.next c.in-Some.ensures.items c.in-Read.is c.turns.invariant in
     let low = reads_shallow text c.args.above c.args.place (map frame_view rest) (frame_view c.in-Some.frame) (value_found (c.in-Read.value, c.in-Read.next)) is in
     low.1
 
@@ -66,7 +66,7 @@ pub turns-preserved : goal.turns-preserved
 turns-preserved c =
     let text = c.args.text.now in
     let rest = c.pop.new.self.items in
-    let is = popped text c.args.above c.args.place c.turns.open.items rest c.in-Some.frame c.turns.turn c.in-Read.value c.in-Read.next c.in-Some.ensures.items c.in-Read.is c.turns.invariant in
+    let is = popped text c.args.above c.args.place c.turns.waiting.items rest c.in-Some.frame c.turns.turn c.in-Read.value c.in-Read.next c.in-Some.ensures.items c.in-Read.is c.turns.invariant in
     reads_on text c.args.above c.args.place (map frame_view rest) (frame_view c.in-Some.frame) (value_found (c.in-Read.value, c.in-Read.next)) (c.in-Read.next + 1)
     (turn_view c.in-Ok-next_turn.further) is c.in-Ok-next_turn.ensures
 
@@ -76,6 +76,6 @@ returns-in-Err-next_turn-clause-answer c =
     let rest = c.pop.new.self.items in
     let frame = frame_view c.in-Some.frame in
     let v = value_found (c.in-Read.value, c.in-Read.next) in
-    let is = popped text c.args.above c.args.place c.turns.open.items rest c.in-Some.frame c.turns.turn c.in-Read.value c.in-Read.next c.in-Some.ensures.items c.in-Read.is c.turns.invariant in
+    let is = popped text c.args.above c.args.place c.turns.waiting.items rest c.in-Some.frame c.turns.turn c.in-Read.value c.in-Read.next c.in-Some.ensures.items c.in-Read.is c.turns.invariant in
     refused_on text (c.in-Read.next + 1) (outside frame) (on_with text frame v) (value_at text c.args.above c.args.place) c.in-Err-next_turn.error
     (λ fault. reads_refused text c.args.above c.args.place (map frame_view rest) frame v fault is) c.in-Err-next_turn.ensures

@@ -6,7 +6,7 @@ use Rattle.toml_value.proofs.values.read_with.Given as goal
 
 -- what is wanted is what the turn gives, read on from each frame
 abbrev pub invariant-turns : goal.invariant-turns
-invariant-turns l = IsReading l.text l.fn.above l.fn.place (map frame_view l.open.items) (turn_view l.turn)
+invariant-turns l = IsReading l.text l.fn.above l.fn.place (map frame_view l.waiting.items) (turn_view l.turn)
 
 -- each turn goes on by a byte at least
 abbrev pub decreases-turns : goal.decreases-turns

@@ -2,8 +2,8 @@ use Rattle.std.proofs.Common.{◌≡◌, ◌∙◌, ℕ, ◌+◌, ap, ap₂, sym
 use Rattle.std.specs.Prelude.{◌-◌, ◌^◌, min}
 use Rattle.std.specs.List.{sum_by}
 use Rattle.std.proofs.lemmas.List.Sums.{sum_by_more}
-use Rattle.deny_run.specs.Counts.{count_in}
-use Rattle.deny_run.proofs.report.count_at.Goals as goal
+use Rattle.diag_stats.specs.Counts.{count_in}
+use Rattle.diag_stats.proofs.stats.count_at.Goals as goal
 
 -- a sum that was cut, and one more
 cut_more : (sum more : ℕ) → min (min sum (2 ^ 64 - 1) + more) (2 ^ 64 - 1) ≡ min (sum + more) (2 ^ 64 - 1)

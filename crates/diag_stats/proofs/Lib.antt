@@ -1,0 +1,3 @@
+pub mod CheckLemmas
+mod Examples
+pub mod WrittenLemmas

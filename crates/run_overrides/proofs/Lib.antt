@@ -1,0 +1,4 @@
+mod Examples
+pub mod ItemLemmas
+pub mod LevelLemmas
+pub mod PutLemmas
