@@ -41,7 +41,7 @@ map:
 wrong:
 	@sh tools/wrong.sh $(NAME)
 
-# Runs a program of rows or cases while memory is wanting: make starve NAME=tests_spdx
+# Compares the rows and cases of a folder of crates/tests_rows/data while memory is wanting: make starve NAME=spdx
 starve:
 	@sh tools/starve.sh $(NAME)
 

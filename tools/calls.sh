@@ -39,14 +39,15 @@ public() {
             }'
     done | sort -u
 }
-# What the list names, a line each: a program, its file, and its group or case; or `tests_code`, its file, and a test.
+# What the list names, a line each: a program, its file, and its group or case; or `tests_code`, its file, and a test. Where a
+# folder of files is named, the group or case stands in one of them.
 named() {
     sed -n 's/^| `[a-z0-9_]*` | `[A-Za-z0-9_:]*` | \(`.*\) |$/\1/p' docs/CALLS.md | sed 's/; `/\n`/g' |
         sed 's/ (it gives no error)$//; s/ (its [a-z]* row)$//' |
         sed -e 's/^`tests_code`, `\([a-z_]*\)::\([a-z_]*\)`$/tests_code\t\1.rt\t\2/; t' \
-            -e 's/^`\([a-z_]*\)`, \([a-z_]*\.txt\), /\1\t\2\t/; t' \
-            -e 's/^`\([a-z_]*\)`, \([a-z_]*\.txt\)$/\1\t\2\t/; t' \
-            -e 's/^`\([a-z_]*\)`, /\1\t*.txt\t/' | sort -u
+            -e 's/^`\([a-z_]*\)`, \([a-z_/]*\.txt\), /\1\t\2\t/; t' \
+            -e 's/^`\([a-z_]*\)`, \([a-z_/]*\.txt\)$/\1\t\2\t/; t' \
+            -e 's/^`\([a-z_]*\)`, \([a-z_]*\), /\1\t\2\/*.txt\t/' | sort -u
 }
 is_there() {
     case $1 in

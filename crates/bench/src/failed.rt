@@ -9,7 +9,6 @@ use spdx_core::ExprError;
 use std::alloc::AllocError;
 use std::io;
 use toml_subset::TomlError;
-use tree_core::PutError;
 
 /// Why nothing was measured.
 #[derive(Debug, Drop)]
@@ -83,12 +82,6 @@ impl From<ExprError> for BenchFailure {
 
 impl From<TomlError> for BenchFailure {
     fn from(_: TomlError) -> BenchFailure {
-        BenchFailure::Refused
-    }
-}
-
-impl From<PutError> for BenchFailure {
-    fn from(_: PutError) -> BenchFailure {
         BenchFailure::Refused
     }
 }

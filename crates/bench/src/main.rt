@@ -125,7 +125,11 @@ fn told(rt: &HostRuntime, words: &[String]) -> Result<String, BenchFailure> {
 
 fn main(rt: HostRuntime) -> Result<(), BenchFailure> {
     let words: Vec<String> = env::args(&rt)?.skip(1).collect(rt.alloc())?;
-    let told = told(&rt, words.as_slice())?;
-    print!(rt; "{told}")?;
-    Ok(())
+    match told(&rt, words.as_slice()) {
+        Ok(told) => match print!(rt; "{told}") {
+            Ok(()) => Ok(()),
+            Err(_) => Err(BenchFailure::Outside),
+        },
+        Err(error) => Err(error),
+    }
 }

@@ -88,8 +88,12 @@ struct RunTexts {
 impl RunTexts {
     fn new(alloc: Global) -> Result<RunTexts, AllocError> {
         let hashed = made(alloc, recipes::LICENCE, 96)?;
-        let other = made(alloc, recipes::RETURNS, 96)?;
-        let manifest = made(alloc, recipes::MANIFEST, 31)?;
+        let Ok(other) = made(alloc, recipes::RETURNS, 96) else {
+            return Err(AllocError);
+        };
+        let Ok(manifest) = made(alloc, recipes::MANIFEST, 31) else {
+            return Err(AllocError);
+        };
         Ok(RunTexts {
             hashed,
             other,
@@ -122,36 +126,32 @@ fn put_files(
     Ok(())
 }
 
+/// Puts the text of a recipe.
+fn put_text(
+    tree: &mut MemTree,
+    alloc: Global,
+    path: &str,
+    recipe: &str,
+    size: usize,
+) -> Result<(), PutError> {
+    let text = made(alloc, recipe, size)?;
+    tree.put(path, text.as_bytes())
+}
+
 impl BenchRun {
-    fn put_metadata(
-        &self,
-        tree: &mut MemTree,
-        alloc: Global,
-        size: usize,
-    ) -> Result<(), BenchFailure> {
-        let text = made(alloc, self.metadata, self.crates.unwrap_or(size))?;
-        Ok(tree.put(stages::METADATA, text.as_bytes())?)
-    }
-
-    fn put_policy(
-        &self,
-        tree: &mut MemTree,
-        alloc: Global,
-        size: usize,
-    ) -> Result<(), BenchFailure> {
-        let text = made(alloc, self.policy, size)?;
-        Ok(tree.put(stages::POLICY, text.as_bytes())?)
-    }
-
-    fn put_paths(
-        &self,
-        tree: &mut MemTree,
-        alloc: Global,
-        size: usize,
-    ) -> Result<(), BenchFailure> {
-        let files = RunTexts::new(alloc)?;
+    fn put_paths(&self, tree: &mut MemTree, alloc: Global, size: usize) -> Result<(), PutError> {
         let paths = made(alloc, self.paths, size)?;
-        Ok(put_files(tree, &files, paths.as_str(), self.every)?)
+        match &RunTexts::new(alloc) {
+            Ok(files) => put_files(tree, files, paths.as_str(), self.every),
+            Err(_) => Err(PutError::Memory),
+        }
+    }
+
+    fn put_all(&self, tree: &mut MemTree, alloc: Global, size: usize) -> Result<(), PutError> {
+        let crates = self.crates.unwrap_or(size);
+        put_text(tree, alloc, stages::METADATA, self.metadata, crates)?;
+        put_text(tree, alloc, stages::POLICY, self.policy, size)?;
+        self.put_paths(tree, alloc, size)
     }
 
     /// Measures the stages of a run that is so large.
@@ -162,10 +162,12 @@ impl BenchRun {
         size: usize,
     ) -> Result<(), BenchFailure> {
         let mut tree = MemTree::new(alloc);
-        self.put_metadata(&mut tree, alloc, size)?;
-        self.put_policy(&mut tree, alloc, size)?;
-        self.put_paths(&mut tree, alloc, size)?;
-        meter.start();
-        stages::go(meter, alloc, self.name, &mut tree)
+        match self.put_all(&mut tree, alloc, size) {
+            Ok(()) => {
+                meter.start();
+                stages::go(meter, alloc, self.name, &mut tree)
+            }
+            Err(_) => Err(BenchFailure::Refused),
+        }
     }
 }

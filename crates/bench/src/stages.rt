@@ -47,8 +47,10 @@ fn loaded(alloc: Global, files: &mut Files, tree: &mut MemTree) -> Result<ValidC
     requires { files.old ≡ [] }
     ensures { IfOk result (λ policy. PolicyStands files.new policy) }
 {
-    let mut sink = MemSink::new(alloc, ROOM, LINE)?;
     let policy = PathBuf::copy(alloc, POLICY)?;
+    let Ok(mut sink) = MemSink::new(alloc, ROOM, LINE) else {
+        return Err(BenchFailure::Memory);
+    };
     let paths = PolicyPaths {
         policy: Some(policy),
         exceptions: None,
@@ -90,8 +92,10 @@ fn printed(
 {
     let mut sink = MemSink::new(alloc, ROOM, LINE)?;
     let begun = sink.faults();
-    print_packs(alloc, context(format), packs, files, &mut sink, begun)?;
-    Ok(sink.written().len())
+    match print_packs(alloc, context(format), packs, files, &mut sink, begun) {
+        Ok(()) => Ok(sink.written().len()),
+        Err(error) => Err(BenchFailure::from(error)),
+    }
 }
 
 /// How many crates have an expression.
@@ -145,11 +149,16 @@ fn from_check(
     requires entries { EntriesLie ctx.now.files.now ctx.now.cfg }
 {
     let mut found = ErrorSink::new(alloc, None);
-    let verdicts = judge_all(alloc, ctx, summary, &mut found)?;
-    if meter.ends(run, "check", accepted(verdicts.items())) {
-        return Ok(());
+    match &judge_all(alloc, ctx, summary, &mut found) {
+        Ok(verdicts) => {
+            if meter.ends(run, "check", accepted(verdicts.items())) {
+                Ok(())
+            } else {
+                from_print(meter, alloc, run, found.packs.items(), ctx.files)
+            }
+        }
+        Err(_) => Err(BenchFailure::Memory),
     }
-    from_print(meter, alloc, run, found.packs.items(), ctx.files)
 }
 
 /// Gathers the licences of crates under their policy, and goes on from there.
@@ -164,17 +173,23 @@ fn from_gathering(
 ) -> Result<(), BenchFailure>
     requires { PolicyStands files.old policy }
 {
-    let summary = gathered(alloc, krates, files, &policy, tree)?;
-    if meter.ends(run, "gather", licensed(&summary)) {
-        return Ok(());
-    }
+    let summary = gathered(alloc, krates, files, &policy, tree);
     let ctx = CheckCtx {
         cfg: policy,
         krates,
         log_level: LevelFilter::Info,
         files,
     };
-    from_check(meter, alloc, run, &ctx, &summary)
+    match &summary {
+        Ok(summary) => {
+            if meter.ends(run, "gather", licensed(summary)) {
+                Ok(())
+            } else {
+                from_check(meter, alloc, run, &ctx, summary)
+            }
+        }
+        Err(_) => Err(BenchFailure::Memory),
+    }
 }
 
 /// Loads the policy of crates, and goes on from there.
@@ -186,12 +201,17 @@ fn from_load(
     tree: &mut MemTree,
 ) -> Result<(), BenchFailure> {
     let mut files = Files::new(alloc);
-    let policy = loaded(alloc, &mut files, tree)?;
-    let entries = policy.clarifications.items().len();
-    if meter.ends(run, "load", entries) {
-        return Ok(());
+    match loaded(alloc, &mut files, tree) {
+        Ok(policy) => {
+            let entries = policy.clarifications.items().len();
+            if meter.ends(run, "load", entries) {
+                Ok(())
+            } else {
+                from_gathering(meter, alloc, run, policy, krates, tree, &mut files)
+            }
+        }
+        Err(error) => Err(error),
     }
-    from_gathering(meter, alloc, run, policy, krates, tree, &mut files)
 }
 
 /// Goes over the metadata, the policy and the files of a tree.
@@ -204,7 +224,8 @@ pub(crate) fn go(
     let begun = tree.faults();
     let krates = krates_at(alloc, tree, METADATA, &from_root(alloc), begun)?;
     if meter.ends(run, "read", krates.krates().len()) {
-        return Ok(());
+        Ok(())
+    } else {
+        from_load(meter, alloc, run, &krates, tree)
     }
-    from_load(meter, alloc, run, &krates, tree)
 }

@@ -1,8 +1,8 @@
--- Summaries and exit codes, worked out by hand.
-use Rattle.std.proofs.Common.{◌≡◌, ◌^◌, ◌-◌, ℕ, List, [], ◌∷◌, Option, Some, None, codes, pos, false, true, refl}
-use Rattle.tree_core.specs.Script.{to_out, to_err}
+-- Summaries without numbers and exit codes, worked out by hand.
+use Rattle.std.proofs.Common.{◌≡◌, ℕ, List, [], ◌∷◌, Option, Some, None, codes, pos, false, true, refl}
+use Rattle.tree_core.specs.Script.{to_out}
 use Rattle.diag_core.specs.declared.severity.LevelFilter.TheVariants.{Off, Warn, Info}
-use Rattle.diag_print.specs.declared.context.Format.TheVariants.{Human, Json, Sarif}
+use Rattle.diag_print.specs.declared.context.Format.TheVariants.{Human, Sarif}
 use Rattle.diag_stats.specs.declared.stats.AllStats.{AllStats}
 use Rattle.diag_stats.specs.declared.stats.Stats.{Stats}
 use Rattle.diag_stats.specs.ExitCode.{exit_code_of}
@@ -18,17 +18,6 @@ two advisories licences = record { advisories = advisories; bans = None; license
 short : summary_of Human Warn false (two (Some (counted 0 0 0 0)) (Some (counted 1 0 0 0))) ≡ (to_out, codes "advisories ok, licenses FAILED\n") ∷ []
 short = refl
 
-full : summary_of Human Warn true (two (Some (counted 0 0 0 0)) (Some (counted 1 0 0 0)))
-    ≡ (to_out, codes "   advisories ok: 0 errors, 0 warnings, 0 notes\n licenses FAILED: 1 errors, 0 warnings, 0 notes\n") ∷ []
-full = refl
-
-full_at_info : summary_of Human Info false (two None (Some (counted 0 2 1 2))) ≡ (to_out, codes " licenses ok: 0 errors, 2 warnings, 3 notes\n") ∷ []
-full_at_info = refl
-
-past_64_bits : summary_of Human Info false (two None (Some (counted 0 0 (2 ^ 64 - 1) 1)))
-    ≡ (to_out, codes " licenses ok: 0 errors, 0 warnings, 18446744073709551616 notes\n") ∷ []
-past_64_bits = refl
-
 nothing_at_off : summary_of Human Off false (two None (Some (counted 0 0 1 0))) ≡ []
 nothing_at_off = refl
 
@@ -37,10 +26,6 @@ of_no_check = refl
 
 of_no_check_in_full : summary_of Human Warn true (two None None) ≡ []
 of_no_check_in_full = refl
-
-as_json : summary_of Json Off true (two None (Some (counted 0 0 1 0)))
-    ≡ (to_err, codes "{\"fields\":{\"licenses\":{\"errors\":0,\"helps\":0,\"notes\":1,\"warnings\":0}},\"type\":\"summary\"}\n") ∷ []
-as_json = refl
 
 as_sarif : summary_of Sarif Info true (two None (Some (counted 1 0 0 0))) ≡ []
 as_sarif = refl

@@ -5,8 +5,8 @@ use Rattle.std.specs.List.{list_all}
 use Rattle.std.specs.Option.{option_map_or}
 use Rattle.std.specs.Result.{result_ok}
 use Rattle.std.specs.Str.{bytes_eq}
-use Rattle.clap.specs.Simple.{App, Shape, entered, label_of, rows_at}
-use Rattle.clap.specs.Walk.{answers_to}
+use Rattle.clap.specs.Simple.{App, Shape, argument_words, entered, label_of, names_of, rows_at}
+use Rattle.clap.specs.Walk.{answers_to, stop_after}
 use Rattle.clap.specs.Words.{Text, Row, built, matches_of, subcommand_of}
 use Rattle.clap.proofs.OnLiterals.{clap_on_literals}
 use Rattle.diag_print.specs.declared.context.LogContext.{LogContext}
@@ -105,7 +105,7 @@ pub asks_check : (words : List Text) (cwd : Text) (request : Request) → reques
 asks_check words cwd request e =
     let rows = matches_of cli words in
     asks (log_context_of rows) (path_at cwd (codes "manifest-path") rows) (krate_context_of rows cwd) (subcommand_asked (subcommand_of cli words)) request
-    (of_stop (built cli) _ no_others) e
+    (of_stop (built cli) (stop_after (built cli).top.rules (names_of (built cli)) (argument_words cli words)) no_others) e
 
 pub command_clause : {E : Type 0} (words : List Text) (cwd : Text) (r : Result CliAnswer E) → IfOk r (IsGivenFor words cwd) → IfOk r IsCheckAsked
 command_clause words cwd (Ok (Asked request)) is = asks_check words cwd request is.1

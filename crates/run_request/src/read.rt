@@ -88,7 +88,7 @@ fn matches_of<'a>(command: &mut Command<'a>, words: &'a [&'a str]) -> Result<Arg
 
 /// The answer to an error, which is let go.
 fn told_by(alloc: Global, error: Error) -> Result<CliAnswer, AllocError>
-    ensures { IfOk result (IsErrorAnswer (kind_of error.entry)) }
+    ensures { IfOk result (IsErrorAnswer (kind_of error)) }
 {
     told(alloc, &error)
 }

@@ -1,5 +1,5 @@
 //! Tests that no row of a file can be: of files that can't be read as rows, of rows that definitions compute, of generic code at
-//! types of the tests' own, of sinks over writers, of values that are built by calls, and of the start of a process.
+//! types of the tests' own, of sinks over writers, and of values that are built by calls.
 #![tactic(auto)]
 
 #[cfg(test)]
@@ -11,18 +11,12 @@ mod licences;
 #[cfg(test)]
 mod listing;
 #[cfg(test)]
-mod made_up;
-#[cfg(test)]
 mod searches;
 #[cfg(test)]
 mod shapes;
 #[cfg(test)]
 mod sinks;
 #[cfg(test)]
-mod start;
-#[cfg(test)]
 mod steps;
-#[cfg(test)]
-mod system;
 #[cfg(test)]
 mod verdicts;

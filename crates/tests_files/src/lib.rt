@@ -5,6 +5,7 @@ pub mod case;
 pub mod cases;
 pub mod escapes;
 pub mod names;
+mod none;
 pub mod rows;
 pub mod shown;
 pub mod told;

@@ -14,14 +14,22 @@ use policy_valid::ValidConfig;
 use spdx_core::Table;
 use std::alloc::Global;
 use tests_files::tree::text_of;
-use tests_files::{AnswerText, Case, CaseEntry, NameIdentifier};
+use tests_files::{AnswerText, Case, CaseEntry, NameIdentifier, ok, some};
 use tree_core::{MemTree, ReadRecord};
 use tree_reads::{FolderHeard, list_folder, listing_record, read_file};
 
 /// The crates of the metadata of a case.
 fn krates(alloc: Global, case: &Case<'_>) -> Option<Krates> {
-    let text = text_of(alloc, case, case.entry("metadata")?).ok()?;
-    let metadata = records(alloc, str::from_utf8(&text).ok()?, "index").ok()?;
+    let entry = case.entry("metadata")?;
+    let bytes = ok!(text_of(alloc, case, entry));
+    match str::from_utf8(&bytes) {
+        Ok(text) => krates_in(alloc, text),
+        Err(_) => None,
+    }
+}
+
+fn krates_in(alloc: Global, text: &str) -> Option<Krates> {
+    let metadata = ok!(records(alloc, text, "index"));
     let selection = Selection {
         workspace: true,
         exclude: ExcludeSpecs::new(alloc),
@@ -150,15 +158,34 @@ fn put_of(out: &mut AnswerText, key: &str, files: &Files, licences: &[KrateLicen
     }
 }
 
+/// Gathers some crates by a policy, and puts what a key names of that.
+fn put_gathered(
+    alloc: Global,
+    case: &Case<'_>,
+    key: &str,
+    krates: &Krates,
+    policy: &ValidConfig,
+    out: &mut AnswerText,
+) -> Option<()> {
+    let threshold = case.word("threshold").parse::<i64>().unwrap_or(80);
+    let mut world = some!(world_of(alloc, case));
+    match &gathered(alloc, krates, &mut world, policy, threshold) {
+        Some(summary) => {
+            put_of(out, key, &world.files, summary.nfos.items());
+            Some(())
+        }
+        None => None,
+    }
+}
+
 /// Puts what a key names of what is gathered in a case.
 pub fn put(alloc: Global, case: &Case<'_>, key: &str, out: &mut AnswerText) -> Option<()> {
-    let krates = krates(alloc, case)?;
-    let policy = policy_of(alloc, case)?;
-    let mut world = world_of(alloc, case)?;
-    let threshold = case.word("threshold").parse::<i64>().unwrap_or(80);
-    let summary = gathered(alloc, &krates, &mut world, &policy, threshold)?;
-    put_of(out, key, &world.files, summary.nfos.items());
-    Some(())
+    let krates = krates(alloc, case);
+    let policy = policy_of(alloc, case);
+    match (&krates, &policy) {
+        (Some(krates), Some(policy)) => put_gathered(alloc, case, key, krates, policy, out),
+        _ => None,
+    }
 }
 
 /// What the record of a listing answers, and the entries of the folder.
@@ -191,7 +218,7 @@ fn put_located(out: &mut AnswerText, located: &LocatedField, files: &Files) {
 }
 
 fn put_read(alloc: Global, out: &mut AnswerText, tree: &mut MemTree, path: &str) -> Option<()> {
-    let heard = read_file(alloc, tree, "/w", path).ok()?;
+    let heard = ok!(read_file(alloc, tree, "/w", path));
     match &heard {
         Ok(text) => write!(out, "{path}: {:?}\n", text.as_str()),
         Err(error) => write!(out, "{path}: {error:?}\n"),
@@ -200,19 +227,27 @@ fn put_read(alloc: Global, out: &mut AnswerText, tree: &mut MemTree, path: &str)
 }
 
 fn put_listed(alloc: Global, out: &mut AnswerText, tree: &mut MemTree, path: &str) -> Option<()> {
-    let heard = list_folder(alloc, tree, path).ok()?;
-    let record = listing_record(alloc, path, &heard).ok()?;
-    put_folder(out, path, &heard, &record);
-    Some(())
+    let heard = ok!(list_folder(alloc, tree, path));
+    match &listing_record(alloc, path, &heard) {
+        Ok(record) => {
+            put_folder(out, path, &heard, record);
+            Some(())
+        }
+        Err(_) => None,
+    }
 }
 
 /// Puts where the field stands that is written behind a path.
 fn put_field(alloc: Global, out: &mut AnswerText, world: &mut World, words: &str) -> Option<()> {
     let (path, field) = first_word(words);
-    let path = PathBuf::copy(alloc, path).ok()?;
-    let located = locate(alloc, &mut world.tree, &mut world.files, &path, field).ok()?;
-    put_located(out, &located, &world.files);
-    Some(())
+    let path = ok!(PathBuf::copy(alloc, path));
+    match &locate(alloc, &mut world.tree, &mut world.files, &path, field) {
+        Ok(located) => {
+            put_located(out, located, &world.files);
+            Some(())
+        }
+        Err(_) => None,
+    }
 }
 
 /// Reads, lists or looks for what an entry names.
@@ -231,20 +266,29 @@ fn put_entry(
     }
 }
 
-/// What is heard of each file by the key `read` and of each folder by the key `list`, and where each field by the key `locate` stands.
-pub fn put_each(alloc: Global, case: &Case<'_>, out: &mut AnswerText) -> Option<()> {
-    let mut world = world_of(alloc, case)?;
-    for entry in case.own {
-        put_entry(alloc, out, &mut world, entry)?;
+fn put_entries(
+    alloc: Global,
+    out: &mut AnswerText,
+    world: &mut World,
+    entries: &[CaseEntry],
+) -> Option<()> {
+    for entry in entries {
+        put_entry(alloc, out, world, entry)?;
     }
     Some(())
+}
+
+/// What is heard of each file by the key `read` and of each folder by the key `list`, and where each field by the key `locate` stands.
+pub fn put_each(alloc: Global, case: &Case<'_>, out: &mut AnswerText) -> Option<()> {
+    let mut world = some!(world_of(alloc, case));
+    put_entries(alloc, out, &mut world, case.own)
 }
 
 /// The pack of the crate, with the `license-file` that the case has, of which nothing is said.
 fn pack(alloc: Global, tree: &mut MemTree, case: &Case<'_>) -> Option<LicensePack> {
     match case.entry("license-file") {
         Some(entry) => {
-            let path = PathBuf::copy(alloc, entry.word.as_str()).ok()?;
+            let path = ok!(PathBuf::copy(alloc, entry.word.as_str()));
             LicensePack::read(alloc, tree, "/w", Some(&path)).ok()
         }
         None => LicensePack::read(alloc, tree, "/w", None).ok(),
@@ -256,8 +300,8 @@ fn paths(alloc: Global, entries: &[CaseEntry]) -> Option<Vec<PathBuf>> {
     let mut paths = Vec::new(alloc);
     for entry in entries {
         if entry.key.as_str() == "clarified" {
-            let path = PathBuf::copy(alloc, entry.word.as_str()).ok()?;
-            paths.push(path).ok()?;
+            let path = ok!(PathBuf::copy(alloc, entry.word.as_str()));
+            ok!(paths.push(path));
         }
     }
     Some(paths)
@@ -268,41 +312,63 @@ fn files_at(alloc: Global, paths: &[PathBuf]) -> Option<Vec<FileRef<'_>>> {
     let span = Span { start: 0, end: 0 };
     let mut files = Vec::new(alloc);
     for path in paths {
-        files.push(FileRef::new(path, OF_FEED, span)).ok()?;
+        ok!(files.push(FileRef::new(path, OF_FEED, span)));
     }
     Some(files)
 }
 
-fn tried(alloc: Global, case: &Case<'_>, files: &[FileRef<'_>]) -> Option<TriedClarification> {
-    let mut world = world_of(alloc, case)?;
-    let pack = pack(alloc, &mut world.tree, case)?;
-    pack.tries(alloc, &mut world.tree, files).ok()
+fn tried_in(
+    alloc: Global,
+    tree: &mut MemTree,
+    case: &Case<'_>,
+    files: &[FileRef<'_>],
+) -> Option<TriedClarification> {
+    let pack = some!(pack(alloc, tree, case));
+    pack.tries(alloc, tree, files).ok()
+}
+
+fn tried(alloc: Global, case: &Case<'_>, paths: &[PathBuf]) -> Option<TriedClarification> {
+    let files = some!(files_at(alloc, paths));
+    let mut world = some!(world_of(alloc, case));
+    tried_in(alloc, &mut world.tree, case, &files)
 }
 
 /// Whether a clarification, whose files have the hash of one LF, holds by the crate's pack, and each read.
 pub fn put_tried(alloc: Global, case: &Case<'_>, out: &mut AnswerText) -> Option<()> {
-    let paths = paths(alloc, case.own)?;
-    let files = files_at(alloc, &paths)?;
-    let tried = tried(alloc, case, &files)?;
-    out.put(if tried.holds { "holds" } else { "differs" });
-    put_reads(out, tried.pack.into_reads().items());
-    Some(())
+    let paths = some!(paths(alloc, case.own));
+    match tried(alloc, case, &paths) {
+        Some(tried) => {
+            out.put(if tried.holds { "holds" } else { "differs" });
+            put_reads(out, tried.pack.into_reads().items());
+            Some(())
+        }
+        None => None,
+    }
 }
 
 fn put_names(alloc: Global, pack: &LicensePack, threshold: u8, out: &mut AnswerText) -> Option<()> {
-    let files = scan_pack(alloc, Some(&NameIdentifier), threshold, pack, &Table).ok()?;
-    let joined = joined(alloc, files.items(), &Table).ok()?;
-    match &joined {
-        Some(read) => out.put(read.as_ref()),
-        None => out.put("none"),
+    let files = ok!(scan_pack(alloc, Some(&NameIdentifier), threshold, pack, &Table));
+    match &joined(alloc, files.items(), &Table) {
+        Ok(Some(read)) => out.put(read.as_ref()),
+        Ok(None) => out.put("none"),
+        Err(_) => out.want_memory(),
     }
     Some(())
 }
 
+fn put_pack(
+    alloc: Global,
+    tree: &mut MemTree,
+    case: &Case<'_>,
+    out: &mut AnswerText,
+) -> Option<()> {
+    let threshold = case.word("threshold").parse::<u8>().unwrap_or(80);
+    let pack = some!(pack(alloc, tree, case));
+    put_names(alloc, &pack, threshold, out)
+}
+
 /// The expression that the names of the crate's files are joined to.
 pub fn put_joined(alloc: Global, case: &Case<'_>, out: &mut AnswerText) -> Option<()> {
-    let mut world = world_of(alloc, case)?;
-    let pack = pack(alloc, &mut world.tree, case)?;
-    let threshold = case.word("threshold").parse::<u8>().unwrap_or(80);
-    put_names(alloc, &pack, threshold, out)
+    let mut world = some!(world_of(alloc, case));
+    put_pack(alloc, &mut world.tree, case, out)
 }

@@ -14,7 +14,7 @@ use spdx_core::{Expression, ParseMode, Table};
 use std::alloc::Global;
 use tests_files::cases::wanted;
 use tests_files::tree::{text_of, tree_of};
-use tests_files::{Case, CaseEntry};
+use tests_files::{Case, CaseEntry, ok, some};
 use tree_core::MemTree;
 use url::Url;
 
@@ -26,6 +26,15 @@ const PATH: Span = Span { start: 10, end: 17 };
 
 /// Where it has the expression.
 const OFFSET: usize = 22;
+
+/// Whether a word is one of these.
+pub fn is_word_of(words: &str, sought: &str) -> bool {
+    let mut is_there = false;
+    for word in words.split_whitespace() {
+        is_there = is_there | (word == sought);
+    }
+    is_there
+}
 
 /// The first word of a text, and the others.
 pub fn first_word(text: &str) -> (&str, &str) {
@@ -78,16 +87,17 @@ pub fn expression(alloc: Global, text: &str) -> Option<Expression> {
 pub fn texts(alloc: Global, words: &str) -> Option<Texts> {
     let mut texts = Texts::new(alloc);
     for word in words.split_whitespace() {
-        texts.push(Text::copy(alloc, word).ok()?).ok()?;
+        let text = ok!(Text::copy(alloc, word));
+        ok!(texts.push(text));
     }
     Some(texts)
 }
 
 /// A crate of version 1.0.0 in the folder `/w`.
 pub fn krate(alloc: Global, id: &str, name: &str) -> Option<Krate> {
-    let id = Text::copy(alloc, id).ok()?;
-    let name = Text::copy(alloc, name).ok()?;
-    let manifest_path = PathBuf::copy(alloc, "/w/Cargo.toml").ok()?;
+    let id = ok!(Text::copy(alloc, id));
+    let name = ok!(Text::copy(alloc, name));
+    let manifest_path = ok!(PathBuf::copy(alloc, "/w/Cargo.toml"));
     Some(Krate {
         name,
         id,
@@ -111,7 +121,7 @@ pub fn table(alloc: Global, case: &Case<'_>) -> Option<Files> {
     for entries in [case.base, case.own] {
         for entry in entries {
             if entry.key.as_str() == "table" {
-                add_file(alloc, &mut files, case, entry)?;
+                some!(add_file(alloc, &mut files, case, entry));
             }
         }
     }
@@ -119,9 +129,15 @@ pub fn table(alloc: Global, case: &Case<'_>) -> Option<Files> {
 }
 
 fn add_file(alloc: Global, files: &mut Files, case: &Case<'_>, entry: &CaseEntry) -> Option<()> {
-    let bytes = text_of(alloc, case, entry).ok()?;
-    let text = Text::copy(alloc, str::from_utf8(&bytes).ok()?).ok()?;
-    let path = PathBuf::copy(alloc, entry.word.as_str()).ok()?;
+    let bytes = ok!(text_of(alloc, case, entry));
+    let text = ok!(str::from_utf8(&bytes));
+    add_text(alloc, files, entry.word.as_str(), text)
+}
+
+/// Adds a text to the table under a path.
+fn add_text(alloc: Global, files: &mut Files, path: &str, text: &str) -> Option<()> {
+    let text = ok!(Text::copy(alloc, text));
+    let path = ok!(PathBuf::copy(alloc, path));
     match files.add(path, text) {
         Ok(_) => Some(()),
         Err(_) => None,
@@ -137,11 +153,11 @@ pub struct World {
 
 /// The tree and the table of a case. By the key `fail` that call of the tree fails, counted from 1.
 pub fn world_of(alloc: Global, case: &Case<'_>) -> Option<World> {
-    let files = table(alloc, case)?;
-    let mut tree = tree_of(alloc, case).ok()?;
+    let files = some!(table(alloc, case));
+    let mut tree = ok!(tree_of(alloc, case));
     let failing = number(case.word("fail")) as u64;
     if failing > 0 {
-        tree.fail_call(failing).ok()?;
+        ok!(tree.fail_call(failing));
     }
     Some(World { tree, files })
 }
@@ -165,15 +181,15 @@ fn licensees(alloc: Global, words: &str) -> Option<Licensees> {
     let mut licensees = Licensees::new(alloc);
     for word in words.split_whitespace() {
         let (name, span) = placed(word);
-        let value = spdx_core::Licensee::parse_mode(alloc, name, ParseMode::STRICT, &Table).ok()?;
-        licensees.push(Licensee(Spanned { value, span })).ok()?;
+        let value = ok!(spdx_core::Licensee::parse_mode(alloc, name, ParseMode::STRICT, &Table));
+        ok!(licensees.push(Licensee(Spanned { value, span })));
     }
     Some(licensees)
 }
 
 fn spec(alloc: Global, word: &str) -> Option<PackageSpec> {
     let (name, span) = placed(word);
-    let value = Text::copy(alloc, name).ok()?;
+    let value = ok!(Text::copy(alloc, name));
     Some(PackageSpec {
         name: Spanned { value, span },
         version_req: None,
@@ -185,8 +201,8 @@ fn exception(alloc: Global, words: &str) -> Option<ValidException> {
     let (krate, names) = words.split_once(':').unwrap_or((words, ""));
     let krate = krate.trim();
     let (file, krate) = krate.split_once(' ').unwrap_or(("0", krate));
-    let spec = spec(alloc, krate)?;
-    let allowed = licensees(alloc, names)?;
+    let spec = some!(spec(alloc, krate));
+    let allowed = some!(licensees(alloc, names));
     Some(ValidException {
         spec,
         allowed,
@@ -198,8 +214,8 @@ fn exception(alloc: Global, words: &str) -> Option<ValidException> {
 fn exceptions(alloc: Global, words: &str) -> Option<ValidExceptions> {
     let mut exceptions = ValidExceptions::new(alloc);
     for words in words.split_terminator(';') {
-        let exception = exception(alloc, words)?;
-        exceptions.push(exception).ok()?;
+        let exception = some!(exception(alloc, words));
+        ok!(exceptions.push(exception));
     }
     Some(exceptions)
 }
@@ -207,10 +223,10 @@ fn exceptions(alloc: Global, words: &str) -> Option<ValidExceptions> {
 fn sources(alloc: Global, paths: &str) -> Option<FileSources> {
     let mut sources = FileSources::new(alloc);
     for path in paths.split_whitespace() {
-        let value = PathBuf::copy(alloc, path).ok()?;
+        let value = ok!(PathBuf::copy(alloc, path));
         let path = Spanned { value, span: PATH };
         let hash = OF_FEED;
-        sources.push(FileSource { path, hash }).ok()?;
+        ok!(sources.push(FileSource { path, hash }));
     }
     Some(sources)
 }
@@ -219,9 +235,9 @@ fn sources(alloc: Global, paths: &str) -> Option<FileSources> {
 fn clarification(alloc: Global, words: &str) -> Option<ValidClarification> {
     let (name, rest) = first_word(words);
     let (text, paths) = first_word(rest);
-    let spec = spec(alloc, name)?;
-    let expression = expression(alloc, text)?;
-    let license_files = sources(alloc, paths)?;
+    let spec = some!(spec(alloc, name));
+    let expression = some!(expression(alloc, text));
+    let license_files = some!(sources(alloc, paths));
     Some(ValidClarification {
         spec,
         expr_offset: OFFSET,
@@ -236,8 +252,8 @@ fn clarifications(alloc: Global, entries: &[CaseEntry]) -> Option<ValidClarifica
     let mut clarifications = ValidClarifications::new(alloc);
     for entry in entries {
         if entry.key.as_str() == "clarify" {
-            let clarification = clarification(alloc, entry.word.as_str())?;
-            clarifications.push(clarification).ok()?;
+            let clarification = some!(clarification(alloc, entry.word.as_str()));
+            ok!(clarifications.push(clarification));
         }
     }
     Some(clarifications)
@@ -246,18 +262,18 @@ fn clarifications(alloc: Global, entries: &[CaseEntry]) -> Option<ValidClarifica
 /// The addresses of private crates.
 fn addresses(alloc: Global) -> Option<Urls> {
     let mut addresses = Urls::new(alloc);
-    let address = Url::parse(alloc, "https://h/a").ok()?;
-    addresses.push(address).ok()?;
+    let address = ok!(Url::parse(alloc, "https://h/a"));
+    ok!(addresses.push(address));
     Some(addresses)
 }
 
 /// The allowed licences, and the exceptions. Private crates are passed over: those of the registries `mine` and `ours` and of
 /// the address `https://h/a`.
 pub fn policy(alloc: Global, allow: &str, excepted: &str) -> Option<ValidConfig> {
-    let ignore_sources = addresses(alloc)?;
-    let registries = texts(alloc, "mine ours")?;
-    let allowed = licensees(alloc, allow)?;
-    let exceptions = exceptions(alloc, excepted)?;
+    let ignore_sources = some!(addresses(alloc));
+    let registries = some!(texts(alloc, "mine ours"));
+    let allowed = some!(licensees(alloc, allow));
+    let exceptions = some!(exceptions(alloc, excepted));
     Some(ValidConfig {
         file_id: 0,
         private: Private {
@@ -279,8 +295,8 @@ pub fn policy(alloc: Global, allow: &str, excepted: &str) -> Option<ValidConfig>
 
 /// The policy of a case, with its clarifications by the key `clarify`.
 pub fn policy_of(alloc: Global, case: &Case<'_>) -> Option<ValidConfig> {
-    let clarifications = clarifications(alloc, case.own)?;
-    let mut policy = policy(alloc, case.word("allow"), case.word("exceptions"))?;
+    let clarifications = some!(clarifications(alloc, case.own));
+    let mut policy = some!(policy(alloc, case.word("allow"), case.word("exceptions")));
     policy.clarifications = clarifications;
     policy.unused_allowed_license = level(case.word("unused-allowed-license"));
     policy.unused_license_exception = level(case.word("unused-license-exception"));

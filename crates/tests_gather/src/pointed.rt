@@ -15,7 +15,7 @@ use gather_location::locate;
 use graph_core::Krate;
 use spdx_core::Table;
 use std::alloc::Global;
-use tests_files::{AnswerText, Case, CaseEntry};
+use tests_files::{AnswerText, Case, CaseEntry, ok, some};
 use tree_reads::BadRead;
 
 fn bad_read(word: &str) -> Option<BadRead> {
@@ -61,9 +61,9 @@ fn scanned_files(alloc: Global, entries: &[CaseEntry]) -> Option<ListOf<ScannedF
     for entry in entries {
         if entry.key.as_str() == "scanned" {
             let (path, rest) = first_word(entry.word.as_str());
-            let path = PathBuf::copy(alloc, path).ok()?;
-            let scanned = scanned(alloc, rest)?;
-            files.push(ScannedFile { path, scanned }).ok()?;
+            let path = ok!(PathBuf::copy(alloc, path));
+            let scanned = some!(scanned(alloc, rest));
+            ok!(files.push(ScannedFile { path, scanned }));
         }
     }
     Some(files)
@@ -103,10 +103,10 @@ fn found(
     settles: ExpressionBasis<'_>,
 ) -> Option<PlacedFindings> {
     let field = field_of(krate);
-    let read = read_field(alloc, field, &Table).ok()?;
+    let read = ok!(read_field(alloc, field, &Table));
     let files = &mut world.files;
     let path = &krate.manifest_path;
-    let located = locate(alloc, &mut world.tree, files, path, field).ok()?;
+    let located = ok!(locate(alloc, &mut world.tree, files, path, field));
     let case = Unsettled {
         krate,
         folder: "/w",
@@ -130,9 +130,10 @@ fn put_messages(out: &mut AnswerText, findings: &[Diag]) {
 
 /// The crate `a`, or of another name, with the field that the case has.
 fn krate_of(alloc: Global, case: &Case<'_>) -> Option<Krate> {
-    let mut krate = krate(alloc, "a", value(case, "name").unwrap_or("a"))?;
+    let mut krate = some!(krate(alloc, "a", value(case, "name").unwrap_or("a")));
     if let Some(field) = value(case, "field") {
-        krate.license = Some(Text::copy(alloc, field).ok()?);
+        let text = ok!(Text::copy(alloc, field));
+        krate.license = Some(text);
     }
     Some(krate)
 }
@@ -153,18 +154,22 @@ fn put_of(
     key: &str,
     out: &mut AnswerText,
 ) -> Option<()> {
-    let scanned = scanned_files(alloc, case.own)?;
-    let mut world = world_of(alloc, case)?;
+    let scanned = some!(scanned_files(alloc, case.own));
+    let mut world = some!(world_of(alloc, case));
     let settles = settles(case, scanned.items(), joined);
-    let points = found(alloc, &mut world, krate, settles)?;
-    put_found(out, key, &world.files, points.findings.items());
-    Some(())
+    match &found(alloc, &mut world, krate, settles) {
+        Some(points) => {
+            put_found(out, key, &world.files, points.findings.items());
+            Some(())
+        }
+        None => None,
+    }
 }
 
 /// The places that the findings of a case point at, their levels and messages, or the text of the first file of the table.
 pub fn put(alloc: Global, case: &Case<'_>, key: &str, out: &mut AnswerText) -> Option<()> {
-    let krate = krate_of(alloc, case)?;
-    let names = Text::copy(alloc, value(case, "joined-names").unwrap_or("")).ok()?;
+    let krate = some!(krate_of(alloc, case));
+    let names = ok!(Text::copy(alloc, value(case, "joined-names").unwrap_or("")));
     let joined = match case.entry("joined-names") {
         Some(_) => Some(names.as_str()),
         None => None,
@@ -174,9 +179,13 @@ pub fn put(alloc: Global, case: &Case<'_>, key: &str, out: &mut AnswerText) -> O
 
 /// What is told of a file of a clarification that is not there, whose path stands at these bytes of the first file of the table.
 pub fn put_missing(alloc: Global, case: &Case<'_>, out: &mut AnswerText) -> Option<()> {
-    let files = table(alloc, case)?;
+    let files = some!(table(alloc, case));
     let span = span(case.word("missing"), "..");
-    let finding = missing_file(alloc, Coord { file: 0, span }).ok()?;
-    put_findings(out, &files, &[finding]);
-    Some(())
+    match missing_file(alloc, Coord { file: 0, span }) {
+        Ok(finding) => {
+            put_findings(out, &files, &[finding]);
+            Some(())
+        }
+        Err(_) => None,
+    }
 }

@@ -4,11 +4,11 @@ use diag_texts::{FileNote, Synthetic, TextPiece, correct_span, license_span};
 use gather_expression::field;
 use spdx_core::Table;
 use std::alloc::{AllocError, Global};
-use tests_files::{AnswerText, Case, CaseEntry};
+use tests_files::{AnswerText, Case, CaseEntry, ok, some};
 
 /// How many terms the expression of a field has; none, where it is no expression.
 pub fn put_terms(alloc: Global, text: &str, out: &mut AnswerText) -> Option<()> {
-    let read = field(alloc, text, &Table).ok()?;
+    let read = ok!(field(alloc, text, &Table));
     match &read {
         Some(read) => write!(out, "{}", read.requirements().len()),
         None => out.put("0"),
@@ -68,7 +68,7 @@ fn write_entry(alloc: Global, text: &mut Synthetic, entry: &CaseEntry) -> Result
 fn written(alloc: Global, entries: &[CaseEntry]) -> Option<Synthetic> {
     let mut text = Synthetic::new(alloc);
     for entry in entries {
-        write_entry(alloc, &mut text, entry).ok()?;
+        ok!(write_entry(alloc, &mut text, entry));
     }
     Some(text)
 }
@@ -86,7 +86,7 @@ fn put_spans(out: &mut AnswerText, text: &Synthetic, is_cut: bool) {
 
 /// The text that the entries of a case write, the places that were kept in it, or what these cut out.
 pub fn put_written(alloc: Global, case: &Case<'_>, key: &str, out: &mut AnswerText) -> Option<()> {
-    let text = written(alloc, case.own)?;
+    let text = some!(written(alloc, case.own));
     match key {
         "text" => out.put(text.into_text().as_str()),
         _ => put_spans(out, &text, key == "cuts"),

@@ -28,14 +28,24 @@ fn texts_of(alloc: Global, words: &str) -> Result<Texts, AllocError> {
     Ok(texts)
 }
 
+fn path_of(alloc: Global, word: &str) -> Result<Option<PathBuf>, AllocError> {
+    match word {
+        "" => Ok(None),
+        path => Ok(Some(PathBuf::copy(alloc, path)?)),
+    }
+}
+
 fn context_of(alloc: Global, case: &Case<'_>) -> Result<KrateContext, AllocError> {
-    let manifest_path = PathBuf::copy(alloc, "/w/Cargo.toml")?;
-    let cwd = PathBuf::copy(alloc, "/w")?;
-    let metadata_path = match case.word("metadata") {
-        "" => None,
-        path => Some(PathBuf::copy(alloc, path)?),
-    };
     let exclude = texts_of(alloc, case.word("exclude"))?;
+    let Ok(metadata_path) = path_of(alloc, case.word("metadata")) else {
+        return Err(AllocError);
+    };
+    let Ok(manifest_path) = PathBuf::copy(alloc, "/w/Cargo.toml") else {
+        return Err(AllocError);
+    };
+    let Ok(cwd) = PathBuf::copy(alloc, "/w") else {
+        return Err(AllocError);
+    };
     Ok(KrateContext {
         manifest_path,
         config_path: None,
@@ -57,8 +67,10 @@ fn context_of(alloc: Global, case: &Case<'_>) -> Result<KrateContext, AllocError
 
 fn gathered(alloc: Global, tree: &mut MemTree, case: &Case<'_>) -> Result<Krates, KratesError> {
     let policy_excludes = texts_of(alloc, case.word("policy-exclude"))?;
-    let context = context_of(alloc, case)?;
-    gather_krates(context, alloc, tree, &policy_excludes)
+    match context_of(alloc, case) {
+        Ok(context) => gather_krates(context, alloc, tree, &policy_excludes),
+        Err(_) => Err(KratesError::Memory),
+    }
 }
 
 /// Puts the ids that are gathered, or the refusal: once for each number of a call that fails, over one tree, or once where none does.

@@ -5,12 +5,11 @@ use crate::show::{
 use deny_text::PathBuf;
 use diag_core::{Files, LevelFilter};
 use diag_print::{Color, Format, LogContext};
-use policy_core::{Config, Licensees, RootConfig, ValidExceptions};
+use policy_core::{Config, Licensees, RootConfig, ValidConfig, ValidExceptions};
 use policy_load::{LoadError, LoadedPolicy, PolicyPaths, load};
 use policy_text::{ConfigError, read_config};
 use spdx_core::Table;
 use std::alloc::{AllocError, Global};
-use std::io;
 use tests_files::cases::{is_among, wanted};
 use tests_files::tree::{number, tree_of};
 use tests_files::{AnswerText, Case, Cases, KeyAnswer};
@@ -57,6 +56,9 @@ struct LoadEnding {
     failures: u64,
 }
 
+/// Lets an ending go. Whoever owns one hands it on to here, since to let it go is dear to prove.
+fn let_go(_ending: LoadEnding) {}
+
 /// The path that stands behind a key, if there is one.
 fn path_of(alloc: Global, word: &str) -> Result<Option<PathBuf>, AllocError> {
     if word.is_empty() {
@@ -67,7 +69,9 @@ fn path_of(alloc: Global, word: &str) -> Result<Option<PathBuf>, AllocError> {
 
 fn paths_of(alloc: Global, case: &Case<'_>) -> Result<PolicyPaths, AllocError> {
     let policy = path_of(alloc, case.word("at"))?;
-    let exceptions = path_of(alloc, case.word("exceptions"))?;
+    let Ok(exceptions) = path_of(alloc, case.word("exceptions")) else {
+        return Err(AllocError);
+    };
     Ok(PolicyPaths { policy, exceptions })
 }
 
@@ -83,6 +87,26 @@ fn context_of(case: &Case<'_>) -> LogContext {
     }
 }
 
+/// Loads a policy over a tree, and prints to a sink.
+fn ending_with(
+    alloc: Global,
+    paths: PolicyPaths,
+    context: LogContext,
+    tree: &mut MemTree,
+    mut sink: MemSink,
+) -> LoadEnding {
+    let mut files = Files::new(alloc);
+    let answer = load(
+        alloc, paths, &mut files, context, tree, &mut sink, &Table, 0,
+    );
+    LoadEnding {
+        answer,
+        files,
+        sink,
+        failures: tree.faults(),
+    }
+}
+
 /// Loads the policy of a case over a tree, and prints what there is room for.
 fn ending_in(
     alloc: Global,
@@ -91,18 +115,10 @@ fn ending_in(
     tree: &mut MemTree,
 ) -> Result<LoadEnding, AllocError> {
     let paths = paths_of(alloc, case)?;
-    let context = context_of(case);
-    let mut sink = MemSink::new(alloc, room, 1000)?;
-    let mut files = Files::new(alloc);
-    let answer = load(
-        alloc, paths, &mut files, context, tree, &mut sink, &Table, 0,
-    );
-    Ok(LoadEnding {
-        answer,
-        files,
-        sink,
-        failures: tree.faults(),
-    })
+    match MemSink::new(alloc, room, 1000) {
+        Ok(sink) => Ok(ending_with(alloc, paths, context_of(case), tree, sink)),
+        Err(error) => Err(error),
+    }
 }
 
 /// Loads the policy once, and then has the next call fail.
@@ -112,33 +128,55 @@ fn load_first(
     room: usize,
     tree: &mut MemTree,
 ) -> Result<(), AllocError> {
-    let _ = ending_in(alloc, case, room, tree)?;
+    let ending = ending_in(alloc, case, room, tree)?;
+    let_go(ending);
     tree.fail_call(1)
 }
 
-/// The tree of a case, of which a call fails.
-fn failing_tree(alloc: Global, case: &Case<'_>) -> io::Result<MemTree> {
-    let mut tree = tree_of(alloc, case)?;
+/// Has the call of a tree fail that a case names.
+fn fail_call(tree: &mut MemTree, case: &Case<'_>) -> Result<(), AllocError> {
     match number(case.word("fail")) {
-        Some(call) if call > 0 => tree.fail_call(call)?,
-        _ => {}
+        Some(call) if call > 0 => tree.fail_call(call),
+        _ => Ok(()),
     }
-    Ok(tree)
 }
 
 /// Loads the policy of a case, for a second time where the case wants that: the first read of the tree fails in both then.
-fn ending_of(alloc: Global, case: &Case<'_>, room: usize) -> io::Result<LoadEnding> {
-    let mut tree = failing_tree(alloc, case)?;
+fn ending_over(
+    alloc: Global,
+    case: &Case<'_>,
+    room: usize,
+    tree: &mut MemTree,
+) -> Result<LoadEnding, AllocError> {
+    fail_call(tree, case)?;
     if case.entry("twice").is_some() {
-        load_first(alloc, case, room, &mut tree)?;
+        load_first(alloc, case, room, tree)?;
     }
-    Ok(ending_in(alloc, case, room, &mut tree)?)
+    ending_in(alloc, case, room, tree)
+}
+
+/// The same over the tree of the case; none where it can't be tried.
+fn ending_of(alloc: Global, case: &Case<'_>, room: usize) -> Option<LoadEnding> {
+    match tree_of(alloc, case) {
+        Ok(mut tree) => ending_over(alloc, case, room, &mut tree).ok(),
+        Err(_) => None,
+    }
 }
 
 fn put_printed(out: &mut AnswerText, licensees: &Licensees) {
     for licensee in licensees.items() {
         write!(out, " {}", licensee.0.value);
     }
+}
+
+fn put_settings(out: &mut AnswerText, valid: &ValidConfig) {
+    let exceptions = valid.exceptions.items().len();
+    let (dev, build) = (valid.include_dev, valid.include_build);
+    let from = valid.confidence_threshold;
+    write!(
+        out,
+        ", {exceptions} exceptions; dev {dev}, build {build}, from {from}"
+    );
 }
 
 /// Puts what a policy allows, how many exceptions it has and its settings, or why it is refused.
@@ -148,10 +186,7 @@ fn put_answer(out: &mut AnswerText, answer: &Result<LoadedPolicy, LoadError>) {
             let valid = &loaded.licenses;
             write!(out, "file {}:", valid.file_id);
             put_printed(out, &valid.allowed);
-            write!(out, ", {} exceptions;", valid.exceptions.items().len());
-            write!(out, " dev {}", valid.include_dev);
-            write!(out, ", build {}", valid.include_build);
-            write!(out, ", from {}", valid.confidence_threshold);
+            put_settings(out, valid);
         }
         Err(error) => put_refusal(out, error),
     }
@@ -181,43 +216,41 @@ fn printed(sink: &MemSink) -> &str {
 }
 
 /// Puts what a load came to whose findings found too little room, and whether it printed as much of them as there was room for.
-fn shown_cut(
-    alloc: Global,
-    ending: &LoadEnding,
-    whole: &str,
-    room: usize,
-) -> Result<String, AllocError> {
-    let mut out = AnswerText::new(alloc);
-    put_answer(&mut out, &ending.answer);
+fn put_cut(out: &mut AnswerText, ending: &LoadEnding, whole: &str, room: usize) {
+    put_answer(out, &ending.answer);
     out.put(", ");
-    put_files(&mut out, &ending.files);
+    put_files(out, &ending.files);
     let printed = printed(&ending.sink);
     let is_front = printed.len() == room && whole.starts_with(printed);
     out.put(if is_front { " a front" } else { " no front" });
-    out.into_text()
 }
 
-fn cut_at(alloc: Global, case: &Case<'_>, whole: &str, room: usize) -> io::Result<String> {
+fn cut_at(alloc: Global, case: &Case<'_>, whole: &str, room: usize) -> Option<String> {
     let ending = ending_of(alloc, case, room)?;
-    Ok(shown_cut(alloc, &ending, whole, room)?)
+    let mut out = AnswerText::new(alloc);
+    put_cut(&mut out, &ending, whole, room);
+    let_go(ending);
+    out.into_text().ok()
 }
 
-fn put_other(out: &mut AnswerText, room: usize, one: &str, first: &str) {
-    if one != first {
-        write!(out, "{room}: {one}; ");
+/// Puts what comes of a load in a room, where that is something else than what comes of the first.
+fn put_other(out: &mut AnswerText, room: usize, one: &Option<String>, first: &str) {
+    match one {
+        Some(one) if one.as_str() == first => {}
+        Some(one) => write!(out, "{room}: {one}; "),
+        None => out.want_memory(),
     }
 }
 
 /// Puts what comes of a load in each room that is smaller than what is printed: how many there are and what comes of the
 /// smallest one, and before that the rooms where something else does.
-fn put_cuts(alloc: Global, case: &Case<'_>, whole: &str, out: &mut AnswerText) -> io::Result<()> {
+fn put_cuts(alloc: Global, case: &Case<'_>, whole: &str, out: &mut AnswerText) -> Option<()> {
     let first = cut_at(alloc, case, whole, 0)?;
     for room in 0..whole.len() {
-        let one = cut_at(alloc, case, whole, room)?;
-        put_other(out, room, one.as_str(), first.as_str());
+        put_other(out, room, &cut_at(alloc, case, whole, room), first.as_str());
     }
     write!(out, "{} rooms: {first}", whole.len());
-    Ok(())
+    Some(())
 }
 
 /// Puts what a key names of a load. A policy that is refused has no lists.
@@ -237,19 +270,31 @@ fn put_ending(key: &str, ending: &LoadEnding, out: &mut AnswerText) -> KeyAnswer
     KeyAnswer::Yes
 }
 
-/// Puts what a key names of the load of a case.
-fn put_load(
+/// Puts what a key names of the load of a case, which came to this.
+fn put_of_load(
     alloc: Global,
     case: &Case<'_>,
     key: &str,
+    ending: &LoadEnding,
     out: &mut AnswerText,
-) -> io::Result<KeyAnswer> {
-    let ending = ending_of(alloc, case, 1000)?;
-    if key == "cut" {
-        put_cuts(alloc, case, printed(&ending.sink), out)?;
-        return Ok(KeyAnswer::Yes);
+) -> KeyAnswer {
+    if key != "cut" {
+        return put_ending(key, ending, out);
     }
-    Ok(put_ending(key, &ending, out))
+    match put_cuts(alloc, case, printed(&ending.sink), out) {
+        Some(()) => KeyAnswer::Yes,
+        None => KeyAnswer::CantBeTried,
+    }
+}
+
+/// Puts what a key names of the load of a case.
+fn put_load(alloc: Global, case: &Case<'_>, key: &str, out: &mut AnswerText) -> KeyAnswer {
+    let Some(ending) = ending_of(alloc, case, 1000) else {
+        return KeyAnswer::CantBeTried;
+    };
+    let answer = put_of_load(alloc, case, key, &ending, out);
+    let_go(ending);
+    answer
 }
 
 /// Puts the table `licenses` of a policy that has none.
@@ -282,7 +327,7 @@ impl Cases for PolicyCases {
             ("licenses" | "faults" | "whole" | "whole-faults" | "read", Some(policy)) => {
                 put_policy(alloc, key, wanted(policy), out);
             }
-            _ => return put_load(alloc, case, key, out).unwrap_or(KeyAnswer::CantBeTried),
+            _ => return put_load(alloc, case, key, out),
         }
         KeyAnswer::Yes
     }

@@ -24,10 +24,15 @@ fn value_of(alloc: Global, text: &str) -> Result<Value<'_>, ConfigError> {
     }
 }
 
+/// Lets a value go. Whoever owns one hands it on to here, since to let it go is dear to prove.
+fn let_go(_value: Value<'_>) {}
+
 /// What a type reads from a text that is one value.
 fn read<T: Deserialize<Table> + Drop>(alloc: Global, text: &str) -> Result<T, ConfigError> {
     let mut value = value_of(alloc, text)?;
-    Ok(T::deserialize(alloc, &mut value, &Table)?)
+    let read = T::deserialize(alloc, &mut value, &Table);
+    let_go(value);
+    Ok(read?)
 }
 
 /// Puts what a type reads from a text that is one value, or why it is refused.
@@ -53,8 +58,17 @@ fn order(one: &Licensee, other: &Licensee) -> &'static str {
 fn put_order(alloc: Global, text: &str, out: &mut AnswerText) -> Result<(), ConfigError> {
     let (one, other) = text.split_once(" | ").unwrap_or((text, ""));
     let one: Licensee = read(alloc, one)?;
+    put_order_of(alloc, &one, other, out)
+}
+
+fn put_order_of(
+    alloc: Global,
+    one: &Licensee,
+    other: &str,
+    out: &mut AnswerText,
+) -> Result<(), ConfigError> {
     let other: Licensee = read(alloc, other)?;
-    out.put(order(&one, &other));
+    out.put(order(one, &other));
     Ok(())
 }
 
@@ -97,13 +111,24 @@ fn put_removed(
     out: &mut AnswerText,
 ) -> Result<(), ConfigError> {
     let mut table = TableHelper::new(alloc, value)?;
+    let put = put_flag(alloc, &mut table, out);
+    let end = finish(alloc, table, ());
+    put?;
+    end?;
+    out.put("no more");
+    Ok(())
+}
+
+fn put_flag(
+    alloc: Global,
+    table: &mut TableHelper<'_>,
+    out: &mut AnswerText,
+) -> Result<(), AllocError> {
     let mut spans = Spans::new(alloc);
-    let flag: Option<bool> = deprecated(alloc, &mut table, "old", &mut spans, &())?;
+    let flag: Option<bool> = deprecated(alloc, table, "old", &mut spans, &())?;
     write!(out, "{flag:?};");
     put_spans(out, spans.items());
     out.put(" and ");
-    finish(alloc, table, ())?;
-    out.put("no more");
     Ok(())
 }
 
@@ -115,11 +140,22 @@ fn put_table(
     out: &mut AnswerText,
 ) -> Result<(), ConfigError> {
     let mut value = value_of(alloc, text)?;
+    let put = put_of_table(alloc, group, &mut value, out);
+    let_go(value);
+    put
+}
+
+fn put_of_table(
+    alloc: Global,
+    group: &str,
+    value: &mut Value<'_>,
+    out: &mut AnswerText,
+) -> Result<(), ConfigError> {
     if group == "reason" {
-        put_reason(alloc, &mut value, out);
+        put_reason(alloc, value, out);
         return Ok(());
     }
-    put_removed(alloc, &mut value, out)
+    put_removed(alloc, value, out)
 }
 
 /// The table `licenses` of a policy with an expression or an address.
@@ -174,9 +210,9 @@ fn put_told(
         files: &mut files,
         diagnostics: &mut found,
     };
-    put_valid(alloc, group, text, context, out)?;
+    let put = put_valid(alloc, group, text, context, out);
     put_findings(out, &found);
-    Ok(())
+    put
 }
 
 /// The words of a text, which stand at 0, 1 and so on.
@@ -196,37 +232,43 @@ fn words_left<'t>(
     alloc: Global,
     group: &str,
     text: &'t str,
-    found: &mut Diagnostics,
+    mut context: ValidationContext<'_>,
 ) -> Result<SpannedList<&'t str>, AllocError> {
-    let mut files = Files::new(alloc);
-    let mut context = ValidationContext {
-        cfg_id: 3,
-        files: &mut files,
-        diagnostics: found,
-    };
     if group == "finding" {
-        context.push(Diagnostic::new(alloc, Severity::Note).with_message(text)?)?;
+        let finding = Diagnostic::new(alloc, Severity::Note).with_message(text)?;
+        context.push(finding)?;
         return Ok(SpannedList::new(alloc));
     }
     let mut words = words_of(alloc, text)?;
-    context.dedup(alloc, &mut words)?;
-    Ok(words)
+    match context.dedup(alloc, &mut words) {
+        Ok(()) => Ok(words),
+        Err(error) => Err(error),
+    }
 }
 
 /// Puts all that is told of some words, and those that are left.
-fn put_left(
-    alloc: Global,
-    group: &str,
-    text: &str,
-    out: &mut AnswerText,
-) -> Result<(), ConfigError> {
+fn put_left(alloc: Global, group: &str, text: &str, out: &mut AnswerText) {
+    let mut files = Files::new(alloc);
     let mut found = Diagnostics::new(alloc);
-    let words = words_left(alloc, group, text, &mut found)?;
+    let context = ValidationContext {
+        cfg_id: 3,
+        files: &mut files,
+        diagnostics: &mut found,
+    };
+    let words = words_left(alloc, group, text, context);
     put_findings(out, &found);
-    for word in words.items() {
-        write!(out, "{} at {};", word.value, word.span.start);
+    put_words(out, &words);
+}
+
+fn put_words(out: &mut AnswerText, words: &Result<SpannedList<&str>, AllocError>) {
+    match words {
+        Ok(words) => {
+            for word in words.items() {
+                write!(out, "{} at {};", word.value, word.span.start);
+            }
+        }
+        Err(_) => out.want_memory(),
     }
-    Ok(())
 }
 
 /// Puts what a text comes to in a group of which several calls are made.
@@ -240,7 +282,6 @@ fn put_called(
         "reason" | "removed key" => put_table(alloc, group, text, out),
         "two licensees" => put_order(alloc, text, out),
         "policy's file" => put_heard(alloc, text, out),
-        "equal items" | "finding" => put_left(alloc, group, text, out),
         _ => put_told(alloc, group, text, out),
     }
 }
@@ -271,16 +312,13 @@ impl Rows for PolicyRows {
             "exceptions file" => put_as::<ExceptionsFile>(alloc, text, out),
             "clarification" => put_as::<Clarification>(alloc, text, out),
             "threshold" => put_policy(alloc, group, text, out),
+            "equal items" | "finding" => put_left(alloc, group, text, out),
             "reason"
             | "removed key"
             | "two licensees"
             | "policy's file"
-            | "equal items"
-            | "finding"
             | "clarified expression"
-            | "private addresses" => {
-                put_tried(alloc, group, text, out);
-            }
+            | "private addresses" => put_tried(alloc, group, text, out),
             _ => return false,
         }
         true

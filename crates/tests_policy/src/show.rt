@@ -2,8 +2,9 @@
 use deny_text::{Span, Spanned, Texts};
 use diag_core::{Label, LabelStyle, Severity};
 use policy_core::{
-    BlanketAgreement, Clarification, Config, Exception, ExceptionsFile, FileSource, GraphConfig,
-    Licensee, LintLevel, OutputConfig, Private, RootConfig, Scope, ValidClarifications,
+    BlanketAgreement, Clarification, Config, Exception, ExceptionsFile, FileSource, FileSources,
+    GraphConfig, Licensee, LintLevel, OutputConfig, Private, RootConfig, Scope,
+    ValidClarifications,
 };
 use policy_load::{Diagnostics, LoadError};
 use std::fmt::Display;
@@ -93,10 +94,12 @@ impl Fields for GraphConfig {
             put_texts(out, "with", &target.features);
             out.put("; ");
         }
-        write!(out, "all={}", self.all_features);
-        write!(out, " none={}", self.no_default_features);
-        write!(out, " dev={}", self.exclude_dev);
-        write!(out, " unpublished={}", self.exclude_unpublished);
+        let (all, none) = (self.all_features, self.no_default_features);
+        let (dev, unpublished) = (self.exclude_dev, self.exclude_unpublished);
+        write!(
+            out,
+            "all={all} none={none} dev={dev} unpublished={unpublished}"
+        );
         put_texts(out, "exclude", &self.exclude);
         put_texts(out, "features", &self.features);
     }
@@ -139,14 +142,22 @@ pub fn put_all<T: Fields>(out: &mut AnswerText, items: &[T]) {
     }
 }
 
+fn put_settings(out: &mut AnswerText, config: &Config) {
+    let threshold = config.confidence_threshold.0;
+    let allowed = config.unused_allowed_license;
+    let exception = config.unused_license_exception;
+    let (dev, build) = (config.include_dev, config.include_build);
+    write!(out, "\nthreshold={threshold}\nunused_allowed={allowed:?}");
+    write!(
+        out,
+        " unused_exception={exception:?}\ndev={dev} build={build}"
+    );
+}
+
 pub fn put_config(out: &mut AnswerText, config: &Config) {
     config.private.put(out);
-    write!(out, "\nthreshold={}", config.confidence_threshold.0);
-    write!(out, "\nunused_allowed={:?}", config.unused_allowed_license);
-    let level = config.unused_license_exception;
-    write!(out, " unused_exception={level:?}");
-    write!(out, "\ndev={}", config.include_dev);
-    write!(out, " build={}\nallow=", config.include_build);
+    put_settings(out, config);
+    out.put("\nallow=");
     put_all(out, config.allow.items());
     out.put("\nclarify=");
     put_all(out, config.clarify.items());
@@ -172,6 +183,12 @@ pub fn put_root(out: &mut AnswerText, root: &RootConfig) {
     out.put("\n");
 }
 
+fn put_sources(out: &mut AnswerText, files: &FileSources) {
+    for file in files.items() {
+        write!(out, " {} {}", file.path.value, file.hash);
+    }
+}
+
 pub fn put_clarified(out: &mut AnswerText, clarifications: &ValidClarifications) {
     for clarification in clarifications.items() {
         write!(out, "{} from ", clarification.expression);
@@ -179,21 +196,27 @@ pub fn put_clarified(out: &mut AnswerText, clarifications: &ValidClarifications)
             Some(span) => put_span(out, span),
             None => write!(out, "{}", clarification.expr_offset),
         }
-        for file in clarification.license_files.items() {
-            write!(out, " {} {}", file.path.value, file.hash);
-        }
+        put_sources(out, &clarification.license_files);
         out.put(";");
     }
 }
 
 fn put_label(out: &mut AnswerText, label: &Label) {
-    match label.style {
-        LabelStyle::Primary => write!(out, " at {}:", label.file_id),
-        LabelStyle::Secondary => write!(out, " and {}:", label.file_id),
-    }
-    put_span(out, label.range);
+    let style = match label.style {
+        LabelStyle::Primary => "at",
+        LabelStyle::Secondary => "and",
+    };
+    let Span { start, end } = label.range;
+    write!(out, " {style} {}:{start}..{end}", label.file_id);
     if !label.message.as_str().is_empty() {
-        write!(out, " {}", label.message);
+        out.put(" ");
+        out.put(label.message.as_str());
+    }
+}
+
+fn put_notes(out: &mut AnswerText, notes: &Texts) {
+    for note in notes.items() {
+        write!(out, " ({note})");
     }
 }
 
@@ -202,15 +225,15 @@ pub fn put_findings(out: &mut AnswerText, found: &Diagnostics) {
     for diag in found.items() {
         write!(out, "{:?}", diag.severity);
         if let Some(code) = &diag.code {
-            write!(out, " {code}");
+            out.put(" ");
+            out.put(code.as_str());
         }
-        write!(out, " {}", diag.message);
+        out.put(" ");
+        out.put(diag.message.as_str());
         for label in diag.labels.items() {
             put_label(out, label);
         }
-        for note in diag.notes.items() {
-            write!(out, " ({note})");
-        }
+        put_notes(out, &diag.notes);
         out.put(";");
     }
 }

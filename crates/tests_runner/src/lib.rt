@@ -7,4 +7,24 @@ mod identifiers;
 mod seen;
 mod settings;
 
-pub use compared::compare_runs;
+use compared::compare_runs;
+
+/// Files of cases: of the first path and failures, of metadata, of policies, of what is found, of what is read of each
+/// crate, and of the calls of the tree.
+const FILES: [&str; 6] = [
+    "run/gate.txt",
+    "run/metadata.txt",
+    "run/policies.txt",
+    "run/found.txt",
+    "run/gathered.txt",
+    "run/calls.txt",
+];
+
+/// Compares the runs of the cases of the room, and returns whether nothing differs.
+pub fn compare(rt: &HostRuntime) -> bool {
+    let mut is_as_wanted = true;
+    for file in FILES {
+        is_as_wanted = compare_runs(rt, file) & is_as_wanted;
+    }
+    is_as_wanted
+}

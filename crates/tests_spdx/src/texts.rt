@@ -6,7 +6,7 @@ use std::rt::Runtime;
 use std::{fs, io};
 use tests_files::AnswerText;
 
-/// The texts of the files that rows name, and of a store, each behind its name.
+/// The texts of the files that rows name, and of a store, each behind its path.
 #[derive(Drop)]
 pub struct RowTexts {
     items: Vec<(&'static str, String)>,
@@ -15,8 +15,8 @@ pub struct RowTexts {
 impl RowTexts {
     /// The text of a file, or none.
     fn text(&self, name: &str) -> &str {
-        for (known, text) in self.items.iter() {
-            if *known == name {
+        for (path, text) in self.items.iter() {
+            if path.strip_prefix("spdx/") == Some(name) {
                 return text.as_str();
             }
         }
@@ -24,17 +24,17 @@ impl RowTexts {
     }
 }
 
-const NAMES: [&str; 5] = [
-    "mit.txt",
-    "mit-capitals.txt",
-    "mit-words.txt",
-    "isc.txt",
-    "stored.txt",
+const PATHS: [&str; 5] = [
+    "spdx/mit.txt",
+    "spdx/mit-capitals.txt",
+    "spdx/mit-words.txt",
+    "spdx/isc.txt",
+    "spdx/stored.txt",
 ];
 
-fn push_file(rt: &HostRuntime, files: &mut RowTexts, name: &'static str) -> io::Result<()> {
-    let text = fs::read_to_string(rt, name)?;
-    files.items.push((name, text))?;
+fn push_file(rt: &HostRuntime, files: &mut RowTexts, path: &'static str) -> io::Result<()> {
+    let text = fs::read_to_string(rt, path)?;
+    files.items.push((path, text))?;
     Ok(())
 }
 
@@ -42,8 +42,8 @@ fn push_file(rt: &HostRuntime, files: &mut RowTexts, name: &'static str) -> io::
 pub fn read(rt: &HostRuntime) -> io::Result<RowTexts> {
     let items = Vec::new(rt.alloc());
     let mut files = RowTexts { items };
-    for name in NAMES {
-        push_file(rt, &mut files, name)?;
+    for path in PATHS {
+        push_file(rt, &mut files, path)?;
     }
     Ok(files)
 }

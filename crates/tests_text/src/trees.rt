@@ -101,7 +101,7 @@ fn put_whether(out: &mut AnswerText, whether: Result<bool, TreeError>) {
     }
 }
 
-fn put_one<T: Tree>(out: &mut AnswerText, alloc: Global, tree: &mut T, verb: &str, path: &str) {
+pub fn put_one<T: Tree>(out: &mut AnswerText, alloc: Global, tree: &mut T, verb: &str, path: &str) {
     match verb {
         "read" => put_read(out, alloc, tree, path, false),
         "length" => put_read(out, alloc, tree, path, true),

@@ -70,6 +70,9 @@ pub fn put_inner(out: &mut AnswerText, inner: &ValueInner<'_>) {
     }
 }
 
+/// Lets a value go. Whoever owns one hands it on to here, since to let it go is dear to prove.
+pub fn let_go(_value: Value<'_>) {}
+
 /// A value with what stands in it down to a depth, and with its place.
 pub fn put_value(alloc: Global, out: &mut AnswerText, depth: u32, value: &mut Value<'_>) {
     let span = value.span();
@@ -83,6 +86,7 @@ pub fn put_value(alloc: Global, out: &mut AnswerText, depth: u32, value: &mut Va
             for mut item in values.into_items() {
                 out.put(if is_behind { ", " } else { "" });
                 put_value(alloc, out, depth - 1, &mut item);
+                let_go(item);
                 is_behind = true;
             }
             out.put("]");
@@ -95,6 +99,7 @@ pub fn put_value(alloc: Global, out: &mut AnswerText, depth: u32, value: &mut Va
                     out.put(if is_behind { ", " } else { "" });
                     put_key(out, &key);
                     put_value(alloc, out, depth - 1, &mut value);
+                    let_go(value);
                     is_behind = true;
                 }
             }

@@ -1,7 +1,7 @@
 //! Package specs: how they are read and printed, their order, and the crates that they match.
 ghost use Rattle.std.specs.Prelude.{◌≤◌, length};
 
-use crate::printed::{put_error, put_faults, put_span};
+use crate::printed::{let_go, put_error, put_faults, put_span};
 use crate::typed::put_table;
 use deny_text::{PathBuf, Span, Spanned, Text, TextMap, Texts};
 use graph_core::Krate;
@@ -40,16 +40,23 @@ fn put_read(alloc: Global, out: &mut AnswerText, group: &str, text: &str, place:
     requires { place ≤ length text.now }
 {
     match read_value(alloc, text, 0, place) {
-        Ok((mut value, _)) => match group {
-            "specs in strings" => put_spec(alloc, out, &mut value),
-            "specs in values" => {
-                put_spec(alloc, out, &mut value);
-                out.put(", left: ");
-                put_table(alloc, out, &mut value, &["nothing"]);
-            }
-            _ => put_extended(alloc, out, &mut value),
-        },
+        Ok((mut value, _)) => {
+            put_specs(alloc, out, group, &mut value);
+            let_go(value);
+        }
         Err(error) => put_error(out, &error),
+    }
+}
+
+fn put_specs(alloc: Global, out: &mut AnswerText, group: &str, value: &mut Value<'_>) {
+    match group {
+        "specs in strings" => put_spec(alloc, out, value),
+        "specs in values" => {
+            put_spec(alloc, out, value);
+            out.put(", left: ");
+            put_table(alloc, out, value, &["nothing"]);
+        }
+        _ => put_extended(alloc, out, value),
     }
 }
 
@@ -142,25 +149,43 @@ fn put_compared(
     other: &str,
 ) -> Result<(), AllocError> {
     let one = spec_at(alloc, one, 3)?;
-    if other.is_empty() {
-        write!(out, "{one}");
-        return Ok(());
+    match other {
+        "" => {
+            write!(out, "{one}");
+            Ok(())
+        }
+        _ => put_order(alloc, out, &one, other),
     }
+}
+
+fn put_order(
+    alloc: Global,
+    out: &mut AnswerText,
+    one: &PackageSpec,
+    other: &str,
+) -> Result<(), AllocError> {
     let other = spec_at(alloc, other, 8)?;
     let there = one.cmp(&other);
-    let back = other.cmp(&one);
-    let equal = one == other;
+    let back = other.cmp(one);
+    let equal = *one == other;
     write!(out, "{there:?}, {back:?}, {equal}");
     Ok(())
 }
 
 /// The crate of a name and, behind a blank, a version.
 fn krate_of(alloc: Global, text: &str) -> Result<Krate, AllocError> {
-    let (name, version) = text.split_once(' ').unwrap_or((text, ""));
+    let (text, version) = text.split_once(' ').unwrap_or((text, ""));
+    let name = Text::copy(alloc, text)?;
+    let Ok(id) = Text::copy(alloc, text) else {
+        return Err(AllocError);
+    };
+    let Ok(manifest_path) = PathBuf::copy(alloc, "Cargo.toml") else {
+        return Err(AllocError);
+    };
     Ok(Krate {
-        name: Text::copy(alloc, name)?,
-        id: Text::copy(alloc, name)?,
-        manifest_path: PathBuf::copy(alloc, "Cargo.toml")?,
+        name,
+        id,
+        manifest_path,
         version: Version::parse(alloc, version).unwrap_or(Version::new(0, 0, 0)),
         source: None,
         authors: Texts::new(alloc),
@@ -183,15 +208,21 @@ fn put_found(
     krate: &str,
 ) -> Result<(), AllocError> {
     let specs = specs_of(alloc, specs)?;
-    let krate = krate_of(alloc, krate)?;
-    if group == "index" {
-        return put_places(alloc, out, &specs, &krate);
+    match (group, &krate_of(alloc, krate)) {
+        ("index", Ok(krate)) => put_places(alloc, out, &specs, krate),
+        (_, Ok(krate)) => {
+            put_matches(out, &specs, krate);
+            Ok(())
+        }
+        (_, Err(_)) => Err(AllocError),
     }
-    for spec in &specs {
-        let is_match = match_krate(&krate, spec);
+}
+
+fn put_matches(out: &mut AnswerText, specs: &[PackageSpec], krate: &Krate) {
+    for spec in specs {
+        let is_match = match_krate(krate, spec);
         write!(out, "{is_match}");
     }
-    Ok(())
 }
 
 /// The places of the specs that match a crate, and the first of them.
@@ -202,11 +233,16 @@ fn put_places(
     krate: &Krate,
 ) -> Result<(), AllocError> {
     let index = SpecIndex::of(alloc, specs)?;
-    let places = index.matches(alloc, specs, krate)?;
-    for place in places.items() {
-        write!(out, "{place} ");
-    }
+    let places = index.matches(alloc, specs, krate);
     let first = index.first(specs, krate);
+    match &places {
+        Ok(places) => {
+            for place in places.items() {
+                write!(out, "{place} ");
+            }
+        }
+        Err(_) => out.want_memory(),
+    }
     write!(out, "first {first:?}");
     Ok(())
 }

@@ -1,5 +1,5 @@
 //! Whole texts of TOML: their values, what stands at a path, and the types that are read from them.
-use crate::printed::{DEPTH, names_of, put_error, put_inner, put_span, put_value};
+use crate::printed::{DEPTH, let_go, names_of, put_error, put_inner, put_span, put_value};
 use crate::tokens;
 use crate::typed::{FIVE, put_at_a, put_table};
 use std::alloc::Global;
@@ -27,7 +27,11 @@ fn parts_of<'t>(group: &str, text: &'t str) -> (&'t str, &'t str) {
 fn put(alloc: Global, out: &mut AnswerText, group: &str, text: &str) -> bool {
     let (text, word) = parts_of(group, text);
     match parse(alloc, text) {
-        Ok(mut root) => put_root(alloc, out, group, word, &mut root),
+        Ok(mut root) => {
+            let is_group = put_root(alloc, out, group, word, &mut root);
+            let_go(root);
+            is_group
+        }
         Err(error) => {
             put_error(out, &error);
             true

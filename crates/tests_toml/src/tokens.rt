@@ -1,7 +1,9 @@
 //! What stands at a place of a text: numbers, strings, keys, values, blanks, comments and commas.
 ghost use Rattle.std.specs.Prelude.{◌≤◌, length};
 
-use crate::printed::{DEPTH, put_error, put_fault, put_key, put_span, put_string, put_value};
+use crate::printed::{
+    DEPTH, let_go, put_error, put_fault, put_key, put_span, put_string, put_value,
+};
 use deny_text::Span;
 use std::alloc::Global;
 use std::fmt;
@@ -131,6 +133,7 @@ fn put_first(alloc: Global, out: &mut AnswerText, group: &str, read: ReadValue<'
     match read {
         Ok((mut value, next)) => {
             put_value(alloc, out, depth, &mut value);
+            let_go(value);
             write!(out, " to {next}");
         }
         Err(error) => put_error(out, &error),

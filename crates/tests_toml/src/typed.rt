@@ -1,5 +1,5 @@
 //! Types that are read from values, key by key.
-use crate::printed::{put_faults, put_span, put_string};
+use crate::printed::{let_go, put_faults, put_span, put_string};
 use deny_text::{Spanned, Text, Texts};
 use policy_toml::{DeserError, Deserialize, Hundredths, TableHelper, Value, deserialize_name};
 use std::alloc::Global;
@@ -24,12 +24,24 @@ pub fn put_at_a(
     let Some(mut value) = taken_a(alloc, root) else {
         return false;
     };
+    let is_group = put_value_at_a(alloc, out, group, kind, &mut value);
+    let_go(value);
+    is_group
+}
+
+fn put_value_at_a(
+    alloc: Global,
+    out: &mut AnswerText,
+    group: &str,
+    kind: &str,
+    value: &mut Value<'_>,
+) -> bool {
     match group {
-        "kinds at `a`" => put_kind(alloc, out, kind, &mut value),
-        "five keys at `a`" => put_table(alloc, out, &mut value, &FIVE),
-        "a list at `a`" => put_list(alloc, out, &mut value),
-        "a string at `a`, twice" => put_string_twice(alloc, out, &mut value),
-        "a name of a table at `a`" => put_level(alloc, out, &mut value),
+        "kinds at `a`" => put_kind(alloc, out, kind, value),
+        "five keys at `a`" => put_table(alloc, out, value, &FIVE),
+        "a list at `a`" => put_list(alloc, out, value),
+        "a string at `a`, twice" => put_string_twice(alloc, out, value),
+        "a name of a table at `a`" => put_level(alloc, out, value),
         _ => return false,
     }
     true
@@ -185,6 +197,7 @@ fn put_list(alloc: Global, out: &mut AnswerText, value: &mut Value<'_>) {
         for mut item in values.into_items() {
             out.put("[");
             put_table(alloc, out, &mut item, &FIVE);
+            let_go(item);
             out.put("]");
         }
     }

@@ -1,0 +1,155 @@
+//! Levels of findings that words ask for, and summaries of checks.
+use crate::findings::severity_named;
+use diag_core::LevelFilter;
+use diag_print::{Color, Format, LogContext, PrintError};
+use diag_stats::{AllStats, Stats, print_stats};
+use run_overrides::{OverrideError, overrides_of};
+use run_request::{CodeOrLevel, CodeOrLevels, FromWord, LintLevels};
+use std::alloc::{AllocError, Global};
+use tests_files::AnswerText;
+use tests_text::paths::pair_of;
+use tree_core::MemSink;
+
+/// What stands before the first blank and behind it.
+fn cut(text: &str) -> (&str, &str) {
+    text.split_once(' ').unwrap_or((text, ""))
+}
+
+// ---- levels
+
+/// Appends the code or the level of a word, which stands behind an option. A word that is none is passed over.
+fn take(levels: &mut LintLevels, option: &str, word: &str) -> Result<(), AllocError> {
+    match (option, CodeOrLevel::from_word(word)) {
+        ("A", Some(subject)) => levels.allow.push(subject),
+        ("W", Some(subject)) => levels.warn.push(subject),
+        (_, Some(subject)) => levels.deny.push(subject),
+        (_, None) => Ok(()),
+    }
+}
+
+/// What words ask for: each option with the code or the level behind it, as `-A rejected`.
+fn levels_of(alloc: Global, words: &str) -> Result<LintLevels, AllocError> {
+    let mut levels = LintLevels {
+        warn: CodeOrLevels::new(alloc),
+        allow: CodeOrLevels::new(alloc),
+        deny: CodeOrLevels::new(alloc),
+    };
+    for uses in words.split('-') {
+        let (option, word) = cut(uses.trim());
+        take(&mut levels, option, word)?;
+    }
+    Ok(levels)
+}
+
+/// Puts the level that is asked for of a code and a level, or what stands twice.
+fn put_overridden(out: &mut AnswerText, alloc: Global, levels: &LintLevels, finding: &str) {
+    let (name, level) = cut(finding);
+    match &overrides_of(alloc, levels) {
+        Ok(overrides) => write!(out, "{:?}", overrides.get(name, severity_named(level))),
+        Err(
+            OverrideError::OverrideTwice {
+                name,
+                first,
+                second,
+            },
+        ) => write!(out, "twice: {name} {first:?} {second:?}"),
+        Err(OverrideError::Memory) => out.want_memory(),
+    }
+}
+
+fn put_asked(out: &mut AnswerText, alloc: Global, words: &str, finding: &str) {
+    match &levels_of(alloc, words) {
+        Ok(levels) => put_overridden(out, alloc, levels, finding),
+        Err(_) => out.want_memory(),
+    }
+}
+
+// ---- summaries
+
+fn number(text: &str) -> u64 {
+    text.parse::<u64>().unwrap_or(0)
+}
+
+/// The errors, warnings, notes and helps of a text of four numbers.
+fn stats_named(text: &str) -> Stats {
+    let (errors, rest) = cut(text);
+    let (warnings, rest) = cut(rest);
+    let (notes, helps) = cut(rest);
+    Stats {
+        errors: number(errors),
+        warnings: number(warnings),
+        notes: number(notes),
+        helps: number(helps),
+    }
+}
+
+/// The statistics of checks, each its name and four numbers, with commas between.
+fn all_named(text: &str) -> AllStats {
+    let mut stats = AllStats::default();
+    for check in text.split(", ") {
+        let (name, numbers) = cut(check);
+        let counted = Some(stats_named(numbers));
+        match name {
+            "advisories" => stats.advisories = counted,
+            "bans" => stats.bans = counted,
+            "licenses" => stats.licenses = counted,
+            "sources" => stats.sources = counted,
+            _ => (),
+        }
+    }
+    stats
+}
+
+/// Puts what a sink was given, behind a name, where it was given something.
+fn put_sink(out: &mut AnswerText, name: &str, sink: &MemSink) {
+    let text = str::from_utf8(sink.written()).unwrap_or("no text");
+    if !text.is_empty() {
+        write!(out, "{name}: {text}");
+    }
+}
+
+/// Puts what is written of checks, and the exit code. The sinks take seven bytes a call.
+fn put_written(
+    out: &mut AnswerText,
+    alloc: Global,
+    log_ctx: LogContext,
+    is_shown: bool,
+    stats: &AllStats,
+) -> Result<(), AllocError> {
+    let mut first = MemSink::new(alloc, 4000, 7)?;
+    let mut second = MemSink::new(alloc, 4000, 7)?;
+    let code = print_stats(alloc, stats, is_shown, log_ctx, &mut first, &mut second);
+    put_sink(out, "out", &first);
+    put_sink(out, "err", &second);
+    match code {
+        Ok(code) => write!(out, "{code:?}"),
+        Err(PrintError::WriteFault { before, after }) => write!(out, "fault {before} {after}"),
+        Err(PrintError::Memory) => out.want_memory(),
+    }
+    Ok(())
+}
+
+/// Puts the summary of checks in a form: a format, a level, and `shown` where the full form is asked for.
+fn put_summary(out: &mut AnswerText, alloc: Global, form: &str, checks: &str) {
+    let (format, rest) = cut(form);
+    let (level, shown) = cut(rest);
+    let log_ctx = LogContext {
+        format: Format::from_word(format).unwrap_or(Format::Sarif),
+        color: Color::Auto,
+        log_level: LevelFilter::from_word(level).unwrap_or(LevelFilter::Off),
+    };
+    if put_written(out, alloc, log_ctx, shown == "shown", &all_named(checks)).is_err() {
+        out.want_memory();
+    }
+}
+
+/// Puts what a text comes to in a group, and returns whether there is such a group.
+pub fn put(out: &mut AnswerText, alloc: Global, group: &str, text: &str) -> bool {
+    let (one, other) = pair_of(text);
+    match group {
+        "level that words ask for" => put_asked(out, alloc, one, other),
+        "summary" => put_summary(out, alloc, one, other),
+        _ => return false,
+    }
+    true
+}

@@ -1,0 +1,190 @@
+//! How a process ends, what it writes, and the paths that its words name.
+use crate::process::Process;
+use deny_gate::{StartError, exit_code, gate_over, named_paths};
+use deny_run::error::{Error, InputPart};
+use deny_run::report::{CrateReport, Outcome, RunEnd, Verdict};
+use deny_text::PathBuf;
+use std::alloc::{AllocError, Global};
+use std::process::ExitCode;
+use tests_files::cases::is_among;
+use tests_files::tree::tree_of;
+use tests_files::{AnswerText, Case, CaseEntry, Cases, KeyAnswer, Rows};
+use tree_core::{MemSink, MemTree};
+
+fn told_verdict(verdict: &Verdict) -> &'static str {
+    match verdict {
+        Verdict::Accepted { .. } => "Accepted",
+        Verdict::Rejected { .. } => "Rejected",
+        Verdict::Skipped | Verdict::Unlicensed => "neither",
+    }
+}
+
+fn expression_of(checked: &CrateReport) -> &str {
+    match &checked.expression {
+        Some(expression) => expression.as_ref(),
+        None => "none",
+    }
+}
+
+/// Puts the expression of each crate, and the verdict on it.
+fn put_crates(out: &mut AnswerText, crates: &[CrateReport]) {
+    for checked in crates {
+        let id = checked.id.as_str();
+        let expression = expression_of(checked);
+        let verdict = told_verdict(&checked.verdict);
+        write!(out, "{id}: {expression} {verdict}");
+    }
+}
+
+/// Puts how the gate over a process ended.
+fn put_ended(out: &mut AnswerText, ended_at: &Result<Outcome, StartError>) {
+    match ended_at {
+        Ok(outcome) => match &outcome.ended {
+            RunEnd::Checked(report) => put_crates(out, report.crates.items()),
+            RunEnd::Refused(Error::NotYet(InputPart::Words)) => out.put("words"),
+            RunEnd::Refused(_) => out.put("another refusal"),
+        },
+        Err(error) => write!(out, "{error:?}"),
+    }
+}
+
+/// Puts the status that a process ends with.
+fn put_status(out: &mut AnswerText, ended_at: &Result<Outcome, StartError>) {
+    let code = exit_code(ended_at);
+    for status in 0..=8u8 {
+        if code == ExitCode::from(status) {
+            write!(out, "{status}");
+        }
+    }
+}
+
+/// The gate over a process, of which nothing is said: whoever calls this owes nothing of the gate's contract.
+fn run_over(
+    alloc: Global,
+    process: Process<'_>,
+    tree: &mut MemTree,
+    out: &mut MemSink,
+    err: &mut MemSink,
+) -> Result<Outcome, StartError> {
+    gate_over(&(process, alloc), tree, out, err)
+}
+
+/// What a process came to: how it ended, and what it wrote.
+#[derive(Drop)]
+struct ProcessEnd {
+    ended_at: Result<Outcome, StartError>,
+    out: MemSink,
+    err: MemSink,
+}
+
+fn end_with(
+    alloc: Global,
+    process: Process<'_>,
+    mut tree: MemTree,
+    mut out: MemSink,
+    mut err: MemSink,
+) -> ProcessEnd {
+    let ended_at = run_over(alloc, process, &mut tree, &mut out, &mut err);
+    ProcessEnd { ended_at, out, err }
+}
+
+/// Whether some entries have words.
+fn has_words(entries: &[CaseEntry]) -> bool {
+    let mut has_words = false;
+    for entry in entries {
+        has_words = has_words | (entry.key.as_str() == "word");
+    }
+    has_words
+}
+
+/// The process of a case; its words are those of the base, where it has none of its own.
+fn process_of<'c>(case: &Case<'c>) -> Process<'c> {
+    let entries = if has_words(case.own) {
+        case.own
+    } else {
+        case.base
+    };
+    Process {
+        entries,
+        folder: case.word("folder"),
+    }
+}
+
+/// How the process of a case ends over its tree; none where that can't be put.
+fn end_of(alloc: Global, case: &Case<'_>) -> Option<ProcessEnd> {
+    let Ok(out) = MemSink::new(alloc, 1000, 1000) else {
+        return None;
+    };
+    let Ok(err) = MemSink::new(alloc, 1000, 1000) else {
+        return None;
+    };
+    match tree_of(alloc, case) {
+        Ok(tree) => Some(end_with(alloc, process_of(case), tree, out, err)),
+        Err(_) => None,
+    }
+}
+
+fn put_written(out: &mut AnswerText, sink: &MemSink) {
+    out.put(str::from_utf8(sink.written()).unwrap_or("no UTF-8"));
+}
+
+/// Puts what a key names of the end of a process.
+fn put_end(out: &mut AnswerText, key: &str, end: &ProcessEnd) -> KeyAnswer {
+    match key {
+        "ended" => put_ended(out, &end.ended_at),
+        "status" => put_status(out, &end.ended_at),
+        "out" => put_written(out, &end.out),
+        "err" => put_written(out, &end.err),
+        _ => return KeyAnswer::NoSuchKey,
+    }
+    KeyAnswer::Yes
+}
+
+/// Cases of processes.
+pub struct StartCases;
+
+impl Cases for StartCases {
+    fn is_given(&self, key: &str) -> bool {
+        is_among(key, &["file", "folder", "word"])
+    }
+
+    fn told(&self, alloc: Global, case: &Case<'_>, key: &str, out: &mut AnswerText) -> KeyAnswer {
+        match &end_of(alloc, case) {
+            Some(end) => put_end(out, key, end),
+            None => KeyAnswer::CantBeTried,
+        }
+    }
+}
+
+/// The words of a text, with blanks between.
+fn words_of(alloc: Global, text: &str) -> Result<Vec<String>, AllocError> {
+    let mut words = Vec::new(alloc);
+    for word in text.split(' ') {
+        let word = String::from_str(alloc, word)?;
+        words.push(word)?;
+    }
+    Ok(words)
+}
+
+/// The paths that words name in the folder `/w`.
+fn named(alloc: Global, text: &str) -> Result<Vec<PathBuf>, AllocError> {
+    let words = words_of(alloc, text)?;
+    named_paths(alloc, &words, "/w")
+}
+
+/// Rows of paths that words name.
+pub struct NamedRows;
+
+impl Rows for NamedRows {
+    fn answer(&self, alloc: Global, group: &str, text: &str, out: &mut AnswerText) -> bool {
+        match &named(alloc, text) {
+            Ok(paths) => {
+                for path in paths {
+                    write!(out, "[{}]", path.as_path());
+                }
+            }
+            Err(_) => out.want_memory(),
+        }
+        group == "paths that words name"
+    }
+}
