@@ -4,4 +4,5 @@ pub mod LabelLemmas
 pub mod LawLemmas
 pub mod OwnLemmas
 pub mod SinkLemmas
+pub mod StepLemmas
 pub mod VerdictLemmas

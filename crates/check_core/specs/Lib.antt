@@ -4,6 +4,7 @@ pub mod Labels
 pub mod Laws
 pub mod Own
 pub mod Rows
+pub mod Steps
 pub mod Summary
 pub mod Turns
 pub mod Verdicts

@@ -1,9 +1,11 @@
 //! The check of all crates.
-ghost use Rattle.std.specs.Prelude.{◌≡◌, ◌<◌, ◌≤◌, [], ◌∷◌, All, IfOk, None, OnOk, OnErr, List, length};
+ghost use Rattle.std.specs.Prelude.{◌≡◌, ◌+◌, ◌<◌, ◌≤◌, [], ◌∷◌, All, Bool, IfOk, None, OnOk, OnErr, List};
+ghost use Rattle.std.specs.Prelude.{length};
 ghost use Rattle.std.specs.Option.{option_map_or};
 ghost use Rattle.spdx_certificates.specs.declared.verdict.Hit.{Hit};
 ghost use Rattle.diag_core.specs.File.{source_of_file};
 ghost use Rattle.policy_valid.specs.View.{policy_of};
+ghost use Rattle.check_evaluate.specs.Entries.{entry_families};
 ghost use Rattle.check_evaluate.specs.Evaluation.{exception_names};
 ghost use Rattle.check_unused.specs.Flags.{flags_by};
 ghost use Rattle.check_unused.specs.Laws.{EntriesLie};
@@ -13,6 +15,7 @@ ghost use Rattle.gather_findings.specs.License.{InfoStands, Stands};
 ghost use Rattle.gather_core.specs.Premises.{IsPlacedAt};
 ghost use Rattle.check_core.specs.Check.{AreVerdicts, HasFront, all_hits, findings_of, gained, packs_of};
 ghost use Rattle.check_core.specs.Labels.{GainLies, PackLies, VerdictPoints};
+ghost use Rattle.check_core.specs.Steps.{ArePassedOver, entries_of_all};
 ghost use Rattle.check_core.specs.Summary as spec;
 ghost use Rattle.check_core.specs.Summary.{InfoFits, IsExpressionIn, gathered_of_licenses};
 
@@ -116,6 +119,7 @@ fn judge_in_order<L: Ledger>(
 ) -> Result<Verdicts, AllocError>
     requires room { All (λ license. spec.nodes_in license.lic_info ≤ checker.old.nodes) licenses.now }
     requires exceptions { exception_names (policy_of policy.now) ≡ checker.old.names }
+    requires families { entry_families (policy_of policy.now) ≡ checker.old.families }
     requires flags { checker.old.flags ≡ flags_by policy.now [] }
     requires placed { All (IsPlacedAt files.now) licenses.now }
     ensures verdicts { IfOk result (λ verdicts.
@@ -126,6 +130,9 @@ fn judge_in_order<L: Ledger>(
         ≡ flags_by policy.now (all_hits (policy_of policy.now) (gathered_of_licenses licenses.now) verdicts)) }
     ensures front { OnErr result (HasFront (policy_of policy.now) licenses.now sink.old sink.new) }
     ensures steps { steps.old ≤ steps.new }
+    ensures bound { let asked = gathered_of_licenses licenses.now in
+        (passed : List Bool) → ArePassedOver (policy_of policy.now) asked passed
+        → steps.new ≤ steps.old + entries_of_all (policy_of policy.now) asked passed }
 {
     let mut verdicts = Verdicts::new(alloc);
     'licenses: for license in licenses {
@@ -171,6 +178,9 @@ fn judge_with_room<L: Ledger>(
         sink.new ≡ gained sink.old (findings_of policy.now (gathered_of_licenses licenses.now) verdicts)) }
     ensures front { OnErr result (HasFront (policy_of policy.now) licenses.now sink.old sink.new) }
     ensures steps { steps.old ≤ steps.new }
+    ensures bound { let asked = gathered_of_licenses licenses.now in
+        (passed : List Bool) → ArePassedOver (policy_of policy.now) asked passed
+        → steps.new ≤ steps.old + entries_of_all (policy_of policy.now) asked passed }
 {
     let mut checker = Checker::with_room(alloc, nodes, policy)?;
     let verdicts = judge_in_order(alloc, policy, files, &mut checker, licenses, sink, steps)?;
@@ -180,7 +190,8 @@ fn judge_with_room<L: Ledger>(
 
 /// The verdicts on the crates of a summary, in order. What is found goes into the sink: a pack of each crate, in
 /// order, and then always one of the policy's entries that allow no term, which may be empty. Where memory is
-/// refused the sink has the packs of some first crates.
+/// refused the sink has the packs of some first crates. A step is counted for each entry that is asked for a term:
+/// those of the term's family, in the crate's exception and in what is allowed, at most once each.
 pub fn check<L: Ledger>(
     alloc: Global,
     ctx: &CheckCtx<'_, ValidConfig>,
@@ -198,6 +209,9 @@ pub fn check<L: Ledger>(
     ensures labels { EntriesLie ctx.now.files.now ctx.now.cfg → GainLies ctx.now.files.now sink.old sink.new }
     ensures terms { All (VerdictPoints ctx.now.files.now (policy_of ctx.now.cfg)) (gathered_of_licenses summary.now.nfos) }
     ensures steps { steps.old ≤ steps.new }
+    ensures bound { let asked = gathered_of_licenses summary.now.nfos in
+        (passed : List Bool) → ArePassedOver (policy_of ctx.now.cfg) asked passed
+        → steps.new ≤ steps.old + entries_of_all (policy_of ctx.now.cfg) asked passed }
 {
     let licenses = summary.nfos.items();
     let nodes = most_nodes(licenses);

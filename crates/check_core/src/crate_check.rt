@@ -1,14 +1,18 @@
 //! The check of one crate.
-ghost use Rattle.std.specs.Prelude.{◌≡◌, ◌≤◌, ◌++◌, ◌∷◌, [], List, IfOk, length, false};
+ghost use Rattle.std.specs.Prelude.{◌≡◌, ◌↔◌, ◌+◌, ◌≤◌, ◌++◌, ◌∷◌, [], Bool, IsTrue, List, IfOk, length};
+ghost use Rattle.std.specs.Prelude.{false};
 ghost use Rattle.graph_core.specs.Krate.{record_of};
 ghost use Rattle.spdx_core.specs.Reading.{postfix};
 ghost use Rattle.spdx_certificates.specs.declared.verdict.Hit.{Hit};
+ghost use Rattle.policy_valid.specs.Policy.{IsPrivate};
 ghost use Rattle.policy_valid.specs.View.{policy_of};
+ghost use Rattle.check_evaluate.specs.Entries.{entries_of_terms, entry_families};
 ghost use Rattle.check_evaluate.specs.Evaluation.{exception_names};
 ghost use Rattle.check_unused.specs.Flags.{flags_by};
 ghost use Rattle.check_unused.specs.Unused as unused;
 ghost use Rattle.check_verdicts.specs.Findings as findings;
 ghost use Rattle.check_verdicts.specs.Places.{PlaceFits};
+ghost use Rattle.check_core.specs.Steps.{entries_for, entries_of_info};
 ghost use Rattle.check_core.specs.Summary.{InfoFits, gathered_of_license, nodes_in};
 ghost use Rattle.check_core.specs.Turns.{expression_of, hits_by, hits_of, pack_by, verdict_finding};
 ghost use Rattle.check_core.specs.Verdicts.{IsCertifiedOrUnlicensed, IsCertified, IsVerdict, is_skipped};
@@ -49,6 +53,7 @@ impl Model for Checker {
     ghost view = { λ c. record {
       nodes = c.evaluator.nodes;
       names = c.evaluator.names;
+      families = c.evaluator.families;
       flags = c.encountered;
     } };
 }
@@ -92,6 +97,7 @@ impl Checker {
         ensures { IfOk result (λ checker. checker ≡ record {
           nodes = nodes;
           names = exception_names (policy_of policy.now);
+          families = entry_families (policy_of policy.now);
           flags = flags_by policy.now [];
         }) }
     {
@@ -115,9 +121,11 @@ impl Checker {
     ) -> Result<CrateCheck, AllocError>
         requires room { length (postfix expr.now.tree) ≤ self.old.nodes }
         requires exceptions { exception_names (policy_of policy.now) ≡ self.old.names }
+        requires families { entry_families (policy_of policy.now) ≡ self.old.families }
         requires fits { PlaceFits nfo.now (length expr.now.text) }
         ensures nodes { self.new.nodes ≡ self.old.nodes }
         ensures names { self.new.names ≡ self.old.names }
+        ensures families { self.new.families ≡ self.old.families }
         ensures verdict { let krate = record_of license.now.krate.now in
             IfOk result (λ checked. IsCertified (policy_of policy.now) krate expr.now checked.verdict) }
         ensures pack { let krate = record_of license.now.krate.now in
@@ -129,6 +137,8 @@ impl Checker {
             → self.new.flags ≡ flags_by policy.now
             (before ++ hits_of (policy_of policy.now) (record_of license.now.krate.now) info) }
         ensures steps { steps.old ≤ steps.new }
+        ensures bound { let krate = record_of license.now.krate.now in
+            steps.new ≤ steps.old + entries_of_terms (policy_of policy.now) krate expr.now.terms }
     {
         let accepted = self.evaluator.evaluate(expr, license.krate, policy, steps);
         self.encountered.mark_all(self.evaluator.hits());
@@ -149,9 +159,11 @@ impl Checker {
     ) -> Result<CrateCheck, AllocError>
         requires room { nodes_in license.now.lic_info ≤ self.old.nodes }
         requires exceptions { exception_names (policy_of policy.now) ≡ self.old.names }
+        requires families { entry_families (policy_of policy.now) ≡ self.old.families }
         requires fits { InfoFits license.now.lic_info }
         ensures nodes { self.new.nodes ≡ self.old.nodes }
         ensures names { self.new.names ≡ self.old.names }
+        ensures families { self.new.families ≡ self.old.families }
         ensures verdict { let asked = gathered_of_license license.now in IfOk result (λ checked.
             IsCertifiedOrUnlicensed (policy_of policy.now) asked.krate (expression_of asked.info) checked.verdict) }
         ensures pack { IfOk result (λ checked.
@@ -160,6 +172,8 @@ impl Checker {
             → self.new.flags ≡ flags_by policy.now
             (before ++ hits_by false (policy_of policy.now) (gathered_of_license license.now)) }
         ensures steps { steps.old ≤ steps.new }
+        ensures bound { let asked = gathered_of_license license.now in
+            steps.new ≤ steps.old + entries_of_info (policy_of policy.now) asked.krate asked.info }
     {
         match &license.lic_info {
             LicenseInfo::SpdxExpression { expr, nfo } => {
@@ -170,7 +184,7 @@ impl Checker {
     }
 
     /// The check of one crate: its verdict, and its findings. A crate that the policy passes over is skipped,
-    /// also where it has no expression; what it has hits no entry.
+    /// also where it has no expression; what it has hits no entry. It takes a step for each entry that is asked.
     pub fn judge<L: Ledger>(
         &mut self,
         alloc: Global,
@@ -180,9 +194,11 @@ impl Checker {
     ) -> Result<CrateCheck, AllocError>
         requires room { nodes_in license.now.lic_info ≤ self.old.nodes }
         requires exceptions { exception_names (policy_of policy.now) ≡ self.old.names }
+        requires families { entry_families (policy_of policy.now) ≡ self.old.families }
         requires fits { InfoFits license.now.lic_info }
         ensures nodes { self.new.nodes ≡ self.old.nodes }
         ensures names { self.new.names ≡ self.old.names }
+        ensures families { self.new.families ≡ self.old.families }
         ensures verdict { let asked = gathered_of_license license.now in IfOk result (λ checked.
             IsVerdict (policy_of policy.now) asked.krate (expression_of asked.info) checked.verdict) }
         ensures pack { IfOk result (λ checked.
@@ -191,6 +207,9 @@ impl Checker {
             → IfOk result (λ checked. self.new.flags ≡ flags_by policy.now
             (before ++ hits_by (is_skipped checked.verdict) (policy_of policy.now) (gathered_of_license license.now))) }
         ensures steps { steps.old ≤ steps.new }
+        ensures bound { let asked = gathered_of_license license.now in
+            (private : Bool) → IsTrue private ↔ IsPrivate (policy_of policy.now) asked.krate
+            → steps.new ≤ steps.old + entries_for private (policy_of policy.now) asked }
     {
         if policy.is_private(license.krate) {
             return skip(alloc, license.krate);

@@ -10,6 +10,7 @@ use Rattle.policy_valid.specs.declared.policy.ValidException.{ValidException}
 use Rattle.policy_valid.specs.declared.policy.ValidConfig.{ValidConfig}
 use Rattle.policy_valid.specs.Policy.{Grant, hit_by, hit_of}
 use Rattle.policy_valid.specs.View.{grant_of, policy_of}
+use Rattle.check_evaluate.specs.Entries.{entries_by_terms, entries_of_terms}
 use Rattle.check_evaluate.specs.Evaluation.{Evaluation, term_hits}
 
 abbrev pub spec_of : ValidException → Spec
@@ -28,5 +29,14 @@ kept_is policy krate terms asked exceptions exception kept are is first h =
     (first ∙ ap (λ es. first_of (matching (map spec_of es) krate)) are ∙ ap (λ specs. first_of (matching specs krate)) (specs_are policy.exceptions))
     ∙ ap (map (λ (term : ExpressionReq). hit_of (policy_of policy) krate term.req)) is
 
+-- the entries of all terms, where the exception is the first that matches
+pub entries_are : (policy : ValidConfig) (krate : Record) (terms asked : List ExpressionReq) (exceptions : List ValidException) (exception : Option ℕ)
+    → exceptions ≡ policy.exceptions → asked ≡ terms → exception ≡ first_of (matching (map spec_of exceptions) krate)
+    → entries_by_terms (policy_of policy) exception asked ≡ entries_of_terms (policy_of policy) krate terms
+entries_are policy krate terms asked exceptions exception are is first =
+    ap (λ place. entries_by_terms (policy_of policy) place asked)
+    (first ∙ ap (λ es. first_of (matching (map spec_of es) krate)) are ∙ ap (λ specs. first_of (matching specs krate)) (specs_are policy.exceptions))
+    ∙ ap (entries_of_terms (policy_of policy) krate) is
+
 abbrev pub with_hits : Evaluation → List (Option Hit) → Evaluation
-with_hits evaluation hits = record { nodes = evaluation.nodes; names = evaluation.names; hits = hits }
+with_hits evaluation hits = record { nodes = evaluation.nodes; names = evaluation.names; families = evaluation.families; hits = hits }

@@ -1,5 +1,7 @@
 pub mod AnswerLemmas
 pub mod EvaluationLemmas
+pub mod Examples
+pub mod FamilyLemmas
 pub mod MoreLemmas
 pub mod PlaceLemmas
 pub mod RoomLemmas

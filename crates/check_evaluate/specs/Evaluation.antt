@@ -8,6 +8,7 @@ use Rattle.spdx_certificates.specs.Certificates.{has_hit}
 use Rattle.spdx_certificates.specs.Choices.{is_accepted}
 use Rattle.policy_spec.specs.Index.{spec_names}
 use Rattle.policy_valid.specs.Policy.{Policy, hit_of}
+use Rattle.check_evaluate.specs.Entries.{EntryFamilies}
 
 -- the hit of each term, or none, in text order
 abbrev pub term_hits : Policy → Record → List ExpressionReq → List (Option Hit)
@@ -17,11 +18,12 @@ term_hits policy krate terms = map (λ term. hit_of policy krate term.req) terms
 abbrev pub is_allowed : Policy → Record → List ExpressionReq → ExpressionTree → Bool
 is_allowed policy krate terms tree = is_accepted (has_hit (term_hits policy krate terms)) tree
 
--- An evaluator: for how many nodes it has room, the names of the exceptions that it was made for, place by place, and the
--- hits that it keeps.
+-- An evaluator: for how many nodes it has room, the names of the exceptions that it was made for, place by place, the
+-- families of the entries that it was made for, list by list, and the hits that it keeps.
 pub record Evaluation : Type 0 where
   pub nodes : ℕ
   pub names : List (List ℕ)
+  pub families : EntryFamilies
   pub hits : List (Option Hit)
 
 -- the names of a policy's exceptions, place by place

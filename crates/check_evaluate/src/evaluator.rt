@@ -1,13 +1,15 @@
 //! Evaluators.
-ghost use Rattle.std.specs.Prelude.{◌≡◌, ◌≤◌, [], map, length, IfOk};
+ghost use Rattle.std.specs.Prelude.{◌≡◌, ◌+◌, ◌≤◌, [], map, length, IfOk};
 ghost use Rattle.graph_core.specs.Krate.{record_of};
 ghost use Rattle.spdx_core.specs.Reading.{postfix};
 ghost use Rattle.spdx_certificates.specs.Certificates.{CertificateAnswers};
 ghost use Rattle.policy_spec.specs.Index.{spec_names};
 ghost use Rattle.policy_valid.specs.View.{policy_of};
+ghost use Rattle.check_evaluate.specs.Entries.{entries_of_terms, entry_families};
 ghost use Rattle.check_evaluate.specs.Evaluation.{term_hits, is_allowed, exception_names};
 
 use crate::answers::is_accepted;
+use crate::entry_index::EntryIndex;
 use crate::hits::keep_hits;
 use deny_text::Steps;
 use graph_core::Krate;
@@ -25,6 +27,7 @@ use std::sync::ledger::Ledger;
 pub struct Evaluator {
     nodes: usize,
     exceptions: SpecIndex,
+    index: EntryIndex,
     kept: Vec<Option<Hit>>,
     answers: Vec<bool>,
 }
@@ -35,34 +38,46 @@ impl Model for Evaluator {
 
     ghost Value = { Evaluation };
 
-    ghost view = { λ e. record { nodes = e.nodes; names = e.exceptions; hits = e.kept.items } };
+    ghost view = { λ e. record {
+      nodes = e.nodes;
+      names = e.exceptions;
+      families = e.index;
+      hits = e.kept.items;
+    } };
 
     ghost invariant = { λ e. (e.nodes ≤ vec_capacity e.kept) × (e.nodes ≤ vec_capacity e.answers) };
 }
 
 impl Evaluator {
-    /// An evaluator with room for so many nodes of an expression, made for the exceptions of a policy.
+    /// An evaluator with room for so many nodes of an expression, made for the entries of a policy.
     pub fn with_room(
         alloc: Global,
         nodes: usize,
         policy: &ValidConfig,
     ) -> Result<Evaluator, AllocError>
-        ensures { let names = exception_names (policy_of policy.now) in
-            IfOk result (λ e. e ≡ record { nodes = nodes; names = names; hits = [] }) }
+        ensures { let policy = policy_of policy.now in IfOk result (λ e. e ≡ record {
+          nodes = nodes;
+          names = exception_names policy;
+          families = entry_families policy;
+          hits = [];
+        }) }
     {
         let exceptions = SpecIndex::of(alloc, policy.exceptions.items())?;
+        let index = EntryIndex::of(alloc, policy)?;
         let kept = Vec::with_capacity(alloc, nodes)?;
         let answers = Vec::with_capacity(alloc, nodes)?;
         Ok(Evaluator {
             nodes,
             exceptions,
+            index,
             kept,
             answers,
         })
     }
 
     /// Whether a policy allows a crate to have an expression. It keeps what allows each term, also of those
-    /// that no choice needs, and takes no memory. A step is counted for each licensee that is asked.
+    /// that no choice needs, and takes no memory. A step is counted for each licensee that is asked: of the
+    /// crate's exception and of those that are allowed, at most the ones of the term's family.
     pub fn evaluate<L: Ledger>(
         &mut self,
         expression: &Expression,
@@ -72,16 +87,20 @@ impl Evaluator {
     ) -> bool
         requires room { length (postfix expression.now.tree) ≤ self.old.nodes }
         requires exceptions { exception_names (policy_of policy.now) ≡ self.old.names }
+        requires families { entry_families (policy_of policy.now) ≡ self.old.families }
         ensures answer { let policy = policy_of policy.now in
             result ≡ is_allowed policy (record_of krate.now) expression.now.terms expression.now.tree }
         ensures evaluator { let policy = policy_of policy.now in
             self.new ≡ record self.old { hits = term_hits policy (record_of krate.now) expression.now.terms } }
         ensures steps { steps.old ≤ steps.new }
+        ensures bound { let policy = policy_of policy.now in
+            steps.new ≤ steps.old + entries_of_terms policy (record_of krate.now) expression.now.terms }
     {
         let exception = self.exceptions.first(policy.exceptions.items(), krate);
         keep_hits(
             &mut self.kept,
             policy,
+            &self.index,
             exception,
             expression.requirements(),
             steps,

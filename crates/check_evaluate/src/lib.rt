@@ -2,6 +2,7 @@
 #![tactic(auto)]
 
 mod answers;
+mod entry_index;
 pub mod evaluator;
 mod hits;
 pub mod laws;

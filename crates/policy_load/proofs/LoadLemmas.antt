@@ -1,7 +1,7 @@
 -- What comes of a load, from what its steps answered.
-use Rattle.std.proofs.Common.{◌≡◌, refl, sym, ap, ℕ, List, [], Option, Result, Ok, Err, append-nil}
+use Rattle.std.proofs.Common.{◌≡◌, ◌∙◌, refl, sym, ap, ℕ, List, [], ◌++◌, Option, None, Some, Result, Ok, Err, append-nil}
 use Rattle.std.specs.Result.{IsErrAnd}
-use Rattle.tree_core.specs.Faults.{GainedPrefix}
+use Rattle.tree_core.specs.Faults.{Gained, GainedPrefix}
 use Rattle.diag_core.specs.File.{File}
 use Rattle.diag_print.specs.declared.context.LogContext.{LogContext}
 use Rattle.policy_text.specs.declared.error.ConfigError.{ConfigError}
@@ -10,7 +10,10 @@ use Rattle.policy_core.specs.declared.load.LoadedPolicy.{LoadedPolicy}
 use Rattle.policy_load.specs.Answer.{Comes}
 use Rattle.policy_load.specs.Load.{error_of_config}
 use Rattle.policy_load.specs.declared.error.LoadError.{LoadError}
-use Rattle.diag_print.proofs.FindingsLemmas.{gained_nothing}
+
+pub gained_nothing : (old : Option (List ℕ)) (text : List ℕ) → text ≡ [] → Gained old old text
+gained_nothing None text none = refl
+gained_nothing (Some held) text none = ap Some (sym (append-nil held) ∙ ap (λ more. held ++ more) (sym none))
 
 pub front_of_any : (held : Option (List ℕ)) (text : List ℕ) → GainedPrefix held held text
 front_of_any held text = record { front = []; rest = text; parts = refl; gained = gained_nothing held [] refl }

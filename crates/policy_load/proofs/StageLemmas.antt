@@ -30,8 +30,7 @@ use Rattle.diag_print.specs.Findings.{HasReasonSince, is_error, printed_findings
 use Rattle.policy_load.specs.declared.error.LoadError.{LoadError}
 use Rattle.policy_load.specs.declared.error.LoadError.TheVariants.{Memory, ConfigRead, ConfigSyntax, ConfigShape, NotCarried, ConfigInvalid, WriteFault}
 use Rattle.policy_load.specs.declared.loading.PolicyPaths.{PolicyPaths}
-use Rattle.policy_load.proofs.LoadLemmas.{front_of_any}
-use Rattle.diag_print.proofs.FindingsLemmas.{gained_nothing}
+use Rattle.policy_load.proofs.LoadLemmas.{front_of_any, gained_nothing}
 
 -- ---- printing
 

@@ -10,14 +10,15 @@ mod settings;
 use compared::compare_runs;
 
 /// Files of cases: of the first path and failures, of metadata, of policies, of what is found, of what is read of each
-/// crate, and of the calls of the tree.
-const FILES: [&str; 6] = [
+/// crate, of the calls of the tree, and of licence families.
+const FILES: [&str; 7] = [
     "run/gate.txt",
     "run/metadata.txt",
     "run/policies.txt",
     "run/found.txt",
     "run/gathered.txt",
     "run/calls.txt",
+    "run/families.txt",
 ];
 
 /// Compares the runs of the cases of the room, and returns whether nothing differs.

@@ -1,7 +1,8 @@
-//! Rows of what the crates of licences answer: names, texts of licences, terms, expressions and certificates.
+//! Rows of what the crates of licences answer: names, texts of licences, terms, families, expressions and certificates.
 #![tactic(auto)]
 
 mod expressions;
+mod families;
 mod terms;
 mod texts;
 
@@ -25,6 +26,7 @@ impl Rows for RowTexts {
             "strict" | "with the slash" | "lax" | "imprecise" | "size" | "certificate" => {
                 expressions::put(alloc, out, group, text)
             }
+            "places of a family" => families::put(alloc, out, text),
             _ => return terms::put(alloc, out, group, text),
         }
         true

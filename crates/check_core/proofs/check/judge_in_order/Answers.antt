@@ -2,9 +2,11 @@ use Rattle.std.proofs.Common.{◌≡◌, ◌∙◌, ap, sym, subst, take, ◌+�
 use Rattle.std.proofs.lemmas.List.{map_more}
 use Rattle.spdx_certificates.specs.declared.verdict.Verdict.{Verdict}
 use Rattle.gather_core.specs.declared.summary.KrateLicense.{KrateLicense}
+use Rattle.policy_valid.specs.View.{policy_of}
 use Rattle.check_core.specs.Summary.{gathered_of_licenses, gathered_of_license}
 use Rattle.check_core.specs.Turns.{GatheredCrate}
 use Rattle.check_core.proofs.CheckLemmas.{SoFar, one_more}
+use Rattle.check_core.proofs.StepLemmas.{bounded_after, bounded_next, bounded_whole}
 use Rattle.check_core.proofs.check.judge_in_order.Goals as goal
 
 pub licenses-preserved : goal.licenses-preserved
@@ -31,8 +33,35 @@ licenses-preserved g c =
     record {
       nodes = told.nodes ∙ so_far.nodes;
       names = told.names ∙ so_far.names;
+      families = told.families ∙ so_far.families;
       verdicts = all.are;
       flags = all.hit;
       sink = all.told;
       steps = let early = so_far.steps in let late = told.steps in omega arith;
+      bound = bounded_next (policy_of policy) licenses place license c.args.steps.now c.licenses.steps c.judge.new.steps c.licenses-test.true c.license-item.is told.bound so_far.bound;
     }
+
+pub returns-in_err-checked-clause-bound : goal.returns-in_err-checked-clause-bound
+returns-in_err-checked-clause-bound g c =
+    let licenses = c.args.licenses.now in
+    let place = c.licenses.license-index in
+    bounded_after (policy_of c.args.policy.now) licenses place c.license-item.result c.args.steps.now c.licenses.steps c.judge.new.steps
+    c.licenses-test.true c.license-item.is c.judge.ensures.bound c.licenses.invariant.bound
+
+pub returns-in_err-push-clause-bound : goal.returns-in_err-push-clause-bound
+returns-in_err-push-clause-bound g c =
+    let licenses = c.args.licenses.now in
+    let place = c.licenses.license-index in
+    bounded_after (policy_of c.args.policy.now) licenses place c.license-item.result c.args.steps.now c.licenses.steps c.judge.new.steps
+    c.licenses-test.true c.license-item.is c.judge.ensures.bound c.licenses.invariant.bound
+
+pub returns-in_err-push-2-clause-bound : goal.returns-in_err-push-2-clause-bound
+returns-in_err-push-2-clause-bound g c =
+    let licenses = c.args.licenses.now in
+    let place = c.licenses.license-index in
+    bounded_after (policy_of c.args.policy.now) licenses place c.license-item.result c.args.steps.now c.licenses.steps c.judge.new.steps
+    c.licenses-test.true c.license-item.is c.judge.ensures.bound c.licenses.invariant.bound
+
+pub returns-clause-bound : goal.returns-clause-bound
+returns-clause-bound g c =
+    bounded_whole (policy_of c.args.policy.now) c.args.licenses.now c.licenses.license-index c.args.steps.now c.licenses.steps c.licenses.invariant.bound

@@ -4,6 +4,7 @@ use Rattle.policy_valid.specs.View.{policy_of}
 use Rattle.check_unused.specs.Flags.{flags_by}
 use Rattle.check_core.specs.Check.{AreVerdicts, all_hits, gained, packs_of}
 use Rattle.check_core.specs.Summary.{gathered_of_licenses}
+use Rattle.check_core.proofs.StepLemmas.{IsBounded}
 use Rattle.check_core.proofs.check.judge_in_order.Given as goal
 
 abbrev pub invariant-licenses : goal.invariant-licenses
@@ -12,8 +13,10 @@ invariant-licenses g l =
     record {
       nodes : l.checker.nodes ≡ l.fn.checker.nodes;
       names : l.checker.names ≡ l.fn.checker.names;
+      families : l.checker.families ≡ l.fn.checker.families;
       verdicts : AreVerdicts (policy_of l.policy) asked l.verdicts;
       flags : l.checker.flags ≡ flags_by l.policy (all_hits (policy_of l.policy) asked l.verdicts);
       sink : l.sink ≡ gained l.fn.sink (packs_of (policy_of l.policy) asked l.verdicts);
       steps : l.fn.steps ≤ l.steps;
+      bound : IsBounded (policy_of l.policy) l.licenses l.license-index l.fn.steps l.steps;
     }

@@ -1,13 +1,16 @@
-use Rattle.std.proofs.Common.{◌≡◌, ◌≤◌, map, drop}
-use Rattle.policy_spec.specs.Index.{places_from, first_of}
-use Rattle.policy_valid.specs.Satisfied.{satisfies}
-use Rattle.policy_valid.specs.Policy.{first_entry}
+use Rattle.std.proofs.Common.{◌≡◌, ◌+◌, ◌≤◌, map, drop}
+use Rattle.std.specs.List.{filter}
+use Rattle.policy_spec.specs.Index.{first_of}
 use Rattle.policy_valid.specs.View.{req_of}
+use Rattle.check_evaluate.proofs.FamilyLemmas.{satisfied_at}
 use Rattle.check_evaluate.proofs.hits.first_entry.Given as goal
 
--- the first licensee that satisfies the term is among those from the place on
+-- the first place that passes is among the rest, and each place so far took one step at most
 abbrev pub invariant-places : goal.invariant-places
-invariant-places g l = record {
-  first : first_entry (map req_of l.licensees) l.term ≡ first_of (places_from l.place (λ licensee. satisfies licensee l.term) (drop l.place (map req_of l.licensees)));
-  steps : l.fn.steps ≤ l.steps;
-}
+invariant-places g l =
+    let passes = satisfied_at (map req_of l.licensees) l.term in
+    record {
+      first : first_of (filter passes l.places) ≡ first_of (filter passes (drop l.place-index l.places));
+      steps : l.fn.steps ≤ l.steps;
+      bound : l.steps ≤ l.fn.steps + l.place-index;
+    }

@@ -1,6 +1,7 @@
-use Rattle.std.proofs.Common.{◌≡◌, ◌≤◌, map, take, length, vec_len, vec_capacity}
+use Rattle.std.proofs.Common.{◌≡◌, ◌+◌, ◌≤◌, map, take, length, vec_len, vec_capacity}
 use Rattle.policy_valid.specs.Policy.{hit_by}
 use Rattle.policy_valid.specs.View.{policy_of}
+use Rattle.check_evaluate.specs.Entries.{entries_by_terms}
 use Rattle.check_evaluate.proofs.hits.keep_hits.Given as goal
 
 -- the hits of the terms so far
@@ -11,4 +12,5 @@ invariant-terms g l = record {
   room : length l.terms ≤ vec_capacity l.kept;
   grown : vec_capacity l.fn.kept ≤ vec_capacity l.kept;
   steps : l.fn.steps ≤ l.steps;
+  bound : l.steps ≤ l.fn.steps + entries_by_terms (policy_of l.policy) l.exception (take l.term-index l.terms);
 }

@@ -1,9 +1,10 @@
-use Rattle.std.proofs.Common.{◌≡◌, sym, subst, [], ◌∷◌, ◌++◌, IfOk}
+use Rattle.std.proofs.Common.{◌≡◌, ◌≤◌, ◌+◌, sym, subst, [], ◌∷◌, ◌++◌, IfOk}
 use Rattle.gather_findings.specs.declared.license.LicenseInfo.{LicenseInfo}
 use Rattle.gather_core.specs.Gathered.{krate_of}
 use Rattle.policy_valid.specs.View.{policy_of}
 use Rattle.check_verdicts.specs.Findings.{pack_of}
 use Rattle.check_core.specs.declared.crate_check.CrateCheck.{CrateCheck}
+use Rattle.check_core.specs.Steps.{entries_of_info}
 use Rattle.check_core.specs.Turns.{verdict_finding}
 use Rattle.check_core.proofs.crate_check.Checker.ask.Goals as goal
 
@@ -14,3 +15,9 @@ returns-in-SpdxExpression-clause-pack g c =
     let policy = policy_of c.args.policy.now in
     subst (λ (info : LicenseInfo). IfOk c.certify.result (λ (checked : CrateCheck). checked.pack ≡ pack_of krate (license.diags ++ verdict_finding policy krate info license.notes ∷ [])))
     (sym c.in-SpdxExpression.is) c.certify.ensures.pack
+
+pub returns-in-SpdxExpression-clause-bound : goal.returns-in-SpdxExpression-clause-bound
+returns-in-SpdxExpression-clause-bound g c =
+    let krate = krate_of c.args.license.now in
+    let policy = policy_of c.args.policy.now in
+    subst (λ (info : LicenseInfo). c.certify.new.steps ≤ c.args.steps.now + entries_of_info policy krate info) (sym c.in-SpdxExpression.is) c.certify.ensures.bound

@@ -2,6 +2,8 @@ use Rattle.gather_core.specs.Gathered.{krate_of}
 use Rattle.policy_valid.specs.View.{policy_of}
 use Rattle.check_core.specs.Turns.{expression_of}
 use Rattle.check_core.proofs.VerdictLemmas.{answered_check}
+use Rattle.check_core.proofs.StepLemmas.{asked_bound}
+use Rattle.check_core.specs.Summary.{gathered_of_license}
 use Rattle.check_core.proofs.crate_check.Checker.judge.Goals as goal
 
 pub returns-clause-verdict : goal.returns-clause-verdict
@@ -9,3 +11,8 @@ returns-clause-verdict g c =
     let license = c.args.license.now in
     answered_check (policy_of c.args.policy.now) (krate_of license) (expression_of license.lic_info) c.is_private.result
     c.is_private.ensures c.if-is_private.false c.ask.result c.ask.ensures.verdict
+
+pub returns-clause-bound : goal.returns-clause-bound
+returns-clause-bound g c =
+    asked_bound (policy_of c.args.policy.now) (gathered_of_license c.args.license.now) c.is_private.result c.args.steps.now c.ask.new.steps
+    c.is_private.ensures c.if-is_private.false c.ask.ensures.bound

@@ -10,7 +10,7 @@ use Rattle.policy_valid.specs.View.{policy_of}
 use Rattle.check_evaluate.specs.Answers.{answers_over}
 use Rattle.check_evaluate.specs.Evaluation.{Evaluation, term_hits}
 use Rattle.check_evaluate.proofs.AnswerLemmas.{answered_whole}
-use Rattle.check_evaluate.proofs.EvaluationLemmas.{specs_are, spec_of, kept_is, with_hits}
+use Rattle.check_evaluate.proofs.EvaluationLemmas.{entries_are, specs_are, spec_of, kept_is, with_hits}
 use Rattle.check_evaluate.proofs.RoomLemmas.{few_terms}
 use Rattle.check_evaluate.proofs.evaluator.Evaluator.evaluate.Goals as goal
 
@@ -21,8 +21,8 @@ first-exception-requires g c =
     ∙ c.requires.exceptions
     ∙ sym (ap (λ (e : Evaluation). e.names) c.self.view_is)
 
-pub keep_hits-requires : goal.keep_hits-requires
-keep_hits-requires g c =
+pub keep_hits-requires-clause-room : goal.keep_hits-requires-clause-room
+keep_hits-requires-clause-room g c =
     let expression = c.args.expression.now in
     let few : length expression.terms ≤ length (postfix expression.tree) = few_terms (length expression.terms) expression.tree c.requirements.ensures.facts.places in
     let asked = ap length c.requirements.ensures.terms in
@@ -46,5 +46,12 @@ returns-clause-evaluator g c =
     let expression = c.args.expression.now in
     let is = kept_is c.args.policy.now (record_of c.args.krate.now) expression.terms c.requirements.result.now c.items.result.now c.first-exception.result
     c.keep_hits.new.kept.items c.items.ensures c.requirements.ensures.terms c.first-exception.ensures c.keep_hits.ensures.kept in
-    ap (λ (hits : List (Option Hit)). with_hits (record { nodes = c.self.inside.nodes; names = c.self.inside.exceptions; hits = [] }) hits) is
+    ap (λ (hits : List (Option Hit)). with_hits (record { nodes = c.self.inside.nodes; names = c.self.inside.exceptions; families = c.self.inside.index; hits = [] }) hits) is
     ∙ ap (λ (e : Evaluation). with_hits e (term_hits (policy_of c.args.policy.now) (record_of c.args.krate.now) expression.terms)) c.self.view_is
+
+pub returns-clause-bound : goal.returns-clause-bound
+returns-clause-bound g c =
+    let are = entries_are c.args.policy.now (record_of c.args.krate.now) c.args.expression.now.terms c.requirements.result.now c.items.result.now c.first-exception.result
+    c.items.ensures c.requirements.ensures.terms c.first-exception.ensures in
+    let bound = c.keep_hits.ensures.bound in
+    omega arith
