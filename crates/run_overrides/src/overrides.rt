@@ -95,7 +95,11 @@ fn put_level(
 }
 
 /// Sets the severity of a code or a level. It is refused where that was set before.
-fn put(alloc: Global, overrides: &mut DiagnosticOverrides, item: LevelItem) -> Result<(), OverrideError>
+fn put(
+    alloc: Global,
+    overrides: &mut DiagnosticOverrides,
+    item: LevelItem,
+) -> Result<(), OverrideError>
     ensures first { OnOk result (set_before overrides.old item.subject ≡ None) }
     ensures ok { OnOk result (overrides.new ≡ with_item overrides.old item) }
     ensures err { IfErr result

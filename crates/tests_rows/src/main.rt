@@ -6,8 +6,8 @@ use std::process::ExitCode;
 use std::{env, io};
 use tests_files::exit_code;
 
-const FOLDERS: [&str; 10] = [
-    "text", "spdx", "diag", "toml", "graph", "policy", "gather", "check", "run", "start",
+const FOLDERS: [&str; 9] = [
+    "text", "spdx", "diag", "toml", "graph", "policy", "gather", "check", "start",
 ];
 
 /// Compares what stands in a folder, and returns whether nothing differs.
@@ -21,7 +21,6 @@ fn compare(rt: &HostRuntime, folder: &str) -> bool {
         "policy" => tests_policy::compare(rt),
         "gather" => tests_gather::compare(rt),
         "check" => tests_check::compare(rt),
-        "run" => tests_runner::compare(rt),
         "start" => tests_start::compare(rt),
         _ => {
             let _ = eprintln!(rt; "{folder}: no such folder");

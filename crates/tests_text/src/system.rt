@@ -2,7 +2,7 @@
 ghost use Rattle.std.specs.Prelude.{◌≤◌, length, IfSome};
 
 use crate::calls::number_in;
-use crate::trees::put_one;
+use crate::trees::{put_list, put_read, put_whether};
 use deny_text::PathBuf;
 use std::alloc::{AllocError, Allocator, Global};
 use std::fs::{Metadata, OpenFile, OpenOptions};
@@ -241,16 +241,29 @@ fn tree(alloc: Global, words: &str) -> Result<FolderTree<(System, Global)>, Allo
     Ok(FolderTree::with_named((system_of(words), alloc), named))
 }
 
+/// Puts what a call at `x` answers on a tree, and how often it has failed.
+fn put_call(
+    out: &mut AnswerText,
+    alloc: Global,
+    tree: &mut FolderTree<(System, Global)>,
+    verb: &str,
+) {
+    match verb {
+        "read" => put_read(out, alloc, tree.read(alloc, "x"), false),
+        "list" => put_list(out, tree.list(alloc, "x")),
+        "is_file" => put_whether(out, tree.is_file(alloc, "x")),
+        _ => put_whether(out, tree.exists(alloc, "x")),
+    }
+    write!(out, " {}", tree.faults());
+}
+
 /// Puts what `read`, `list`, `is_file` and `exists` come to at `x`, each on a tree of its own, and how often that has failed.
 fn put_answers(out: &mut AnswerText, alloc: Global, words: &str) {
     let mut front = "";
     for verb in ["read", "list", "is_file", "exists"] {
         out.put(front);
-        match tree(alloc, words) {
-            Ok(mut tree) => {
-                put_one(out, alloc, &mut tree, verb, "x");
-                write!(out, " {}", tree.faults());
-            }
+        match &mut tree(alloc, words) {
+            Ok(tree) => put_call(out, alloc, tree, verb),
             Err(_) => out.want_memory(),
         }
         front = "; ";

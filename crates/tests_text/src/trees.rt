@@ -1,12 +1,13 @@
 //! Trees of files, in memory and real, and sinks: what is put into them, and what their calls answer.
 use crate::calls::{CallWords, Called, MemoryResult, lines_of, number_in, put_answered};
+use deny_text::Bytes;
 use deny_text::path::parent;
 use std::alloc::{AllocError, Global};
 use std::fs::{File, OpenFile};
 use std::rt::Files;
 use std::{fs, io};
 use tests_files::{AnswerText, Case, Cases, KeyAnswer};
-use tree_core::{Entry, FolderTree, MemSink, MemTree, Sink, Tree, TreeError, write_all};
+use tree_core::{Entries, Entry, FolderTree, MemSink, MemTree, Sink, Tree, TreeError, write_all};
 
 /// Bytes of which none is alike at a distance that reads are likely to have.
 fn counted(alloc: Global, length: usize) -> Result<Vec<u8>, AllocError> {
@@ -57,14 +58,14 @@ fn put_bytes(out: &mut AnswerText, alloc: Global, bytes: &[u8]) {
     }
 }
 
-fn put_read<T: Tree>(
+/// Puts what a read answers: the bytes, or how many there are.
+pub fn put_read(
     out: &mut AnswerText,
     alloc: Global,
-    tree: &mut T,
-    path: &str,
+    answer: Result<Bytes, TreeError>,
     is_length: bool,
 ) {
-    match &tree.read(alloc, path) {
+    match &answer {
         Ok(bytes) if is_length => write!(out, "{}", bytes.items().len()),
         Ok(bytes) => put_bytes(out, alloc, bytes.items()),
         Err(error) => write!(out, "{error:?}"),
@@ -87,14 +88,16 @@ fn put_entries(out: &mut AnswerText, entries: &[Entry]) {
     out.put("]");
 }
 
-fn put_list<T: Tree>(out: &mut AnswerText, alloc: Global, tree: &mut T, path: &str) {
-    match &tree.list(alloc, path) {
+/// Puts what a listing answers.
+pub fn put_list(out: &mut AnswerText, answer: Result<Entries, TreeError>) {
+    match &answer {
         Ok(entries) => put_entries(out, entries.items()),
         Err(error) => write!(out, "{error:?}"),
     }
 }
 
-fn put_whether(out: &mut AnswerText, whether: Result<bool, TreeError>) {
+/// Puts what a look answers.
+pub fn put_whether(out: &mut AnswerText, whether: Result<bool, TreeError>) {
     match whether {
         Ok(is_so) => write!(out, "{is_so}"),
         Err(error) => write!(out, "{error:?}"),
@@ -103,9 +106,9 @@ fn put_whether(out: &mut AnswerText, whether: Result<bool, TreeError>) {
 
 pub fn put_one<T: Tree>(out: &mut AnswerText, alloc: Global, tree: &mut T, verb: &str, path: &str) {
     match verb {
-        "read" => put_read(out, alloc, tree, path, false),
-        "length" => put_read(out, alloc, tree, path, true),
-        "list" => put_list(out, alloc, tree, path),
+        "read" => put_read(out, alloc, tree.read(alloc, path), false),
+        "length" => put_read(out, alloc, tree.read(alloc, path), true),
+        "list" => put_list(out, tree.list(alloc, path)),
         "is_file" => put_whether(out, tree.is_file(alloc, path)),
         "exists" => put_whether(out, tree.exists(alloc, path)),
         "faults" => write!(out, "{}", tree.faults()),
