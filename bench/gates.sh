@@ -51,7 +51,7 @@ while read -r kind size; do
     theirs=$(count "$work/theirs" "$plain" check)
     cmp -s "$work/ours" "$work/theirs" || echo "$kind $size: the answers differ"
     echo "$kind $size $(wc -c < metadata.json) $ours $theirs $(memory "$program" $words) $(memory "$plain" check)" | awk '{
-        printf "%s %d, metadata of %d bytes: %d instructions, plain Rust %d, ratio %.2f; memory %d KiB, plain Rust %d, ratio %.2f\n",
+        printf "%s %d, metadata of %d bytes: %.0f instructions, plain Rust %.0f, ratio %.2f; memory %d KiB, plain Rust %d, ratio %.2f\n",
             $1, $2, $3, $4, $5, $4 / $5, $6, $7, $6 / $7
     }'
     cd "$root"

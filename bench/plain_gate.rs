@@ -297,7 +297,8 @@ fn check(folder: &str) -> Option<(String, bool)> {
     let known = known();
     let policy_path = format!("{folder}/deny.toml");
     let policy = fs::read_to_string(&policy_path).ok()?;
-    let entries = allowed(&policy)?;
+    let mut entries = allowed(&policy)?;
+    entries.sort_by_key(|entry| entry.1);
     let mut by_name: HashMap<&str, usize> = HashMap::new();
     for (number, (_, name)) in entries.iter().enumerate() {
         by_name.entry(name).or_insert(number);
