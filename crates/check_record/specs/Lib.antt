@@ -1,0 +1,5 @@
+pub mod Decoded
+pub mod Items
+pub mod Laws
+pub mod Reading
+pub mod Spelling

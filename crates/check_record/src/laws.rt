@@ -1,0 +1,7 @@
+//! What holds of all records. This function does nothing: its contract is the law.
+ghost use Rattle.check_record.specs.Laws.{SpellingsEndThemselves};
+
+/// No spelling begins another one, so a file that is cut or grew is the spelling of no record.
+pub fn spellings_end_themselves()
+    ensures { SpellingsEndThemselves }
+{}

@@ -1,0 +1,16 @@
+//! Verdict files: what is recorded of each crate, and the one spelling of it.
+#![tactic(auto)]
+
+mod decode_parts;
+pub mod decoding;
+mod digits;
+mod encode_parts;
+pub mod encoding;
+pub mod error;
+pub mod items;
+pub mod laws;
+
+pub use decoding::decode;
+pub use encoding::encode;
+pub use error::RecordError;
+pub use items::{Record, RecordItem, RecordItems, RecordVerdict};
