@@ -1,8 +1,10 @@
-//! Rows of what the crates of licences answer: names, texts of licences, terms, families, expressions and certificates.
+//! Rows of what the crates of licences answer: names, texts of licences, terms, families, expressions and certificates; and an
+//! organisation's own catalogue and texts.
 #![tactic(auto)]
 
 mod expressions;
 mod families;
+mod listings;
 mod terms;
 mod texts;
 
@@ -27,6 +29,8 @@ impl Rows for RowTexts {
                 expressions::put(alloc, out, group, text)
             }
             "places of a family" => families::put(alloc, out, text),
+            "catalogue file" | "catalogue look-up" => listings::put_file(alloc, out, text),
+            "folder of texts" => listings::put_folder(alloc, out, text),
             _ => return terms::put(alloc, out, group, text),
         }
         true
@@ -61,7 +65,10 @@ fn put_beginning(out: &mut AnswerText, text: &str) {
 /// Compares the rows of the room, and returns whether nothing differs.
 pub fn compare(rt: &HostRuntime) -> bool {
     match texts::read(rt) {
-        Ok(files) => compare_rows(rt, "spdx/licences.txt", &files),
+        Ok(files) => {
+            let licences = compare_rows(rt, "spdx/licences.txt", &files);
+            compare_rows(rt, "spdx/catalogues.txt", &files) & licences
+        }
         Err(error) => {
             let _ = eprintln!(rt; "{error}");
             false

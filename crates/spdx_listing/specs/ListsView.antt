@@ -1,0 +1,29 @@
+-- What the lines of a catalogue's file list, as the values of the code stand for it.
+use Rattle.std.specs.Prelude.{◌≡◌, [], ◌∷◌, ◌++◌, Option, Some, None}
+use Rattle.spdx_catalog.specs.Catalog.{CatalogLists, entry_of}
+use Rattle.spdx_listing.specs.Form.{LineForm, nothing, license, exception, imprecise}
+use Rattle.spdx_listing.specs.declared.lists.Lists.{Lists}
+
+abbrev pub lists_view : Lists → CatalogLists
+lists_view lists = record { licences = lists.licenses; exceptions = lists.exceptions; imprecise = lists.meanings }
+
+abbrev pub no_lists : CatalogLists
+no_lists = record { licences = []; exceptions = []; imprecise = [] }
+
+-- the lists and what a line with this form lists
+abbrev pub with_form : CatalogLists → Option LineForm → CatalogLists
+with_form lists None = lists
+with_form lists (Some nothing) = lists
+with_form lists (Some (license name entry)) =
+    record { licences = lists.licences ++ (name, entry) ∷ []; exceptions = lists.exceptions; imprecise = lists.imprecise }
+with_form lists (Some (exception name)) =
+    record { licences = lists.licences; exceptions = lists.exceptions ++ name ∷ []; imprecise = lists.imprecise }
+with_form lists (Some (imprecise text name)) =
+    record { licences = lists.licences; exceptions = lists.exceptions; imprecise = lists.imprecise ++ (text, name) ∷ [] }
+
+-- a licence with this form is none of them
+abbrev pub IsNewIn : CatalogLists → LineForm → Type 0
+IsNewIn lists nothing = Unit {0}
+IsNewIn lists (license name entry) = entry_of lists.licences name ≡ None
+IsNewIn lists (exception name) = Unit {0}
+IsNewIn lists (imprecise text name) = Unit {0}

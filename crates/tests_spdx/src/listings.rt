@@ -1,0 +1,132 @@
+//! Files of an organisation's own catalogue, and folders of its texts.
+use deny_text::Bytes;
+use spdx_catalog::{Catalog, Identifier};
+use spdx_listing::{Listing, ListingError, StoreError, StoreFault, read_catalog, read_store};
+use std::alloc::{AllocError, Global};
+use tests_files::AnswerText;
+use tree_core::MemTree;
+
+/// A text's bytes, with FF in place of each `?`.
+fn bytes_of(alloc: Global, text: &str) -> Result<Bytes, AllocError> {
+    let mut bytes = Bytes::new(alloc);
+    for byte in text.as_bytes() {
+        bytes.push(if *byte == b'?' { 0xff } else { *byte })?;
+    }
+    Ok(bytes)
+}
+
+/// Puts what a catalogue knows of a name as a licence and as an exception, and what a text begins with.
+pub fn put_known<C: Catalog>(out: &mut AnswerText, catalog: &C, text: &str) {
+    match catalog.license(text) {
+        Some(entry) => {
+            let family = entry.family;
+            let rank = entry.rank;
+            write!(out, "family {family}, rank {rank}");
+            out.put(if entry.later { ", later" } else { "" });
+            out.put(if entry.deprecated { ", deprecated" } else { "" });
+            out.put(if entry.gnu { ", gnu" } else { "" });
+        }
+        None => out.put("no licence"),
+    }
+    out.put(if catalog.exception(text) {
+        "; an exception"
+    } else {
+        "; no exception"
+    });
+    if let Some(found) = catalog.imprecise(text) {
+        let len = found.len;
+        let name = found.name;
+        write!(out, "; begins with {len} for {name}");
+    }
+}
+
+fn put_listing_error(out: &mut AnswerText, error: &ListingError) {
+    match error {
+        ListingError::Syntax { line } => write!(out, "line {line}"),
+        ListingError::Memory => out.want_memory(),
+    }
+}
+
+fn read(alloc: Global, text: &str) -> Result<Listing, ListingError> {
+    let bytes = bytes_of(alloc, text)?;
+    read_catalog(alloc, bytes.items())
+}
+
+/// What a file comes to, or, behind a bar, what its catalogue knows of a text.
+pub fn put_file(alloc: Global, out: &mut AnswerText, text: &str) {
+    let (file, asked) = text.split_once(" | ").unwrap_or((text, ""));
+    match read(alloc, file) {
+        Ok(_) if asked.is_empty() => out.put("a catalogue"),
+        Ok(listing) => put_known(out, &listing, asked),
+        Err(error) => put_listing_error(out, &error),
+    }
+}
+
+/// The tree of a row: `/w/s` holds the files that are written `NAME: TEXT`, with `; ` between; `! N` says that a call fails.
+fn tree_of(alloc: Global, files: &str) -> Result<MemTree, AllocError> {
+    let mut tree = MemTree::new(alloc);
+    for file in files.split("; ") {
+        if let Some((name, text)) = file.split_once(": ") {
+            put_text(alloc, &mut tree, name, text)?;
+        } else if let Some(number) = file.strip_prefix("! ") {
+            tree.fail_call(number.parse::<u64>().unwrap_or(1))?;
+        }
+    }
+    Ok(tree)
+}
+
+fn put_text(alloc: Global, tree: &mut MemTree, name: &str, text: &str) -> Result<(), AllocError> {
+    let path = format!(in alloc; "/w/{name}")?;
+    let bytes = bytes_of(alloc, text)?;
+    match tree.put(path.as_str(), bytes.items()) {
+        Ok(()) => Ok(()),
+        Err(_) => Err(AllocError),
+    }
+}
+
+fn put_store_error(out: &mut AnswerText, error: &StoreError) {
+    match error {
+        StoreError::Fault(StoreFault::Failed { before, after }) => write!(
+            out,
+            "failed {before} {after}"
+        ),
+        StoreError::Fault(StoreFault::Absent) => out.put("absent"),
+        StoreError::Fault(StoreFault::NotFolder) => out.put("no folder"),
+        StoreError::Fault(StoreFault::NotUtf8 { name }) => {
+            out.put("not UTF-8: ");
+            out.put(name.as_str());
+        }
+        StoreError::Memory => out.want_memory(),
+    }
+}
+
+/// The licence that a text is by the texts of a folder, and how sure that is.
+fn put_found(
+    alloc: Global,
+    out: &mut AnswerText,
+    files: &str,
+    text: &str,
+) -> Result<(), AllocError> {
+    let mut tree = tree_of(alloc, files)?;
+    match read_store(alloc, &mut tree, "/w/s") {
+        Ok(store) => {
+            let found = store.scan(alloc, text)?;
+            match &found.name {
+                Some(name) => out.put(name.as_str()),
+                None => out.put("none"),
+            }
+            let score = found.score;
+            write!(out, " {score}");
+        }
+        Err(error) => put_store_error(out, &error),
+    }
+    Ok(())
+}
+
+/// What a text is by the texts of a folder.
+pub fn put_folder(alloc: Global, out: &mut AnswerText, text: &str) {
+    let (files, text) = text.split_once(" | ").unwrap_or((text, ""));
+    if put_found(alloc, out, files, text).is_err() {
+        out.want_memory();
+    }
+}
