@@ -62,6 +62,14 @@ pub fn put_file(alloc: Global, out: &mut AnswerText, text: &str) {
     }
 }
 
+/// Has the call of that number fail; numbers count from 1.
+fn fail_call(tree: &mut MemTree, number: &str) -> Result<(), AllocError> {
+    match number.parse::<u64>() {
+        Ok(call) if call > 0 => tree.fail_call(call),
+        _ => Ok(()),
+    }
+}
+
 /// The tree of a row: `/w/s` holds the files that are written `NAME: TEXT`, with `; ` between; `! N` says that a call fails.
 fn tree_of(alloc: Global, files: &str) -> Result<MemTree, AllocError> {
     let mut tree = MemTree::new(alloc);
@@ -69,7 +77,7 @@ fn tree_of(alloc: Global, files: &str) -> Result<MemTree, AllocError> {
         if let Some((name, text)) = file.split_once(": ") {
             put_text(alloc, &mut tree, name, text)?;
         } else if let Some(number) = file.strip_prefix("! ") {
-            tree.fail_call(number.parse::<u64>().unwrap_or(1))?;
+            fail_call(&mut tree, number)?;
         }
     }
     Ok(tree)
