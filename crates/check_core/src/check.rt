@@ -1,9 +1,10 @@
 //! The check of all crates.
-ghost use Rattle.std.specs.Prelude.{◌≡◌, ◌+◌, ◌<◌, ◌≤◌, [], ◌∷◌, All, Bool, IfOk, None, OnOk, OnErr, List};
-ghost use Rattle.std.specs.Prelude.{length};
+ghost use Rattle.std.specs.Prelude.{◌≡◌, ◌+◌, ◌<◌, ◌≤◌, [], ◌∷◌, All, Bool, IfOk, OnOk, OnErr, List};
+ghost use Rattle.std.specs.Prelude.{length, map};
 ghost use Rattle.std.specs.Option.{option_map_or};
 ghost use Rattle.spdx_certificates.specs.declared.verdict.Hit.{Hit};
 ghost use Rattle.diag_core.specs.File.{source_of_file};
+ghost use Rattle.diag_core.specs.Overrides.{pack_overridden};
 ghost use Rattle.policy_valid.specs.View.{policy_of};
 ghost use Rattle.check_evaluate.specs.Entries.{entry_families};
 ghost use Rattle.check_evaluate.specs.Evaluation.{exception_names};
@@ -218,7 +219,7 @@ pub fn check<L: Ledger>(
     judge_with_room(alloc, &ctx.cfg, ctx.files, licenses, nodes, sink, steps)
 }
 
-/// The same, into a sink that holds nothing yet, with its steps counted in a ledger that is handed in.
+/// The same, into a sink that holds no packs yet, with its steps counted in a ledger that is handed in.
 fn judge_by_ledger<L: Ledger>(
     ledger: Blank,
     alloc: Global,
@@ -231,11 +232,12 @@ fn judge_by_ledger<L: Ledger>(
     requires some { 0 < ledger.parts }
     requires placed { All (IsPlacedAt ctx.now.files.now) summary.now.nfos }
     requires entries { EntriesLie ctx.now.files.now ctx.now.cfg }
-    requires empty { sink.old ≡ record { overrides = None; packs = [] } }
+    requires empty { sink.old.packs ≡ [] }
     ensures verdicts { IfOk result (λ verdicts.
         AreVerdicts (policy_of ctx.now.cfg) (gathered_of_licenses summary.now.nfos) verdicts) }
-    ensures packs { IfOk result (λ verdicts.
-        sink.new.packs ≡ findings_of ctx.now.cfg (gathered_of_licenses summary.now.nfos) verdicts) }
+    // each at the levels that the sink's overrides say
+    ensures packs { IfOk result (λ verdicts. sink.new.packs ≡ map (pack_overridden sink.old.overrides)
+        (findings_of ctx.now.cfg (gathered_of_licenses summary.now.nfos) verdicts)) }
     ensures terms { All (VerdictPoints ctx.now.files.now (policy_of ctx.now.cfg)) (gathered_of_licenses summary.now.nfos) }
     ensures labels { OnOk result (All (PackLies ctx.now.files.now) sink.new.packs) }
 {
@@ -244,7 +246,7 @@ fn judge_by_ledger<L: Ledger>(
 }
 
 /// The verdicts on the crates of a summary, as `check` gives them, with its steps counted in a ledger of its own,
-/// and a sink that holds nothing yet.
+/// and a sink that holds no packs yet.
 pub fn judge_all(
     alloc: Global,
     ctx: &CheckCtx<'_, ValidConfig>,
@@ -253,11 +255,12 @@ pub fn judge_all(
 ) -> Result<Verdicts, AllocError>
     requires placed { All (IsPlacedAt ctx.now.files.now) summary.now.nfos }
     requires entries { EntriesLie ctx.now.files.now ctx.now.cfg }
-    requires empty { sink.old ≡ record { overrides = None; packs = [] } }
+    requires empty { sink.old.packs ≡ [] }
     ensures verdicts { IfOk result (λ verdicts.
         AreVerdicts (policy_of ctx.now.cfg) (gathered_of_licenses summary.now.nfos) verdicts) }
-    ensures packs { IfOk result (λ verdicts.
-        sink.new.packs ≡ findings_of ctx.now.cfg (gathered_of_licenses summary.now.nfos) verdicts) }
+    // each at the levels that the sink's overrides say
+    ensures packs { IfOk result (λ verdicts. sink.new.packs ≡ map (pack_overridden sink.old.overrides)
+        (findings_of ctx.now.cfg (gathered_of_licenses summary.now.nfos) verdicts)) }
     ensures terms { All (VerdictPoints ctx.now.files.now (policy_of ctx.now.cfg)) (gathered_of_licenses summary.now.nfos) }
     ensures labels { OnOk result (All (PackLies ctx.now.files.now) sink.new.packs) }
 {

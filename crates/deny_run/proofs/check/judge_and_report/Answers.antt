@@ -1,10 +1,18 @@
-use Rattle.std.proofs.Common.{ap₂}
+use Rattle.std.proofs.Common.{◌∙◌, ap, ap₂, map}
+use Rattle.diag_core.specs.Overrides.{pack_overridden}
+use Rattle.diag_core.specs.declared.overrides.ErrorSink.{ErrorSink}
+use Rattle.check_core.specs.Check.{findings_of}
+use Rattle.check_core.specs.Summary.{gathered_of_licenses}
+use Rattle.check_core.proofs.SinkLemmas.{not_overridden}
 use Rattle.deny_run.specs.declared.check.CheckedCrates.{CheckedCrates}
 use Rattle.deny_run.proofs.check.judge_and_report.Goals as goal
 
 pub returns-clause-check : goal.returns-clause-check
-returns-clause-check c = record {
-  verdicts = c.in_ok-verdicts.verdicts;
-  are = c.in_ok-verdicts.ensures.verdicts;
-  is = ap₂ (λ crates findings. let it : CheckedCrates = record { policy = c.args.policy; crates = crates; findings = findings } in it) c.in_ok-crates.ensures c.in_ok-verdicts.ensures.packs;
-}
+returns-clause-check c =
+    let found = findings_of c.args.policy (gathered_of_licenses c.args.summary.nfos) c.in_ok-verdicts.verdicts in
+    let packs = c.in_ok-verdicts.ensures.packs ∙ ap (λ (one : ErrorSink). map (pack_overridden one.overrides) found) c.new-sink.ensures ∙ not_overridden found in
+    record {
+      verdicts = c.in_ok-verdicts.verdicts;
+      are = c.in_ok-verdicts.ensures.verdicts;
+      is = ap₂ (λ crates findings. let it : CheckedCrates = record { policy = c.args.policy; crates = crates; findings = findings } in it) c.in_ok-crates.ensures packs;
+    }

@@ -1,0 +1,13 @@
+pub mod AnswerLemmas
+pub mod CheckLemmas
+pub mod CountLemmas
+pub mod FoundLemmas
+pub mod GatheredLemmas
+pub mod HeadlineLemmas
+pub mod HeardAlike
+pub mod NamedLemmas
+pub mod PlaceLemmas
+pub mod ReportLemmas
+pub mod ScriptLemmas
+pub mod StageLemmas
+pub mod StepLemmas

@@ -1,0 +1,174 @@
+-- What the steps of a check answer, one by one.
+use Rattle.std.specs.Prelude.{◌≡◌, ◌⊎◌, ℕ, List, [], ◌∷◌, ◌++◌, map, Option, Some, None, Result, Ok, Err, All}
+use Rattle.tree_core.specs.Call.{CallAnswer, Call}
+use Rattle.tree_core.specs.Trace.{fault_behind}
+use Rattle.spdx_core.specs.Reading.{ExpressionView}
+use Rattle.graph_core.specs.Krate.{Record}
+use Rattle.graph_core.specs.Metadata.{Graph}
+use Rattle.diag_core.specs.File.{File}
+use Rattle.tree_reads.specs.Read.{AreReads}
+use Rattle.tree_texts.specs.Heard.{read_of, text_answered}
+use Rattle.tree_texts.specs.declared.fault.ReadFault.{ReadFault}
+use Rattle.graph_selection.specs.Choice.{Choice}
+use Rattle.graph_selection.specs.Listed.{IsListOf}
+use Rattle.graph_selection.specs.Roots.{HasRoot}
+use Rattle.graph_selection.specs.Walks.{Selected}
+use Rattle.graph_workspace.specs.Krates.{AreFrom, IsCarried, graph_in}
+use Rattle.graph_workspace.specs.declared.error.KratesError.{KratesError}
+use Rattle.graph_workspace.specs.declared.error.KratesError.TheVariants as krates
+use Rattle.gather_expression.specs.Scanned.{Scanner}
+use Rattle.policy_valid.specs.View.{policy_of}
+use Rattle.policy_valid.specs.declared.policy.ValidConfig.{ValidConfig}
+use Rattle.gather_findings.specs.declared.license.LicenseInfo.{LicenseInfo}
+use Rattle.gather_findings.specs.declared.license.LicenseInfo.TheVariants.{SpdxExpression}
+use Rattle.gather_findings.specs.declared.license.LicenseInfo.TheVariants as license_info
+use Rattle.gather_core.specs.Calls.{AreTurnsBy, CrateReads, calls_of_all, reads_of_all}
+use Rattle.gather_core.specs.Gathered.{include_of, krate_of}
+use Rattle.gather_core.specs.declared.summary.KrateLicense.{KrateLicense}
+use Rattle.policy_core.specs.declared.load.LoadedPolicy.{LoadedPolicy}
+use Rattle.spdx_certificates.specs.declared.verdict.Verdict.{Verdict}
+use Rattle.check_core.specs.Check.{AreVerdicts, findings_of}
+use Rattle.check_core.specs.Labels.{VerdictPoints}
+use Rattle.check_core.specs.Summary.{gathered_of_licenses}
+use Rattle.diag_stats.specs.Counts.{counts_of}
+use Rattle.run_request.specs.declared.context.KrateContext.{KrateContext}
+use Rattle.run_request.specs.declared.level.LintLevels.{LintLevels}
+use Rattle.run_context.specs.Asked.{choice_asked}
+use Rattle.run_overrides.specs.Levels.{packs_at}
+use Rattle.run_found.specs.Hearing.{MadeOn, TreeSeen, read_calls}
+use Rattle.run_found.specs.Licences.{HaveTurns, turns_heard}
+use Rattle.run_found.specs.Selection.{left_by}
+use Rattle.run_check.specs.declared.check.CheckedCrates.{CheckedCrates}
+use Rattle.run_check.specs.declared.refusal.CrateRefusal.{CrateRefusal}
+use Rattle.run_check.specs.declared.refusal.CrateRefusal.TheVariants.{Memory, Krates}
+use Rattle.run_check.specs.declared.report.CrateReport.{CrateReport}
+use Rattle.run_check.specs.declared.report.Report.{Report}
+use Rattle.run_check.specs.Report.{license_source}
+
+-- ---- one crate after another
+
+-- the expression of a licence that was settled
+abbrev pub license_expression : LicenseInfo → Option ExpressionView
+license_expression (SpdxExpression expression info) = Some expression
+license_expression license_info.Unlicensed = None
+
+-- the report on a crate, by its licence and the verdict on it
+abbrev pub report_of : KrateLicense → Verdict → CrateReport
+report_of license verdict = record {
+  id = (krate_of license).id;
+  reads = license.reads;
+  expression = license_expression license.lic_info;
+  source = license_source license.lic_info;
+  notes = license.notes;
+  verdict = verdict;
+}
+
+-- one for each crate, in order
+abbrev pub reports_of : List KrateLicense → List Verdict → List CrateReport
+reports_of [] verdicts = []
+reports_of (license ∷ more) [] = []
+reports_of (license ∷ more) (verdict ∷ verdicts) = report_of license verdict ∷ reports_of more verdicts
+
+-- what a check of licences comes to, by the verdicts on them, with findings at the levels that are asked for
+abbrev pub checked_by : LintLevels → ValidConfig → List KrateLicense → List Verdict → CheckedCrates
+checked_by levels policy licenses verdicts = record {
+  policy = policy;
+  crates = reports_of licenses verdicts;
+  findings = packs_at levels (findings_of policy (gathered_of_licenses licenses) verdicts);
+}
+
+pub record IsCheckOf (levels : LintLevels) (policy : ValidConfig) (licenses : List KrateLicense) (checked : CheckedCrates) : Type 0 where
+  pub verdicts : List Verdict
+  pub are : AreVerdicts (policy_of policy) (gathered_of_licenses licenses) verdicts
+  pub is : checked ≡ checked_by levels policy licenses verdicts
+
+-- the report of a check, with the file table that is left
+abbrev pub report_with : CheckedCrates → List File → Report
+report_with checked files = record {
+  stats = counts_of checked.findings;
+  policy = checked.policy;
+  crates = checked.crates;
+  findings = checked.findings;
+  files = files;
+}
+
+-- ---- over a tree
+
+-- The licences of the crates that are checked, which these reads settled, turn after turn from a file table on to the one that is
+-- left, and the check of them.
+pub record IsChecked (scanner : Scanner) (levels : LintLevels) (policy : ValidConfig) (files last : List File) (graph : Graph) (choice : Choice) (crates : List CrateReads) (checked : CheckedCrates) : Type 0 where
+  pub licenses : List KrateLicense
+  pub selected : IsListOf graph (Selected graph choice (include_of policy)) (map krate_of licenses)
+  pub turns : AreTurnsBy files (turns_heard scanner policy files crates) licenses last
+  pub check : IsCheckOf levels policy licenses checked
+  pub points : All (VerdictPoints last (policy_of policy)) (gathered_of_licenses licenses)
+
+-- The same over a tree, on which the calls of these reads were made, and no other.
+pub record IsCheckedOn (scanner : Scanner) (levels : LintLevels) (policy : ValidConfig) (tree : TreeSeen) (files last : List File) (graph : Graph) (choice : Choice) (checked : CheckedCrates) : Type 0 where
+  pub crates : List CrateReads
+  pub made : MadeOn tree (calls_of_all crates)
+  pub records : AreReads tree.count_before (reads_of_all crates)
+  pub is : IsChecked scanner levels policy files last graph choice crates checked
+
+-- ---- behind the policy
+
+-- what is left out of the crates: by the request, and by the policy behind it
+abbrev pub choice_left : KrateContext → LoadedPolicy → Choice
+choice_left context policy = choice_asked context (left_by policy.graph)
+
+-- a refusal for another cause than a request that is not carried
+abbrev pub IsBehindPolicy : CrateRefusal → Type 0
+IsBehindPolicy Memory = Unit {0}
+IsBehindPolicy (Krates error) = IsCarried error
+
+-- the metadata that was heard tells of this graph, and a root of it is left
+pub record TellsGraph (context : KrateContext) (tree : TreeSeen) (begun : ℕ) (policy : LoadedPolicy) (answer : CallAnswer) (graph : Graph) : Type 0 where
+  pub heard : Result (List ℕ) ReadFault
+  pub hears : text_answered begun (fault_behind tree.count_before answer) answer ≡ Some heard
+  pub tells : graph_in heard ≡ Ok graph
+  pub rooted : HasRoot graph (choice_left context policy)
+
+-- The metadata's file was read, and then the files of its crates, and no other call was made; and the check of these crates.
+pub record IsCheckedAt (context : KrateContext) (scanner : Scanner) (levels : LintLevels) (policy : LoadedPolicy) (tree : TreeSeen) (files last : List File) (begun : ℕ) (path : List ℕ) (checked : CheckedCrates) : Type 0 where
+  pub answer : CallAnswer
+  pub crates : List CrateReads
+  pub made : MadeOn tree (read_of path answer ∷ calls_of_all crates)
+  pub graph : Graph
+  pub tells : TellsGraph context tree begun policy answer graph
+  pub records : AreReads (fault_behind tree.count_before answer) (reads_of_all crates)
+  pub is : IsChecked scanner levels policy.licenses files last graph (choice_left context policy) crates checked
+
+-- why there are no crates, by what was heard of the metadata's file, which was the one call
+pub record HasNoCrates (context : KrateContext) (policy : LoadedPolicy) (tree : TreeSeen) (begun : ℕ) (path : List ℕ) (error : KratesError) : Type 0 where
+  pub answer : CallAnswer
+  pub heard : Result (List ℕ) ReadFault
+  pub made : MadeOn tree (read_of path answer ∷ [])
+  pub hears : text_answered begun (fault_behind tree.count_before answer) answer ≡ Some heard
+  pub from : AreFrom (choice_left context policy) heard (Err error)
+
+-- the metadata's file was read, and the first ones of its crates had their turns
+pub record AreCheckedInPart (context : KrateContext) (scanner : Scanner) (policy : LoadedPolicy) (tree : TreeSeen) (files : List File) (begun : ℕ) (path : List ℕ) : Type 0 where
+  pub answer : CallAnswer
+  pub crates : List CrateReads
+  pub lost : List Call
+  pub made : MadeOn tree (read_of path answer ∷ calls_of_all crates ++ lost)
+  pub graph : Graph
+  pub tells : TellsGraph context tree begun policy answer graph
+  pub checked : List Record
+  pub selected : IsListOf graph (Selected graph (choice_left context policy) (include_of policy.licenses)) checked
+  pub turns : HaveTurns scanner policy.licenses files checked crates lost
+
+-- memory was wanting: no call was made, or the metadata's read, whatever was answered, or crates had their turns behind it
+abbrev pub IsCheckGivenUp : KrateContext → Scanner → LoadedPolicy → TreeSeen → List File → ℕ → List ℕ → Type 0
+IsCheckGivenUp context scanner policy tree files begun path =
+    ((answer : Option CallAnswer) × MadeOn tree (read_calls (Some path) answer)) ⊎ AreCheckedInPart context scanner policy tree files begun path
+
+-- want of memory, else the refusal that has its cause
+abbrev pub NoCratesBy : KrateContext → Scanner → LoadedPolicy → TreeSeen → List File → ℕ → List ℕ → KratesError → Type 0
+NoCratesBy context scanner policy tree files begun path krates.Memory = IsCheckGivenUp context scanner policy tree files begun path
+NoCratesBy context scanner policy tree files begun path error = HasNoCrates context policy tree begun path error
+
+abbrev pub ChecksAt : KrateContext → Scanner → LintLevels → LoadedPolicy → TreeSeen → List File → List File → ℕ → List ℕ → Result CheckedCrates CrateRefusal → Type 0
+ChecksAt context scanner levels policy tree files last begun path (Ok checked) = IsCheckedAt context scanner levels policy tree files last begun path checked
+ChecksAt context scanner levels policy tree files last begun path (Err Memory) = IsCheckGivenUp context scanner policy tree files begun path
+ChecksAt context scanner levels policy tree files last begun path (Err (Krates error)) = NoCratesBy context scanner policy tree files begun path error

@@ -1,0 +1,65 @@
+//! What of a request for a check is not carried.
+ghost use Rattle.std.specs.Prelude.{◌≡◌};
+ghost use Rattle.std.specs.List.{list_all};
+ghost use Rattle.run_check.specs.Carried as spec;
+ghost use Rattle.run_check.specs.Carried.{uncarried_of};
+
+use diag_print::{Format, LogContext};
+use graph_selection::has_uncarried;
+use graph_workspace::What;
+use run_request::check::Args;
+use run_request::{KrateContext, WhichCheck};
+
+/// Whether licences are named, once or more, and nothing else.
+fn names_licenses(which: &[WhichCheck]) -> bool
+    ensures { result ≡ spec.names_licenses which.now }
+{
+    !which.is_empty() && all_are_licenses(which)
+}
+
+fn all_are_licenses(which: &[WhichCheck]) -> bool
+    ensures { result ≡ list_all spec.is_licenses which.now }
+{
+    which.iter().all(|check| is_licenses(*check))
+}
+
+fn is_licenses(check: WhichCheck) -> bool
+    ensures { result ≡ spec.is_licenses check }
+{
+    match check {
+        WhichCheck::Licenses => true,
+        WhichCheck::Advisories | WhichCheck::Bans | WhichCheck::Sources | WhichCheck::All => false,
+    }
+}
+
+fn is_sarif(format: Format) -> bool
+    ensures { result ≡ spec.is_sarif format }
+{
+    match format {
+        Format::Sarif => true,
+        Format::Human | Format::Json => false,
+    }
+}
+
+/// The first part of a request that is not carried.
+pub fn uncarried_in(log_ctx: LogContext, args: &Args, context: &KrateContext) -> Option<What>
+    ensures { result ≡ uncarried_of log_ctx args.now context.now }
+{
+    if context.metadata_path.is_none() {
+        Some(What::MetadataPath)
+    } else if !names_licenses(args.which.items()) {
+        Some(What::Which)
+    } else if is_sarif(log_ctx.format) {
+        Some(What::Format)
+    } else if !context.targets.items().is_empty() {
+        Some(What::Target)
+    } else if args.graph.is_some() {
+        Some(What::Graph)
+    } else if args.audit_compatible_output {
+        Some(What::Audit)
+    } else if has_uncarried(&context.exclude) {
+        Some(What::ExcludeSpec)
+    } else {
+        None
+    }
+}

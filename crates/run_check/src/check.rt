@@ -1,0 +1,157 @@
+//! The licences of all crates, and the check of them.
+ghost use Rattle.std.specs.Prelude.{◌≡◌, ◌≤◌, All, IfOk, OnErr};
+ghost use Rattle.graph_core.specs.Metadata.{Graph};
+ghost use Rattle.graph_selection.specs.Choice.{Choice};
+ghost use Rattle.graph_selection.specs.Listed.{IsChosen};
+ghost use Rattle.policy_valid.specs.View.{policy_of};
+ghost use Rattle.policy_core.specs.Places.{PolicyStands};
+ghost use Rattle.gather_core.specs.Premises.{IsPlacedAt};
+ghost use Rattle.check_unused.specs.Laws.{EntriesLie};
+ghost use Rattle.check_core.specs.Labels.{PackLies, VerdictPoints};
+ghost use Rattle.check_core.specs.Summary.{gathered_of_licenses};
+ghost use Rattle.run_request.specs.declared.level.LintLevels.{LintLevels};
+ghost use Rattle.run_overrides.specs.Levels.{PutAtLevels};
+ghost use Rattle.run_found.specs.Hearing.{seen};
+ghost use Rattle.run_found.specs.Licences.{IsGatherCut, scanner_of_policy};
+ghost use Rattle.run_check.specs.Steps.{IsCheckOf, IsCheckedOn, reports_of, report_of};
+
+use crate::report::CrateReport;
+use check_core::{CheckCtx, Verdicts, judge_all};
+use check_evaluate::Verdict;
+use deny_text::{ListOf, Text};
+use diag_core::{DiagnosticOverrides, ErrorSink, Files, LevelFilter, Packs};
+use gather_core::{KrateLicense, KrateLicenses, LicenseInfo, Summary};
+use graph_workspace::Krates;
+use policy_valid::ValidConfig;
+use run_found::licences_found;
+use spdx_core::{Catalog, Identifier};
+use std::alloc::{AllocError, Global};
+use tree_core::Tree;
+
+/// What a check of all crates comes to, and the policy that it was made by.
+#[derive(Drop)]
+pub(crate) struct CheckedCrates {
+    pub(crate) policy: ValidConfig,
+    pub(crate) crates: ListOf<CrateReport>,
+    pub(crate) findings: Packs,
+}
+
+/// The report on a crate, by its licence and the verdict on it.
+fn report_on(
+    alloc: Global,
+    license: KrateLicense<'_>,
+    verdict: Verdict,
+) -> Result<CrateReport, AllocError>
+    ensures { IfOk result (λ report. report ≡ report_of license.entry verdict) }
+{
+    let KrateLicense {
+        krate,
+        lic_info,
+        notes,
+        diags: _,
+        reads,
+    } = license;
+    let id = Text::copy(alloc, krate.id.as_str())?;
+    match lic_info {
+        LicenseInfo::SpdxExpression { expr, nfo } => Ok(CrateReport {
+            id,
+            reads,
+            expression: Some(expr),
+            source: Some(nfo.source),
+            notes,
+            verdict,
+        }),
+        LicenseInfo::Unlicensed => Ok(CrateReport {
+            id,
+            reads,
+            expression: None,
+            source: None,
+            notes,
+            verdict,
+        }),
+    }
+}
+
+/// The reports on crates, in order, by their licences and the verdicts on them.
+fn reports_on(
+    alloc: Global,
+    licenses: KrateLicenses<'_>,
+    verdicts: Verdicts,
+) -> Result<ListOf<CrateReport>, AllocError>
+    ensures { IfOk result (λ reports. reports ≡ reports_of licenses.entry verdicts) }
+{
+    let mut reports = ListOf::new(alloc);
+    let verdicts = verdicts.into_vec();
+    'crates: for (license, verdict) in licenses.into_vec().into_iter().zip(verdicts) {
+        let report = report_on(alloc, license, verdict)?;
+        reports.push(report)?;
+    }
+    Ok(reports)
+}
+
+/// The verdicts on the crates of a summary under a policy, and the reports on these crates. Findings come out at
+/// the levels that the overrides say.
+fn judge_and_report(
+    alloc: Global,
+    policy: ValidConfig,
+    overrides: DiagnosticOverrides,
+    krates: &Krates,
+    files: &Files,
+    summary: Summary<'_>,
+) -> Result<CheckedCrates, AllocError>
+    requires placed { All (IsPlacedAt files.now) summary.nfos }
+    requires entries { EntriesLie files.now policy }
+    // of any levels that the overrides put findings at
+    ensures check { IfOk result (λ checked. (levels : LintLevels) → PutAtLevels levels overrides
+        → IsCheckOf levels policy summary.entry.nfos checked) }
+    ensures terms { IfOk result (λ _.
+        All (VerdictPoints files.now (policy_of policy)) (gathered_of_licenses summary.entry.nfos)) }
+    ensures labels { IfOk result (λ checked. All (PackLies files.now) checked.findings) }
+{
+    let ctx = CheckCtx {
+        cfg: policy,
+        krates,
+        log_level: LevelFilter::Warn,
+        files,
+    };
+    let mut sink = ErrorSink::new(alloc, Some(overrides));
+    let verdicts = judge_all(alloc, &ctx, &summary, &mut sink)?;
+    let crates = reports_on(alloc, summary.nfos, verdicts)?;
+    Ok(CheckedCrates {
+        policy: ctx.cfg,
+        crates,
+        findings: sink.packs,
+    })
+}
+
+/// The check of the crates that a policy has checked, in the order of their ids, once the licence of each was
+/// settled.
+pub(crate) fn settle_and_judge<T: Tree, C: Catalog, I: Identifier>(
+    alloc: Global,
+    policy: ValidConfig,
+    overrides: DiagnosticOverrides,
+    krates: &Krates,
+    files: &mut Files,
+    tree: &mut T,
+    catalog: &C,
+    identifier: &I,
+) -> Result<CheckedCrates, AllocError>
+    requires { PolicyStands files.old policy }
+    // of each graph and choice that the crates are of, and of any levels that the overrides put findings at
+    ensures checked { IfOk result (λ checked. (graph : Graph) (choice : Choice) (levels : LintLevels)
+        → IsChosen graph choice krates.now → PutAtLevels levels overrides
+        → IsCheckedOn (scanner_of_policy (C.lists catalog.now) (I.match_of identifier.now) policy) levels policy
+        (seen (T.content tree.old) (T.content tree.new) (T.fault_count tree.old) (T.fault_count tree.new)
+        (T.trace tree.old) (T.trace tree.new))
+        files.old files.new graph choice checked) }
+    ensures cut { OnErr result ((graph : Graph) (choice : Choice) → IsChosen graph choice krates.now
+        → IsGatherCut (scanner_of_policy (C.lists catalog.now) (I.match_of identifier.now) policy) policy
+        (seen (T.content tree.old) (T.content tree.new) (T.fault_count tree.old) (T.fault_count tree.new)
+        (T.trace tree.old) (T.trace tree.new))
+        files.old graph choice) }
+    ensures labels { IfOk result (λ checked. All (PackLies files.new) checked.findings) }
+    ensures later { T.fault_count tree.old ≤ T.fault_count tree.new }
+{
+    let summary = licences_found(alloc, &policy, krates, files, tree, catalog, identifier)?;
+    judge_and_report(alloc, policy, overrides, krates, files, summary)
+}

@@ -1,0 +1,13 @@
+//! The command `check`: from a request and the files to verdicts and findings.
+#![tactic(auto)]
+
+mod carried;
+mod check;
+pub mod command;
+mod refusal;
+pub mod report;
+mod stages;
+
+pub use carried::uncarried_in;
+pub use command::{check_since, cmd};
+pub use report::{CrateReport, Report};

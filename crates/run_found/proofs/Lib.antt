@@ -1,0 +1,10 @@
+pub mod ByteLemmas
+pub mod CallLemmas
+pub mod EndLemmas
+pub mod FoundLemmas
+pub mod GatheredLemmas
+pub mod LoadCalls
+pub mod LoadedLemmas
+pub mod PolicyLemmas
+pub mod SearchLemmas
+pub mod StepLemmas

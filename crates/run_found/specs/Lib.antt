@@ -1,0 +1,11 @@
+pub mod Error
+pub mod Finds
+pub mod Found
+pub mod Given
+pub mod Hearing
+pub mod Licences
+pub mod Paths
+pub mod Policy
+pub mod Selection
+pub mod Steps
+pub mod Written

@@ -1,0 +1,205 @@
+//! Why a command was refused.
+ghost use Rattle.std.specs.Prelude.{◌≡◌};
+ghost use Rattle.run_found.specs.Error.{fault_line};
+
+use crate::policy::PolicyRefusal;
+use deny_text::{PathBuf, Text};
+use diag_core::Severity;
+use diag_print::PrintError;
+use graph_workspace::{KratesError, MetaFault, What};
+use policy_load::{Diagnostics, LoadError, ReadFault, ShapeErrors, SyntaxError};
+use run_overrides::OverrideError;
+use std::alloc::AllocError;
+use tree_texts::SearchError;
+
+/// Why a command was refused, in the order of the table of refusals.
+#[derive(Drop)]
+pub enum Error {
+    Memory,
+    /// The first part of the request, or of the policy, that is not carried.
+    NotCarried(What),
+    /// The path names no file `Cargo.toml`.
+    ManifestPath(PathBuf),
+    /// The look at the manifest failed. The numbers are the tree's counts of faults, when the run began and
+    /// behind the look.
+    ManifestRead {
+        before: u64,
+        after: u64,
+    },
+    /// The policy was not read, or it was not found out where its files are. It is never absent: an absent policy
+    /// is an empty one.
+    ConfigRead(ReadFault),
+    /// The policy's text stands for no value.
+    ConfigSyntax(SyntaxError),
+    /// The policy's value has not the shape of a policy. There is one fault at least.
+    ConfigShape(ShapeErrors),
+    /// Of these findings of the load one is an error at least.
+    ConfigInvalid(Diagnostics),
+    /// A code or a level stands twice among the levels that are asked for.
+    OverrideTwice {
+        name: Text,
+        first: Severity,
+        second: Severity,
+    },
+    /// The metadata was not read.
+    MetadataRead(ReadFault),
+    /// The metadata is no JSON.
+    MetadataSyntax,
+    /// The metadata has not the stated shape.
+    MetadataShape(MetaFault),
+    /// No root crate is left.
+    NoRoots {
+        /// The crates that would be roots.
+        base: usize,
+        /// Those of them that a spec leaves out.
+        excluded: usize,
+        /// Those of the others that are published nowhere, where these are left out.
+        unpublished: usize,
+    },
+    /// A sink refused a write. The numbers are its counts of faults, at the start of the call and after that.
+    WriteFault {
+        before: u64,
+        after: u64,
+    },
+}
+
+impl Error {
+    /// The line that is written after a refusal, with its line end.
+    pub fn line(&self) -> &'static str
+        ensures { result.now ≡ fault_line self.now }
+    {
+        match self {
+            Error::Memory => "error: out of memory\n",
+            Error::NotCarried(_) => "error: the request is not carried\n",
+            Error::ManifestPath(_) => "error: --manifest-path must point to a Cargo.toml file\n",
+            Error::ManifestRead { .. } => "error: the manifest could not be looked up\n",
+            Error::ConfigRead(_) => "error: the policy could not be read\n",
+            Error::ConfigSyntax(_) => "error: the policy could not be parsed\n",
+            Error::ConfigShape(_) => "error: the policy could not be deserialized\n",
+            Error::ConfigInvalid(_) => "error: the policy is not valid\n",
+            Error::OverrideTwice { .. } => "error: a code or level is overridden twice\n",
+            Error::MetadataRead(_) => "error: the metadata could not be read\n",
+            Error::MetadataSyntax => "error: the metadata could not be parsed\n",
+            Error::MetadataShape(_) => "error: the metadata has not the stated shape\n",
+            Error::NoRoots { .. } => "error: no root crate is left\n",
+            Error::WriteFault { .. } => "error: writing failed\n",
+        }
+    }
+}
+
+impl From<AllocError> for Error {
+    ghost use Rattle.run_found.specs.declared.error.Error.TheVariants.{Memory};
+
+    ghost from_gives = { λ _ error. error ≡ Memory };
+
+    fn from(_: AllocError) -> Error {
+        Error::Memory
+    }
+}
+
+impl From<PrintError> for Error {
+    ghost use Rattle.run_found.specs.Error.{error_of_print};
+
+    ghost from_gives = { λ refused error. error ≡ error_of_print refused };
+
+    fn from(refused: PrintError) -> Error {
+        match refused {
+            PrintError::Memory => Error::Memory,
+            PrintError::WriteFault { before, after } => Error::WriteFault { before, after },
+        }
+    }
+}
+
+impl From<SearchError> for Error {
+    ghost use Rattle.run_found.specs.Error.{error_of_search};
+
+    ghost from_gives = { λ refused error. error ≡ error_of_search refused };
+
+    fn from(refused: SearchError) -> Error {
+        match refused {
+            SearchError::Failed { before, after } => Error::ConfigRead(ReadFault::Failed {
+                before,
+                after,
+            }),
+            SearchError::Memory => Error::Memory,
+        }
+    }
+}
+
+impl From<LoadError> for Error {
+    ghost use Rattle.run_found.specs.Error.{error_of_load};
+
+    ghost from_gives = { λ refused error. error ≡ error_of_load refused };
+
+    fn from(refused: LoadError) -> Error {
+        match refused {
+            LoadError::Memory => Error::Memory,
+            LoadError::ConfigRead(fault) => Error::ConfigRead(fault),
+            LoadError::ConfigSyntax(fault) => Error::ConfigSyntax(fault),
+            LoadError::ConfigShape(faults) => Error::ConfigShape(faults),
+            LoadError::NotCarried => Error::NotCarried(What::ExcludeSpec),
+            LoadError::ConfigInvalid(found) => Error::ConfigInvalid(found),
+            LoadError::WriteFault { before, after } => Error::WriteFault { before, after },
+        }
+    }
+}
+
+impl From<KratesError> for Error {
+    ghost use Rattle.run_found.specs.Error.{error_of_krates};
+
+    ghost from_gives = { λ refused error. error ≡ error_of_krates refused };
+
+    fn from(refused: KratesError) -> Error {
+        match refused {
+            KratesError::Memory => Error::Memory,
+            KratesError::NotCarried(what) => Error::NotCarried(what),
+            KratesError::MetadataRead(fault) => Error::MetadataRead(fault),
+            KratesError::MetadataSyntax => Error::MetadataSyntax,
+            KratesError::MetadataShape(fault) => Error::MetadataShape(fault),
+            KratesError::NoRoots {
+                base,
+                excluded,
+                unpublished,
+            } => Error::NoRoots {
+                base,
+                excluded,
+                unpublished,
+            },
+        }
+    }
+}
+
+impl From<OverrideError> for Error {
+    ghost use Rattle.run_found.specs.Error.{error_of_override};
+
+    ghost from_gives = { λ refused error. error ≡ error_of_override refused };
+
+    fn from(refused: OverrideError) -> Error {
+        match refused {
+            OverrideError::Memory => Error::Memory,
+            OverrideError::OverrideTwice {
+                name,
+                first,
+                second,
+            } => Error::OverrideTwice {
+                name,
+                first,
+                second,
+            },
+        }
+    }
+}
+
+impl From<PolicyRefusal> for Error {
+    ghost use Rattle.run_found.specs.Error.{error_of_policy};
+
+    ghost from_gives = { λ refused error. error ≡ error_of_policy refused };
+
+    fn from(refused: PolicyRefusal) -> Error {
+        match refused {
+            PolicyRefusal::Memory => Error::Memory,
+            PolicyRefusal::Search(refused) => Error::from(refused),
+            PolicyRefusal::Load(refused) => Error::from(refused),
+        }
+    }
+}

@@ -1,0 +1,10 @@
+//! What a request finds: its policy, and the licences of the crates that it looks at.
+#![tactic(auto)]
+
+pub mod error;
+pub mod licences;
+pub mod policy;
+
+pub use error::Error;
+pub use licences::licences_found;
+pub use policy::{PolicyRefusal, policy_found};
