@@ -1,6 +1,7 @@
 //! The stages of a run, by the calls: crates are read and selected, the policy is loaded, licences are gathered and
 //! checked, and what is found is printed.
 ghost use Rattle.std.specs.Prelude.{◌≡◌, [], All, IfOk, OnOk};
+ghost use Rattle.std.specs.Option.{ForSome};
 ghost use Rattle.policy_core.specs.Places.{PolicyStands};
 ghost use Rattle.gather_core.specs.Premises.{IsPlacedAt};
 ghost use Rattle.check_unused.specs.Laws.{EntriesLie};
@@ -12,8 +13,8 @@ use crate::parts::from_root;
 use check_core::{CheckCtx, judge_all};
 use check_evaluate::Verdict;
 use deny_text::PathBuf;
-use diag_core::{ErrorSink, Files, LevelFilter, Pack};
-use diag_print::{Color, Format, LogContext, print_packs};
+use diag_core::{ErrorSink, Files, LevelFilter, Pack, Packs};
+use diag_print::{Color, Format, LogContext, index_packs, print_packs};
 use gather_core::{Gatherer, LicenseInfo, Summary};
 use graph_selection::Krates;
 use graph_workspace::krates_at;
@@ -120,16 +121,17 @@ fn accepted(verdicts: &[Verdict]) -> usize {
     accepted
 }
 
-/// Prints what was found, for a person and as JSON.
+/// Prints what was found, for a person and as JSON. The lines of the files are indexed first, as a run does.
 fn from_print(
     meter: &mut Meter<'_>,
     alloc: Global,
     run: &str,
     packs: &[Pack],
-    files: &Files,
+    files: &mut Files,
 ) -> Result<(), BenchFailure>
-    requires { All (PackLies files.now) packs.now }
+    requires { All (PackLies files.old) packs.now }
 {
+    index_packs(context(Format::Json), packs, files);
     let human = printed(alloc, Format::Human, packs, files)?;
     meter.ends(run, "print", human);
     let json = printed(alloc, Format::Json, packs, files)?;
@@ -137,24 +139,57 @@ fn from_print(
     Ok(())
 }
 
-/// Checks the crates of a summary, and goes on from there.
-fn from_check(
+/// What is found of the crates of a summary. There is nothing where the measure ends with the check.
+fn found_in(
     meter: &mut Meter<'_>,
     alloc: Global,
     run: &str,
     ctx: &CheckCtx<'_, ValidConfig>,
     summary: &Summary<'_>,
-) -> Result<(), BenchFailure>
+) -> Result<Option<Packs>, BenchFailure>
     requires placed { All (IsPlacedAt ctx.now.files.now) summary.now.nfos }
     requires entries { EntriesLie ctx.now.files.now ctx.now.cfg }
+    ensures { IfOk result (λ found. ForSome found (All (PackLies ctx.now.files.now))) }
 {
     let mut found = ErrorSink::new(alloc, None);
     match &judge_all(alloc, ctx, summary, &mut found) {
         Ok(verdicts) => {
             if meter.ends(run, "check", accepted(verdicts.items())) {
-                Ok(())
+                Ok(None)
             } else {
-                from_print(meter, alloc, run, found.packs.items(), ctx.files)
+                Ok(Some(found.packs))
+            }
+        }
+        Err(_) => Err(BenchFailure::Memory),
+    }
+}
+
+/// Gathers the licences of crates under their policy. What is found of them is answered, where the measure goes on.
+fn found_under(
+    meter: &mut Meter<'_>,
+    alloc: Global,
+    run: &str,
+    policy: ValidConfig,
+    krates: &Krates,
+    tree: &mut MemTree,
+    files: &mut Files,
+) -> Result<Option<Packs>, BenchFailure>
+    requires { PolicyStands files.old policy }
+    ensures { IfOk result (λ found. ForSome found (All (PackLies files.new))) }
+{
+    let summary = gathered(alloc, krates, files, &policy, tree);
+    let ctx = CheckCtx {
+        cfg: policy,
+        krates,
+        log_level: LevelFilter::Info,
+        files,
+    };
+    match &summary {
+        Ok(summary) => {
+            if meter.ends(run, "gather", licensed(summary)) {
+                Ok(None)
+            } else {
+                found_in(meter, alloc, run, &ctx, summary)
             }
         }
         Err(_) => Err(BenchFailure::Memory),
@@ -173,21 +208,9 @@ fn from_gathering(
 ) -> Result<(), BenchFailure>
     requires { PolicyStands files.old policy }
 {
-    let summary = gathered(alloc, krates, files, &policy, tree);
-    let ctx = CheckCtx {
-        cfg: policy,
-        krates,
-        log_level: LevelFilter::Info,
-        files,
-    };
-    match &summary {
-        Ok(summary) => {
-            if meter.ends(run, "gather", licensed(summary)) {
-                Ok(())
-            } else {
-                from_check(meter, alloc, run, &ctx, summary)
-            }
-        }
+    match &found_under(meter, alloc, run, policy, krates, tree, files) {
+        Ok(Some(packs)) => from_print(meter, alloc, run, packs.items(), files),
+        Ok(None) => Ok(()),
         Err(_) => Err(BenchFailure::Memory),
     }
 }

@@ -8,6 +8,7 @@ pub use Rattle.gather_findings.specs.License.{expression_of}
 use Rattle.gather_findings.specs.declared.license.LicenseInfo.{LicenseInfo}
 use Rattle.gather_findings.specs.declared.license.LicenseInfo.TheVariants.{SpdxExpression, Unlicensed}
 use Rattle.policy_valid.specs.Policy.{Policy}
+use Rattle.check_evaluate.specs.Private.{PrivateNumbers}
 use Rattle.check_evaluate.specs.Entries.{EntryFamilies}
 use Rattle.check_evaluate.specs.Evaluation.{is_allowed, term_hits}
 use Rattle.check_unused.specs.Flags.{Flags}
@@ -49,10 +50,11 @@ hits_by false policy asked = hits_of policy asked.krate asked.info
 
 -- ---- what is kept from crate to crate
 
--- for how many nodes of an expression there is room, the names of the policy's exceptions, the families of its entries, and
--- which entries were hits
+-- for how many nodes of an expression there is room, the numbers of the policy's exceptions, the families of its entries, the
+-- numbers of what makes a crate private, and which entries were hits
 pub record CheckerState : Type 0 where
   pub nodes : ℕ
-  pub names : List (List ℕ)
+  pub numbers : List ℕ
   pub families : EntryFamilies
+  pub private : PrivateNumbers
   pub flags : Flags

@@ -7,7 +7,8 @@ ghost use Rattle.diag_core.specs.File.{source_of_file};
 ghost use Rattle.diag_core.specs.Overrides.{pack_overridden};
 ghost use Rattle.policy_valid.specs.View.{policy_of};
 ghost use Rattle.check_evaluate.specs.Entries.{entry_families};
-ghost use Rattle.check_evaluate.specs.Evaluation.{exception_names};
+ghost use Rattle.check_evaluate.specs.Evaluation.{exception_numbers};
+ghost use Rattle.check_evaluate.specs.Private.{private_numbers};
 ghost use Rattle.check_unused.specs.Flags.{flags_by};
 ghost use Rattle.check_unused.specs.Laws.{EntriesLie};
 ghost use Rattle.check_unused.specs.Unused as unused;
@@ -119,8 +120,9 @@ fn judge_in_order<L: Ledger>(
     steps: &mut Steps<L>,
 ) -> Result<Verdicts, AllocError>
     requires room { All (λ license. spec.nodes_in license.lic_info ≤ checker.old.nodes) licenses.now }
-    requires exceptions { exception_names (policy_of policy.now) ≡ checker.old.names }
+    requires exceptions { exception_numbers (policy_of policy.now) ≡ checker.old.numbers }
     requires families { entry_families (policy_of policy.now) ≡ checker.old.families }
+    requires private { private_numbers (policy_of policy.now) ≡ checker.old.private }
     requires flags { checker.old.flags ≡ flags_by policy.now [] }
     requires placed { All (IsPlacedAt files.now) licenses.now }
     ensures verdicts { IfOk result (λ verdicts.

@@ -7,7 +7,8 @@ ghost use Rattle.spdx_certificates.specs.declared.verdict.Hit.{Hit};
 ghost use Rattle.policy_valid.specs.Policy.{IsPrivate};
 ghost use Rattle.policy_valid.specs.View.{policy_of};
 ghost use Rattle.check_evaluate.specs.Entries.{entries_of_terms, entry_families};
-ghost use Rattle.check_evaluate.specs.Evaluation.{exception_names};
+ghost use Rattle.check_evaluate.specs.Evaluation.{exception_numbers};
+ghost use Rattle.check_evaluate.specs.Private.{private_numbers};
 ghost use Rattle.check_unused.specs.Flags.{flags_by};
 ghost use Rattle.check_unused.specs.Unused as unused;
 ghost use Rattle.check_verdicts.specs.Findings as findings;
@@ -17,7 +18,7 @@ ghost use Rattle.check_core.specs.Summary.{InfoFits, gathered_of_license, nodes_
 ghost use Rattle.check_core.specs.Turns.{expression_of, hits_by, hits_of, pack_by, verdict_finding};
 ghost use Rattle.check_core.specs.Verdicts.{IsCertifiedOrUnlicensed, IsCertified, IsVerdict, is_skipped};
 
-use check_evaluate::{Evaluator, Verdict};
+use check_evaluate::{Evaluator, PrivateIndex, Verdict};
 use check_unused::{EntryHits, last_pack};
 use check_verdicts::{judged, pack_of, skipped, unlicensed};
 use deny_text::Steps;
@@ -41,6 +42,7 @@ pub struct CrateCheck {
 /// was made, and keeps which entries of the policy allowed a term so far.
 #[derive(Drop)]
 pub struct Checker {
+    private: PrivateIndex,
     evaluator: Evaluator,
     encountered: EntryHits,
 }
@@ -52,8 +54,9 @@ impl Model for Checker {
 
     ghost view = { λ c. record {
       nodes = c.evaluator.nodes;
-      names = c.evaluator.names;
+      numbers = c.evaluator.numbers;
       families = c.evaluator.families;
+      private = c.private;
       flags = c.encountered;
     } };
 }
@@ -96,14 +99,17 @@ impl Checker {
     ) -> Result<Checker, AllocError>
         ensures { IfOk result (λ checker. checker ≡ record {
           nodes = nodes;
-          names = exception_names (policy_of policy.now);
+          numbers = exception_numbers (policy_of policy.now);
           families = entry_families (policy_of policy.now);
+          private = private_numbers (policy_of policy.now);
           flags = flags_by policy.now [];
         }) }
     {
+        let private = PrivateIndex::of(alloc, policy)?;
         let evaluator = Evaluator::with_room(alloc, nodes, policy)?;
         let encountered = EntryHits::of(alloc, policy)?;
         Ok(Checker {
+            private,
             evaluator,
             encountered,
         })
@@ -120,12 +126,13 @@ impl Checker {
         steps: &mut Steps<L>,
     ) -> Result<CrateCheck, AllocError>
         requires room { length (postfix expr.now.tree) ≤ self.old.nodes }
-        requires exceptions { exception_names (policy_of policy.now) ≡ self.old.names }
+        requires exceptions { exception_numbers (policy_of policy.now) ≡ self.old.numbers }
         requires families { entry_families (policy_of policy.now) ≡ self.old.families }
         requires fits { PlaceFits nfo.now (length expr.now.text) }
         ensures nodes { self.new.nodes ≡ self.old.nodes }
-        ensures names { self.new.names ≡ self.old.names }
+        ensures numbers { self.new.numbers ≡ self.old.numbers }
         ensures families { self.new.families ≡ self.old.families }
+        ensures private { self.new.private ≡ self.old.private }
         ensures verdict { let krate = record_of license.now.krate.now in
             IfOk result (λ checked. IsCertified (policy_of policy.now) krate expr.now checked.verdict) }
         ensures pack { let krate = record_of license.now.krate.now in
@@ -158,12 +165,13 @@ impl Checker {
         steps: &mut Steps<L>,
     ) -> Result<CrateCheck, AllocError>
         requires room { nodes_in license.now.lic_info ≤ self.old.nodes }
-        requires exceptions { exception_names (policy_of policy.now) ≡ self.old.names }
+        requires exceptions { exception_numbers (policy_of policy.now) ≡ self.old.numbers }
         requires families { entry_families (policy_of policy.now) ≡ self.old.families }
         requires fits { InfoFits license.now.lic_info }
         ensures nodes { self.new.nodes ≡ self.old.nodes }
-        ensures names { self.new.names ≡ self.old.names }
+        ensures numbers { self.new.numbers ≡ self.old.numbers }
         ensures families { self.new.families ≡ self.old.families }
+        ensures private { self.new.private ≡ self.old.private }
         ensures verdict { let asked = gathered_of_license license.now in IfOk result (λ checked.
             IsCertifiedOrUnlicensed (policy_of policy.now) asked.krate (expression_of asked.info) checked.verdict) }
         ensures pack { IfOk result (λ checked.
@@ -193,12 +201,14 @@ impl Checker {
         steps: &mut Steps<L>,
     ) -> Result<CrateCheck, AllocError>
         requires room { nodes_in license.now.lic_info ≤ self.old.nodes }
-        requires exceptions { exception_names (policy_of policy.now) ≡ self.old.names }
+        requires exceptions { exception_numbers (policy_of policy.now) ≡ self.old.numbers }
         requires families { entry_families (policy_of policy.now) ≡ self.old.families }
+        requires private { private_numbers (policy_of policy.now) ≡ self.old.private }
         requires fits { InfoFits license.now.lic_info }
         ensures nodes { self.new.nodes ≡ self.old.nodes }
-        ensures names { self.new.names ≡ self.old.names }
+        ensures numbers { self.new.numbers ≡ self.old.numbers }
         ensures families { self.new.families ≡ self.old.families }
+        ensures private { self.new.private ≡ self.old.private }
         ensures verdict { let asked = gathered_of_license license.now in IfOk result (λ checked.
             IsVerdict (policy_of policy.now) asked.krate (expression_of asked.info) checked.verdict) }
         ensures pack { IfOk result (λ checked.
@@ -211,7 +221,7 @@ impl Checker {
             (private : Bool) → IsTrue private ↔ IsPrivate (policy_of policy.now) asked.krate
             → steps.new ≤ steps.old + entries_for private (policy_of policy.now) asked }
     {
-        if policy.is_private(license.krate) {
+        if self.private.is_private(policy, license.krate) {
             return skip(alloc, license.krate);
         }
         self.ask(alloc, policy, license, steps)

@@ -39,4 +39,4 @@ entries_are policy krate terms asked exceptions exception are is first =
     ∙ ap (entries_of_terms (policy_of policy) krate) is
 
 abbrev pub with_hits : Evaluation → List (Option Hit) → Evaluation
-with_hits evaluation hits = record { nodes = evaluation.nodes; names = evaluation.names; families = evaluation.families; hits = hits }
+with_hits evaluation hits = record { nodes = evaluation.nodes; numbers = evaluation.numbers; families = evaluation.families; hits = hits }

@@ -4,4 +4,5 @@ pub mod Examples
 pub mod FamilyLemmas
 pub mod MoreLemmas
 pub mod PlaceLemmas
+pub mod PrivateLemmas
 pub mod RoomLemmas

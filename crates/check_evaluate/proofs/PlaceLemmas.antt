@@ -1,6 +1,6 @@
 -- The first item of a list that passes a test.
-use Rattle.std.proofs.Common.{◌≡◌, refl, ℕ, suc, ◌+◌, ◌<◌, Bool, true, false, cond, ◌||◌, List, [], ◌∷◌, ◌++◌, length, Some, is_some, arith}
-use Rattle.std.specs.List.{list_any}
+use Rattle.std.proofs.Common.{◌≡◌, refl, ap, ℕ, zero, suc, ◌+◌, ◌<◌, Bool, true, false, cond, ◌||◌, List, [], ◌∷◌, ◌++◌, length, drop, get_or, Some, is_some, arith}
+use Rattle.std.specs.List.{filter, list_any}
 use Rattle.policy_spec.specs.Index.{places_from, first_of}
 
 module _ {A : Type 0} (test : A → Bool) where
@@ -28,3 +28,11 @@ module _ {A : Type 0} (test : A → Bool) where
         | true ↦ (λ e. e)
         | false ↦ (λ e. stays_first (suc m) i xs ys e)
       ]) h
+
+-- ---- the walk over some places
+
+pub first_here : (test : ℕ → Bool) (places : List ℕ) (i : ℕ) → i < length places → test (get_or places i 0) ≡ true
+    → first_of (filter test (drop i places)) ≡ Some (get_or places i 0)
+first_here test [] i inside here = absurd (omega arith)
+first_here test (place ∷ more) zero inside here = ap (λ b. first_of (cond b (place ∷ filter test more) (filter test more))) here
+first_here test (place ∷ more) (suc i) inside here = first_here test more i (omega arith) here

@@ -6,7 +6,7 @@ use Rattle.graph_core.specs.Krate.{Record}
 use Rattle.spdx_certificates.specs.declared.verdict.Hit.{Hit}
 use Rattle.spdx_certificates.specs.Certificates.{has_hit}
 use Rattle.spdx_certificates.specs.Choices.{is_accepted}
-use Rattle.policy_spec.specs.Index.{spec_names}
+use Rattle.policy_spec.specs.Index.{spec_numbers}
 use Rattle.policy_valid.specs.Policy.{Policy, hit_of}
 use Rattle.check_evaluate.specs.Entries.{EntryFamilies}
 
@@ -18,14 +18,14 @@ term_hits policy krate terms = map (λ term. hit_of policy krate term.req) terms
 abbrev pub is_allowed : Policy → Record → List ExpressionReq → ExpressionTree → Bool
 is_allowed policy krate terms tree = is_accepted (has_hit (term_hits policy krate terms)) tree
 
--- An evaluator: for how many nodes it has room, the names of the exceptions that it was made for, place by place, the
+-- An evaluator: for how many nodes it has room, the numbers of the exceptions that it was made for, place by place, the
 -- families of the entries that it was made for, list by list, and the hits that it keeps.
 pub record Evaluation : Type 0 where
   pub nodes : ℕ
-  pub names : List (List ℕ)
+  pub numbers : List ℕ
   pub families : EntryFamilies
   pub hits : List (Option Hit)
 
--- the names of a policy's exceptions, place by place
-abbrev pub exception_names : Policy → List (List ℕ)
-exception_names policy = spec_names (map (λ grant. grant.spec) policy.exceptions)
+-- the numbers that a policy's exceptions are found by, place by place
+abbrev pub exception_numbers : Policy → List ℕ
+exception_numbers policy = spec_numbers (map (λ grant. grant.spec) policy.exceptions)

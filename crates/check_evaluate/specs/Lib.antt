@@ -2,3 +2,4 @@ pub mod Answers
 pub mod Entries
 pub mod Evaluation
 pub mod Laws
+pub mod Private

@@ -3,10 +3,10 @@ ghost use Rattle.std.specs.Prelude.{◌≡◌, ◌+◌, ◌≤◌, [], map, leng
 ghost use Rattle.graph_core.specs.Krate.{record_of};
 ghost use Rattle.spdx_core.specs.Reading.{postfix};
 ghost use Rattle.spdx_certificates.specs.Certificates.{CertificateAnswers};
-ghost use Rattle.policy_spec.specs.Index.{spec_names};
+ghost use Rattle.policy_spec.specs.Index.{spec_numbers};
 ghost use Rattle.policy_valid.specs.View.{policy_of};
 ghost use Rattle.check_evaluate.specs.Entries.{entries_of_terms, entry_families};
-ghost use Rattle.check_evaluate.specs.Evaluation.{term_hits, is_allowed, exception_names};
+ghost use Rattle.check_evaluate.specs.Evaluation.{term_hits, is_allowed, exception_numbers};
 
 use crate::answers::is_accepted;
 use crate::entry_index::EntryIndex;
@@ -40,7 +40,7 @@ impl Model for Evaluator {
 
     ghost view = { λ e. record {
       nodes = e.nodes;
-      names = e.exceptions;
+      numbers = e.exceptions;
       families = e.index;
       hits = e.kept.items;
     } };
@@ -57,7 +57,7 @@ impl Evaluator {
     ) -> Result<Evaluator, AllocError>
         ensures { let policy = policy_of policy.now in IfOk result (λ e. e ≡ record {
           nodes = nodes;
-          names = exception_names policy;
+          numbers = exception_numbers policy;
           families = entry_families policy;
           hits = [];
         }) }
@@ -86,7 +86,7 @@ impl Evaluator {
         steps: &mut Steps<L>,
     ) -> bool
         requires room { length (postfix expression.now.tree) ≤ self.old.nodes }
-        requires exceptions { exception_names (policy_of policy.now) ≡ self.old.names }
+        requires exceptions { exception_numbers (policy_of policy.now) ≡ self.old.numbers }
         requires families { entry_families (policy_of policy.now) ≡ self.old.families }
         ensures answer { let policy = policy_of policy.now in
             result ≡ is_allowed policy (record_of krate.now) expression.now.terms expression.now.tree }

@@ -6,7 +6,9 @@ mod entry_index;
 pub mod evaluator;
 mod hits;
 pub mod laws;
+pub mod private_index;
 mod room;
 
 pub use evaluator::Evaluator;
+pub use private_index::PrivateIndex;
 pub use spdx_certificates::{Hit, Hits, TermPlaces, Verdict};

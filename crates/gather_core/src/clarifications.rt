@@ -53,7 +53,7 @@ pub(crate) struct ClarificationIndex<'p> {
 impl<'p> Model for ClarificationIndex<'p> {
     ghost use Rattle.std.specs.Prelude.{◌≡◌, List};
     ghost use Rattle.std.specs.Coded.{codes};
-    ghost use Rattle.policy_spec.specs.Index.{spec_names};
+    ghost use Rattle.policy_spec.specs.Index.{spec_numbers};
     ghost use Rattle.gather_licence.specs.Clarification.{clarification_code};
     ghost use Rattle.gather_core.specs.Entries.{ClarificationEntry, specs_of};
 
@@ -63,7 +63,7 @@ impl<'p> Model for ClarificationIndex<'p> {
 
     ghost view = { λ c. c.entries.items };
 
-    ghost invariant = { λ c. spec_names (specs_of c.entries.items) ≡ c.index };
+    ghost invariant = { λ c. spec_numbers (specs_of c.entries.items) ≡ c.index };
 }
 
 fn file_refs(alloc: Global, files: &[FileSource]) -> Result<Vec<FileRef<'_>>, AllocError>

@@ -1,19 +1,17 @@
-//! Specs found by the names of crates.
+//! Specs found by the names and versions of crates.
 ghost use Rattle.std.specs.Prelude.{◌≡◌, [], ◌∷◌, ◌++◌, map, if◌then◌else◌, IfOk, OnOk};
 ghost use Rattle.graph_core.specs.Krate.{record_of};
 ghost use Rattle.policy_spec.specs.Index as spec;
-ghost use Rattle.policy_spec.specs.Index.{matching, first_of, spec_names, with_place};
+ghost use Rattle.policy_spec.specs.Index.{candidates, first_of, joined, matching, spec_numbers};
 ghost use Rattle.policy_spec.specs.Spec.{Spec};
 
 use crate::matching::match_krate;
+use crate::number::{name_number, spec_number, version_number};
+use crate::number_index::{NumberIndex, Places};
 use crate::package_spec::PackageSpec;
-use deny_text::{ListOf, Text, TextMap, Texts};
 use graph_core::Krate;
 use std::alloc::{AllocError, Global};
 use std::marker::Model;
-
-/// Places in a list, counted from 0.
-pub type Places = ListOf<usize>;
 
 /// What is told by a package spec which crates it is about.
 pub trait HasSpec {
@@ -32,43 +30,66 @@ impl HasSpec for PackageSpec {
     }
 }
 
-/// The names of a list of specs, in order, each with its places. It keeps no spec: its calls take the list
-/// again, which has to have these names. A question among n specs, m of which have the crate's name, takes
-/// about log2 n comparisons of names and looks at those m alone.
+/// The numbers of a list of specs, in order, each with its places. It keeps no spec: its calls take the list
+/// again, which has to have these numbers. A question among n specs takes about log2 n comparisons of numbers.
+/// It looks at the specs of the crate's name that are for one version alone and have the crate's, and at all
+/// others of its name.
 #[derive(Drop)]
 pub struct SpecIndex {
-    names: Texts,
-    places: TextMap<Places>,
+    numbers: NumberIndex,
 }
 
 impl Model for SpecIndex {
     ghost use Rattle.std.specs.Prelude.{ℕ, List};
-    ghost use Rattle.policy_spec.specs.Index.{HasNamePlaces};
 
-    ghost Value = { List (List ℕ) };
+    ghost Value = { List ℕ };
 
-    ghost view = { λ index. index.names };
-
-    ghost invariant = { λ index. HasNamePlaces index.places index.names };
+    ghost view = { λ index. index.numbers };
 }
 
-/// Adds a place of a name.
-fn add_place(
-    alloc: Global,
-    places: &mut TextMap<Places>,
-    name: &str,
-    place: usize,
-) -> Result<(), AllocError>
-    ensures { OnOk result (places.new ≡ with_place places.old name.now place) }
-{
-    if let Some(known) = places.get_mut(name) {
-        return known.push(place);
+/// Places that are still to come, out of two rising lists, in order and each once.
+#[derive(Drop)]
+struct PlacesLeft<'a> {
+    one: &'a [usize],
+    other: &'a [usize],
+}
+
+impl<'a> Model for PlacesLeft<'a> {
+    ghost use Rattle.std.specs.Prelude.{ℕ, List};
+    ghost use Rattle.policy_spec.specs.Index.{union};
+
+    ghost Value = { List ℕ };
+
+    ghost view = { λ left. union left.one.now left.other.now };
+}
+
+impl<'a> PlacesLeft<'a> {
+    /// The first of them, and those behind it.
+    fn split_first(self) -> Option<(usize, PlacesLeft<'a>)>
+        ensures { joined result ≡ self.entry }
+    {
+        let PlacesLeft { one, other } = self;
+        match (one.split_first(), other.split_first()) {
+            (None, None) => None,
+            (Some((place, one)), None) => Some((*place, PlacesLeft { one, other })),
+            (None, Some((place, other))) => Some((*place, PlacesLeft { one, other })),
+            (Some((place, places)), Some((second, others))) => {
+                if place < second {
+                    Some((*place, PlacesLeft { one: places, other }))
+                } else if second < place {
+                    Some((*second, PlacesLeft { one, other: others }))
+                } else {
+                    Some((
+                        *place,
+                        PlacesLeft {
+                            one: places,
+                            other: others,
+                        },
+                    ))
+                }
+            }
+        }
     }
-    let mut first = Places::new(alloc);
-    first.push(place)?;
-    let name = Text::copy(alloc, name)?;
-    places.insert(name, first)?;
-    Ok(())
 }
 
 /// Appends a place where it passes.
@@ -89,48 +110,28 @@ fn matches_at<S: HasSpec>(items: &[S], krate: &Krate, place: usize) -> bool
 }
 
 impl SpecIndex {
-    /// No name, which takes no memory.
-    fn new(alloc: Global) -> SpecIndex
-        ensures { result ≡ [] }
-    {
-        SpecIndex {
-            names: Texts::new(alloc),
-            places: TextMap::new(alloc),
-        }
-    }
-
-    /// The names and a further one. Where memory ends, nothing is left.
-    fn with(self, alloc: Global, name: &str) -> Result<SpecIndex, AllocError>
-        ensures { IfOk result (λ index. index ≡ self ++ name.now ∷ []) }
-    {
-        let SpecIndex {
-            mut names,
-            mut places,
-        } = self;
-        add_place(alloc, &mut places, name, names.items().len())?;
-        let name = Text::copy(alloc, name)?;
-        names.push(name)?;
-        Ok(SpecIndex { names, places })
-    }
-
     /// The index of a list.
     pub fn of<S: HasSpec>(alloc: Global, items: &[S]) -> Result<SpecIndex, AllocError>
-        ensures { IfOk result (λ index. index ≡ spec_names (map S.spec_of items.now)) }
+        ensures { IfOk result (λ index. index ≡ spec_numbers (map S.spec_of items.now)) }
     {
-        let mut index = SpecIndex::new(alloc);
+        let mut numbers = NumberIndex::new(alloc);
         'items: for item in items {
             let spec = item.spec();
-            index = index.with(alloc, spec.name())?;
+            numbers = numbers.with(alloc, spec_number(spec))?;
         }
-        Ok(index)
+        Ok(SpecIndex { numbers })
     }
 
-    fn places_named(&self, name: &str) -> &[usize]
-        ensures { result.now ≡ spec.places_named name.now self.now }
+    /// The places at which a spec may stand that matches a crate.
+    fn candidates(&self, krate: &Krate) -> PlacesLeft<'_>
+        ensures { result ≡ candidates (record_of krate.now) self.now }
     {
-        match self.places.get(name) {
-            Some(places) => places.items(),
-            None => &[],
+        let name = krate.name.as_str();
+        let version = &krate.version;
+        let numbers = (version.major, version.minor, version.patch);
+        PlacesLeft {
+            one: self.numbers.places(name_number(name)),
+            other: self.numbers.places(version_number(name, numbers)),
         }
     }
 
@@ -141,28 +142,30 @@ impl SpecIndex {
         items: &[S],
         krate: &Krate,
     ) -> Result<Places, AllocError>
-        requires { spec_names (map S.spec_of items.now) ≡ self.now }
+        requires { spec_numbers (map S.spec_of items.now) ≡ self.now }
         ensures { IfOk result (λ places. places ≡ matching (map S.spec_of items.now) (record_of krate.now)) }
     {
         let mut found = Places::new(alloc);
-        let named = self.places_named(krate.name.as_str());
-        'named: for place in named {
-            let passes = matches_at(items, krate, *place);
-            push_where(&mut found, *place, passes)?;
+        let mut left = self.candidates(krate);
+        'places: while let Some((place, behind)) = left.split_first() {
+            let passes = matches_at(items, krate, place);
+            push_where(&mut found, place, passes)?;
+            left = behind;
         }
         Ok(found)
     }
 
     /// The first of the places whose spec matches a crate.
     pub fn first<S: HasSpec>(&self, items: &[S], krate: &Krate) -> Option<usize>
-        requires { spec_names (map S.spec_of items.now) ≡ self.now }
+        requires { spec_numbers (map S.spec_of items.now) ≡ self.now }
         ensures { result ≡ first_of (matching (map S.spec_of items.now) (record_of krate.now)) }
     {
-        let named = self.places_named(krate.name.as_str());
-        'named: for place in named {
-            if matches_at(items, krate, *place) {
-                return Some(*place);
+        let mut left = self.candidates(krate);
+        'places: while let Some((place, behind)) = left.split_first() {
+            if matches_at(items, krate, place) {
+                return Some(place);
             }
+            left = behind;
         }
         None
     }

@@ -32,8 +32,9 @@ licenses-preserved g c =
     (subst (λ (verdicts : List Verdict). SoFar policy (before ++ one ∷ []) verdicts flags c.args.sink.now sink) (sym c.in_ok-push.ensures.ok) more) in
     record {
       nodes = told.nodes ∙ so_far.nodes;
-      names = told.names ∙ so_far.names;
+      numbers = told.numbers ∙ so_far.numbers;
       families = told.families ∙ so_far.families;
+      private = told.private ∙ so_far.private;
       verdicts = all.are;
       flags = all.hit;
       sink = all.told;

@@ -12,8 +12,9 @@ invariant-licenses g l =
     let asked = gathered_of_licenses (take l.license-index l.licenses) in
     record {
       nodes : l.checker.nodes ≡ l.fn.checker.nodes;
-      names : l.checker.names ≡ l.fn.checker.names;
+      numbers : l.checker.numbers ≡ l.fn.checker.numbers;
       families : l.checker.families ≡ l.fn.checker.families;
+      private : l.checker.private ≡ l.fn.checker.private;
       verdicts : AreVerdicts (policy_of l.policy) asked l.verdicts;
       flags : l.checker.flags ≡ flags_by l.policy (all_hits (policy_of l.policy) asked l.verdicts);
       sink : l.sink ≡ gained l.fn.sink (packs_of (policy_of l.policy) asked l.verdicts);

@@ -2,9 +2,9 @@ use Rattle.std.proofs.Common.{◌∙◌, ap, map, sym, length, List, ℕ, arith}
 use Rattle.std.proofs.lemmas.List.{drop_all}
 use Rattle.std.specs.List.{filter}
 use Rattle.policy_spec.specs.Index.{first_of}
-use Rattle.policy_spec.proofs.IndexLemmas.{first_here}
 use Rattle.policy_valid.specs.View.{req_of}
 use Rattle.check_evaluate.proofs.FamilyLemmas.{first_of_family, left_behind, satisfied_at}
+use Rattle.check_evaluate.proofs.PlaceLemmas.{first_here}
 use Rattle.check_evaluate.proofs.hits.first_entry.Goals as goal
 
 pub places-preserved : goal.places-preserved

@@ -5,7 +5,7 @@ use Rattle.spdx_certificates.specs.declared.verdict.Hit.{Hit}
 use Rattle.spdx_certificates.specs.Certificates.{has_hit}
 use Rattle.spdx_certificates.specs.Choices.{is_accepted}
 use Rattle.spdx_certificates.specs.Stack.{first_of}
-use Rattle.policy_spec.specs.Index.{spec_names}
+use Rattle.policy_spec.specs.Index.{spec_numbers}
 use Rattle.policy_valid.specs.View.{policy_of}
 use Rattle.check_evaluate.specs.Answers.{answers_over}
 use Rattle.check_evaluate.specs.Evaluation.{Evaluation, term_hits}
@@ -16,10 +16,10 @@ use Rattle.check_evaluate.proofs.evaluator.Evaluator.evaluate.Goals as goal
 
 pub first-exception-requires : goal.first-exception-requires
 first-exception-requires g c =
-    ap (λ es. spec_names (map spec_of es)) c.items.ensures
-    ∙ ap spec_names (specs_are c.args.policy.now.exceptions)
+    ap (λ es. spec_numbers (map spec_of es)) c.items.ensures
+    ∙ ap spec_numbers (specs_are c.args.policy.now.exceptions)
     ∙ c.requires.exceptions
-    ∙ sym (ap (λ (e : Evaluation). e.names) c.self.view_is)
+    ∙ sym (ap (λ (e : Evaluation). e.numbers) c.self.view_is)
 
 pub keep_hits-requires-clause-room : goal.keep_hits-requires-clause-room
 keep_hits-requires-clause-room g c =
@@ -46,7 +46,7 @@ returns-clause-evaluator g c =
     let expression = c.args.expression.now in
     let is = kept_is c.args.policy.now (record_of c.args.krate.now) expression.terms c.requirements.result.now c.items.result.now c.first-exception.result
     c.keep_hits.new.kept.items c.items.ensures c.requirements.ensures.terms c.first-exception.ensures c.keep_hits.ensures.kept in
-    ap (λ (hits : List (Option Hit)). with_hits (record { nodes = c.self.inside.nodes; names = c.self.inside.exceptions; families = c.self.inside.index; hits = [] }) hits) is
+    ap (λ (hits : List (Option Hit)). with_hits (record { nodes = c.self.inside.nodes; numbers = c.self.inside.exceptions; families = c.self.inside.index; hits = [] }) hits) is
     ∙ ap (λ (e : Evaluation). with_hits e (term_hits (policy_of c.args.policy.now) (record_of c.args.krate.now) expression.terms)) c.self.view_is
 
 pub returns-clause-bound : goal.returns-clause-bound

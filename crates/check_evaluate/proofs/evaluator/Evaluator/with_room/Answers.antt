@@ -1,5 +1,5 @@
 use Rattle.std.proofs.Common.{◌∙◌, ap, [], ℕ, List, map, Option}
-use Rattle.policy_spec.specs.Index.{spec_names}
+use Rattle.policy_spec.specs.Index.{spec_numbers}
 use Rattle.spdx_certificates.specs.declared.verdict.Hit.{Hit}
 use Rattle.policy_valid.specs.View.{policy_of}
 use Rattle.check_evaluate.specs.Entries.{EntryFamilies, entry_families}
@@ -7,8 +7,8 @@ use Rattle.check_evaluate.specs.Evaluation.{Evaluation}
 use Rattle.check_evaluate.proofs.EvaluationLemmas.{specs_are, spec_of}
 use Rattle.check_evaluate.proofs.evaluator.Evaluator.with_room.Goals as goal
 
-abbrev evaluation : ℕ → List (List ℕ) → EntryFamilies → List (Option Hit) → Evaluation
-evaluation nodes names families hits = record { nodes = nodes; names = names; families = families; hits = hits }
+abbrev evaluation : ℕ → List ℕ → EntryFamilies → List (Option Hit) → Evaluation
+evaluation nodes numbers families hits = record { nodes = nodes; numbers = numbers; families = families; hits = hits }
 
 pub returns : goal.returns
 returns c =
@@ -17,5 +17,5 @@ returns c =
     let families = c.in_ok-index.index in
     ap (evaluation nodes c.in_ok-exceptions.exceptions families) c.in_ok-kept.ensures.items
     ∙ ap (λ (f : EntryFamilies). evaluation nodes c.in_ok-exceptions.exceptions f []) c.in_ok-index.ensures
-    ∙ ap (λ names. evaluation nodes names (entry_families (policy_of policy)) [])
-    (c.in_ok-exceptions.ensures ∙ ap (λ es. spec_names (map spec_of es)) c.items.ensures ∙ ap spec_names (specs_are policy.exceptions))
+    ∙ ap (λ numbers. evaluation nodes numbers (entry_families (policy_of policy)) [])
+    (c.in_ok-exceptions.ensures ∙ ap (λ es. spec_numbers (map spec_of es)) c.items.ensures ∙ ap spec_numbers (specs_are policy.exceptions))
