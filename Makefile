@@ -1,7 +1,7 @@
 # Everything here stands on the toolchain's command `rt` alone.
 PREFIX ?= /usr/local
 PROJECT ?= examples/first
-POLICY ?= deny.toml
+WORDS ?= check licenses
 PROGRAM = crates/cargo_deny/out/cargo_deny
 METADATA = $(CURDIR)/crates/cargo_deny/out/metadata.json
 COMPLETION = crates/run_completions/stdout
@@ -18,11 +18,11 @@ try:
 build:
 	@sh tools/build.sh cargo_deny
 
-# Runs it in a project's folder, where it looks for an exceptions file. POLICY names another policy there. The metadata of
-# the examples tell of a folder /project, in whose place that folder is put.
+# Runs it in a project's folder, where it looks for the policy and an exceptions file. WORDS are what stands behind the path of
+# the metadata. The metadata of the examples tell of a folder /project, in whose place that folder is put.
 run: build
 	@cd $(PROJECT) && sed -e "s|\"/project|\"$$(pwd)|g" -e "s|file:///project|file://$$(pwd)|g" metadata.json > $(METADATA)
-	@cd $(PROJECT) && $(CURDIR)/$(PROGRAM) --metadata-path $(METADATA) --config $(POLICY) check licenses
+	@cd $(PROJECT) && $(CURDIR)/$(PROGRAM) deny --metadata-path $(METADATA) $(WORDS)
 
 # The merge gate.
 test:

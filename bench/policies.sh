@@ -7,6 +7,8 @@ program=${1:-$(pwd)/crates/cargo_deny/out/cargo_deny}
 work=$(mktemp -d)
 trap 'rm -rf "$work"' EXIT
 cd "$work"
+# the manifest that the run looks at first
+: > Cargo.toml
 
 # Metadata of that many crates, each of which leads to the next five.
 metadata() {

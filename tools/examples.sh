@@ -45,16 +45,19 @@ metadata() {
     sed -e "s|\"/project|\"$1|g" -e "s|file:///project|file://$1|g" "$1/metadata.json" >"$room/metadata.json"
 }
 
+# The words are those that `cargo deny` passes on; the policy is found beside the manifest.
 for name in first workspace policy files rejected; do
     metadata "$top/examples/$name"
-    compare "$name" "$top/examples/$name" "'$program' --metadata-path '$room/metadata.json' --config deny.toml check licenses"
+    compare "$name" "$top/examples/$name" "'$program' deny --metadata-path '$room/metadata.json' check licenses"
 done
+compare rejected-json "$top/examples/rejected" "'$program' deny --metadata-path '$room/metadata.json' -f json check licenses"
 metadata "$top/examples/policy"
-compare policy-old "$top/examples/policy" "'$program' --metadata-path '$room/metadata.json' --config old.toml check licenses"
+compare policy-old "$top/examples/policy" "'$program' deny --metadata-path '$room/metadata.json' --config old.toml check licenses"
 
 # A crate without a field, whose licence file is a pipe that nobody writes to, or a device.
 odd="$room/odd"
 mkdir "$odd"
+printf '[package]\nname = "odd"\nversion = "1.0.0"\n' >"$odd/Cargo.toml"
 mkfifo "$odd/TERMS"
 ln -s /dev/null "$odd/NOTHING"
 printf '[licenses]\nallow = ["MIT"]\n' >"$odd/deny.toml"
@@ -73,15 +76,19 @@ done
 metadata "$top/examples/stdin"
 compare stdin "$top/examples/stdin" "'$program' --metadata-path /dev/stdin --config deny.toml check licenses <'$room/metadata.json'"
 
-# Metadata that comes through a pipe, words that are refused, and a standard error that is closed.
+# Metadata that comes through a pipe, an entry that is denied, requests and words that are refused, and a standard error that is
+# closed.
 first="$top/examples/first"
 metadata "$first"
-words="--config deny.toml check licenses"
-compare piped "$first" "'$program' --metadata-path <(cat '$room/metadata.json') $words"
-compare no-utf8 "$first" "'$program' --metadata-path '$room/metadata.json' $words \$'\\xff'"
-compare eight-words "$first" "'$program' --metadata-path '$room/metadata.json' $words twice"
-compare no-folder "$room" "mkdir gone && cd gone && rmdir ../gone && '$program' --metadata-path '$room/metadata.json' $words"
-compare closed-stderr "$first" "'$program' --metadata-path '$room/metadata.json' $words 2>&-"
+asks="'$program' --metadata-path '$room/metadata.json'"
+compare piped "$first" "'$program' --metadata-path <(cat '$room/metadata.json') check licenses"
+compare denied "$first" "$asks check -D license-not-encountered licenses"
+compare uncarried "$first" "$asks check licenses bans"
+compare no-manifest "$first/src" "$asks check licenses"
+compare no-utf8 "$first" "$asks check licenses \$'\\xff'"
+compare word-further "$first" "$asks check licenses twice"
+compare no-folder "$room" "mkdir gone && cd gone && rmdir ../gone && $asks check licenses"
+compare closed-stderr "$first" "$asks check licenses 2>&-"
 
 # Words that reach the run as they are: one with blanks, one that differs from a file's name in case alone, an empty one, and
 # one with a way that goes up.

@@ -8,5 +8,5 @@ room=$(mktemp -d)
 trap 'rm -rf "$room"' EXIT
 sed -e "s|\"/project|\"$project|g" -e "s|file:///project|file://$project|g" "$project/metadata.json" > "$room/metadata.json"
 cd "$here/crates/cargo_deny"
-rt try cargo_deny -- --metadata-path "$room/metadata.json" --config "$project/deny.toml" check licenses
+rt try cargo_deny -- --manifest-path "$project/Cargo.toml" --metadata-path "$room/metadata.json" check licenses
 echo "Nothing was proved: this was a try of the code. 'make build' proves the program, 'make test' all there is."

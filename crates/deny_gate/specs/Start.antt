@@ -5,13 +5,11 @@ use Rattle.tree_core.specs.Script.{FaultCounts, SinkTexts}
 use Rattle.spdx_catalog.specs.BuiltIn.{built_in}
 use Rattle.spdx_catalog.specs.Store.{match_of}
 use Rattle.spdx_catalog.specs.Table.{table_lists}
-use Rattle.deny_run.specs.declared.report.Outcome.{Outcome}
+use Rattle.run_found.specs.Hearing.{TreeSeen}
+use Rattle.deny_run.specs.declared.outcome.Outcome.{Outcome}
 use Rattle.deny_run.specs.Given.{RunArguments}
 use Rattle.deny_run.specs.Headline.{Headline, HeadlineRead}
-use Rattle.deny_run.specs.Hearing.{TreeSeen}
-use Rattle.deny_run.specs.Report.{IsAnswer}
-use Rattle.deny_run.specs.Run.{answer_of, exit_status}
-use Rattle.deny_run.specs.Script.{Writes}
+use Rattle.deny_run.specs.Run.{AnswersWords, IsOutcome, exit_status}
 use Rattle.deny_gate.specs.declared.StartError.{StartError}
 use Rattle.deny_gate.specs.declared.StartError.TheVariants.{Memory, Words, Folder}
 
@@ -28,11 +26,11 @@ pub record IsRun (words : List (List ℕ)) (folder : List ℕ) (tree : TreeSeen)
   pub match_of : given.match_of ≡ match_of built_in
   pub words_given : given.words ≡ words
   pub folder_given : given.cwd ≡ folder
-  pub answer : IsAnswer given tree (answer_of outcome.ended)
+  pub ends : IsOutcome given tree counts old new outcome.request outcome.ended
+  pub answers : AnswersWords given outcome
   pub headline_read : HeadlineRead given tree counts outcome
   pub headline : ForSome tree.told (λ content. Headline given content counts outcome)
-  pub written : Writes given tree counts old new (answer_of outcome.ended)
-  pub status : outcome.status ≡ exit_status (answer_of outcome.ended)
+  pub status : outcome.status ≡ exit_status outcome.ended
 
 -- the outcome is that of a run over some words and some folder
 pub record RunsOverSome (tree : TreeSeen) (counts : FaultCounts) (old new : SinkTexts) (outcome : Outcome) : Type 0 where

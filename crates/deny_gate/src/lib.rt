@@ -7,16 +7,15 @@ ghost use Rattle.std.specs.Process.{exit_status};
 ghost use Rattle.spdx_catalog.specs.BuiltIn.{built_in};
 ghost use Rattle.tree_core.specs.Hearing.{MadeSome};
 ghost use Rattle.tree_core.specs.Script.{LineWritten};
-ghost use Rattle.deny_run.specs.Hearing.{seen};
-ghost use Rattle.deny_run.specs.Run.{answer_of};
+ghost use Rattle.run_request.specs.Given.{texts};
+ghost use Rattle.run_found.specs.Hearing.{seen};
 ghost use Rattle.deny_run.specs.Run as run;
 ghost use Rattle.deny_run.specs.Script.{between};
-ghost use Rattle.deny_run.specs.Words.{texts};
 ghost use Rattle.deny_gate.specs.Start.{IsRun, RunsOverSome, ending_of, start_line};
 
 mod named;
 
-use deny_run::report::Outcome;
+use deny_run::Outcome;
 use deny_run::run::run;
 pub use named::named_paths;
 use spdx_core::{LicenseStore, Table};
@@ -214,7 +213,7 @@ fn files_of<'r, E: Sink>(
 
 /// Runs the gate over the words, the files and the streams of the process.
 pub fn gate(rt: HostRuntime) -> Result<Outcome, StartError>
-    ensures status { IfOk result (λ outcome. outcome.status ≡ run.exit_status (answer_of outcome.ended)) }
+    ensures status { IfOk result (λ outcome. outcome.status ≡ run.exit_status outcome.ended) }
 {
     let mut out = StdSink::new(rt.stdout());
     let mut err = StdSink::new(rt.stderr());

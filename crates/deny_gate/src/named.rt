@@ -1,6 +1,6 @@
 //! The paths that words name.
 ghost use Rattle.std.specs.Prelude.{◌≡◌, ◌++◌, IfOk, OnOk, option_copied};
-ghost use Rattle.deny_run.specs.Words.{texts};
+ghost use Rattle.run_request.specs.Given.{texts};
 ghost use Rattle.deny_gate.specs.Named.{paths_in, paths_named, value_in};
 
 use deny_text::PathBuf;

@@ -1,17 +1,7 @@
-pub mod AnswerLemmas
-pub mod CallLemmas
-pub mod CheckLemmas
-pub mod CountLemmas
-pub mod EndLemmas
-pub mod FoundLemmas
-pub mod GatheredLemmas
-pub mod HeadlineLemmas
-pub mod HeardAlike
-pub mod LoadCalls
-pub mod LoadedLemmas
-pub mod PlaceLemmas
-pub mod PolicyLemmas
-pub mod ReportLemmas
-pub mod ScriptLemmas
-pub mod StageLemmas
-pub mod StepLemmas
+mod BehindLemmas
+mod EndLemmas
+mod HeadlineLemmas
+mod ManifestLemmas
+mod ScriptLemmas
+mod StopLemmas
+mod SummaryLemmas

@@ -1,273 +1,276 @@
--- What a run writes, from what each of its sinks gained.
-use Rattle.std.proofs.Common.{◌≡◌, ◌∙◌, ◌⊎◌, inl, inr, refl, sym, ap, subst, ℕ, ◌≤◌, List, [], ◌∷◌, ◌++◌, Option, Some, None, Ok, Err, cond, append-nil, arith}
+-- What the check of a request writes to two sinks, from what each of them gained.
+use Rattle.std.proofs.Common.{◌≡◌, ◌∙◌, inl, inr, refl, sym, ap, subst, ℕ, ◌≤◌, true, List, [], ◌∷◌, ◌++◌, Option, None, Result, Ok, Err, cond, append-nil, append_assoc, arith}
 use Rattle.std.proofs.lemmas.Grind.{flat_map-append}
+use Rattle.tree_core.specs.Call.{Call}
+use Rattle.tree_core.specs.Content.{Content}
+use Rattle.tree_core.specs.Faults.{Rose, Gained}
+use Rattle.tree_core.specs.Script.{OutputSink, to_out, to_err, Script, FaultCounts, SinkTexts, Gains, IsCut, LineWritten, RefusedBy, is_target, text_for}
 use Rattle.tree_core.proofs.GainedLemmas.{Gained-then}
-use Rattle.tree_core.specs.Faults.{Rose, Gained, GainedPrefix}
-use Rattle.tree_core.specs.Script.{to_out, to_err, Script, FaultCounts, SinkTexts, Gains, IsCut, LineWritten, RefusedBy, is_target, text_for}
-use Rattle.tree_core.specs.Script as script
-use Rattle.tree_texts.specs.Cause.{Cause, no_memory, failed_read, refused_write}
+use Rattle.tree_texts.specs.Cause.{Cause, no_memory, failed_read, refused_write, ReadCounts}
 use Rattle.tree_texts.specs.Cause as causes
-use Rattle.tree_texts.specs.declared.fault.ReadFault.TheVariants.{Failed, Absent, Folder, NotUtf8}
-use Rattle.policy_load.specs.Answer.{Prints, WriteCounts, load_cause}
-use Rattle.policy_load.specs.declared.error.LoadError.{LoadError}
-use Rattle.policy_load.specs.declared.error.LoadError.TheVariants as load
-use Rattle.deny_run.specs.declared.error.Error.{Error}
-use Rattle.deny_run.specs.declared.error.Error.TheVariants.{Memory, WriteFault}
-use Rattle.deny_run.specs.declared.error.Refusal.{Refusal}
-use Rattle.deny_run.specs.declared.error.Refusal.TheVariants as refusal
-use Rattle.graph_workspace.specs.declared.error.KratesError.{KratesError}
-use Rattle.graph_workspace.specs.declared.error.KratesError.TheVariants as krates
-use Rattle.deny_run.specs.declared.report.Report.{Report}
-use Rattle.deny_run.specs.Counts.{summary_of}
-use Rattle.diag_print.specs.declared.printer.PrintError.{PrintError}
-use Rattle.diag_print.specs.declared.printer.PrintError.TheVariants as print
-use Rattle.diag_print.specs.Findings.{HasReasonSince}
-use Rattle.deny_run.specs.Error.{cause_of, error_of, error_of_load, error_of_print, fault_line}
-use Rattle.deny_run.specs.Given.{RunArguments}
-use Rattle.deny_run.specs.Heard.{IsRunHearing, calls_of}
-use Rattle.deny_run.specs.Hearing.{MadeOn, RunHearing, TreeSeen, crates_heard}
-use Rattle.deny_run.specs.Report.{AreChecking, IsGivenUp, IsReport, at_crates}
-use Rattle.deny_run.proofs.FoundLemmas.{found_of-from_Asks}
-use Rattle.deny_run.specs.Script.{BeginsRefusal, TellsLoad, TextWritten, Writes, WritesFirst, WritesLoad, findings_text, load_script, script_of}
-use Rattle.deny_run.specs.Steps.{IsAfterLoad}
-use Rattle.deny_run.proofs.AnswerLemmas.{IsFree, given_up}
-
--- ---- what is told of the load
-
-gained-nil : (held : Option (List ℕ)) → Gained held held []
-gained-nil None = refl
-gained-nil (Some held) = ap Some (sym (append-nil held))
-
-nothing_of : (held : Option (List ℕ)) (text : List ℕ) → GainedPrefix held held text
-nothing_of held text = record { front = []; rest = text; parts = refl; gained = gained-nil held }
-
-all_of : (old new : Option (List ℕ)) (text : List ℕ) → Gained old new text → GainedPrefix old new text
-all_of old new text gained = record { front = text; rest = []; parts = sym (append-nil text); gained = gained }
-
--- nothing was written, and nothing is told
-pub silent : (old : Option (List ℕ)) (before after : ℕ) (text : List ℕ) (cause : Cause) → (cause ≡ no_memory) ⊎ ((text ≡ []) × ((first last : ℕ) → cause ≡ refused_write first last → ⊥))
-    → TextWritten text old old before after cause
-silent old before after text no_memory is = nothing_of old text
-silent old before after text causes.told (inl e) = absurd (cc)
-silent old before after text causes.told (inr is) = subst (Gained old old) (sym is.0) (gained-nil old)
-silent old before after text (failed_read first last) (inl e) = absurd (cc)
-silent old before after text (failed_read first last) (inr is) = subst (Gained old old) (sym is.0) (gained-nil old)
-silent old before after text (refused_write first last) (inl e) = absurd (cc)
-silent old before after text (refused_write first last) (inr is) = absurd (is.1 first last refl)
-
--- what a load printed
-pub load_written : (old new : Option (List ℕ)) (before after : ℕ) (text : List ℕ) (error : LoadError) → WriteCounts before after (load_cause error)
-    → Prints old new text (Err error) → TextWritten text old new before after (cause_of (error_of_load error))
-load_written old new before after text load.Memory counts prints = prints
-load_written old new before after text (load.ConfigRead (Failed one other)) counts prints = prints
-load_written old new before after text (load.ConfigRead Absent) counts prints = prints
-load_written old new before after text (load.ConfigRead Folder) counts prints = prints
-load_written old new before after text (load.ConfigRead (NotUtf8 at)) counts prints = prints
-load_written old new before after text (load.ConfigSyntax fault) counts prints = prints
-load_written old new before after text (load.ConfigShape faults) counts prints = prints
-load_written old new before after text load.NotCarried counts prints = prints
-load_written old new before after text (load.ConfigInvalid found) counts prints = prints
-load_written old new before after text (load.WriteFault one other) counts prints = (counts.0, counts.1, counts.2, prints)
-
-krates_written : (old new : Option (List ℕ)) (before after : ℕ) (text : List ℕ) (error : KratesError) → Gained old new text
-    → TextWritten text old new before after (cause_of (error_of (refusal.Krates error)))
-krates_written old new before after text krates.Memory gained = all_of old new text gained
-krates_written old new before after text (krates.NotCarried what) gained = gained
-krates_written old new before after text (krates.MetadataRead (Failed one other)) gained = gained
-krates_written old new before after text (krates.MetadataRead Absent) gained = gained
-krates_written old new before after text (krates.MetadataRead Folder) gained = gained
-krates_written old new before after text (krates.MetadataRead (NotUtf8 at)) gained = gained
-krates_written old new before after text krates.MetadataSyntax gained = gained
-krates_written old new before after text (krates.MetadataShape fault) gained = gained
-krates_written old new before after text (krates.NoRoots base excluded unpublished) gained = gained
-
--- behind the load nothing more is written before a refusal
-pub after_written : (old new : Option (List ℕ)) (before after : ℕ) (text : List ℕ) (refused : Refusal) → IsAfterLoad refused → Gained old new text
-    → TextWritten text old new before after (cause_of (error_of refused))
-after_written old new before after text refusal.Memory cause gained = all_of old new text gained
-after_written old new before after text refusal.Words cause gained = absurd cause
-after_written old new before after text (refusal.Search error) cause gained = absurd cause
-after_written old new before after text (refusal.Load error) cause gained = absurd cause
-after_written old new before after text (refusal.Krates error) cause gained = krates_written old new before after text error gained
-
--- ---- scripts
+use Rattle.run_found.specs.declared.error.Error.{Error}
+use Rattle.run_found.specs.Error.{cause_of, fault_line}
+use Rattle.run_found.specs.Hearing.{MadeOn, RequestHearing, TreeSeen, crates_heard, seen}
+use Rattle.run_check.specs.declared.report.Report.{Report}
+use Rattle.run_check.specs.Carried.{uncarried_in}
+use Rattle.run_check.specs.Given.{CheckArguments}
+use Rattle.run_check.specs.Script as check
+use Rattle.run_check.specs.Script.{RefusalWritten, WritesCheck, findings_text}
+use Rattle.run_check.specs.Report.{IsReport, StopsAt, at_crates}
+use Rattle.run_check.proofs.AnswerLemmas.{IsFree}
+use Rattle.run_check.proofs.FoundLemmas.{input_by_Asks}
+use Rattle.deny_run.specs.Hearing.{IsRunHearing, RunHearing, calls_of}
+use Rattle.deny_run.specs.Manifest.{is_manifest}
+use Rattle.deny_run.specs.Report.{IsRefusedRun, IsRunGivenUp, IsRunReport, behind}
+use Rattle.deny_run.specs.Script.{BeginsRefusal, CutsSummary, TellsLoad, Writes, WritesFirst, load_script, script_of, summary_asked}
+use Rattle.deny_run.proofs.BehindLemmas.{there_call, told_behind}
+use Rattle.deny_run.proofs.StopLemmas.{gained-nil}
 
 gained-append_nil : (old new : Option (List ℕ)) (text : List ℕ) → Gained old new text → Gained old new (text ++ [])
 gained-append_nil old new text gained = subst (Gained old new) (sym (append-nil text)) gained
 
+-- `err` alone gained a text
 err_alone : (out err_old err_new : Option (List ℕ)) (text : List ℕ) → Gained err_old err_new text
     → Gains (record { out = out; err = err_old }) (record { out = out; err = err_new }) (load_script text)
 err_alone out err_old err_new text gained = record { out = gained-nil out; err = gained-append_nil err_old err_new text gained }
 
--- ---- before the summary
+-- two texts, one behind the other
+err_both : (out err_old err_new : Option (List ℕ)) (text more : List ℕ) → Gained err_old err_new (text ++ more)
+    → Gains (record { out = out; err = err_old }) (record { out = out; err = err_new }) ((to_err, text) ∷ (to_err, more) ∷ [])
+err_both out err_old err_new text more gained =
+    record { out = gained-nil out; err = subst (Gained err_old err_new) (ap (λ own. text ++ own) (sym (append-nil more))) gained }
 
-module _ (given : RunArguments) (tree : TreeSeen) (counts : FaultCounts) (out err_old err_new : Option (List ℕ)) where
-  first_by : (error : Error) (text : List ℕ) → TellsLoad given tree (Err error) text
-      → (cause : Cause) → cause_of error ≡ cause → TextWritten text err_old err_new counts.err_before counts.err_after cause
-      → WritesFirst given tree counts (record { out = out; err = err_old }) (record { out = out; err = err_new }) (Err error)
-  first_by error text tells no_memory is written = record {
-    text = text;
-    tells = tells;
-    begun = load_script written.front;
-    begins = subst (BeginsRefusal given tree counts text (load_script written.front)) (sym is) (inl (record { front = written.front; rest = written.rest; parts = written.parts; is = refl }));
-    gains = err_alone out err_old err_new written.front written.gained;
-  }
-  first_by error text tells causes.told is written = record {
-    text = text;
-    tells = tells;
-    begun = load_script text;
-    begins = subst (BeginsRefusal given tree counts text (load_script text)) (sym is) refl;
-    gains = err_alone out err_old err_new text written;
-  }
-  first_by error text tells (failed_read first last) is written = record {
-    text = text;
-    tells = tells;
-    begun = load_script text;
-    begins = subst (BeginsRefusal given tree counts text (load_script text)) (sym is) refl;
-    gains = err_alone out err_old err_new text written;
-  }
-  first_by error text tells (refused_write first last) is written =
-      let front = written.3 in
-      record {
-        text = text;
-        tells = tells;
-        begun = load_script front.front;
-        begins = subst (BeginsRefusal given tree counts text (load_script front.front)) (sym is) (inl (record {
-          earlier = [];
-          target = to_err;
-          front = front.front;
-          rest = front.rest;
-          later = [];
-          parts = ap load_script front.parts;
-          written = refl;
-          refused = (written.0, (let e : last ≤ counts.err_after = omega (arith, written.1) in e), subst (λ n. Rose n last) (sym written.0) (subst (Rose counts.err_before) (sym written.1) written.2));
-        }));
-        gains = err_alone out err_old err_new front.front front.gained;
-      }
+-- a check that came to a report has come to the end of its crates
+stops_at : (given : CheckArguments) (found : RequestHearing) (report : Report) → IsReport given found report → StopsAt given found []
+stops_at given found report is = at_crates is.verdicts.due (record {
+  found = record { policy = is.verdicts.asked.policy; graph = is.verdicts.asked.graph };
+  is = input_by_Asks given found is.verdicts.asked is.verdicts.asks;
+  policy = report.policy;
+  ordered = is.verdicts.gives.policy;
+  checked = is.verdicts.asked.crates;
+  selected = is.verdicts.asks.selected;
+  turns = record { earlier = found.crates; own = is.own; ends = inl (refl, refl); among = ([], sym is.verdicts.gives.crates ∙ sym (append-nil (crates_heard found))) };
+})
 
-  pub first_refused : (error : Error)
-      → WritesLoad given tree err_old err_new counts.err_before counts.err_after (Err error)
-      → WritesFirst given tree counts (record { out = out; err = err_old }) (record { out = out; err = err_new }) (Err error)
-  first_refused error writes = first_by error writes.text writes.tells (cause_of error) refl writes.written
+-- ---- a refusal of the check
 
--- ---- with what was found, and the summary
+module _ (given : CheckArguments) (carried : uncarried_in given ≡ None) (named : is_manifest given.request.context.manifest_path ≡ true)
+    (told mid tells : Option Content) (before middle after : ℕ) (old between new : List Call) (first : MadeOn (seen told mid before middle old between) (there_call given ∷ []))
+    (counts : FaultCounts) where
+  abbrev whole_tree : TreeSeen
+  whole_tree = seen told tells before after old new
 
-module _ (given : RunArguments) (tree : TreeSeen) (counts : FaultCounts) (old : SinkTexts) (middle : Option (List ℕ)) (first last : ℕ) (report : Report)
-    (writes : WritesLoad given tree old.err middle first last (Ok report)) where
-  -- what was told of the load, and then a text
-  err_both : (new : Option (List ℕ)) (text : List ℕ) → Gained middle new text → Gained old.err new (writes.text ++ (text ++ []))
-  err_both new text gained = Gained-then old.err middle new writes.text (text ++ []) writes.written (gained-append_nil middle new text gained)
+  abbrev rest : TreeSeen
+  rest = seen mid tells middle after between new
 
-  -- the crates that are checked by what was heard have all had their turns
-  all_turns : (hearing : RunHearing) → IsReport given hearing report → AreChecking given hearing []
-  all_turns hearing is = record {
-    found = record { request = is.verdicts.asked.request; policy = is.verdicts.asked.policy; graph = is.verdicts.asked.graph };
-    is = found_of-from_Asks given hearing is.verdicts.asked is.verdicts.asks;
-    policy = report.policy;
-    ordered = is.verdicts.gives.policy;
-    checked = is.verdicts.asked.crates;
-    selected = is.verdicts.asks.selected;
-    turns = record { earlier = hearing.crates; own = is.own; ends = inl (refl, refl); among = ([], sym is.verdicts.gives.crates ∙ sym (append-nil (crates_heard hearing))) };
+  abbrev lift : (answer : Result Report Error) (text : List ℕ) → check.TellsLoad given rest answer text → TellsLoad given whole_tree answer text
+  lift answer text tells_load = told_behind given carried named told mid tells before middle after old between new first answer text tells_load
+
+  -- a cut of what is told of the load, or of that and what a report found
+  load_cut : (text : List ℕ) (front : List ℕ) (back : List ℕ) → text ≡ front ++ back → (one other : ℕ) → one ≡ counts.err_before → other ≤ counts.err_after → Rose one other
+      → IsCut counts one other (load_script text) (load_script front)
+  load_cut text front back parts one other first_is last_is rose = record {
+    earlier = [];
+    target = to_err;
+    front = front;
+    rest = back;
+    later = [];
+    parts = ap load_script parts;
+    written = refl;
+    refused = (first_is, last_is, rose);
   }
 
-  report_up : (hearing : RunHearing) → IsRunHearing given tree hearing → IsReport given hearing report → IsGivenUp given tree hearing
-  report_up hearing heard is = record {
-    begun = heard.begun;
-    lost = [];
-    made = subst (MadeOn tree) (sym (append-nil (calls_of given hearing))) heard.made;
-    stops = at_crates is.verdicts.due (all_turns hearing is);
+  found_cut : (report : Report) (text front back : List ℕ) → findings_text given report ≡ front ++ back → (one other : ℕ) → one ≡ counts.err_before → other ≤ counts.err_after → Rose one other
+      → IsCut counts one other (script_of given text report) ((to_err, text) ∷ (to_err, front) ∷ [])
+  found_cut report text front back parts one other first_is last_is rose = record {
+    earlier = (to_err, text) ∷ [];
+    target = to_err;
+    front = front;
+    rest = back;
+    later = summary_asked given report;
+    parts = ap (λ found. (to_err, text) ∷ (to_err, found) ∷ summary_asked given report) parts;
+    written = refl;
+    refused = (first_is, last_is, rose);
   }
 
-  -- a refusal that comes behind the report
-  freely_told : (error : Error) → IsFree (cause_of error) → TellsLoad given tree (Err error) writes.text
-  freely_told error free =
-      let own = writes.tells in
-      record { hearing = own.hearing; answers = given_up given tree own.hearing error (report_up own.hearing own.answers.0 own.answers.1) free; is = own.is }
+  module _ (out err_old err_new : Option (List ℕ)) where
+    first_by : (error : Error) (text : List ℕ) → TellsLoad given whole_tree (Err error) text → (cause : Cause) → cause_of error ≡ cause
+        → RefusalWritten given rest text err_old err_new counts.err_before counts.err_after cause
+        → WritesFirst given whole_tree counts (record { out = out; err = err_old }) (record { out = out; err = err_new }) (Err error)
+    first_by error text tells_load no_memory is (inl front) = record {
+      text = text;
+      tells = tells_load;
+      begun = load_script front.front;
+      begins = subst (BeginsRefusal given whole_tree counts text (load_script front.front)) (sym is) (inl (record { front = front.front; rest = front.rest; parts = front.parts; is = refl }));
+      gains = err_alone out err_old err_new front.front front.gained;
+    }
+    first_by error text tells_load no_memory is (inr found) = record {
+      text = text;
+      tells = tells_load;
+      begun = (to_err, text) ∷ (to_err, found.front) ∷ [];
+      begins =
+          subst (BeginsRefusal given whole_tree counts text ((to_err, text) ∷ (to_err, found.front) ∷ [])) (sym is)
+          (inr (record { report = found.report; is = lift (Ok found.report) text found.is; front = found.front; rest = found.rest; parts = found.parts; begun_is = refl }));
+      gains = err_both out err_old err_new text found.front found.gained;
+    }
+    first_by error text tells_load causes.told is written = record {
+      text = text;
+      tells = tells_load;
+      begun = load_script text;
+      begins = subst (BeginsRefusal given whole_tree counts text (load_script text)) (sym is) refl;
+      gains = err_alone out err_old err_new text written;
+    }
+    first_by error text tells_load (failed_read one other) is written = record {
+      text = text;
+      tells = tells_load;
+      begun = load_script text;
+      begins = subst (BeginsRefusal given whole_tree counts text (load_script text)) (sym is) refl;
+      gains = err_alone out err_old err_new text written;
+    }
+    first_by error text tells_load (refused_write one other) is (first_is, last_is, rose, inl front) =
+        let last_least : other ≤ counts.err_after = omega (arith, last_is) in
+        let rose_is : Rose one other = subst (λ n. Rose n other) (sym first_is) (subst (Rose counts.err_before) (sym last_is) rose) in
+        record {
+          text = text;
+          tells = tells_load;
+          begun = load_script front.front;
+          begins =
+              subst (BeginsRefusal given whole_tree counts text (load_script front.front)) (sym is)
+              (inl (load_cut text front.front front.rest front.parts one other first_is last_least rose_is));
+          gains = err_alone out err_old err_new front.front front.gained;
+        }
+    first_by error text tells_load (refused_write one other) is (first_is, last_is, rose, inr found) =
+        let last_least : other ≤ counts.err_after = omega (arith, last_is) in
+        let rose_is : Rose one other = subst (λ n. Rose n other) (sym first_is) (subst (Rose counts.err_before) (sym last_is) rose) in
+        record {
+          text = text;
+          tells = tells_load;
+          begun = (to_err, text) ∷ (to_err, found.front) ∷ [];
+          begins =
+              subst (BeginsRefusal given whole_tree counts text ((to_err, text) ∷ (to_err, found.front) ∷ [])) (sym is)
+              (inr (record {
+                report = found.report;
+                is = lift (Ok found.report) text found.is;
+                cut = found_cut found.report text found.front found.rest found.parts one other first_is last_least rose_is;
+              }));
+          gains = err_both out err_old err_new text found.front found.gained;
+        }
 
-  pub first_reported : (new : SinkTexts) → Gained middle new.err (findings_text report) → Gained old.out new.out (summary_of report.stats) → WritesFirst given tree counts old new (Ok report)
-  first_reported new found gained = record {
-    text = writes.text;
-    tells = writes.tells;
-    begun = script_of writes.text report;
-    begins = refl;
-    gains = record { out = gained-append_nil old.out new.out _ gained; err = err_both new.err (findings_text report) found };
-  }
+    pub refused_first : (error : Error) → WritesCheck given rest err_old err_new counts.err_before counts.err_after (Err error)
+        → WritesFirst given whole_tree counts (record { out = out; err = err_old }) (record { out = out; err = err_new }) (Err error)
+    refused_first error writes = first_by error writes.text (lift (Err error) writes.text writes.tells) (cause_of error) refl writes.written
 
-  -- a summary that was cut
-  pub first_cut : (new : SinkTexts) (before after : ℕ) → Gained middle new.err (findings_text report)
-      → GainedPrefix old.out new.out (summary_of report.stats) → before ≡ counts.out_before → after ≡ counts.out_after → Rose counts.out_before counts.out_after
-      → WritesFirst given tree counts old new (Err (WriteFault before after))
-  first_cut new before after found front one other rose = record {
-    text = writes.text;
-    tells = freely_told (WriteFault before after) tt;
-    begun = (to_err, writes.text) ∷ (to_err, findings_text report) ∷ (to_out, front.front) ∷ [];
-    begins = inr (record {
-      report = report;
-      is = writes.tells;
-      cut = record {
-        earlier = (to_err, writes.text) ∷ (to_err, findings_text report) ∷ [];
-        target = to_out;
-        front = front.front;
-        rest = front.rest;
-        later = [];
-        parts = ap (λ summary. (to_err, writes.text) ∷ (to_err, findings_text report) ∷ (to_out, summary) ∷ []) front.parts;
-        written = refl;
-        refused = (one, other, rose);
-      };
-    });
-    gains = record { out = gained-append_nil old.out new.out front.front front.gained; err = err_both new.err (findings_text report) found };
-  }
+  -- ---- a report, and its summary
 
-  -- findings that were cut
-  pub found_cut : (new : Option (List ℕ)) (before after : ℕ) → GainedPrefix middle new (findings_text report) → before ≡ counts.err_before → after ≤ counts.err_after → Rose before after
-      → WritesFirst given tree counts old (record { out = old.out; err = new }) (Err (WriteFault before after))
-  found_cut new before after front one other rose = record {
-    text = writes.text;
-    tells = freely_told (WriteFault before after) tt;
-    begun = (to_err, writes.text) ∷ (to_err, front.front) ∷ [];
-    begins = inr (record {
-      report = report;
-      is = writes.tells;
-      cut = record {
-        earlier = (to_err, writes.text) ∷ [];
-        target = to_err;
-        front = front.front;
-        rest = front.rest;
-        later = (to_out, summary_of report.stats) ∷ [];
-        parts = ap (λ found. (to_err, writes.text) ∷ (to_err, found) ∷ (to_out, summary_of report.stats) ∷ []) front.parts;
-        written = refl;
-        refused = (one, other, rose);
-      };
-    });
-    gains = record { out = gained-nil old.out; err = err_both new front.front front.gained };
-  }
+  module _ (old_texts : SinkTexts) (found : Option (List ℕ)) (first_count last_count : ℕ) (report : Report) (writes : WritesCheck given rest old_texts.err found first_count last_count (Ok report)) where
+    -- what stood before the summary
+    abbrev middle_texts : SinkTexts
+    middle_texts = record { out = old_texts.out; err = found }
 
-  -- findings for which memory was wanting
-  pub found_begun : (new : Option (List ℕ)) → GainedPrefix middle new (findings_text report) → WritesFirst given tree counts old (record { out = old.out; err = new }) (Err Memory)
-  found_begun new front = record {
-    text = writes.text;
-    tells = freely_told Memory tt;
-    begun = (to_err, writes.text) ∷ (to_err, front.front) ∷ [];
-    begins = inr (record { report = report; is = writes.tells; front = front.front; rest = front.rest; parts = front.parts; begun_is = refl });
-    gains = record { out = gained-nil old.out; err = err_both new front.front front.gained };
-  }
+    abbrev earlier_script : Script
+    earlier_script = (to_err, writes.text) ∷ (to_err, findings_text given report) ∷ []
 
-  -- findings that were not all printed
-  pub found_refused : (new : Option (List ℕ)) (refused : PrintError) → GainedPrefix middle new (findings_text report) → HasReasonSince counts.err_before counts.err_after refused
-      → WritesFirst given tree counts old (record { out = old.out; err = new }) (Err (error_of_print refused))
-  found_refused new print.Memory front reason = found_begun new front
-  found_refused new (print.WriteFault before after) front reason =
-      found_cut new before after front reason.0 (let e : after ≤ counts.err_after = omega (arith, reason.1) in e)
-      (subst (λ n. Rose n after) (sym reason.0) (subst (Rose counts.err_before) (sym reason.1) reason.2))
+    told_report : TellsLoad given whole_tree (Ok report) writes.text
+    told_report = lift (Ok report) writes.text writes.tells
+
+    -- a script behind what was written
+    with_found : (new_texts : SinkTexts) (more : Script) → Gains middle_texts new_texts more → Gains old_texts new_texts ((to_err, writes.text) ∷ (to_err, findings_text given report) ∷ more)
+    with_found new_texts more gains = record {
+      out = gains.out;
+      err =
+          subst (Gained old_texts.err new_texts.err) (append_assoc writes.text (findings_text given report) (text_for to_err more))
+          (Gained-then old_texts.err found new_texts.err (writes.text ++ findings_text given report) (text_for to_err more) writes.written gains.err);
+    }
+
+    pub reported_first : (new_texts : SinkTexts) → Gains middle_texts new_texts (summary_asked given report) → WritesFirst given whole_tree counts old_texts new_texts (Ok report)
+    reported_first new_texts gains = record {
+      text = writes.text;
+      tells = told_report;
+      begun = script_of given writes.text report;
+      begins = refl;
+      gains = with_found new_texts (summary_asked given report) gains;
+    }
+
+    -- a refusal that comes behind the report
+    report_up : (hearing : RunHearing) → IsRunHearing given whole_tree hearing → IsRunReport given hearing report → IsRunGivenUp given whole_tree hearing
+    report_up hearing heard is = record {
+      begun = heard.begun;
+      lost = [];
+      made = subst (MadeOn whole_tree) (sym (append-nil (calls_of given hearing))) heard.made;
+      stops = behind is.manifest (stops_at given hearing.found report is.is);
+    }
+
+    own_up : IsRunGivenUp given whole_tree told_report.hearing
+    own_up = report_up told_report.hearing told_report.answers.0 told_report.answers.1
+
+    up_as : (error : Error) (cause : Cause) → cause_of error ≡ cause → IsFree cause → TellsLoad given whole_tree (Err error) writes.text
+    up_as error cause is free = record { hearing = told_report.hearing; answers = subst (IsRefusedRun given whole_tree told_report.hearing error) (sym is) (refused_as cause free); is = told_report.is }
+      where
+        refused_as : (own : Cause) → IsFree own → IsRefusedRun given whole_tree told_report.hearing error own
+        refused_as no_memory free_is = own_up
+        refused_as causes.told free_is = absurd free_is
+        refused_as (failed_read one other) free_is = absurd free_is
+        refused_as (refused_write one other) free_is = own_up
+
+    -- the summary was not all written
+    pub summary_first : (new_texts : SinkTexts) (error : Error) (own : FaultCounts) → own.out_before ≡ counts.out_before → own.out_after ≡ counts.out_after → own.err_before ≡ counts.err_before
+        → own.err_after ≡ counts.err_after → CutsSummary own middle_texts new_texts (summary_asked given report) (cause_of error) → WritesFirst given whole_tree counts old_texts new_texts (Err error)
+    summary_first new_texts error own one two three four cuts = by_cause (cause_of error) refl cuts
+      where
+        refused_as : (target : OutputSink) (b a : ℕ) → RefusedBy own target b a → RefusedBy counts target b a
+        refused_as to_out b a refused = (refused.0 ∙ one, refused.1 ∙ two, subst (λ n. Rose n counts.out_after) one (subst (Rose own.out_before) two refused.2))
+        refused_as to_err b a refused = (refused.0 ∙ three, subst (λ n. a ≤ n) four refused.1, refused.2)
+
+        by_cause : (cause : Cause) → cause_of error ≡ cause → CutsSummary own middle_texts new_texts (summary_asked given report) cause → WritesFirst given whole_tree counts old_texts new_texts (Err error)
+        by_cause no_memory is gains = record {
+          text = writes.text;
+          tells = up_as error no_memory is tt;
+          begun = earlier_script;
+          begins =
+              subst (BeginsRefusal given whole_tree counts writes.text earlier_script) (sym is)
+              (inr (record { report = report; is = told_report; front = findings_text given report; rest = []; parts = sym (append-nil (findings_text given report)); begun_is = refl }));
+          gains = with_found new_texts [] gains;
+        }
+        by_cause causes.told is none = absurd none
+        by_cause (failed_read first_one last_one) is none = absurd none
+        by_cause (refused_write first_one last_one) is short = record {
+          text = writes.text;
+          tells = up_as error (refused_write first_one last_one) is tt;
+          begun = (to_err, writes.text) ∷ (to_err, findings_text given report) ∷ short.begun;
+          begins =
+              subst (BeginsRefusal given whole_tree counts writes.text ((to_err, writes.text) ∷ (to_err, findings_text given report) ∷ short.begun)) (sym is)
+              (inr (record {
+                report = report;
+                is = told_report;
+                cut = record {
+                  earlier = (to_err, writes.text) ∷ (to_err, findings_text given report) ∷ short.cut.earlier;
+                  target = short.cut.target;
+                  front = short.cut.front;
+                  rest = short.cut.rest;
+                  later = short.cut.later;
+                  parts = ap (λ summary. (to_err, writes.text) ∷ (to_err, findings_text given report) ∷ summary) short.cut.parts;
+                  written = ap (λ summary. (to_err, writes.text) ∷ (to_err, findings_text given report) ∷ summary) short.cut.written;
+                  refused = refused_as short.cut.target first_one last_one short.cut.refused;
+                };
+              }));
+          gains = with_found new_texts short.begun short.gains;
+        }
+
+-- a summary that was not all written comes of no read
+pub summary_counts : (counts : FaultCounts) (old new : SinkTexts) (script : Script) (begun before after : ℕ) (cause : Cause) → CutsSummary counts old new script cause → ReadCounts begun before after cause
+summary_counts counts old new script begun before after no_memory cuts = tt
+summary_counts counts old new script begun before after causes.told cuts = tt
+summary_counts counts old new script begun before after (failed_read first last) cuts = absurd cuts
+summary_counts counts old new script begun before after (refused_write first last) cuts = tt
 
 -- ---- with the line of a refusal
 
 text_out : (begun : Script) (line : List ℕ) → text_for to_out (begun ++ (to_err, line) ∷ []) ≡ text_for to_out begun
-text_out begun line = flat_map-append (λ (piece : script.OutputSink × List ℕ). cond (is_target to_out piece.0) piece.1 []) begun ((to_err, line) ∷ []) ∙ append-nil (text_for to_out begun)
+text_out begun line = flat_map-append (λ (piece : OutputSink × List ℕ). cond (is_target to_out piece.0) piece.1 []) begun ((to_err, line) ∷ []) ∙ append-nil (text_for to_out begun)
 
 text_err : (begun : Script) (line : List ℕ) → text_for to_err (begun ++ (to_err, line) ∷ []) ≡ text_for to_err begun ++ line
 text_err begun line =
-    flat_map-append (λ (piece : script.OutputSink × List ℕ). cond (is_target to_err piece.0) piece.1 []) begun ((to_err, line) ∷ []) ∙ ap (λ own. text_for to_err begun ++ own) (append-nil line)
+    flat_map-append (λ (piece : OutputSink × List ℕ). cond (is_target to_err piece.0) piece.1 []) begun ((to_err, line) ∷ []) ∙ ap (λ own. text_for to_err begun ++ own) (append-nil line)
 
 with_line : (old mid new : SinkTexts) (begun : Script) (line : List ℕ) → Gains old mid begun → new.out ≡ mid.out → Gained mid.err new.err line
     → Gains old new (begun ++ (to_err, line) ∷ [])
@@ -281,7 +284,7 @@ with_line old mid new begun line gains out err = record {
 
 -- the counts of `err` may rise further in the line
 further : (counts later : FaultCounts) → later.out_before ≡ counts.out_before → later.out_after ≡ counts.out_after → later.err_before ≡ counts.err_before
-    → counts.err_after ≤ later.err_after → (target : script.OutputSink) (before after : ℕ) → RefusedBy counts target before after → RefusedBy later target before after
+    → counts.err_after ≤ later.err_after → (target : OutputSink) (before after : ℕ) → RefusedBy counts target before after → RefusedBy later target before after
 further counts later one two three four to_out before after refused =
     (refused.0 ∙ sym one, refused.1 ∙ sym two, subst (λ n. Rose n later.out_after) (sym one) (subst (Rose counts.out_before) (sym two) refused.2))
 further counts later one two three four to_err before after refused = (refused.0 ∙ sym three, (let e : after ≤ later.err_after = omega (arith, refused.1) in e), refused.2)
@@ -297,7 +300,7 @@ with_err counts err_after = record {
   err_after = err_after;
 }
 
-module _ (given : RunArguments) (tree : TreeSeen) (counts : FaultCounts) (err_after : ℕ) (first_later : counts.err_before ≤ counts.err_after) (later : counts.err_after ≤ err_after) where
+module _ (given : CheckArguments) (tree : TreeSeen) (counts : FaultCounts) (err_after : ℕ) (first_later : counts.err_before ≤ counts.err_after) (later : counts.err_after ≤ err_after) where
   wider : Rose counts.err_after err_after → Rose counts.err_before err_after
   wider (inl less) = inl (omega arith)
   wider (inr last) = inr last
@@ -322,7 +325,7 @@ module _ (given : RunArguments) (tree : TreeSeen) (counts : FaultCounts) (err_af
   begins_further text begun (failed_read before after) begins = begins
   begins_further text begun (refused_write before after) (inl cut) = inl (cut_further before after (load_script text) begun cut)
   begins_further text begun (refused_write before after) (inr cut) =
-      inr (record { report = cut.report; is = cut.is; cut = cut_further before after (script_of text cut.report) begun cut.cut })
+      inr (record { report = cut.report; is = cut.is; cut = cut_further before after (script_of given text cut.report) begun cut.cut })
 
   -- after a refusal stand what was begun and the line of the refusal, or a front of it
   pub Writes-from_line : (old mid new : SinkTexts) (error : Error) → WritesFirst given tree counts old mid (Err error) → new.out ≡ mid.out
@@ -348,7 +351,7 @@ module _ (given : RunArguments) (tree : TreeSeen) (counts : FaultCounts) (err_af
   }
 
 -- after a report nothing comes behind
-pub Writes-from_report : (given : RunArguments) (tree : TreeSeen) (counts : FaultCounts) (old new : SinkTexts) (report : Report)
+pub Writes-from_report : (given : CheckArguments) (tree : TreeSeen) (counts : FaultCounts) (old new : SinkTexts) (report : Report)
     → WritesFirst given tree counts old new (Ok report) → Writes given tree counts old new (Ok report)
 Writes-from_report given tree counts old new report first =
     record { text = first.text; tells = first.tells; begun = first.begun; begins = first.begins; script = first.begun; ends = refl; gains = first.gains }

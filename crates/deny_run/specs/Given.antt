@@ -3,7 +3,10 @@ use Rattle.std.specs.Prelude.{ℕ, List}
 use Rattle.std.specs.declared.string.String.{String}
 use Rattle.spdx_catalog.specs.Catalog.{CatalogLists}
 use Rattle.spdx_catalog.specs.declared.identifier.Match.{Match}
-use Rattle.deny_run.specs.Words.{texts}
+use Rattle.run_request.specs.declared.check.Args.{Args}
+use Rattle.run_request.specs.declared.request.Request.{Request}
+use Rattle.run_request.specs.Given.{texts}
+use Rattle.run_check.specs.Given.{CheckArguments, check_arguments_of}
 
 -- the catalogue's lists, what the identifier says of each text, the words and the working folder
 pub record RunArguments : Type 0 where
@@ -14,3 +17,7 @@ pub record RunArguments : Type 0 where
 
 abbrev pub run_arguments_of : {A : Type 0} → CatalogLists → (List ℕ → Match) → List (String A) → List ℕ → RunArguments
 run_arguments_of lists match_of words cwd = record { lists = lists; match_of = match_of; words = texts words; cwd = cwd }
+
+-- what the check of a request is given
+abbrev pub check_asked : CatalogLists → (List ℕ → Match) → Request → Args → CheckArguments
+check_asked lists match_of request args = check_arguments_of lists match_of request.log_ctx args request.krate_ctx

@@ -12,68 +12,101 @@
 -- files, each once, and nothing else; without overrides the status is zero only if none is unlicensed or rejected; and where
 -- what was read is lawful and no call failed, it ends in a `Report` or for want of memory.
 --
--- So far the words name no overrides and leave no crate out.
-use Rattle.std.specs.Prelude.{◌≡◌, ℕ, false, All}
-use Rattle.tree_core.specs.Call.{Call}
+-- A report comes with its request, which is that of the words, and whose command is `check`. Without overrides: the request's
+-- three lists of codes and levels are empty. Lawful: words that are taken, and a request and files that nothing refuses.
+use Rattle.std.specs.Prelude.{◌≡◌, ℕ, false, All, Some, ⊤}
 use Rattle.tree_core.specs.Content.{Content}
 use Rattle.tree_core.specs.Script.{FaultCounts, IsWithoutFault}
-use Rattle.tree_core.specs.Trace.{Says, content_answer, faults_after}
-use Rattle.deny_run.specs.declared.report.Report.{Report}
-use Rattle.deny_run.specs.declared.report.RunEnd.{RunEnd}
-use Rattle.deny_run.specs.declared.report.RunEnd.TheVariants.{Checked, Refused}
-use Rattle.deny_run.specs.declared.report.Outcome.{Outcome}
-use Rattle.deny_run.specs.Counts.{is_against}
-use Rattle.deny_run.specs.Error.{cause_of, MayEndLawful}
-use Rattle.deny_run.specs.Given.{RunArguments}
-use Rattle.deny_run.specs.Heard.{HearsAllDue, IsRunHearing, calls_of}
-use Rattle.deny_run.specs.Hearing.{RunHearing, TreeSeen}
-use Rattle.deny_run.specs.Report.{CheckInput, Asks, TellsVerdicts}
+use Rattle.tree_core.specs.Trace.{Says, faults_after}
+use Rattle.run_request.specs.declared.check.Args.{Args}
+use Rattle.run_request.specs.declared.request.Request.{Request}
+use Rattle.run_request.specs.declared.request.Subcommand.TheVariants.{Check}
+use Rattle.run_overrides.specs.Levels.{HasNoOverrides}
+use Rattle.run_found.specs.Error.{MayEndLawful, cause_of}
+use Rattle.run_found.specs.Hearing.{TreeSeen}
+use Rattle.run_check.specs.declared.report.Report.{Report}
+use Rattle.run_check.specs.Found.{HearsAllDue}
+use Rattle.run_check.specs.Given.{CheckArguments}
+use Rattle.run_check.specs.Headline.{TellsContent, is_against}
+use Rattle.run_check.specs.Report.{Asks, CheckInput, TellsVerdicts}
+use Rattle.deny_run.specs.declared.outcome.Outcome.{Outcome}
+use Rattle.deny_run.specs.declared.outcome.RunEnd.{RunEnd}
+use Rattle.deny_run.specs.declared.outcome.RunEnd.TheVariants.{Checked, Shown, Usage, Refused}
+use Rattle.deny_run.specs.Given.{RunArguments, check_asked}
+use Rattle.deny_run.specs.Hearing.{HasManifest, IsRunHearing, RunHearing, calls_of}
+use Rattle.deny_run.specs.Words.{HasRequest}
+
+-- the words ask for this check
+pub record AsksCheck (given : RunArguments) (check : CheckArguments) : Type 0 where
+  pub request : Request
+  pub of_words : HasRequest given request
+  pub args : Args
+  pub command : request.command ≡ Check args
+  pub is : check ≡ check_asked given.lists given.match_of request args
+
+-- and their request is told
+pub record ChecksRequest (given : RunArguments) (outcome : Outcome) (check : CheckArguments) : Type 0 where
+  pub asks : AsksCheck given check
+  pub told : outcome.request ≡ Some asks.request
 
 -- the run ended with a report, or for want of memory
 abbrev pub EndsInReport : RunEnd → Type 0
-EndsInReport (Checked report) = Unit {0}
+EndsInReport (Checked report) = ⊤
+EndsInReport Shown = ⊥
+EndsInReport Usage = ⊥
 EndsInReport (Refused error) = MayEndLawful (cause_of error)
 
 -- without overrides the status is zero only if no crate is unlicensed or rejected
-abbrev pub TellsAgainst : Outcome → Type 0
-TellsAgainst outcome = (report : Report) → outcome.ended ≡ Checked report → outcome.status ≡ 0 → All (λ crate. is_against crate.verdict ≡ false) report.crates
+abbrev pub TellsAgainst : RunArguments → Outcome → Type 0
+TellsAgainst given outcome =
+    (report : Report) (check : CheckArguments) → outcome.ended ≡ Checked report → ChecksRequest given outcome check
+    → HasNoOverrides check.args.lint_levels → outcome.status ≡ 0 → All (λ crate. is_against crate.verdict ≡ false) report.crates
+
+-- what is lawful: the words ask for this check, the manifest is there, and what was heard asks to check this
+pub record IsLawful (given : RunArguments) (check : CheckArguments) (hearing : RunHearing) (asked : CheckInput) : Type 0 where
+  pub words : AsksCheck given check
+  pub manifest : HasManifest check hearing
+  pub due : HearsAllDue check hearing.found
+  pub asks : Asks check hearing.found asked
 
 -- ---- by what was read
 
 -- the report gives the verdicts that are asked for by what was read, and no other call was made
-pub record HasVerdictsRead (given : RunArguments) (tree : TreeSeen) (report : Report) : Type 0 where
+pub record HasVerdictsRead (given : RunArguments) (tree : TreeSeen) (outcome : Outcome) (report : Report) : Type 0 where
+  pub check : CheckArguments
+  pub request : ChecksRequest given outcome check
   pub hearing : RunHearing
-  pub heard : IsRunHearing given tree hearing
-  pub tells : TellsVerdicts given hearing report
+  pub heard : IsRunHearing check tree hearing
+  pub manifest : HasManifest check hearing
+  pub tells : TellsVerdicts check hearing.found report
 
 pub record HeadlineRead (given : RunArguments) (tree : TreeSeen) (counts : FaultCounts) (outcome : Outcome) : Type 0 where
-  pub verdicts : (report : Report) → outcome.ended ≡ Checked report → HasVerdictsRead given tree report
-  pub status : TellsAgainst outcome
-  pub lawful : (hearing : RunHearing) (asked : CheckInput) → IsRunHearing given tree hearing → HearsAllDue given hearing → Asks given hearing asked
+  pub verdicts : (report : Report) → outcome.ended ≡ Checked report → HasVerdictsRead given tree outcome report
+  pub status : TellsAgainst given outcome
+  pub lawful : (check : CheckArguments) (hearing : RunHearing) (asked : CheckInput) → IsRunHearing check tree hearing → IsLawful given check hearing asked
       → IsWithoutFault counts → EndsInReport outcome.ended
 
 -- ---- by a content
 
--- the answer of a call is what the content has at its path
-abbrev pub TellsContent : Content → Call → Type 0
-TellsContent content one = one.answer ≡ content_answer content one.asked one.path
-
 -- what is heard of the content, from a count of faults on, where no call fails and no memory is wanting
-pub record IsHeardOf (given : RunArguments) (content : Content) (count : ℕ) (hearing : RunHearing) : Type 0 where
-  pub begun : hearing.begun ≡ count
-  pub due : HearsAllDue given hearing
-  pub tells : All (TellsContent content) (calls_of given hearing)
+pub record IsHeardOf (check : CheckArguments) (content : Content) (count : ℕ) (hearing : RunHearing) : Type 0 where
+  pub begun : hearing.found.begun ≡ count
+  pub tells : All (TellsContent content) (calls_of check hearing)
 
 -- the report gives the verdicts that are asked for by calls that say what the content has, but for those that failed, each of which
 -- raised the count of faults
-pub record HasVerdictsIn (given : RunArguments) (content : Content) (before after : ℕ) (report : Report) : Type 0 where
+pub record HasVerdictsIn (given : RunArguments) (content : Content) (before after : ℕ) (outcome : Outcome) (report : Report) : Type 0 where
+  pub check : CheckArguments
+  pub request : ChecksRequest given outcome check
   pub hearing : RunHearing
-  pub begun : hearing.begun ≡ before
-  pub counts : after ≡ faults_after before (calls_of given hearing)
-  pub says : All (Says content) (calls_of given hearing)
-  pub tells : TellsVerdicts given hearing report
+  pub begun : hearing.found.begun ≡ before
+  pub counts : after ≡ faults_after before (calls_of check hearing)
+  pub says : All (Says content) (calls_of check hearing)
+  pub manifest : HasManifest check hearing
+  pub tells : TellsVerdicts check hearing.found report
 
 pub record Headline (given : RunArguments) (content : Content) (counts : FaultCounts) (outcome : Outcome) : Type 0 where
-  pub verdicts : (report : Report) → outcome.ended ≡ Checked report → HasVerdictsIn given content counts.tree_before counts.tree_after report
-  pub status : TellsAgainst outcome
-  pub lawful : (hearing : RunHearing) (asked : CheckInput) → IsHeardOf given content counts.tree_before hearing → Asks given hearing asked → IsWithoutFault counts → EndsInReport outcome.ended
+  pub verdicts : (report : Report) → outcome.ended ≡ Checked report → HasVerdictsIn given content counts.tree_before counts.tree_after outcome report
+  pub status : TellsAgainst given outcome
+  pub lawful : (check : CheckArguments) (hearing : RunHearing) (asked : CheckInput) → IsHeardOf check content counts.tree_before hearing → IsLawful given check hearing asked
+      → IsWithoutFault counts → EndsInReport outcome.ended

@@ -1,119 +1,64 @@
--- What is heard in a run, by what each of its calls was answered.
-use Rattle.std.specs.Prelude.{◌≡◌, ℕ, Bool, true, false, List, [], ◌∷◌, map, is_some, Option, Some, None, unwrap_or, Result, Err}
-use Rattle.tree_core.specs.Call as call
+-- What is heard in a run over a request for a check, and which refusal comes first.
+use Rattle.std.specs.Prelude.{◌≡◌, ℕ, List, [], ◌++◌, Option, Result, Ok, Err}
 use Rattle.tree_core.specs.Call.{CallAnswer, Call}
-use Rattle.tree_core.specs.Content.{Content}
-use Rattle.tree_core.specs.Hearing.{Made}
-use Rattle.tree_core.specs.Trace.{fault_behind}
-use Rattle.graph_core.specs.Krate.{Record}
-use Rattle.tree_texts.specs.Heard.{read_of, text_answered}
-use Rattle.tree_texts.specs.declared.fault.ReadFault.{ReadFault}
-use Rattle.tree_texts.specs.declared.fault.ReadFault.TheVariants.{Absent}
-use Rattle.tree_texts.specs.Looked.{look_of}
-use Rattle.gather_core.specs.Calls.{CrateReads}
+use Rattle.run_request.specs.declared.context.KrateContext.{KrateContext}
+use Rattle.run_found.specs.declared.error.Error.{Error}
+use Rattle.run_found.specs.Hearing.{RequestHearing, MadeOn, TreeSeen, count_behind}
+use Rattle.run_found.specs.Steps.{◌>>=◌}
+use Rattle.run_check.specs.Carried.{uncarried_in}
+use Rattle.run_check.specs.Found as check
+use Rattle.run_check.specs.Found.{FoundInput, HearsNothing, check_input_of, unless_uncarried}
+use Rattle.run_check.specs.Given.{CheckArguments}
+use Rattle.deny_run.specs.Manifest.{IsLookedWhereDue, manifest_calls, manifest_due, manifest_found}
 
--- What is heard in a run: the tree's count of faults when it began, and what its calls were answered: the looks for an exceptions file,
--- path after path; the reads of the policy, of the exceptions file and of the metadata, each where it was made; and of each crate, in
--- order, the reads of its files.
+-- what the look at the manifest was answered, where it was made, and what is heard behind it
 pub record RunHearing : Type 0 where
-  pub begun : ℕ
-  pub looks : List CallAnswer
-  pub policy : Option CallAnswer
-  pub exceptions : Option CallAnswer
-  pub metadata : Option CallAnswer
-  pub crates : List CrateReads
+  pub manifest : Option CallAnswer
+  pub found : RequestHearing
 
--- what a tree told before a run and behind it: its content, its count of faults, and its calls
-pub record TreeSeen : Type 0 where
-  pub told : Option Content
-  pub tells : Option Content
-  pub count_before : ℕ
-  pub count_after : ℕ
-  pub calls_before : List Call
-  pub calls_after : List Call
+-- the manifest is there, or the refusal, by what was heard
+abbrev pub manifest_in : KrateContext → RunHearing → Result (Unit {0}) Error
+manifest_in context hearing =
+    manifest_found hearing.found.begun (count_behind hearing.found.begun hearing.manifest) context.manifest_path hearing.manifest
 
-abbrev pub seen : Option Content → Option Content → ℕ → ℕ → List Call → List Call → TreeSeen
-seen told tells before after old new =
-    record { told = told; tells = tells; count_before = before; count_after = after; calls_before = old; calls_after = new }
+-- the calls behind the look: none where the manifest is not there
+abbrev pub calls_behind : Result (Unit {0}) Error → List Call → List Call
+calls_behind (Ok there) calls = calls
+calls_behind (Err error) calls = []
 
--- these calls were made on it, and no other
-abbrev pub MadeOn : TreeSeen → List Call → Type 0
-MadeOn tree calls = Made tree.told tree.tells tree.count_before tree.count_after tree.calls_before tree.calls_after calls
+-- ---- of a check
 
-abbrev pub crates_heard : RunHearing → List Record
-crates_heard hearing = map (λ (one : CrateReads). one.krate) hearing.crates
+abbrev pub manifest_asked : CheckArguments → Option (List ℕ)
+manifest_asked given = manifest_due (uncarried_in given) given.request.context.manifest_path
 
--- ---- the looks
+-- What is found, or the first refusal: of what is not carried, of the look at the manifest, and then of the check.
+abbrev pub run_input_of : CheckArguments → RunHearing → Result FoundInput Error
+run_input_of given hearing = do
+  carried ← unless_uncarried (uncarried_in given)
+  manifest ← manifest_in given.request.context hearing
+  check_input_of given hearing.found
 
--- what looks come to
-pub data LooksResult : Type 0 where
-  -- one of them failed
-  look_failed : LooksResult
-  -- at no path stands anything
-  nowhere : LooksResult
-  -- something stands at this one
-  at : List ℕ → LooksResult
-  -- memory was wanting, or not all were made that were due
-  unended : LooksResult
+-- the look at the manifest, and where that is there the calls of the check
+abbrev pub calls_of : CheckArguments → RunHearing → List Call
+calls_of given hearing =
+    manifest_calls (manifest_asked given) hearing.manifest
+    ++ calls_behind (manifest_in given.request.context hearing) (check.calls_of given hearing.found)
 
--- by what the look at a path was answered, and what those at the paths behind it come to
-abbrev pub look_by : CallAnswer → List ℕ → LooksResult → LooksResult
-look_by (call.bytes items) path rest = unended
-look_by (call.entries items) path rest = unended
-look_by (call.told true) path rest = at path
-look_by (call.told false) path rest = rest
-look_by call.absent path rest = unended
-look_by call.wrong_kind path rest = unended
-look_by call.failed path rest = look_failed
-look_by call.no_memory path rest = unended
+abbrev pub HearsBehind : CheckArguments → RequestHearing → Result (Unit {0}) Error → Type 0
+HearsBehind given hearing (Ok there) = check.HearsDue given hearing (uncarried_in given)
+HearsBehind given hearing (Err error) = HearsNothing hearing
 
--- looks at these paths in order, up to the first that is not told that nothing stands there
-abbrev pub looks_by : List (List ℕ) → List CallAnswer → LooksResult
-looks_by [] answers = nowhere
-looks_by (path ∷ paths) [] = unended
-looks_by (path ∷ paths) (answer ∷ answers) = look_by answer path (looks_by paths answers)
+-- each call that was due was made, and something is heard by it
+pub record HearsDue (given : CheckArguments) (hearing : RunHearing) : Type 0 where
+  pub manifest : IsLookedWhereDue (manifest_asked given) hearing.manifest
+  pub behind : HearsBehind given hearing.found (manifest_in given.request.context hearing)
 
--- the calls behind a look
-abbrev pub looks_behind : CallAnswer → List Call → List Call
-looks_behind (call.bytes items) rest = []
-looks_behind (call.entries items) rest = []
-looks_behind (call.told true) rest = []
-looks_behind (call.told false) rest = rest
-looks_behind call.absent rest = []
-looks_behind call.wrong_kind rest = []
-looks_behind call.failed rest = []
-looks_behind call.no_memory rest = []
+-- a run on a tree made the calls of this hearing, and no other
+pub record IsRunHearing (given : CheckArguments) (tree : TreeSeen) (hearing : RunHearing) : Type 0 where
+  pub begun : hearing.found.begun ≡ tree.count_before
+  pub made : MadeOn tree (calls_of given hearing)
 
--- their calls
-abbrev pub look_calls : List (List ℕ) → List CallAnswer → List Call
-look_calls [] answers = []
-look_calls (path ∷ paths) [] = []
-look_calls (path ∷ paths) (answer ∷ answers) = look_of path answer ∷ looks_behind answer (look_calls paths answers)
-
--- ---- the read of a file
-
--- the call of a read that is due, where it was made
-abbrev pub read_calls : Option (List ℕ) → Option CallAnswer → List Call
-read_calls None answer = []
-read_calls (Some path) None = []
-read_calls (Some path) (Some answer) = read_of path answer ∷ []
-
--- the count of faults behind it
-abbrev pub count_behind : ℕ → Option CallAnswer → ℕ
-count_behind count None = count
-count_behind count (Some answer) = fault_behind count answer
-
--- What its answer lets hear, between two counts. Where none was made, and where memory was wanting, nothing is there.
-abbrev pub text_by : ℕ → ℕ → Option CallAnswer → Result (List ℕ) ReadFault
-text_by begun after None = Err Absent
-text_by begun after (Some answer) = unwrap_or (text_answered begun after answer) (Err Absent)
-
--- something is heard by it
-abbrev pub is_heard : Option CallAnswer → Bool
-is_heard None = false
-is_heard (Some answer) = is_some (text_answered 0 0 answer)
-
--- a read that is due was made, and something is heard by its answer; one that is not due was not made
-abbrev pub IsReadWhereDue : Option (List ℕ) → Option CallAnswer → Type 0
-IsReadWhereDue None answer = answer ≡ None
-IsReadWhereDue (Some path) answer = is_heard answer ≡ true
+-- the manifest is there: it was looked at, and a file stands there
+pub record HasManifest (given : CheckArguments) (hearing : RunHearing) : Type 0 where
+  pub looked : IsLookedWhereDue (manifest_asked given) hearing.manifest
+  pub there : manifest_in given.request.context hearing ≡ Ok tt

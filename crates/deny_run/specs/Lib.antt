@@ -1,13 +1,8 @@
-pub mod Counts
-pub mod Error
 pub mod Given
 pub mod Headline
-pub mod Heard
 pub mod Hearing
-pub mod Policy
+pub mod Manifest
 pub mod Report
 pub mod Run
 pub mod Script
-pub mod Selection
-pub mod Steps
 pub mod Words

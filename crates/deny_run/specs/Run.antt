@@ -1,24 +1,127 @@
--- How a run ends.
-use Rattle.std.specs.Prelude.{ℕ, Result, Ok, Err}
-use Rattle.deny_run.specs.declared.error.Error.{Error}
-use Rattle.deny_run.specs.declared.error.Refusal.{Refusal}
-use Rattle.deny_run.specs.declared.report.Report.{Report}
-use Rattle.deny_run.specs.declared.report.RunEnd.{RunEnd}
-use Rattle.deny_run.specs.declared.report.RunEnd.TheVariants.{Checked, Refused}
-use Rattle.deny_run.specs.Counts.{status_of}
-use Rattle.deny_run.specs.Error.{error_of}
+-- What a run over words comes to, and its status.
+use Rattle.std.specs.Prelude.{◌≡◌, ◌⊎◌, ℕ, true, false, List, Option, Some, None, Result, Ok, Err, ⊤, if◌then◌else◌}
+use Rattle.tree_core.specs.Script.{FaultCounts, SinkTexts}
+use Rattle.spdx_catalog.specs.Catalog.{CatalogLists}
+use Rattle.spdx_catalog.specs.declared.identifier.Match.{Match}
+use Rattle.tree_texts.specs.Cause.{Cause, no_memory, refused_write}
+use Rattle.graph_workspace.specs.declared.error.What.{What}
+use Rattle.diag_stats.specs.ExitCode.{has_errors}
+use Rattle.diag_stats.specs.declared.stats.AllStats.{AllStats}
+use Rattle.run_request.specs.declared.check.Args.{Args}
+use Rattle.run_request.specs.declared.request.Request.{Request}
+use Rattle.run_request.specs.declared.request.Subcommand.{Subcommand}
+use Rattle.run_request.specs.declared.request.Subcommand.TheVariants.{Check, List as Listing, Sample}
+use Rattle.run_request.specs.Given.{may_refuse, may_show, word_faults}
+use Rattle.run_request.specs.Request.{gate_words, request_in}
+use Rattle.run_found.specs.declared.error.Error.{Error}
+use Rattle.run_found.specs.declared.error.Error.TheVariants.{Memory, NotCarried}
+use Rattle.run_found.specs.Error.{cause_of}
+use Rattle.run_found.specs.Hearing.{TreeSeen}
+use Rattle.run_check.specs.Carried.{uncarried_in}
+use Rattle.run_check.specs.declared.report.Report.{Report}
+use Rattle.run_check.specs.Given.{CheckArguments}
+use Rattle.deny_run.specs.declared.outcome.Outcome.{Outcome}
+use Rattle.deny_run.specs.declared.outcome.RunEnd.{RunEnd}
+use Rattle.deny_run.specs.declared.outcome.RunEnd.TheVariants.{Checked, Shown, Usage, Refused}
+use Rattle.deny_run.specs.Given.{RunArguments, check_asked}
+use Rattle.deny_run.specs.Script.{Writes}
+use Rattle.deny_run.specs.Words.{HasRequest, IsEndOfWords, IsUntouched}
 
--- how a run ended, as the report or its refusal
-abbrev pub answer_of : RunEnd → Result Report Error
-answer_of (Checked report) = Ok report
-answer_of (Refused error) = Err error
+-- ---- a request
 
--- a report, or the error of a refusal before anything was written
-abbrev pub answer_from : Result Report Refusal → Result Report Error
-answer_from (Ok report) = Ok report
-answer_from (Err refusal) = Err (error_of refusal)
+-- the end of a run over a request for a check: a report or a refusal, answered and written as it is asked for
+abbrev pub EndsCheck : CheckArguments → TreeSeen → FaultCounts → SinkTexts → SinkTexts → RunEnd → Type 0
+EndsCheck check tree counts old new (Checked report) = Writes check tree counts old new (Ok report)
+EndsCheck check tree counts old new Shown = ⊥
+EndsCheck check tree counts old new Usage = ⊥
+EndsCheck check tree counts old new (Refused error) = Writes check tree counts old new (Err error)
 
--- 4 where the check of licences failed, else 0; 1 after a refusal
-abbrev pub exit_status : Result Report Error → ℕ
-exit_status (Ok report) = status_of report.stats
-exit_status (Err error) = 1
+-- the end of a run over a request, by its command; words are taken with `check` alone
+abbrev pub EndsRequest : CatalogLists → (List ℕ → Match) → TreeSeen → FaultCounts → SinkTexts → SinkTexts → Request → Subcommand → RunEnd → Type 0
+EndsRequest lists match_of tree counts old new request (Check args) ended = EndsCheck (check_asked lists match_of request args) tree counts old new ended
+EndsRequest lists match_of tree counts old new request (Listing args) ended = ⊥
+EndsRequest lists match_of tree counts old new request (Sample size) ended = ⊥
+
+-- a request of which a part is not carried is refused with the first such part, and no call is made
+abbrev pub RefusesUncarried : CatalogLists → (List ℕ → Match) → TreeSeen → Request → RunEnd → Type 0
+RefusesUncarried lists match_of tree request ended =
+    (args : Args) (what : What) → request.command ≡ Check args → uncarried_in (check_asked lists match_of request args) ≡ Some what
+    → (ended ≡ Refused (NotCarried what)) × IsUntouched tree
+
+-- ---- words
+
+-- The outcome of words: where they are taken and ask for something it is their request, and the run is one over that; else no call is
+-- made, help and the version are shown, and mistakes are told.
+abbrev pub IsOutcome : RunArguments → TreeSeen → FaultCounts → SinkTexts → SinkTexts → Option Request → RunEnd → Type 0
+IsOutcome given tree counts old new (Some request) ended =
+    HasRequest given request × EndsRequest given.lists given.match_of tree counts old new request request.command ended
+IsOutcome given tree counts old new None ended = IsUntouched tree × IsEndOfWords given counts old new ended
+
+-- ---- completeness: but for want of memory, and for a refused write of help
+
+-- words that are taken and ask for something have it told
+abbrev pub AnswersRequest : RunArguments → Outcome → Type 0
+AnswersRequest given outcome = (request : Request) → HasRequest given request → (outcome.request ≡ Some request) ⊎ (outcome.ended ≡ Refused Memory)
+
+-- the end of help: it was shown, or memory was wanting, or the write was refused
+abbrev pub IsShownBy : Cause → Type 0
+IsShownBy no_memory = Unit {0}
+IsShownBy (refused_write before after) = Unit {0}
+IsShownBy _ = ⊥
+
+abbrev pub EndsHelp : RunEnd → Type 0
+EndsHelp (Checked report) = ⊥
+EndsHelp Shown = Unit {0}
+EndsHelp Usage = ⊥
+EndsHelp (Refused error) = IsShownBy (cause_of error)
+
+-- words that can be taken for nothing but a call for help or the version have it shown
+abbrev pub AnswersHelp : RunArguments → Outcome → Type 0
+AnswersHelp given outcome =
+    may_show (word_faults (gate_words given.words)) ≡ true → may_refuse (word_faults (gate_words given.words)) ≡ false
+    → (outcome.request ≡ None) × EndsHelp outcome.ended
+
+-- words that can be taken for nothing but a mistake, and words that are taken and ask for nothing, are refused
+abbrev pub AnswersMistake : RunArguments → Outcome → Type 0
+AnswersMistake given outcome =
+    may_show (word_faults (gate_words given.words)) ≡ false
+    → (may_refuse (word_faults (gate_words given.words)) ≡ true) ⊎ (request_in (gate_words given.words) given.cwd ≡ None)
+    → (outcome.ended ≡ Usage) ⊎ (outcome.ended ≡ Refused Memory)
+
+pub record AnswersWords (given : RunArguments) (outcome : Outcome) : Type 0 where
+  pub request : AnswersRequest given outcome
+  pub help : AnswersHelp given outcome
+  pub mistake : AnswersMistake given outcome
+
+-- ---- the status
+
+-- 4 where the check of licences has errors, else 0
+abbrev pub status_of : AllStats → ℕ
+status_of stats = if has_errors stats then 4 else 0
+
+-- that of the report's counts; 0 after help and the version, 2 after a mistake in the words, 1 after a refusal
+abbrev pub exit_status : RunEnd → ℕ
+exit_status (Checked report) = status_of report.stats
+exit_status Shown = 0
+exit_status Usage = 2
+exit_status (Refused error) = 1
+
+-- ---- of each end
+
+-- the end of a check that is answered
+abbrev pub end_of : Result Report Error → RunEnd
+end_of (Ok report) = Checked report
+end_of (Err error) = Refused error
+
+-- the outcome of an end
+abbrev pub outcome_of : Option Request → RunEnd → Outcome
+outcome_of request ended = record { status = exit_status ended; request = request; ended = ended }
+
+-- of a report, and of a refusal
+abbrev pub IfChecked : RunEnd → (Report → Type 0) → Type 0
+IfChecked (Checked report) P = P report
+IfChecked _ P = ⊤
+
+abbrev pub IfRefused : RunEnd → (Error → Type 0) → Type 0
+IfRefused (Refused error) P = P error
+IfRefused _ P = ⊤

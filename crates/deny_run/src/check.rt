@@ -1,151 +1,112 @@
-//! The licences of all crates, and the check of them.
-ghost use Rattle.std.specs.Prelude.{◌≡◌, ◌≤◌, All, IfOk, OnErr};
-ghost use Rattle.graph_core.specs.Metadata.{Graph};
-ghost use Rattle.graph_selection.specs.Choice.{Choice};
-ghost use Rattle.graph_selection.specs.Listed.{IsChosen};
-ghost use Rattle.policy_valid.specs.View.{policy_of};
-ghost use Rattle.policy_core.specs.Places.{PolicyStands};
-ghost use Rattle.gather_core.specs.Premises.{IsPlacedAt};
-ghost use Rattle.check_unused.specs.Laws.{EntriesLie};
-ghost use Rattle.check_core.specs.Labels.{PackLies, VerdictPoints};
-ghost use Rattle.check_core.specs.Summary.{gathered_of_licenses};
-ghost use Rattle.deny_run.specs.Hearing.{seen};
-ghost use Rattle.deny_run.specs.Steps.{IsCheckCut, IsCheckOf, IsCheckedOn, reports_of, report_of, scanner_of_policy};
+//! The check of a request.
+ghost use Rattle.std.specs.Prelude.{◌≡◌, ◌≢◌, ◌≤◌, Err, IfErr, None, Some};
+ghost use Rattle.tree_texts.specs.declared.fault.ReadFault.{ReadFault};
+ghost use Rattle.tree_texts.specs.Cause.{ReadCounts};
+ghost use Rattle.graph_workspace.specs.declared.error.What.{What};
+ghost use Rattle.run_found.specs.Error.{cause_of};
+ghost use Rattle.run_found.specs.Hearing.{seen};
+ghost use Rattle.run_check.specs.Carried.{uncarried_of};
+ghost use Rattle.run_check.specs.Given.{check_arguments_of};
+ghost use Rattle.run_check.specs.Report.{LabelsLie};
+ghost use Rattle.deny_run.specs.Script.{WritesFirst, between};
+ghost use Rattle.deny_run.specs.Words.{IsUntouched};
 
-use crate::report::CrateReport;
-use check_core::{CheckCtx, Verdicts, judge_all};
-use check_evaluate::Verdict;
-use deny_text::{ListOf, Text};
-use diag_core::{ErrorSink, Files, LevelFilter, Packs};
-use gather_core::{Gatherer, KrateLicense, KrateLicenses, LicenseInfo, Summary};
-use graph_workspace::Krates;
-use policy_valid::ValidConfig;
+use crate::manifest::look_at_manifest;
+use crate::summary::write_summary;
+use diag_print::LogContext;
+use run_check::{Report, check_since, uncarried_in};
+use run_found::Error;
+use run_request::KrateContext;
+use run_request::check::Args;
 use spdx_core::{Catalog, Identifier};
-use std::alloc::{AllocError, Global};
-use tree_core::Tree;
+use std::alloc::Global;
+use tree_core::{Sink, Tree};
 
-/// What a check of all crates comes to, and the policy that it was made by.
-#[derive(Drop)]
-pub(crate) struct CheckedCrates {
-    pub(crate) policy: ValidConfig,
-    pub(crate) crates: ListOf<CrateReport>,
-    pub(crate) findings: Packs,
-}
-
-/// The report on a crate, by its licence and the verdict on it.
-fn report_on(
+/// The report that a request for a check asks for: the manifest is looked at, and then the check runs. What is
+/// told of the policy's load and what was found goes to `err`, and the summary to its sink.
+pub fn check_request<T: Tree, O: Sink, E: Sink, C: Catalog, I: Identifier>(
     alloc: Global,
-    license: KrateLicense<'_>,
-    verdict: Verdict,
-) -> Result<CrateReport, AllocError>
-    ensures { IfOk result (λ report. report ≡ report_of license.entry verdict) }
-{
-    let KrateLicense {
-        krate,
-        lic_info,
-        notes,
-        diags: _,
-        reads,
-    } = license;
-    let id = Text::copy(alloc, krate.id.as_str())?;
-    match lic_info {
-        LicenseInfo::SpdxExpression { expr, nfo } => Ok(CrateReport {
-            id,
-            reads,
-            expression: Some(expr),
-            source: Some(nfo.source),
-            notes,
-            verdict,
-        }),
-        LicenseInfo::Unlicensed => Ok(CrateReport {
-            id,
-            reads,
-            expression: None,
-            source: None,
-            notes,
-            verdict,
-        }),
-    }
-}
-
-/// The reports on crates, in order, by their licences and the verdicts on them.
-fn reports_on(
-    alloc: Global,
-    licenses: KrateLicenses<'_>,
-    verdicts: Verdicts,
-) -> Result<ListOf<CrateReport>, AllocError>
-    ensures { IfOk result (λ reports. reports ≡ reports_of licenses.entry verdicts) }
-{
-    let mut reports = ListOf::new(alloc);
-    let verdicts = verdicts.into_vec();
-    'crates: for (license, verdict) in licenses.into_vec().into_iter().zip(verdicts) {
-        let report = report_on(alloc, license, verdict)?;
-        reports.push(report)?;
-    }
-    Ok(reports)
-}
-
-/// The verdicts on the crates of a summary under a policy, and the reports on these crates.
-fn judge_and_report(
-    alloc: Global,
-    policy: ValidConfig,
-    krates: &Krates,
-    files: &Files,
-    summary: Summary<'_>,
-) -> Result<CheckedCrates, AllocError>
-    requires placed { All (IsPlacedAt files.now) summary.nfos }
-    requires entries { EntriesLie files.now policy }
-    ensures check { IfOk result (IsCheckOf policy summary.entry.nfos) }
-    ensures terms { IfOk result (λ _.
-        All (VerdictPoints files.now (policy_of policy)) (gathered_of_licenses summary.entry.nfos)) }
-    ensures labels { IfOk result (λ checked. All (PackLies files.now) checked.findings) }
-{
-    let ctx = CheckCtx {
-        cfg: policy,
-        krates,
-        log_level: LevelFilter::Warn,
-        files,
-    };
-    let mut sink = ErrorSink::new(alloc, None);
-    let verdicts = judge_all(alloc, &ctx, &summary, &mut sink)?;
-    let crates = reports_on(alloc, summary.nfos, verdicts)?;
-    Ok(CheckedCrates {
-        policy: ctx.cfg,
-        crates,
-        findings: sink.packs,
-    })
-}
-
-/// The check of the crates that a policy has checked, in the order of their ids, once the licence of each was
-/// settled.
-pub(crate) fn settle_and_judge<T: Tree, C: Catalog, I: Identifier>(
-    alloc: Global,
-    policy: ValidConfig,
-    krates: &Krates,
-    files: &mut Files,
+    log_ctx: LogContext,
+    args: &Args,
+    context: &KrateContext,
     tree: &mut T,
+    out: &mut O,
+    err: &mut E,
     catalog: &C,
     identifier: &I,
-) -> Result<CheckedCrates, AllocError>
-    requires { PolicyStands files.old policy }
-    // of each graph and choice that the crates are of
-    ensures checked { IfOk result (λ checked. (graph : Graph) (choice : Choice) → IsChosen graph choice krates.now
-        → IsCheckedOn (scanner_of_policy (C.lists catalog.now) (I.match_of identifier.now) policy) policy
+) -> Result<Report, Error>
+    ensures policy { result ≢ Err (Error.ConfigRead ReadFault.Absent) }
+    ensures counts { IfErr result (λ error. ReadCounts
+        (T.fault_count tree.old) (T.fault_count tree.old) (T.fault_count tree.new) (cause_of error)) }
+    ensures written { WritesFirst
+        (check_arguments_of (C.lists catalog.now) (I.match_of identifier.now) log_ctx args.now context.now)
         (seen (T.content tree.old) (T.content tree.new) (T.fault_count tree.old) (T.fault_count tree.new)
         (T.trace tree.old) (T.trace tree.new))
-        files.old files.new graph choice checked) }
-    ensures cut { OnErr result ((graph : Graph) (choice : Choice) → IsChosen graph choice krates.now
-        → IsCheckCut (scanner_of_policy (C.lists catalog.now) (I.match_of identifier.now) policy) policy
+        (between
+        (record { tree = T.fault_count tree.old; out = O.fault_count out.old; err = E.fault_count err.old })
+        (record { tree = T.fault_count tree.new; out = O.fault_count out.new; err = E.fault_count err.new }))
+        (record { out = O.written out.old; err = E.written err.old })
+        (record { out = O.written out.new; err = E.written err.new })
+        result }
+    ensures uncarried { (what : What) → uncarried_of log_ctx args.now context.now ≡ Some what
+        → (result ≡ Err (Error.NotCarried what)) × IsUntouched
         (seen (T.content tree.old) (T.content tree.new) (T.fault_count tree.old) (T.fault_count tree.new)
-        (T.trace tree.old) (T.trace tree.new))
-        files.old graph choice) }
-    ensures labels { IfOk result (λ checked. All (PackLies files.new) checked.findings) }
-    ensures later { T.fault_count tree.old ≤ T.fault_count tree.new }
+        (T.trace tree.old) (T.trace tree.new)) }
+    ensures labels { LabelsLie result }
+    ensures out_later { O.fault_count out.old ≤ O.fault_count out.new }
+    ensures err_later { E.fault_count err.old ≤ E.fault_count err.new }
 {
-    let gatherer: Gatherer<'_, I> = Gatherer::default();
-    let gatherer = gatherer
-        .with_store(identifier)
-        .with_confidence_threshold(policy.confidence_threshold);
-    let summary = gatherer.gather(alloc, krates, files, &policy, tree, catalog)?;
-    judge_and_report(alloc, policy, krates, files, summary)
+    if let Some(what) = uncarried_in(log_ctx, args, context) {
+        return Err(Error::NotCarried(what));
+    }
+    check_carried(
+        alloc, log_ctx, args, context, tree, out, err, catalog, identifier,
+    )
+}
+
+/// The same of a request all of which is carried.
+fn check_carried<T: Tree, O: Sink, E: Sink, C: Catalog, I: Identifier>(
+    alloc: Global,
+    log_ctx: LogContext,
+    args: &Args,
+    context: &KrateContext,
+    tree: &mut T,
+    out: &mut O,
+    err: &mut E,
+    catalog: &C,
+    identifier: &I,
+) -> Result<Report, Error>
+    requires { uncarried_of log_ctx args.now context.now ≡ None }
+    ensures policy { result ≢ Err (Error.ConfigRead ReadFault.Absent) }
+    ensures counts { IfErr result (λ error. ReadCounts
+        (T.fault_count tree.old) (T.fault_count tree.old) (T.fault_count tree.new) (cause_of error)) }
+    ensures written { WritesFirst
+        (check_arguments_of (C.lists catalog.now) (I.match_of identifier.now) log_ctx args.now context.now)
+        (seen (T.content tree.old) (T.content tree.new) (T.fault_count tree.old) (T.fault_count tree.new)
+        (T.trace tree.old) (T.trace tree.new))
+        (between
+        (record { tree = T.fault_count tree.old; out = O.fault_count out.old; err = E.fault_count err.old })
+        (record { tree = T.fault_count tree.new; out = O.fault_count out.new; err = E.fault_count err.new }))
+        (record { out = O.written out.old; err = E.written err.old })
+        (record { out = O.written out.new; err = E.written err.new })
+        result }
+    ensures labels { LabelsLie result }
+    ensures out_later { O.fault_count out.old ≤ O.fault_count out.new }
+    ensures err_later { E.fault_count err.old ≤ E.fault_count err.new }
+{
+    let begun = err.faults();
+    match look_at_manifest(alloc, tree, context.manifest_path.as_path()) {
+        Err(error) => Err(error),
+        Ok(()) => match check_since(
+            alloc, tree, err, catalog, identifier, log_ctx, args, context,
+        ) {
+            Err(error) => Err(error),
+            Ok(report) => {
+                match write_summary(alloc, &report, args.show_stats, log_ctx, out, err, begun) {
+                    Ok(()) => Ok(report),
+                    Err(error) => Err(error),
+                }
+            }
+        },
+    }
 }

@@ -2,15 +2,19 @@
 #![tactic(auto)]
 
 mod check;
-pub mod error;
-pub mod report;
+mod manifest;
+pub mod outcome;
 pub mod run;
-mod stages;
-pub mod words;
+mod summary;
+mod words;
 
 pub use diag_print::{Color, DiagPrinter, Format, LogContext, OutputLock, PrintError};
 pub use gather_core::LicenseExprSource;
+pub use outcome::{Outcome, RunEnd};
 pub use policy_load::{
     Diagnostics, ErrorKind, ReadFault, ShapeError, ShapeErrors, SyntaxError, SyntaxReason,
     ValidConfig,
 };
+pub use run_check::report::{AllStats, CrateReport, Report, Stats, Verdict};
+pub use run_found::Error;
+pub use run_request::{Request, Subcommand};

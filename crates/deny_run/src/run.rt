@@ -1,142 +1,130 @@
 //! The run: from words and files to a report, a summary and a status.
-ghost use Rattle.std.specs.Prelude.{◌≡◌, ◌≢◌, ◌≤◌, ◌↔◌, IfErr, OnOk, OnErr};
+ghost use Rattle.std.specs.Prelude.{◌≡◌, ◌≢◌, ◌≤◌, All, IfErr, IfSome, OnOk, is_some, true};
 ghost use Rattle.std.specs.Option.{ForSome};
-ghost use Rattle.tree_core.specs.Faults.{Gained, GainedPrefix, IsCounted};
 ghost use Rattle.tree_core.specs.Hearing.{MadeSome};
 ghost use Rattle.tree_core.specs.Script.{LineWritten};
-ghost use Rattle.deny_run.specs.declared.error.InputPart.{InputPart};
 ghost use Rattle.tree_texts.specs.declared.fault.ReadFault.{ReadFault};
 ghost use Rattle.tree_texts.specs.Cause.{ReadCounts};
-ghost use Rattle.deny_run.specs.Counts.{status_of, summary_of};
-ghost use Rattle.deny_run.specs.Error.{cause_of, fault_line};
+ghost use Rattle.check_core.specs.Labels.{PackLies};
+ghost use Rattle.run_request.specs.Request.{args_of};
+ghost use Rattle.run_found.specs.Error.{cause_of, fault_line};
+ghost use Rattle.run_found.specs.Hearing.{seen};
 ghost use Rattle.deny_run.specs.Given.{run_arguments_of};
 ghost use Rattle.deny_run.specs.Headline.{Headline, HeadlineRead};
-ghost use Rattle.deny_run.specs.Hearing.{seen};
-ghost use Rattle.deny_run.specs.Report.{IsAnswer, LabelsLie};
-ghost use Rattle.deny_run.specs.Steps.{report_with};
-ghost use Rattle.deny_run.specs.Run.{answer_from, answer_of, exit_status};
-ghost use Rattle.deny_run.specs.Script.{Writes, WritesFirst, WritesLoad, between, plain_log};
-ghost use Rattle.deny_run.specs.Words.{check_request_of, texts};
+ghost use Rattle.deny_run.specs.Run as run;
+ghost use Rattle.deny_run.specs.Run.{AnswersWords, EndsRequest, IfChecked, IfRefused, IsOutcome};
+ghost use Rattle.deny_run.specs.Run.{RefusesUncarried};
+ghost use Rattle.deny_run.specs.Script.{between};
 
-use crate::check::CheckedCrates;
-use crate::error::{Error, Refusal};
-use crate::report::{AllStats, Outcome, Report, RunEnd};
-use crate::stages::{check_crates, policy_paths};
-use crate::words::CheckRequest;
-use diag_core::{Files, LevelFilter};
-use diag_print::{Color, Format, LogContext, index_packs, print_packs};
-use policy_load::load;
+use crate::check::check_request;
+use crate::outcome::{Outcome, RunEnd};
+use crate::words::{show, write_fault, write_usage};
+use run_check::Report;
+use run_found::Error;
+use run_request::read::read;
+use run_request::{CliAnswer, Request, Subcommand};
 use spdx_core::{Catalog, Identifier};
 use std::alloc::Global;
-use tree_core::{Sink, SinkFailed, Tree, write_all};
+use tree_core::{Sink, Tree};
 
-/// How findings are written: as lines for a person, warnings and what is worse.
-fn plain_log() -> LogContext
-    ensures { result ≡ plain_log }
+/// The end of a request that is answered: a report, or a refusal, whose line is written.
+fn told<E: Sink>(err: &mut E, answer: Result<Report, Error>) -> RunEnd
+    ensures ended { result ≡ run.end_of answer }
+    ensures line { IfErr answer (λ error. LineWritten (E.written err.old) (E.written err.new)
+        (E.fault_count err.old) (E.fault_count err.new) (fault_line error)) }
+    ensures silent { OnOk answer ((E.written err.new ≡ E.written err.old)
+        × (E.fault_count err.new ≡ E.fault_count err.old)) }
+    ensures later { E.fault_count err.old ≤ E.fault_count err.new }
 {
-    LogContext {
-        format: Format::Human,
-        color: Color::Auto,
-        log_level: LevelFilter::Warn,
+    match answer {
+        Ok(report) => RunEnd::Checked(report),
+        Err(error) => {
+            write_fault(err, &error);
+            RunEnd::Refused(error)
+        }
     }
 }
 
-/// The report of a check, and the files that it points into, in which the places that are printed are found
-/// fast.
-fn report_of(checked: CheckedCrates, files: Files) -> Report
-    ensures { result ≡ report_with checked files }
-{
-    let CheckedCrates {
-        policy,
-        crates,
-        findings,
-    } = checked;
-    let mut files = files;
-    index_packs(plain_log(), findings.items(), &mut files);
-    Report {
-        stats: AllStats::of_findings(findings.items()),
-        policy,
-        crates,
-        findings,
-        files,
-    }
-}
-
-/// The report that the words and the files ask for. What is told of the policy's load is written to `err`.
-fn report<T: Tree, E: Sink, C: Catalog, I: Identifier>(
+/// The run over a request, by its command. Words are taken with `check` alone.
+pub fn run_request<T: Tree, O: Sink, E: Sink, C: Catalog, I: Identifier>(
     alloc: Global,
-    words: &[String],
-    cwd: &str,
+    request: &Request,
     tree: &mut T,
+    out: &mut O,
     err: &mut E,
     catalog: &C,
     identifier: &I,
-) -> Result<Report, Refusal>
-    ensures words { (answer_from result ≡ Err (Error.NotYet InputPart.Words))
-        ↔ (check_request_of (texts words.now) cwd.now ≡ None) }
-    ensures policy { answer_from result ≢ Err (Error.ConfigRead ReadFault.Absent) }
-    ensures counts { IfErr (answer_from result) (λ error. ReadCounts
-        (T.fault_count tree.old) (T.fault_count tree.old) (T.fault_count tree.new) (cause_of error)) }
-    ensures written { WritesLoad
-        (run_arguments_of (C.lists catalog.now) (I.match_of identifier.now) words.now cwd.now)
+) -> RunEnd
+    requires { is_some (args_of request.now.command) ≡ true }
+    // What was heard asks for is answered, whatever the tree tells of its content, and nothing else was read: each
+    // refusal is the first one, by its cause; and so much is written.
+    ensures ended { EndsRequest (C.lists catalog.now) (I.match_of identifier.now)
         (seen (T.content tree.old) (T.content tree.new) (T.fault_count tree.old) (T.fault_count tree.new)
         (T.trace tree.old) (T.trace tree.new))
-        (E.written err.old) (E.written err.new) (E.fault_count err.old) (E.fault_count err.new)
-        (answer_from result) }
-    ensures labels { LabelsLie (answer_from result) }
-    ensures later { E.fault_count err.old ≤ E.fault_count err.new }
+        (between
+        (record { tree = T.fault_count tree.old; out = O.fault_count out.old; err = E.fault_count err.old })
+        (record { tree = T.fault_count tree.new; out = O.fault_count out.new; err = E.fault_count err.new }))
+        (record { out = O.written out.old; err = E.written err.old })
+        (record { out = O.written out.new; err = E.written err.new })
+        request.now request.now.command result }
+    ensures uncarried { RefusesUncarried (C.lists catalog.now) (I.match_of identifier.now)
+        (seen (T.content tree.old) (T.content tree.new) (T.fault_count tree.old) (T.fault_count tree.new)
+        (T.trace tree.old) (T.trace tree.new))
+        request.now result }
+    ensures policy { result ≢ RunEnd.Refused (Error.ConfigRead ReadFault.Absent) }
+    ensures made { MadeSome (T.content tree.old) (T.content tree.new) (T.fault_count tree.old)
+        (T.fault_count tree.new) (T.trace tree.old) (T.trace tree.new) }
+    ensures counts { IfRefused result (λ error. ReadCounts
+        (T.fault_count tree.old) (T.fault_count tree.old) (T.fault_count tree.new) (cause_of error)) }
+    ensures labels { IfChecked result (λ report. All (PackLies report.files) report.findings) }
+    ensures out_later { O.fault_count out.old ≤ O.fault_count out.new }
+    ensures err_later { E.fault_count err.old ≤ E.fault_count err.new }
 {
-    let begun = tree.faults();
-    let Some(request) = CheckRequest::from_words(alloc, words, cwd)? else {
-        return Err(Refusal::Words);
-    };
-    let CheckRequest {
-        metadata_path,
-        config_path,
-    } = request;
-    let paths = policy_paths(alloc, tree, cwd, config_path, begun)?;
-    let mut files = Files::new(alloc);
-    let policy = load(
-        alloc,
-        paths,
-        &mut files,
-        plain_log(),
-        tree,
-        err,
-        catalog,
-        begun,
-    )?;
-    let checked = check_crates(
-        alloc,
-        policy,
-        metadata_path.as_path(),
-        &mut files,
-        tree,
-        catalog,
-        identifier,
-        begun,
-    )?;
-    Ok(report_of(checked, files))
+    match &request.command {
+        Subcommand::Check(args) => {
+            let answer = check_request(
+                alloc,
+                request.log_ctx,
+                args,
+                &request.krate_ctx,
+                tree,
+                out,
+                err,
+                catalog,
+                identifier,
+            );
+            told(err, answer)
+        }
+        Subcommand::List(_) => RunEnd::Usage,
+        Subcommand::Sample(_) => RunEnd::Usage,
+    }
 }
 
-/// Writes the summary of a report.
-fn write_summary<O: Sink>(out: &mut O, report: &Report) -> Result<(), SinkFailed>
-    ensures ok { OnOk result (Gained (O.written out.old) (O.written out.new) (summary_of report.now.stats)) }
-    ensures err { OnErr result (GainedPrefix (O.written out.old) (O.written out.new)
-        (summary_of report.now.stats)) }
-    ensures cause { IsCounted (O.fault_count out.old) (O.fault_count out.new) result }
+/// The status of an end: 0 where the check of licences has no errors, 4 where it has; 0 after help and the version,
+/// 2 after a mistake in the words, 1 after a refusal.
+fn exit_status(ended: &RunEnd) -> u8
+    ensures { result ≡ run.exit_status ended.now }
 {
-    let summary = if report.stats.has_errors() {
-        "licenses FAILED\n"
-    } else {
-        "licenses ok\n"
-    };
-    write_all(out, summary.as_bytes())
+    match ended {
+        RunEnd::Checked(report) => { if report.stats.has_errors() { 4 } else { 0 } }
+        RunEnd::Shown => 0,
+        RunEnd::Usage => 2,
+        RunEnd::Refused(_) => 1,
+    }
 }
 
-/// The report that the words and the files ask for, with what is told of the policy's load, what was found and
-/// its summary written.
-fn check<T: Tree, O: Sink, E: Sink, C: Catalog, I: Identifier>(
+fn outcome_of(request: Option<Request>, ended: RunEnd) -> Outcome
+    ensures { result ≡ run.outcome_of request ended }
+{
+    Outcome {
+        status: exit_status(&ended),
+        request,
+        ended,
+    }
+}
+
+/// The run over words, as `run` has it.
+fn run_words<T: Tree, O: Sink, E: Sink, C: Catalog, I: Identifier>(
     alloc: Global,
     words: &[String],
     cwd: &str,
@@ -145,13 +133,8 @@ fn check<T: Tree, O: Sink, E: Sink, C: Catalog, I: Identifier>(
     err: &mut E,
     catalog: &C,
     identifier: &I,
-) -> Result<Report, Error>
-    ensures words { (result ≡ Err (Error.NotYet InputPart.Words)) ↔ (check_request_of (texts words.now) cwd.now ≡ None) }
-    ensures policy { result ≢ Err (Error.ConfigRead ReadFault.Absent) }
-    ensures counts { IfErr result (λ error.
-        ReadCounts (T.fault_count tree.old) (T.fault_count tree.old) (T.fault_count tree.new)
-        (cause_of error)) }
-    ensures written { WritesFirst
+) -> Outcome
+    ensures outcome { IsOutcome
         (run_arguments_of (C.lists catalog.now) (I.match_of identifier.now) words.now cwd.now)
         (seen (T.content tree.old) (T.content tree.new) (T.fault_count tree.old) (T.fault_count tree.new)
         (T.trace tree.old) (T.trace tree.new))
@@ -160,55 +143,47 @@ fn check<T: Tree, O: Sink, E: Sink, C: Catalog, I: Identifier>(
         (record { tree = T.fault_count tree.new; out = O.fault_count out.new; err = E.fault_count err.new }))
         (record { out = O.written out.old; err = E.written err.old })
         (record { out = O.written out.new; err = E.written err.new })
-        result }
-    ensures labels { LabelsLie result }
+        result.request result.ended }
+    ensures words { AnswersWords
+        (run_arguments_of (C.lists catalog.now) (I.match_of identifier.now) words.now cwd.now) result }
+    ensures uncarried { IfSome result.request (λ request. RefusesUncarried (C.lists catalog.now) (I.match_of identifier.now)
+        (seen (T.content tree.old) (T.content tree.new) (T.fault_count tree.old) (T.fault_count tree.new)
+        (T.trace tree.old) (T.trace tree.new))
+        request result.ended) }
+    ensures policy { result.ended ≢ RunEnd.Refused (Error.ConfigRead ReadFault.Absent) }
+    ensures made { MadeSome (T.content tree.old) (T.content tree.new) (T.fault_count tree.old)
+        (T.fault_count tree.new) (T.trace tree.old) (T.trace tree.new) }
+    ensures counts { IfRefused result.ended (λ error. ReadCounts
+        (T.fault_count tree.old) (T.fault_count tree.old) (T.fault_count tree.new) (cause_of error)) }
+    ensures labels { IfChecked result.ended (λ report. All (PackLies report.files) report.findings) }
     ensures out_later { O.fault_count out.old ≤ O.fault_count out.new }
     ensures err_later { E.fault_count err.old ≤ E.fault_count err.new }
+    ensures status { result.status ≡ run.exit_status result.ended }
 {
-    let before = out.faults();
-    let begun = err.faults();
-    let report = match report(alloc, words, cwd, tree, err, catalog, identifier) {
-        Ok(report) => report,
-        Err(refusal) => return Err(Error::from(refusal)),
-    };
-    print_packs(
-        alloc,
-        plain_log(),
-        report.findings.items(),
-        &report.files,
-        err,
-        begun,
-    )?;
-    match write_summary(out, &report) {
-        Ok(()) => Ok(report),
-        Err(SinkFailed) => Err(Error::WriteFault {
-            before,
-            after: out.faults(),
-        }),
+    match read(alloc, words, cwd) {
+        Ok(CliAnswer::Asked(request)) => {
+            let ended = run_request(alloc, &request, tree, out, err, catalog, identifier);
+            outcome_of(Some(request), ended)
+        }
+        Ok(CliAnswer::Shown(text)) => outcome_of(None, show(out, err, text.as_str())),
+        Ok(CliAnswer::Usage(text)) => {
+            write_usage(err, text.as_str());
+            outcome_of(None, RunEnd::Usage)
+        }
+        Err(_) => {
+            write_fault(err, &Error::Memory);
+            outcome_of(None, RunEnd::Refused(Error::Memory))
+        }
     }
 }
 
-/// Writes the line of a refusal. A sink that refuses it changes nothing in the answer.
-fn write_fault<E: Sink>(err: &mut E, error: &Error)
-    ensures later { E.fault_count err.old ≤ E.fault_count err.new }
-    ensures written { LineWritten (E.written err.old) (E.written err.new)
-        (E.fault_count err.old) (E.fault_count err.new) (fault_line error.now) }
-{
-    let _ = write_all(err, error.line().as_bytes());
-}
-
-/// 4 where the check of licences has errors, else 0.
-fn exit_status(report: &Report) -> u8
-    ensures { result ≡ status_of report.now.stats }
-{
-    if report.stats.has_errors() { 4 } else { 0 }
-}
-
 /// Runs the licence gate over the words of a command line, whose first is the program's name. Paths in them
-/// are read from `cwd`. The summary goes to `out`; what is told of the policy's load, then what was found, and
-/// the line of a refusal go to `err`.
+/// are read from `cwd`. Help and the version go to `out`, and the mistakes of words to `err`. What is told of the
+/// policy's load, then what was found, and the line of a refusal go to `err`; the summary goes to `out`, and as JSON
+/// to `err`.
 ///
-/// The status is 0 where no finding is an error, 4 where one is, and 1 after a refusal.
+/// The status is 0 where no finding is an error, 4 where one is, 2 where the words are not taken, and 1 after a
+/// refusal; it is 0 after help and the version.
 pub fn run<T: Tree, O: Sink, E: Sink, C: Catalog, I: Identifier>(
     alloc: Global,
     words: &[String],
@@ -219,26 +194,10 @@ pub fn run<T: Tree, O: Sink, E: Sink, C: Catalog, I: Identifier>(
     catalog: &C,
     identifier: &I,
 ) -> Outcome
-    // What was read asks for is answered, whatever the tree tells of its content, and nothing else was read: each
-    // refusal is the first one, by its cause.
-    ensures answer { IsAnswer
-        (run_arguments_of (C.lists catalog.now) (I.match_of identifier.now) words.now cwd.now)
-        (seen (T.content tree.old) (T.content tree.new) (T.fault_count tree.old) (T.fault_count tree.new)
-        (T.trace tree.old) (T.trace tree.new))
-        (answer_of result.ended) }
-    ensures words { (answer_of result.ended ≡ Err (Error.NotYet InputPart.Words))
-        ↔ (check_request_of (texts words.now) cwd.now ≡ None) }
-    ensures policy { answer_of result.ended ≢ Err (Error.ConfigRead ReadFault.Absent) }
-
-    // Calls were made on the tree, and nothing else came of it; a failed read has a cause.
-    ensures made { MadeSome (T.content tree.old) (T.content tree.new) (T.fault_count tree.old)
-        (T.fault_count tree.new) (T.trace tree.old) (T.trace tree.new) }
-    ensures counts { IfErr (answer_of result.ended) (λ error.
-        ReadCounts (T.fault_count tree.old) (T.fault_count tree.old) (T.fault_count tree.new)
-        (cause_of error)) }
-
-    // What was written, and when a write was refused.
-    ensures written { Writes
+    // The request that is told is that of the words, where they are taken and have one; what it asks for is answered,
+    // by what was heard and nothing else, each refusal by its cause, and written. Else help and the version are
+    // shown, mistakes are told, and no call is made.
+    ensures outcome { IsOutcome
         (run_arguments_of (C.lists catalog.now) (I.match_of identifier.now) words.now cwd.now)
         (seen (T.content tree.old) (T.content tree.new) (T.fault_count tree.old) (T.fault_count tree.new)
         (T.trace tree.old) (T.trace tree.new))
@@ -247,15 +206,33 @@ pub fn run<T: Tree, O: Sink, E: Sink, C: Catalog, I: Identifier>(
         (record { tree = T.fault_count tree.new; out = O.fault_count out.new; err = E.fault_count err.new }))
         (record { out = O.written out.old; err = E.written err.old })
         (record { out = O.written out.new; err = E.written err.new })
-        (answer_of result.ended) }
+        result.request result.ended }
+
+    // Words that have a request have it told, and help and mistakes are answered so, but for want of memory and a
+    // refused write of help.
+    ensures words { AnswersWords
+        (run_arguments_of (C.lists catalog.now) (I.match_of identifier.now) words.now cwd.now) result }
+
+    // Where a part of the request is not carried, that is the refusal, and no call is made.
+    ensures uncarried { IfSome result.request (λ request. RefusesUncarried (C.lists catalog.now) (I.match_of identifier.now)
+        (seen (T.content tree.old) (T.content tree.new) (T.fault_count tree.old) (T.fault_count tree.new)
+        (T.trace tree.old) (T.trace tree.new))
+        request result.ended) }
+    ensures policy { result.ended ≢ RunEnd.Refused (Error.ConfigRead ReadFault.Absent) }
+
+    // Calls were made on the tree, and nothing else came of it; a failed read has a cause.
+    ensures made { MadeSome (T.content tree.old) (T.content tree.new) (T.fault_count tree.old)
+        (T.fault_count tree.new) (T.trace tree.old) (T.trace tree.new) }
+    ensures counts { IfRefused result.ended (λ error. ReadCounts
+        (T.fault_count tree.old) (T.fault_count tree.old) (T.fault_count tree.new) (cause_of error)) }
     ensures out_later { O.fault_count out.old ≤ O.fault_count out.new }
     ensures err_later { E.fault_count err.old ≤ E.fault_count err.new }
 
     // Each label of each finding lies in the text of its file, between characters.
-    ensures labels { LabelsLie (answer_of result.ended) }
+    ensures labels { IfChecked result.ended (λ report. All (PackLies report.files) report.findings) }
 
     // The status is that of the counts.
-    ensures status { result.status ≡ exit_status (answer_of result.ended) }
+    ensures status { result.status ≡ run.exit_status result.ended }
 
     // The headline, in the words of policies, records and verdicts: by what was read, and by the content where the tree
     // tells it.
@@ -274,17 +251,5 @@ pub fn run<T: Tree, O: Sink, E: Sink, C: Catalog, I: Identifier>(
         (record { tree = T.fault_count tree.new; out = O.fault_count out.new; err = E.fault_count err.new }))
         result) }
 {
-    match check(alloc, words, cwd, tree, out, err, catalog, identifier) {
-        Ok(report) => Outcome {
-            status: exit_status(&report),
-            ended: RunEnd::Checked(report),
-        },
-        Err(error) => {
-            write_fault(err, &error);
-            Outcome {
-                status: 1,
-                ended: RunEnd::Refused(error),
-            }
-        }
-    }
+    run_words(alloc, words, cwd, tree, out, err, catalog, identifier)
 }

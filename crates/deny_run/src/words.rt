@@ -1,55 +1,52 @@
-//! What the words of a command line ask for.
-ghost use Rattle.std.specs.Prelude.{◌≡◌, ◌<◌, length, IfOk, OnErr, IsSome, IsTrue};
-ghost use Rattle.deny_run.specs.Words.{check_request_of, asks_for_check, word_at, texts};
+//! What is written where there is no report.
+ghost use Rattle.std.specs.Prelude.{◌≤◌};
+ghost use Rattle.tree_core.specs.Script.{LineWritten};
+ghost use Rattle.diag_stats.specs.Summary.{sink_counts};
+ghost use Rattle.run_found.specs.Error.{fault_line};
+ghost use Rattle.deny_run.specs.Words.{EndsShown};
 
-use deny_text::PathBuf;
-use deny_text::path::join;
-use std::alloc::{AllocError, Global};
+use crate::outcome::RunEnd;
+use run_found::Error;
+use tree_core::{Sink, SinkFailed, write_all};
 
-/// Where the metadata and the policy are.
-#[derive(Drop)]
-pub struct CheckRequest {
-    pub metadata_path: PathBuf,
-    pub config_path: PathBuf,
+/// Writes the line of a refusal. A sink that refuses it changes nothing in the answer.
+pub(crate) fn write_fault<E: Sink>(err: &mut E, error: &Error)
+    ensures later { E.fault_count err.old ≤ E.fault_count err.new }
+    ensures written { LineWritten (E.written err.old) (E.written err.new)
+        (E.fault_count err.old) (E.fault_count err.new) (fault_line error.now) }
+{
+    let _ = write_all(err, error.line().as_bytes());
 }
 
-impl CheckRequest {
-    /// The request of the seven words `PROGRAM --metadata-path M --config P check licenses`; none for
-    /// other words.
-    pub fn from_words(
-        alloc: Global,
-        words: &[String],
-        cwd: &str,
-    ) -> Result<Option<CheckRequest>, AllocError>
-        ensures ok { IfOk result (λ request. request ≡ check_request_of (texts words.now) cwd.now) }
-        ensures refused { OnErr result (IsSome (check_request_of (texts words.now) cwd.now)) }
-    {
-        if !asks_for_check(words) {
-            return Ok(None);
+/// Writes the text of a mistake in the words. A sink that refuses it changes nothing in the answer.
+pub(crate) fn write_usage<E: Sink>(err: &mut E, text: &str)
+    ensures later { E.fault_count err.old ≤ E.fault_count err.new }
+    ensures written { LineWritten (E.written err.old) (E.written err.new)
+        (E.fault_count err.old) (E.fault_count err.new) text.now }
+{
+    let _ = write_all(err, text.as_bytes());
+}
+
+/// Shows a text, or where that is refused writes the line of the refusal.
+pub(crate) fn show<O: Sink, E: Sink>(out: &mut O, err: &mut E, text: &str) -> RunEnd
+    ensures shown { EndsShown
+        (sink_counts (O.fault_count out.old) (O.fault_count out.new) (E.fault_count err.old) (E.fault_count err.new))
+        (record { out = O.written out.old; err = E.written err.old })
+        (record { out = O.written out.new; err = E.written err.new })
+        result }
+    ensures out_later { O.fault_count out.old ≤ O.fault_count out.new }
+    ensures err_later { E.fault_count err.old ≤ E.fault_count err.new }
+{
+    let before = out.faults();
+    match write_all(out, text.as_bytes()) {
+        Ok(()) => RunEnd::Shown,
+        Err(SinkFailed) => {
+            let error = Error::WriteFault {
+                before,
+                after: out.faults(),
+            };
+            write_fault(err, &error);
+            RunEnd::Refused(error)
         }
-        let metadata_path = join(alloc, cwd, word_at(words, 2))?;
-        let config_path = join(alloc, cwd, word_at(words, 4))?;
-        Ok(Some(CheckRequest {
-            metadata_path,
-            config_path,
-        }))
     }
-}
-
-fn word_at(words: &[String], place: usize) -> &str
-    requires { place < length words.now }
-    ensures { result.now ≡ word_at (texts words.now) place }
-{
-    words[place].as_str()
-}
-
-fn asks_for_check(words: &[String]) -> bool
-    ensures value { result ≡ asks_for_check (texts words.now) }
-    ensures seven { IsTrue result → length words.now ≡ 7 }
-{
-    words.len() == 7
-        && word_at(words, 1) == "--metadata-path"
-        && word_at(words, 3) == "--config"
-        && word_at(words, 5) == "check"
-        && word_at(words, 6) == "licenses"
 }

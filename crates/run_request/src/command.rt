@@ -10,6 +10,28 @@ use std::alloc::{AllocError, Global};
 
 static VERSION: &str = "0.20.2";
 
+/// What stands below the options in the program's help.
+static AFTER_HELP: &str = "\
+A first run, in the folder of the project:
+  cargo metadata --format-version 1 > metadata.json
+  cargo deny --metadata-path metadata.json check licenses
+
+The options above stand before the command: `check licenses --workspace` is refused.
+
+Status:
+  0  no finding is an error, or what was asked for was written
+  4  a finding is an error
+  1  the run was refused: the last line on standard error says why
+  2  the words were refused
+
+A request is not carried
+  without --metadata-path;
+  where `check` names another check than licenses, or none;
+  with --format sarif, --target, check --graph or check --audit-compatible-output;
+  with a `/` or a `#` in a spec of --exclude, or of the policy's `exclude`.
+
+The commands `init` and `fetch` are no part of this program.";
+
 /// The whole command line. Behind the program's name it takes what stands behind the `deny` of `cargo deny`.
 pub fn command<'a>(alloc: Global) -> Result<Command<'a>, AllocError>
     ensures { IfOk result (λ command. app_of command ≡ cli) }
@@ -31,6 +53,7 @@ fn top_command<'a>(alloc: Global) -> Result<Command<'a>, AllocError>
     let command = Command::new(alloc, "cargo-deny")
         .version(VERSION)
         .about("Checks the licences of a project's crates against a policy")
+        .after_help(AFTER_HELP)
         .subcommand_required(true);
     let command = with_rows(alloc, command, main_rows())?;
     Ok(command)
@@ -45,6 +68,12 @@ pub(crate) fn check_command<'a>(alloc: Global) -> Result<Command<'a>, AllocError
 {
     let command = Command::new(alloc, "check").about("Checks a project's crates");
     with_rows(alloc, command, check_rows())
+}
+
+/// The subcommand `check` by itself, whose usage has the program's name in front.
+pub(crate) fn check_alone<'a>(alloc: Global) -> Result<Command<'a>, AllocError> {
+    let command = check_command(alloc)?;
+    command.bin_name("cargo-deny check")
 }
 
 /// The subcommand `list`.

@@ -194,7 +194,11 @@ static MAIN: [OptionRow; 17] = [
         OptionValues::Any,
         "Features, with commas between; read, and without effect"
     ),
-    flag!("workspace", None, "Begins at every member of the workspace"),
+    flag!(
+        "workspace",
+        None,
+        "Every member of the workspace is a root crate"
+    ),
     flag!(
         "all-features",
         None,
@@ -219,12 +223,12 @@ static MAIN: [OptionRow; 17] = [
     flag!(
         "exclude-dev",
         None,
-        "Leaves dependencies of tests and examples out"
+        "Leaves dev-dependencies out, those of tests and examples"
     ),
     flag!(
         "exclude-unpublished",
         None,
-        "Begins at no member that is never published"
+        "No member that is never published is a root crate"
     ),
 ];
 
@@ -256,10 +260,19 @@ static CHECK: [OptionRow; 9] = [
     overriding!(
         "warn",
         'W',
-        "Findings of this code, or of a level (allowed, warnings, denied), are warnings"
+        "Findings of this code, or of a level (allowed, warnings, denied), are warnings; docs/GUIDE.md lists \
+         the codes"
     ),
-    overriding!("allow", 'A', "Findings of this code or level are notes"),
-    overriding!("deny", 'D', "Findings of this code or level are errors"),
+    overriding!(
+        "allow",
+        'A',
+        "Findings of this code or level are notes; docs/GUIDE.md lists the codes"
+    ),
+    overriding!(
+        "deny",
+        'D',
+        "Findings of this code or level are errors; docs/GUIDE.md lists the codes"
+    ),
     valued!(
         One,
         "feature-depth",
@@ -277,7 +290,8 @@ static CHECK: [OptionRow; 9] = [
         None,
         "WHICH",
         OptionValues::Names(&["advisories", "bans", "licenses", "sources", "all"]),
-        "The checks [possible values: advisories, bans, licenses, sources, all]; only licenses is carried"
+        "The checks; licenses has to be given, and no other is carried [possible values: advisories, bans, \
+         licenses, sources, all]"
     ),
 ];
 

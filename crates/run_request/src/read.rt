@@ -7,7 +7,7 @@ ghost use Rattle.run_request.specs.Given.{AnswersHelp, AnswersMistake, AnswersRe
 ghost use Rattle.run_request.specs.Given.{IsCheckAsked, IsGiven, IsGivenFor, IsErrorAnswer, IsUsage, texts};
 ghost use Rattle.run_request.specs.declared.error.ArgsError.TheVariants.{Memory};
 
-use crate::command::command;
+use crate::command::{check_alone, command};
 use crate::context::{KrateContext, path_at};
 use crate::error::ArgsError;
 use crate::message;
@@ -136,7 +136,7 @@ fn asked(
     match log_context(alloc, matches) {
         Err(error) => refused(alloc, command, main_rows(), error),
         Ok(log_ctx) => match subcommand_asked(alloc, matches) {
-            Err(error) => refused(alloc, command, rows_below(matches), error),
+            Err(error) => refused_below(alloc, rows_below(matches), error),
             Ok(subcommand) => {
                 let manifest_path = path_at(alloc, matches, "manifest-path", cwd)?;
                 let krate_ctx = KrateContext::from_matches(alloc, matches, cwd)?;
@@ -149,6 +149,19 @@ fn asked(
             }
         },
     }
+}
+
+/// The refusal of a value behind the subcommand, with the usage of that.
+fn refused_below(
+    alloc: Global,
+    rows: &[OptionRow],
+    error: ArgsError,
+) -> Result<CliAnswer, AllocError>
+    ensures memory { IfOk result (λ _. error ≢ Memory) }
+    ensures usage { IfOk result IsUsage }
+{
+    let mut command = check_alone(alloc)?;
+    refused(alloc, &mut command, rows, error)
 }
 
 /// The refusal of a value among these options.

@@ -2,7 +2,8 @@
 ghost use Rattle.std.specs.Prelude.{◌≡◌};
 ghost use Rattle.tree_core.specs.Faults.{counted};
 
-use crate::seen::{is_seen, put_seen};
+use crate::command::command_of;
+use crate::seen::{is_seen, put_command, put_seen};
 use crate::settings::{Ending, Setting, calls_of, ending_of, rooms_of};
 use std::alloc::{AllocError, Global};
 use std::io;
@@ -61,6 +62,24 @@ fn wanted_of<'e>(setting: &Setting<'_>, entry: &'e CaseEntry) -> &'e str {
     whole.get(..room).unwrap_or(whole)
 }
 
+/// What of a text is compared: where its beginning is wanted, as much as is wanted.
+fn part_compared<'s>(entry: &CaseEntry, seen: &'s str) -> &'s str {
+    match entry.key.as_str() {
+        "out-begins" | "err-begins" => seen.get(..wanted(entry).len()).unwrap_or(seen),
+        _ => seen,
+    }
+}
+
+/// What is seen under a key.
+fn seen_of(alloc: Global, setting: &Setting<'_>, ending: &Ending, key: &str) -> AnswerText {
+    let mut seen = AnswerText::new(alloc);
+    match key {
+        "command" => put_command(&mut seen, &command_of(alloc, setting)),
+        _ => put_seen(alloc, &mut seen, ending, key),
+    }
+    seen
+}
+
 impl Comparison<'_> {
     fn tell(&mut self, line: u64, what: &str)
         ensures { self.new.times ≡ counted self.old.times }
@@ -72,6 +91,7 @@ impl Comparison<'_> {
     fn compare(&mut self, setting: &Setting<'_>, entry: &CaseEntry, seen: &str) {
         self.answers = self.answers.saturating_add(1);
         let wanted = wanted_of(setting, entry);
+        let seen = part_compared(entry, seen);
         if seen == wanted {
             return;
         }
@@ -86,9 +106,7 @@ impl Comparison<'_> {
         for entry in entries {
             let key = entry.key.as_str();
             if is_seen(key) && is_first(&setting.case, entry) {
-                let mut seen = AnswerText::new(self.alloc);
-                put_seen(self.alloc, &mut seen, ending, key);
-                match seen.into_text() {
+                match seen_of(self.alloc, setting, ending, key).into_text() {
                     Ok(seen) => self.compare(setting, entry, seen.as_str()),
                     Err(_) => self.told.want_memory(),
                 }

@@ -1,6 +1,7 @@
 //! Cases of the whole run of the gate, which stand in files: what a run is over, and what it comes to.
 #![tactic(auto)]
 
+mod command;
 mod compared;
 mod counted;
 mod identifiers;
@@ -9,10 +10,12 @@ mod settings;
 
 use compared::compare_runs;
 
-/// Files of cases: of the first path and failures, of metadata, of policies, of what is found, of what is read of each
-/// crate, of the calls of the tree, and of licence families.
-const FILES: [&str; 7] = [
+/// Files of cases: of the first path and failures, of what words ask for and how they are refused, of metadata, of
+/// policies, of what is found, of what is read of each crate, of the calls of the tree, and of licence families.
+const FILES: [&str; 9] = [
     "run/gate.txt",
+    "run/command.txt",
+    "run/refused.txt",
     "run/metadata.txt",
     "run/policies.txt",
     "run/found.txt",

@@ -1,9 +1,11 @@
 //! What is seen of how a run ended, under each key.
+use crate::command::CommandEnd;
 use crate::counted::CountedSink;
 use crate::settings::Ending;
-use deny_run::error::{Error, InputPart};
-use deny_run::report::{CrateReport, Report, RunEnd, Stats, Verdict};
-use deny_run::{Color, DiagPrinter, Format, LicenseExprSource, LogContext};
+use deny_run::{
+    Color, CrateReport, DiagPrinter, Diagnostics, Error, Format, LicenseExprSource, LogContext,
+    Report, Request, RunEnd, ShapeErrors, Stats, SyntaxError, Verdict,
+};
 use deny_text::Span;
 use diag_core::LevelFilter;
 use diag_print::pack_labels_are_inside;
@@ -14,9 +16,25 @@ use tests_files::cases::is_among;
 use tests_files::tree::number;
 
 /// The keys of every run, and then those of a report.
-const SEEN: [&str; 14] = [
-    "status", "ended", "out", "err", "load", "faults", "calls", "asked", "crates", "verdicts",
-    "found", "policy", "notes", "stats",
+const SEEN: [&str; 18] = [
+    "status",
+    "ended",
+    "command",
+    "request",
+    "out",
+    "out-begins",
+    "err",
+    "err-begins",
+    "load",
+    "faults",
+    "calls",
+    "asked",
+    "crates",
+    "verdicts",
+    "found",
+    "policy",
+    "notes",
+    "stats",
 ];
 
 /// The number of the file whose text is wanted, by a key as `text-1`.
@@ -41,32 +59,46 @@ fn put_each<D: Display>(out: &mut AnswerText, mark: &str, items: &[D]) {
     }
 }
 
+fn put_syntax(out: &mut AnswerText, fault: &SyntaxError) {
+    write!(out, "syntax: {:?} ", fault.reason);
+    put_span(out, fault.span);
+}
+
+fn put_shape(out: &mut AnswerText, faults: &ShapeErrors) {
+    out.put("shape:");
+    for fault in faults.items() {
+        out.put(" ");
+        put_span(out, fault.span);
+    }
+}
+
+/// Puts the places of the labels of findings.
+fn put_invalid(out: &mut AnswerText, found: &Diagnostics) {
+    out.put("invalid:");
+    for finding in found.items() {
+        for label in finding.labels.items() {
+            write!(out, " {}:", label.file_id);
+            put_span(out, label.range);
+        }
+    }
+}
+
 /// Puts a refusal. Of the faults of a policy it is the places alone.
 fn put_error(out: &mut AnswerText, error: &Error) {
     match error {
         Error::Memory => out.put("memory"),
         Error::NotCarried(what) => write!(out, "not carried: {what:?}"),
+        Error::ManifestPath(path) => write!(out, "manifest path: {path}"),
+        Error::ManifestRead { before, after } => write!(out, "manifest: {before} {after}"),
         Error::ConfigRead(fault) => write!(out, "policy: {fault:?}"),
-        Error::ConfigSyntax(fault) => {
-            write!(out, "syntax: {:?} ", fault.reason);
-            put_span(out, fault.span);
-        }
-        Error::ConfigShape(faults) => {
-            out.put("shape:");
-            for fault in faults.items() {
-                out.put(" ");
-                put_span(out, fault.span);
-            }
-        }
-        Error::ConfigInvalid(found) => {
-            out.put("invalid:");
-            for finding in found.items() {
-                for label in finding.labels.items() {
-                    write!(out, " {}:", label.file_id);
-                    put_span(out, label.range);
-                }
-            }
-        }
+        Error::ConfigSyntax(fault) => put_syntax(out, fault),
+        Error::ConfigShape(faults) => put_shape(out, faults),
+        Error::ConfigInvalid(found) => put_invalid(out, found),
+        Error::OverrideTwice {
+            name,
+            first,
+            second,
+        } => write!(out, "twice: {name} {first:?} {second:?}"),
         Error::MetadataRead(fault) => write!(out, "metadata: {fault:?}"),
         Error::MetadataSyntax => out.put("no json"),
         Error::MetadataShape(fault) => write!(out, "shape: {} {:?}", fault.place, fault.fault),
@@ -76,7 +108,25 @@ fn put_error(out: &mut AnswerText, error: &Error) {
             unpublished,
         } => write!(out, "no roots: {base} {excluded} {unpublished}"),
         Error::WriteFault { before, after } => write!(out, "write: {before} {after}"),
-        Error::NotYet(InputPart::Words) => out.put("words"),
+    }
+}
+
+/// Puts a request: the level and the format of what is written, and where the metadata is.
+fn put_request(out: &mut AnswerText, request: &Option<Request>) {
+    match request {
+        None => out.put("none"),
+        Some(request) => {
+            let LogContext {
+                format,
+                log_level,
+                ..
+            } = request.log_ctx;
+            write!(out, "{log_level:?} {format:?} ");
+            match &request.krate_ctx.metadata_path {
+                Some(path) => write!(out, "{path}"),
+                None => out.put("none"),
+            }
+        }
     }
 }
 
@@ -243,13 +293,41 @@ fn put_report(alloc: Global, out: &mut AnswerText, report: &Report, key: &str, e
     }
 }
 
+/// Puts what the command of a run comes to by itself.
+pub fn put_command(out: &mut AnswerText, end: &Option<CommandEnd>) {
+    match end {
+        None => out.put("no command"),
+        Some(end) => match &end.answer {
+            Ok(report) => put_crates(out, report, "ended"),
+            Err(error) => put_error(out, error),
+        },
+    }
+}
+
+/// Puts what is seen of a run that ended without a report.
+fn put_unreported(out: &mut AnswerText, ended: &RunEnd, key: &str, err: &str) {
+    if key == "load" {
+        return out.put(err);
+    }
+    if key != "ended" {
+        out.put("no report: ");
+    }
+    match ended {
+        RunEnd::Shown => out.put("shown"),
+        RunEnd::Usage => out.put("usage"),
+        RunEnd::Refused(error) => put_error(out, error),
+        RunEnd::Checked(_) => out.put("checked"),
+    }
+}
+
 /// Puts what is seen of an ending under a key.
 pub fn put_seen(alloc: Global, out: &mut AnswerText, ending: &Ending, key: &str) {
     let err = ending.err.text();
     match key {
         "status" => write!(out, "{}", ending.outcome.status),
-        "out" => out.put(ending.out.text()),
-        "err" => out.put(err),
+        "request" => put_request(out, &ending.outcome.request),
+        "out" | "out-begins" => out.put(ending.out.text()),
+        "err" | "err-begins" => out.put(err),
         "calls" => write!(out, "{}", ending.tree.calls),
         "asked" => out.put_whole(&ending.tree.asked),
         "faults" => {
@@ -259,11 +337,7 @@ pub fn put_seen(alloc: Global, out: &mut AnswerText, ending: &Ending, key: &str)
         }
         _ => match &ending.outcome.ended {
             RunEnd::Checked(report) => put_report(alloc, out, report, key, err),
-            RunEnd::Refused(_) if key == "load" => out.put(err),
-            RunEnd::Refused(error) => {
-                out.put(if key == "ended" { "" } else { "refused: " });
-                put_error(out, error);
-            }
+            ended => put_unreported(out, ended, key, err),
         },
     }
 }

@@ -1,7 +1,7 @@
 //! The runs of a case: which calls of its tree fail, how much its sinks take, and how each run ends.
 use crate::counted::{CountedSink, CountedTree};
 use crate::identifiers::{CaseIdentifier, known_as};
-use deny_run::report::Outcome;
+use deny_run::Outcome;
 use deny_run::run::run;
 use spdx_catalog::Table;
 use std::alloc::{AllocError, Global};
@@ -33,7 +33,7 @@ pub struct Ending {
 const WORDS: &str = "cargo-deny --metadata-path m.json --config p.toml check licenses";
 
 /// The words: those behind the key, or one of each line below it.
-fn words_of(alloc: Global, case: &Case<'_>) -> Result<Vec<String>, AllocError> {
+pub fn words_of(alloc: Global, case: &Case<'_>) -> Result<Vec<String>, AllocError> {
     let (text, between) = match case.entry("words") {
         None => (WORDS, ' '),
         Some(entry) if entry.text.is_empty() => (entry.word.as_str(), ' '),
@@ -47,7 +47,7 @@ fn words_of(alloc: Global, case: &Case<'_>) -> Result<Vec<String>, AllocError> {
 }
 
 /// What stands behind a key, or else this.
-fn word_or<'c>(case: &Case<'c>, key: &str, or: &'static str) -> &'c str {
+pub fn word_or<'c>(case: &Case<'c>, key: &str, or: &'static str) -> &'c str {
     match case.entry(key) {
         Some(entry) => entry.word.as_str(),
         None => or,
@@ -73,7 +73,7 @@ fn fail_calls(tree: &mut MemTree, calls: &str) -> Option<()> {
     Some(())
 }
 
-fn tree_with(alloc: Global, setting: &Setting<'_>, failed: u64) -> Option<CountedTree> {
+pub fn tree_with(alloc: Global, setting: &Setting<'_>, failed: u64) -> Option<CountedTree> {
     let mut tree = tree_of(alloc, &setting.case).ok()?;
     let calls = setting.case.word("fail");
     if setting.call > 0 {

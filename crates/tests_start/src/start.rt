@@ -1,8 +1,7 @@
 //! How a process ends, what it writes, and the paths that its words name.
 use crate::process::Process;
 use deny_gate::{StartError, exit_code, gate_over, named_paths};
-use deny_run::error::{Error, InputPart};
-use deny_run::report::{CrateReport, Outcome, RunEnd, Verdict};
+use deny_run::{CrateReport, Outcome, RunEnd, Verdict};
 use deny_text::PathBuf;
 use std::alloc::{AllocError, Global};
 use std::process::ExitCode;
@@ -41,8 +40,9 @@ fn put_ended(out: &mut AnswerText, ended_at: &Result<Outcome, StartError>) {
     match ended_at {
         Ok(outcome) => match &outcome.ended {
             RunEnd::Checked(report) => put_crates(out, report.crates.items()),
-            RunEnd::Refused(Error::NotYet(InputPart::Words)) => out.put("words"),
-            RunEnd::Refused(_) => out.put("another refusal"),
+            RunEnd::Shown => out.put("shown"),
+            RunEnd::Usage => out.put("usage"),
+            RunEnd::Refused(_) => out.put("refused"),
         },
         Err(error) => write!(out, "{error:?}"),
     }
@@ -124,8 +124,14 @@ fn end_of(alloc: Global, case: &Case<'_>) -> Option<ProcessEnd> {
     }
 }
 
-fn put_written(out: &mut AnswerText, sink: &MemSink) {
-    out.put(str::from_utf8(sink.written()).unwrap_or("no UTF-8"));
+/// What was written.
+fn written(sink: &MemSink) -> &str {
+    str::from_utf8(sink.written()).unwrap_or("no UTF-8")
+}
+
+/// The first line of what was written.
+fn first_line(sink: &MemSink) -> &str {
+    written(sink).lines().next().unwrap_or("")
 }
 
 /// Puts what a key names of the end of a process.
@@ -133,8 +139,9 @@ fn put_end(out: &mut AnswerText, key: &str, end: &ProcessEnd) -> KeyAnswer {
     match key {
         "ended" => put_ended(out, &end.ended_at),
         "status" => put_status(out, &end.ended_at),
-        "out" => put_written(out, &end.out),
-        "err" => put_written(out, &end.err),
+        "out" => out.put(written(&end.out)),
+        "err" => out.put(written(&end.err)),
+        "err-line" => out.put(first_line(&end.err)),
         _ => return KeyAnswer::NoSuchKey,
     }
     KeyAnswer::Yes

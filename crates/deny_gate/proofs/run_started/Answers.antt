@@ -1,6 +1,6 @@
 use Rattle.std.proofs.Common.{refl, ap}
 use Rattle.spdx_catalog.specs.Store.{match_of}
-use Rattle.deny_run.specs.Words.{texts}
+use Rattle.run_request.specs.Given.{texts}
 use Rattle.deny_gate.proofs.run_started.Goals as goal
 
 pub returns-clause-ran : goal.returns-clause-ran
@@ -10,9 +10,9 @@ returns-clause-ran g c = record {
   match_of = ap match_of c.requires;
   words_given = ap texts c.deref.ensures.value;
   folder_given = c.as_str.ensures;
-  answer = c.run.ensures.answer;
+  ends = c.run.ensures.outcome;
+  answers = c.run.ensures.words;
   headline_read = c.run.ensures.headline_read;
   headline = c.run.ensures.headline;
-  written = c.run.ensures.written;
   status = c.run.ensures.status;
 }

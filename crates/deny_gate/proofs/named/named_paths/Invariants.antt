@@ -1,7 +1,7 @@
 -- The paths of the words so far stand there.
 use Rattle.std.proofs.Common.{◌≡◌, take}
 use Rattle.std.specs.List.{flat_map}
-use Rattle.deny_run.specs.Words.{texts}
+use Rattle.run_request.specs.Given.{texts}
 use Rattle.deny_gate.specs.Named.{paths_in}
 use Rattle.deny_gate.proofs.named.named_paths.Given as goal
 
