@@ -8,7 +8,7 @@ COMPLETION = crates/run_completions/stdout
 
 FIRST = ../../examples/first
 
-.PHONY: try build run test examples map wrong starve calls bench install
+.PHONY: try build run sample test examples map wrong starve calls bench install
 
 # A first answer in minutes, by an unproved build.
 try:
@@ -23,6 +23,10 @@ build:
 run: build
 	@cd $(PROJECT) && sed -e "s|\"/project|\"$$(pwd)|g" -e "s|file:///project|file://$$(pwd)|g" metadata.json > $(METADATA)
 	@cd $(PROJECT) && $(CURDIR)/$(PROGRAM) deny --metadata-path $(METADATA) $(WORDS)
+
+# Checks a workspace of 20,000 crates that is made up in memory.
+sample: build
+	@$(PROGRAM) sample 20000
 
 # The merge gate.
 test:
@@ -41,11 +45,12 @@ map:
 wrong:
 	@sh tools/wrong.sh $(NAME)
 
-# Compares the rows and cases of a folder of crates/tests_rows/data while memory is wanting: make starve NAME=spdx
+# Compares the rows and cases of a folder of crates/tests_rows/data while memory is wanting: make starve NAME=spdx; or runs the
+# built program with less and less memory: make starve NAME=program
 starve:
 	@sh tools/starve.sh $(NAME)
 
-# Compares docs/CALLS.md with the public calls of the sources that take memory.
+# Compares docs/CALLS.md with the public calls of the sources.
 calls:
 	@sh tools/calls.sh
 

@@ -56,7 +56,7 @@ policy() {
 count() {
     metadata "$1" "$2" > metadata.json
     policy "$1" "$2" > deny.toml
-    valgrind --tool=callgrind --callgrind-out-file=out "$program" -L off \
+    valgrind --tool=callgrind --callgrind-out-file=out "$program" -L error \
         --metadata-path metadata.json --config deny.toml check licenses > said 2> counts || true
     grep -q '^licenses ' said || { echo "$1 $2: $(cat said counts)" >&2; exit 1; }
     sed -n 's/.*Collected : \([0-9]*\).*/\1/p' counts

@@ -42,7 +42,7 @@ compare() {
 
 # The metadata of an example, with its folder in the place of /project.
 metadata() {
-    sed -e "s|\"/project|\"$1|g" -e "s|file:///project|file://$1|g" "$1/metadata.json" >"$room/metadata.json"
+    sed -e "s|\"/project|\"$1|g" -e "s|file:///project|file://$1|g" "$1/${2:-metadata.json}" >"$room/metadata.json"
 }
 
 # The words are those that `cargo deny` passes on; the policy is found beside the manifest.
@@ -103,5 +103,22 @@ for row in "blanks: a  policy" capital:P.toml empty-path: way-up:../words/p.toml
     compare "word-${row%%:*}" "$folder" "'$program' --metadata-path '$room/metadata.json' --config '${row#*:}' check licenses"
 done
 compare word-empty "$folder" "'$program' --metadata-path '$room/metadata.json' --config p.toml check licenses ''"
+
+# What a stranger could write: a policy behind a mark of the byte order, one of 128 brackets, a name that holds ESC, and a
+# licence file that is a link to itself.
+hostile="$top/examples/hostile"
+metadata "$hostile"
+for policy in marked deep; do
+    compare "hostile-$policy" "$hostile" "'$program' --metadata-path '$room/metadata.json' --config $policy.toml check licenses"
+done
+metadata "$hostile" escape.json
+compare hostile-escape "$hostile" "'$program' --metadata-path '$room/metadata.json' check licenses"
+folder="$room/link"
+mkdir "$folder"
+cp "$hostile/Cargo.toml" "$hostile/deny.toml" "$folder"
+sed 's|"license":"MIT"|"license":null|' "$hostile/metadata.json" >"$folder/metadata.json"
+ln -s LICENSE "$folder/LICENSE"
+metadata "$folder"
+compare hostile-link "$folder" "'$program' --metadata-path '$room/metadata.json' check licenses"
 [ "$failed" = 0 ] && echo "the examples come to what stands in examples/outputs"
 exit "$failed"

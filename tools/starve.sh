@@ -1,10 +1,174 @@
 #!/bin/sh
-# Compares the rows and cases of a folder of crates/tests_rows/data, or of crates/tests_run/data (run), with one allocation that
-# fails, at twenty numbers from the first on, each about twice the one before. Nothing but want of memory may be told: each run says
-# what it came to. A run takes one to three minutes.
-# usage: tools/starve.sh NAME [FIRST]
+# Runs while memory is wanting. Nothing but want of memory may be told: each run says what it came to.
+#
+# starve.sh NAME [FIRST] compares the rows and cases of a folder of crates/tests_rows/data, or of crates/tests_run/data (run), with
+# one allocation that fails, at twenty numbers from the first on, each about twice the one before. A run takes one to three
+# minutes.
+#
+# starve.sh program [PROGRAM] runs the built program over the two workspaces of examples/hostile/workspaces.txt with less
+# and less memory, in steps of 16 KiB, from enough down to where the system cannot start it. Each run answers as with enough, or
+# ends with status 1 and `error: out of memory`, behind a front of what it writes with enough.
+#
+# starve.sh growths [PROGRAM] lets each call of malloc, calloc, realloc and reallocarray fail in turn, over examples/first, by gdb.
+# usage: tools/starve.sh NAME [FIRST] | program [PROGRAM] | growths [PROGRAM]
 set -eu
-name=${1:?the name of a folder of rows}
+name=${1:?the name of a folder of rows, or program, or growths}
+cd "$(dirname "$0")/.."
+top=$(pwd)
+room=$(mktemp -d)
+trap 'rm -rf "$room"' EXIT
+
+# The files of a workspace, below a folder.
+workspace() {
+    cases=examples/hostile/workspaces.txt
+    awk -v base="base $1" '/^(base|case) / { on = $0 == base } on && /^  file / { print $2 }' "$cases" |
+        while read -r path; do
+            mkdir -p "$2${path%/*}"
+            : >"$2$path"
+        done
+    awk -v base="base $1" -v room="$2" '
+        /^(base|case) / { on = $0 == base; path = "" }
+        on && /^  / { path = "" }
+        on && /^  let source = / { source = substr($0, 16) }
+        on && /^  file / { path = room $2 }
+        on && path != "" && /^[|:]/ {
+            text = substr($0, 2)
+            gsub(/[$]source[$]/, source, text)
+            gsub(/"\/w/, "\"" room "/w", text)
+            gsub(/"\/r\//, "\"" room "/r/", text)
+            printf "%s%s", text, /^[|]/ ? "\n" : "" >path
+        }' "$cases"
+}
+
+# Whether a file is a front of another one.
+is_front() {
+    head -c "$(wc -c <"$1")" "$2" | cmp -s - "$1"
+}
+
+# Whether a run came to what one with enough memory came to, or to want of memory: its line, perhaps cut, stands behind a front.
+is_right() {
+    if [ "$status" = "$enough_status" ] && cmp -s "$room/out" "$room/enough.out" && cmp -s "$room/err" "$room/enough.err"; then
+        right=$((right + 1))
+        return 0
+    fi
+    sed '$ s/^error: out of memory$//' "$room/err" | head -c -1 >"$room/front"
+    [ "$status" = 1 ] && is_front "$room/out" "$room/enough.out" && is_front "$room/front" "$room/enough.err" &&
+        tail -n 1 "$room/err" | grep -qx 'error: out of memory' && wanting=$((wanting + 1))
+}
+
+# Runs the program in a workspace with so many KiB of memory, or with all that there is.
+limited() {
+    status=0
+    (
+        cd "$room/w"
+        [ "$1" = all ] || ulimit -v "$1"
+        exec "$program" --metadata-path m.json --config p.toml check licenses
+    ) >"$room/out" 2>"$room/err" || status=$?
+}
+
+keep_enough() {
+    enough_status=$status
+    cp "$room/out" "$room/enough.out"
+    cp "$room/err" "$room/enough.err"
+}
+
+# Whether the system can start a program of this size with so many KiB at all: the run writes something, or ends by itself.
+started() {
+    [ "$status" -lt 126 ] || [ -s "$room/out" ] || grep -q '^[a-z]*\[\|^error: \|^warning: ' "$room/err"
+}
+
+less_and_less() {
+    rm -rf "$room/w" "$room/r"
+    workspace "$1" "$room"
+    limited all
+    keep_enough
+    memory=1024
+    while limited "$memory" && ! { [ "$status" = "$enough_status" ] && cmp -s "$room/err" "$room/enough.err"; }; do
+        memory=$((memory * 2))
+    done
+    tried=0
+    right=0
+    wanting=0
+    least=$memory
+    while limited "$memory" && started; do
+        tried=$((tried + 1))
+        before=$right
+        if ! is_right; then
+            echo "$1, $memory KiB: status $status" >&2
+            tail -n 3 "$room/err" >&2
+            exit 1
+        fi
+        [ "$right" = "$before" ] || least=$memory
+        memory=$((memory - 16))
+    done
+    echo "$1: $tried runs, $right as with enough, $wanting out of memory; $least KiB were enough, and with $memory none starts"
+}
+
+# Lets the growth of a number fail, and tells how many there were up to there, and the status; at 0 none fails.
+growth() {
+    cat >"$room/growth.py" <<END
+import gdb
+for line in ("confirm off", "pagination off", "breakpoint pending on"):
+    gdb.execute("set " + line)
+gdb.execute("break main")
+gdb.execute("run >'$room/out' 2>'$room/err'", to_string=True)
+gdb.execute("delete")
+for call in ("malloc", "calloc", "realloc", "reallocarray"):
+    gdb.execute("break " + call)
+count = 0
+while True:
+    gdb.execute("continue", to_string=True)
+    if gdb.selected_inferior().pid == 0:
+        break
+    count += 1
+    if count == $1:
+        gdb.execute("return (void *) 0", to_string=True)
+        gdb.execute("delete")
+code = gdb.convenience_variable("_exitcode")
+print("told", count, "signal" if code is None else int(code))
+END
+    (cd "$room/w" && timeout 300 gdb -batch -nx -x "$room/growth.py" --args "$program" \
+        --metadata-path m.json --config p.toml check licenses) 2>&1 | sed -n 's/^told //p'
+}
+
+each_growth() {
+    rm -rf "$room/w"
+    mkdir "$room/w"
+    cp examples/first/Cargo.toml "$room/w"
+    cp examples/first/deny.toml "$room/w/p.toml"
+    sed -e "s|\"/project|\"$room/w|g" -e "s|file:///project|file://$room/w|g" examples/first/metadata.json >"$room/w/m.json"
+    limited all
+    keep_enough
+    told=$(growth 0)
+    count=${told% *}
+    right=0
+    wanting=0
+    for number in $(seq 1 "$count"); do
+        told=$(growth "$number")
+        status=${told#* }
+        if [ "$status" = signal ] || ! is_right; then
+            echo "growth $number of $count: status $status" >&2
+            tail -n 3 "$room/err" >&2
+            exit 1
+        fi
+    done
+    echo "first: $count growths, $wanting out of memory, $right as with enough"
+}
+
+case $name in
+program)
+    program=$(realpath "${2:-crates/cargo_deny/out/cargo_deny}")
+    less_and_less workspace
+    less_and_less second
+    exit 0
+    ;;
+growths)
+    program=$(realpath "${2:-crates/cargo_deny/out/cargo_deny}")
+    each_growth
+    exit 0
+    ;;
+esac
+
 number=${2:-1}
 crate=tests_rows
 word=$name
@@ -12,15 +176,14 @@ if [ "$name" = run ]; then
     crate=tests_run
     word=
 fi
-cd "$(dirname "$0")/../crates/$crate"
+cd "crates/$crate"
 set --
 for file in "data/$name"/*; do
     set -- "$@" --data "$name/$(basename "$file")=$PWD/$file"
 done
-answer=$(mktemp)
-trap 'rm -f "$answer"' EXIT
+answer="$room/answer"
 for turn in 1 2 3 4 5 6 7 8 9 10 11 12 13 14 15 16 17 18 19 20; do
-    rt try --fail-alloc "$number" "$@" -- $word > "$answer" 2>&1 || true
+    rt try --fail-alloc "$number" "$@" -- $word >"$answer" 2>&1 || true
     ended=$(grep '^run=' "$answer" || echo 'run=none')
     told=$(grep -c "^$name/[a-z_]*\.txt:[0-9]*:" "$answer" || true)
     of_memory=$(grep -ci 'memory' "$answer" || true)

@@ -6,13 +6,12 @@ use Rattle.std.proofs.lemmas.List.Elements.{All-from_recursion, recursion_from_A
 use Rattle.tree_core.specs.Call as call
 use Rattle.tree_core.specs.Call.{CallAnswer, Call}
 use Rattle.tree_core.specs.Content.{Content}
-use Rattle.tree_core.specs.Faults.{Rose, counted}
+use Rattle.tree_core.specs.Faults.{Rose}
 use Rattle.tree_core.specs.Script.{OutputSink, to_out, to_err, Script, FaultCounts, IsWithoutFault, RefusedBy, SinkTexts}
-use Rattle.tree_core.specs.Trace.{IsUnlessLost, Says, content_answer, faults_after}
-use Rattle.tree_core.proofs.MadeLemmas.{faults_after-later, made_as}
+use Rattle.tree_core.specs.Trace.{Says, faults_after}
+use Rattle.tree_core.proofs.MadeLemmas.{made_as}
 use Rattle.tree_texts.specs.Cause.{Cause, no_memory, failed_read, refused_write}
 use Rattle.tree_texts.specs.Cause as causes
-use Rattle.tree_reads.proofs.ReadLemmas.{rose_counted}
 use Rattle.diag_stats.specs.ExitCode.{has_errors}
 use Rattle.run_request.specs.declared.check.Args.{Args}
 use Rattle.run_request.specs.declared.request.Request.{Request}
@@ -36,17 +35,18 @@ use Rattle.run_check.proofs.AnswerLemmas.{IsFree, refused_first}
 use Rattle.run_check.proofs.HeadlineLemmas.{headline_read, headline_told}
 use Rattle.deny_run.specs.declared.outcome.Outcome.{Outcome}
 use Rattle.deny_run.specs.declared.outcome.RunEnd.{RunEnd}
-use Rattle.deny_run.specs.declared.outcome.RunEnd.TheVariants.{Checked, Shown, Usage, Refused}
+use Rattle.deny_run.specs.declared.outcome.RunEnd.TheVariants.{Checked, Listed, Sampled, Shown, Usage, Refused}
 use Rattle.deny_run.specs.Given.{RunArguments, check_asked}
 use Rattle.deny_run.specs.Headline.{AsksCheck, ChecksRequest, EndsInReport, Headline, HeadlineRead, IsHeardOf, TellsAgainst}
 use Rattle.deny_run.specs.Hearing.{HasManifest, HearsBehind, IsRunHearing, RunHearing, calls_behind, calls_of, manifest_asked, manifest_in, run_input_of}
-use Rattle.deny_run.specs.Manifest.{IsLookedWhereDue, look_in, manifest_call, manifest_calls, manifest_due, unlooked}
+use Rattle.deny_run.specs.Manifest.{IsLookedWhereDue, look_in, manifest_calls, manifest_due, unlooked}
 use Rattle.deny_run.specs.Report.{IsAnsweredBy, IsRefusedRun, IsRunRefusal, IsRunReport}
 use Rattle.deny_run.specs.Run.{EndsCheck, EndsRequest, IsOutcome, exit_status, status_of}
 use Rattle.deny_run.specs.Script.{BeginsRefusal, Writes}
 use Rattle.deny_run.specs.Words.{HasRequest, IsEndOfWords, IsLost, MayRefuse, MayShow}
+use Rattle.deny_run.proofs.ListLemmas.{list_no_check, sample_no_check}
 use Rattle.deny_run.proofs.BehindLemmas.{calls-is, input-is, there-is, there_call}
-use Rattle.deny_run.proofs.ManifestLemmas.{IsThere, due_named, is_there}
+use Rattle.deny_run.proofs.ManifestLemmas.{told_look, IsThere, due_named, is_there}
 
 -- ---- a run whose manifest is there is a check behind it
 
@@ -137,28 +137,6 @@ module _ (given : CheckArguments) (carried : uncarried_in given ≡ None) where
   same_look None looked more C same = absurd (looked refl)
   same_look (Some answer) looked more C same = ap Some (ap first_answer same)
 
-  told_answer : (there : CallAnswer) (answer : CallAnswer) → (look_in (Some answer) ≡ unlooked → ⊥) → (answer ≡ call.failed → ⊥) → IsUnlessLost there answer → call.told true ≡ there → answer ≡ call.told true
-  told_answer there (call.bytes items) looked bound says is = says ∙ sym is
-  told_answer there (call.entries items) looked bound says is = says ∙ sym is
-  told_answer there (call.told own) looked bound says is = says ∙ sym is
-  told_answer there call.absent looked bound says is = says ∙ sym is
-  told_answer there call.wrong_kind looked bound says is = says ∙ sym is
-  told_answer there call.failed looked bound says is = absurd (bound refl)
-  told_answer there call.no_memory looked bound says is = absurd (looked refl)
-
-  told_look : (content : Content) (count after : ℕ) (answer : Option CallAnswer) → (look_in answer ≡ unlooked → ⊥) → (more : List Call)
-      → All (Says content) (manifest_calls (Some path) answer ++ more) → after ≡ faults_after count (manifest_calls (Some path) answer ++ more) → ¬ (Rose count after)
-      → call.told true ≡ content_answer content call.is_file path → answer ≡ Some (call.told true)
-  told_look content count after None looked more says counts quiet is = absurd (looked refl)
-  told_look content count after (Some answer) looked more says counts quiet is =
-      let head = (recursion_from_All (Says content) (manifest_call path answer ∷ more) says).0 in
-      ap Some (told_answer (content_answer content call.is_file path) answer looked failed_apart head is)
-    where
-      failed_apart : answer ≡ call.failed → ⊥
-      failed_apart e =
-          let counts_failed : after ≡ faults_after (counted count) more = counts ∙ ap (λ own. faults_after count (manifest_call path own ∷ more)) e in
-          quiet (rose_counted count after (subst (λ n. counted count ≤ n) (sym counts_failed) (faults_after-later (counted count) more)))
-
   module _ (named : IsThere path (Some (call.told true))) (own : RunHearing) (looked : IsLookedWhereDue (manifest_asked given) own.manifest) where
     due_path : manifest_asked given ≡ Some path
     due_path = due_is ∙ due_named path named.named
@@ -197,7 +175,7 @@ module _ (given : CheckArguments) (carried : uncarried_in given ≡ None) where
       let tells = (recursion_from_All (TellsContent content) (there_call given ∷ check.calls_of given hearing.found) (subst (All (TellsContent content)) (own_calls hearing there) heard.tells)).0 in
       record {
         named = there.named;
-        told = told_look content tree.count_before tree.count_after own.manifest (own_looked named own looked) (own_more named own looked) (made.says content told) made.counts quiet tells;
+        told = told_look path content tree.count_before tree.count_after own.manifest (own_looked named own looked) (own_more named own looked) (made.says content told) made.counts quiet tells;
       }
 
   -- ---- lawful input is not refused
@@ -280,7 +258,7 @@ module _ (given : RunArguments) where
   check_same one other e = cc
 
   -- words have one request
-  same_request : (one other : Request) → HasRequest given one → HasRequest given other → one ≡ other
+  pub same_request : (one other : Request) → HasRequest given one → HasRequest given other → one ≡ other
   same_request one other first second = some_same one other (sym first.asks ∙ second.asks)
 
   -- and so one check
@@ -292,14 +270,14 @@ module _ (given : RunArguments) where
       asks.is ∙ ap (λ own. check_asked given.lists given.match_of own asks.args) request_is ∙ ap (check_asked given.lists given.match_of request) args_are
 
   -- words that are taken call for no help and are no mistake
-  none_shown : (request : Request) → HasRequest given request → MayShow given → ⊥
+  pub none_shown : (request : Request) → HasRequest given request → MayShow given → ⊥
   none_shown request has shows =
       absurd (apart (subst (λ kinds. may_show kinds ≡ true) has.takes shows))
     where
       apart : may_show [] ≡ true → ⊥
       apart e = absurd (cc)
 
-  none_refused : (request : Request) → HasRequest given request → MayRefuse given → ⊥
+  pub none_refused : (request : Request) → HasRequest given request → MayRefuse given → ⊥
   none_refused request has (inl refuses) =
       absurd (apart (subst (λ kinds. may_refuse kinds ≡ true) has.takes refuses))
     where
@@ -338,17 +316,23 @@ module _ (given : RunArguments) (tree : TreeSeen) (counts : FaultCounts) (old ne
       (fails : (own : RunHearing) (error : Error) → IsRunHearing check tree own → IsRunRefusal check own error → (IsFree (cause_of error) → ⊥) → MayEndLawful (cause_of error)) where
     lawful_check : (ended : RunEnd) → EndsCheck check tree counts old new ended → EndsInReport ended
     lawful_check (Checked report) ends = tt
+    lawful_check (Listed reads) ends = ends
+    lawful_check (Sampled report) ends = ends
     lawful_check Shown ends = ends
     lawful_check Usage ends = ends
     lawful_check (Refused error) ends =
         lawful_error check tree counts quiet ends.tells.hearing error (fails ends.tells.hearing error) ends.text ends.begun ends.tells.answers ends.begins
 
+    -- the words have one request, which is for a check
+    checks_it : (request : Request) → HasRequest given request → request.command ≡ Check asks.args
+    checks_it request has = ap (λ (own : Request). own.command) (same_request given request asks.request has asks.of_words) ∙ asks.command
+
     lawful_command : (request : Request) (has : HasRequest given request) (command : Subcommand) → request.command ≡ command → (ended : RunEnd)
         → EndsRequest given.lists given.match_of tree counts old new request command ended → EndsInReport ended
     lawful_command request has (Check args) is ended ends =
         lawful_check ended (subst (λ own. EndsCheck own tree counts old new ended) (sym (same_check given request args check has is asks)) ends)
-    lawful_command request has (Listing args) is ended ends = absurd ends
-    lawful_command request has (Sample size) is ended ends = absurd ends
+    lawful_command request has (Listing args) is ended ends = absurd (list_no_check args asks.args request.command is (checks_it request has))
+    lawful_command request has (Sample size) is ended ends = absurd (sample_no_check size asks.args request.command is (checks_it request has))
 
     lawful_lost : (cause : Cause) → IsLost given counts old new cause → MayEndLawful cause
     lawful_lost no_memory lost = tt
@@ -358,6 +342,8 @@ module _ (given : RunArguments) (tree : TreeSeen) (counts : FaultCounts) (old ne
 
     lawful_words : (ended : RunEnd) → IsEndOfWords given counts old new ended → EndsInReport ended
     lawful_words (Checked report) ends = tt
+    lawful_words (Listed reads) ends = ends
+    lawful_words (Sampled report) ends = ends
     lawful_words Shown ends = absurd (none_shown given asks.request asks.of_words ends.0)
     lawful_words Usage ends = absurd (none_refused given asks.request asks.of_words ends.0)
     lawful_words (Refused error) ends = lawful_lost (cause_of error) ends

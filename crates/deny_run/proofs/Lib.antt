@@ -1,6 +1,9 @@
 mod BehindLemmas
 mod EndLemmas
 mod HeadlineLemmas
+mod LawfulLemmas
+mod LevelLemmas
+mod ListLemmas
 mod ManifestLemmas
 mod ScriptLemmas
 mod StopLemmas

@@ -7,6 +7,8 @@ use Rattle.run_request.specs.declared.check.Args.{Args}
 use Rattle.run_request.specs.declared.request.Request.{Request}
 use Rattle.run_request.specs.Given.{texts}
 use Rattle.run_check.specs.Given.{CheckArguments, check_arguments_of}
+use Rattle.run_list.specs.Given.{ListArguments, list_arguments_of}
+use Rattle.run_request.specs.declared.list.Args.{Args as ListArgs}
 
 -- the catalogue's lists, what the identifier says of each text, the words and the working folder
 pub record RunArguments : Type 0 where
@@ -21,3 +23,7 @@ run_arguments_of lists match_of words cwd = record { lists = lists; match_of = m
 -- what the check of a request is given
 abbrev pub check_asked : CatalogLists → (List ℕ → Match) → Request → Args → CheckArguments
 check_asked lists match_of request args = check_arguments_of lists match_of request.log_ctx args request.krate_ctx
+
+-- what its listing is given
+abbrev pub list_asked : CatalogLists → (List ℕ → Match) → Request → ListArgs → ListArguments
+list_asked lists match_of request args = list_arguments_of lists match_of request.log_ctx args request.krate_ctx

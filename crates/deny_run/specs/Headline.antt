@@ -31,7 +31,7 @@ use Rattle.run_check.specs.Headline.{TellsContent, is_against}
 use Rattle.run_check.specs.Report.{Asks, CheckInput, TellsVerdicts}
 use Rattle.deny_run.specs.declared.outcome.Outcome.{Outcome}
 use Rattle.deny_run.specs.declared.outcome.RunEnd.{RunEnd}
-use Rattle.deny_run.specs.declared.outcome.RunEnd.TheVariants.{Checked, Shown, Usage, Refused}
+use Rattle.deny_run.specs.declared.outcome.RunEnd.TheVariants.{Checked, Listed, Sampled, Shown, Usage, Refused}
 use Rattle.deny_run.specs.Given.{RunArguments, check_asked}
 use Rattle.deny_run.specs.Hearing.{HasManifest, IsRunHearing, RunHearing, calls_of}
 use Rattle.deny_run.specs.Words.{HasRequest}
@@ -52,6 +52,8 @@ pub record ChecksRequest (given : RunArguments) (outcome : Outcome) (check : Che
 -- the run ended with a report, or for want of memory
 abbrev pub EndsInReport : RunEnd → Type 0
 EndsInReport (Checked report) = ⊤
+EndsInReport (Listed reads) = ⊥
+EndsInReport (Sampled report) = ⊥
 EndsInReport Shown = ⊥
 EndsInReport Usage = ⊥
 EndsInReport (Refused error) = MayEndLawful (cause_of error)

@@ -1,8 +1,12 @@
 pub mod Given
 pub mod Headline
 pub mod Hearing
+pub mod Lawful
+pub mod Laws
+pub mod Listing
 pub mod Manifest
 pub mod Report
 pub mod Run
+pub mod Sample
 pub mod Script
 pub mod Words

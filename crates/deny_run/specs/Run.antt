@@ -8,6 +8,7 @@ use Rattle.graph_workspace.specs.declared.error.What.{What}
 use Rattle.diag_stats.specs.ExitCode.{has_errors}
 use Rattle.diag_stats.specs.declared.stats.AllStats.{AllStats}
 use Rattle.run_request.specs.declared.check.Args.{Args}
+use Rattle.run_request.specs.declared.list.Args.{Args as ListArgs}
 use Rattle.run_request.specs.declared.request.Request.{Request}
 use Rattle.run_request.specs.declared.request.Subcommand.{Subcommand}
 use Rattle.run_request.specs.declared.request.Subcommand.TheVariants.{Check, List as Listing, Sample}
@@ -20,10 +21,15 @@ use Rattle.run_found.specs.Hearing.{TreeSeen}
 use Rattle.run_check.specs.Carried.{uncarried_in}
 use Rattle.run_check.specs.declared.report.Report.{Report}
 use Rattle.run_check.specs.Given.{CheckArguments}
+use Rattle.run_list.specs.declared.reads.CrateRead.{CrateRead}
+use Rattle.run_list.specs.Carried as listing
+use Rattle.run_list.specs.Given.{ListArguments}
 use Rattle.deny_run.specs.declared.outcome.Outcome.{Outcome}
 use Rattle.deny_run.specs.declared.outcome.RunEnd.{RunEnd}
-use Rattle.deny_run.specs.declared.outcome.RunEnd.TheVariants.{Checked, Shown, Usage, Refused}
-use Rattle.deny_run.specs.Given.{RunArguments, check_asked}
+use Rattle.deny_run.specs.declared.outcome.RunEnd.TheVariants.{Checked, Listed, Sampled, Shown, Usage, Refused}
+use Rattle.deny_run.specs.Given.{RunArguments, check_asked, list_asked}
+use Rattle.deny_run.specs.Listing.{Lists, RefusesList, err_seen, out_seen}
+use Rattle.deny_run.specs.Sample.{RefusesSample, ReportsSample}
 use Rattle.deny_run.specs.Script.{Writes}
 use Rattle.deny_run.specs.Words.{HasRequest, IsEndOfWords, IsUntouched}
 
@@ -32,21 +38,50 @@ use Rattle.deny_run.specs.Words.{HasRequest, IsEndOfWords, IsUntouched}
 -- the end of a run over a request for a check: a report or a refusal, answered and written as it is asked for
 abbrev pub EndsCheck : CheckArguments → TreeSeen → FaultCounts → SinkTexts → SinkTexts → RunEnd → Type 0
 EndsCheck check tree counts old new (Checked report) = Writes check tree counts old new (Ok report)
+EndsCheck check tree counts old new (Listed reads) = ⊥
+EndsCheck check tree counts old new (Sampled report) = ⊥
 EndsCheck check tree counts old new Shown = ⊥
 EndsCheck check tree counts old new Usage = ⊥
 EndsCheck check tree counts old new (Refused error) = Writes check tree counts old new (Err error)
 
--- the end of a run over a request, by its command; words are taken with `check` alone
+-- the end of a run over a request for a listing
+abbrev pub EndsList : ListArguments → TreeSeen → FaultCounts → SinkTexts → SinkTexts → RunEnd → Type 0
+EndsList list tree counts old new (Checked report) = ⊥
+EndsList list tree counts old new (Listed reads) = Lists list tree (err_seen counts old new) (out_seen counts old new) (Ok reads)
+EndsList list tree counts old new (Sampled report) = ⊥
+EndsList list tree counts old new Shown = ⊥
+EndsList list tree counts old new Usage = ⊥
+EndsList list tree counts old new (Refused error) = RefusesList list tree counts old new error
+
+-- the end of a run over a request for a sample, which makes no call on the tree
+abbrev pub EndsSample : ℕ → CatalogLists → (List ℕ → Match) → TreeSeen → FaultCounts → SinkTexts → SinkTexts → RunEnd → Type 0
+EndsSample size lists match_of tree counts old new (Checked report) = ⊥
+EndsSample size lists match_of tree counts old new (Listed reads) = ⊥
+EndsSample size lists match_of tree counts old new (Sampled report) = IsUntouched tree × ReportsSample size lists match_of counts old new report
+EndsSample size lists match_of tree counts old new Shown = ⊥
+EndsSample size lists match_of tree counts old new Usage = ⊥
+EndsSample size lists match_of tree counts old new (Refused error) = IsUntouched tree × RefusesSample size lists match_of counts old new error
+
+-- the end of a run over a request, by its command
 abbrev pub EndsRequest : CatalogLists → (List ℕ → Match) → TreeSeen → FaultCounts → SinkTexts → SinkTexts → Request → Subcommand → RunEnd → Type 0
 EndsRequest lists match_of tree counts old new request (Check args) ended = EndsCheck (check_asked lists match_of request args) tree counts old new ended
-EndsRequest lists match_of tree counts old new request (Listing args) ended = ⊥
-EndsRequest lists match_of tree counts old new request (Sample size) ended = ⊥
+EndsRequest lists match_of tree counts old new request (Listing args) ended = EndsList (list_asked lists match_of request args) tree counts old new ended
+EndsRequest lists match_of tree counts old new request (Sample size) ended = EndsSample size lists match_of tree counts old new ended
 
 -- a request of which a part is not carried is refused with the first such part, and no call is made
-abbrev pub RefusesUncarried : CatalogLists → (List ℕ → Match) → TreeSeen → Request → RunEnd → Type 0
-RefusesUncarried lists match_of tree request ended =
+abbrev pub RefusesCheckUncarried : CatalogLists → (List ℕ → Match) → TreeSeen → Request → RunEnd → Type 0
+RefusesCheckUncarried lists match_of tree request ended =
     (args : Args) (what : What) → request.command ≡ Check args → uncarried_in (check_asked lists match_of request args) ≡ Some what
     → (ended ≡ Refused (NotCarried what)) × IsUntouched tree
+
+abbrev pub RefusesListUncarried : CatalogLists → (List ℕ → Match) → TreeSeen → Request → RunEnd → Type 0
+RefusesListUncarried lists match_of tree request ended =
+    (args : ListArgs) (what : What) → request.command ≡ Listing args → listing.uncarried_in (list_asked lists match_of request args) ≡ Some what
+    → (ended ≡ Refused (NotCarried what)) × IsUntouched tree
+
+abbrev pub RefusesUncarried : CatalogLists → (List ℕ → Match) → TreeSeen → Request → RunEnd → Type 0
+RefusesUncarried lists match_of tree request ended =
+    RefusesCheckUncarried lists match_of tree request ended × RefusesListUncarried lists match_of tree request ended
 
 -- ---- words
 
@@ -71,6 +106,8 @@ IsShownBy _ = ⊥
 
 abbrev pub EndsHelp : RunEnd → Type 0
 EndsHelp (Checked report) = ⊥
+EndsHelp (Listed reads) = ⊥
+EndsHelp (Sampled report) = ⊥
 EndsHelp Shown = Unit {0}
 EndsHelp Usage = ⊥
 EndsHelp (Refused error) = IsShownBy (cause_of error)
@@ -99,9 +136,11 @@ pub record AnswersWords (given : RunArguments) (outcome : Outcome) : Type 0 wher
 abbrev pub status_of : AllStats → ℕ
 status_of stats = if has_errors stats then 4 else 0
 
--- that of the report's counts; 0 after help and the version, 2 after a mistake in the words, 1 after a refusal
+-- that of the report's counts; 0 after a listing, a sample, help and the version, 2 after a mistake in the words, 1 after a refusal
 abbrev pub exit_status : RunEnd → ℕ
 exit_status (Checked report) = status_of report.stats
+exit_status (Listed reads) = 0
+exit_status (Sampled report) = 0
 exit_status Shown = 0
 exit_status Usage = 2
 exit_status (Refused error) = 1
@@ -112,6 +151,15 @@ exit_status (Refused error) = 1
 abbrev pub end_of : Result Report Error → RunEnd
 end_of (Ok report) = Checked report
 end_of (Err error) = Refused error
+
+-- that of a listing, and of a sample
+abbrev pub listed_end : Result (List CrateRead) Error → RunEnd
+listed_end (Ok reads) = Listed reads
+listed_end (Err error) = Refused error
+
+abbrev pub sampled_end : Result Report Error → RunEnd
+sampled_end (Ok report) = Sampled report
+sampled_end (Err error) = Refused error
 
 -- the outcome of an end
 abbrev pub outcome_of : Option Request → RunEnd → Outcome

@@ -2,6 +2,8 @@
 #![tactic(auto)]
 
 mod check;
+pub mod laws;
+mod listing;
 mod manifest;
 pub mod outcome;
 pub mod run;
@@ -17,4 +19,5 @@ pub use policy_load::{
 };
 pub use run_check::report::{AllStats, CrateReport, Report, Stats, Verdict};
 pub use run_found::Error;
+pub use run_list::{CrateRead, CrateReads};
 pub use run_request::{Request, Subcommand};

@@ -1,31 +1,45 @@
 //! The run: from words and files to a report, a summary and a status.
-ghost use Rattle.std.specs.Prelude.{◌≡◌, ◌≢◌, ◌≤◌, All, IfErr, IfSome, OnOk, is_some, true};
+ghost use Rattle.std.specs.Prelude.{◌≡◌, ◌≢◌, ◌≤◌, All, IfErr, IfSome, OnOk};
 ghost use Rattle.std.specs.Option.{ForSome};
 ghost use Rattle.tree_core.specs.Hearing.{MadeSome};
 ghost use Rattle.tree_core.specs.Script.{LineWritten};
 ghost use Rattle.tree_texts.specs.declared.fault.ReadFault.{ReadFault};
 ghost use Rattle.tree_texts.specs.Cause.{ReadCounts};
 ghost use Rattle.check_core.specs.Labels.{PackLies};
-ghost use Rattle.run_request.specs.Request.{args_of};
 ghost use Rattle.run_found.specs.Error.{cause_of, fault_line};
 ghost use Rattle.run_found.specs.Hearing.{seen};
 ghost use Rattle.deny_run.specs.Given.{run_arguments_of};
 ghost use Rattle.deny_run.specs.Headline.{Headline, HeadlineRead};
+ghost use Rattle.deny_run.specs.Lawful.{IsListComplete};
 ghost use Rattle.deny_run.specs.Run as run;
 ghost use Rattle.deny_run.specs.Run.{AnswersWords, EndsRequest, IfChecked, IfRefused, IsOutcome};
 ghost use Rattle.deny_run.specs.Run.{RefusesUncarried};
 ghost use Rattle.deny_run.specs.Script.{between};
 
 use crate::check::check_request;
+use crate::listing::list_request;
 use crate::outcome::{Outcome, RunEnd};
 use crate::words::{show, write_fault, write_usage};
 use run_check::Report;
 use run_found::Error;
+use run_list::CrateReads;
 use run_request::read::read;
 use run_request::{CliAnswer, Request, Subcommand};
+use run_sample::sample;
 use spdx_core::{Catalog, Identifier};
 use std::alloc::Global;
 use tree_core::{Sink, Tree};
+
+/// The end of a refusal, whose line is written.
+fn refused<E: Sink>(err: &mut E, error: Error) -> RunEnd
+    ensures ended { result ≡ RunEnd.Refused error }
+    ensures line { LineWritten (E.written err.old) (E.written err.new)
+        (E.fault_count err.old) (E.fault_count err.new) (fault_line error) }
+    ensures later { E.fault_count err.old ≤ E.fault_count err.new }
+{
+    write_fault(err, &error);
+    RunEnd::Refused(error)
+}
 
 /// The end of a request that is answered: a report, or a refusal, whose line is written.
 fn told<E: Sink>(err: &mut E, answer: Result<Report, Error>) -> RunEnd
@@ -38,14 +52,41 @@ fn told<E: Sink>(err: &mut E, answer: Result<Report, Error>) -> RunEnd
 {
     match answer {
         Ok(report) => RunEnd::Checked(report),
-        Err(error) => {
-            write_fault(err, &error);
-            RunEnd::Refused(error)
-        }
+        Err(error) => refused(err, error),
     }
 }
 
-/// The run over a request, by its command. Words are taken with `check` alone.
+/// The end of a request for a listing that is answered.
+fn told_listing<E: Sink>(err: &mut E, answer: Result<CrateReads, Error>) -> RunEnd
+    ensures ended { result ≡ run.listed_end answer }
+    ensures line { IfErr answer (λ error. LineWritten (E.written err.old) (E.written err.new)
+        (E.fault_count err.old) (E.fault_count err.new) (fault_line error)) }
+    ensures silent { OnOk answer ((E.written err.new ≡ E.written err.old)
+        × (E.fault_count err.new ≡ E.fault_count err.old)) }
+    ensures later { E.fault_count err.old ≤ E.fault_count err.new }
+{
+    match answer {
+        Ok(reads) => RunEnd::Listed(reads),
+        Err(error) => refused(err, error),
+    }
+}
+
+/// The end of a request for a sample that is answered.
+fn told_sample<E: Sink>(err: &mut E, answer: Result<Report, Error>) -> RunEnd
+    ensures ended { result ≡ run.sampled_end answer }
+    ensures line { IfErr answer (λ error. LineWritten (E.written err.old) (E.written err.new)
+        (E.fault_count err.old) (E.fault_count err.new) (fault_line error)) }
+    ensures silent { OnOk answer ((E.written err.new ≡ E.written err.old)
+        × (E.fault_count err.new ≡ E.fault_count err.old)) }
+    ensures later { E.fault_count err.old ≤ E.fault_count err.new }
+{
+    match answer {
+        Ok(report) => RunEnd::Sampled(report),
+        Err(error) => refused(err, error),
+    }
+}
+
+/// The run over a request, by its command.
 pub fn run_request<T: Tree, O: Sink, E: Sink, C: Catalog, I: Identifier>(
     alloc: Global,
     request: &Request,
@@ -55,7 +96,6 @@ pub fn run_request<T: Tree, O: Sink, E: Sink, C: Catalog, I: Identifier>(
     catalog: &C,
     identifier: &I,
 ) -> RunEnd
-    requires { is_some (args_of request.now.command) ≡ true }
     // What was heard asks for is answered, whatever the tree tells of its content, and nothing else was read: each
     // refusal is the first one, by its cause; and so much is written.
     ensures ended { EndsRequest (C.lists catalog.now) (I.match_of identifier.now)
@@ -95,19 +135,36 @@ pub fn run_request<T: Tree, O: Sink, E: Sink, C: Catalog, I: Identifier>(
             );
             told(err, answer)
         }
-        Subcommand::List(_) => RunEnd::Usage,
-        Subcommand::Sample(_) => RunEnd::Usage,
+        Subcommand::List(args) => {
+            let answer = list_request(
+                alloc,
+                request.log_ctx,
+                *args,
+                &request.krate_ctx,
+                tree,
+                out,
+                err,
+                catalog,
+                identifier,
+            );
+            told_listing(err, answer)
+        }
+        Subcommand::Sample(size) => {
+            let answer = sample(alloc, out, catalog, identifier, *size);
+            told_sample(err, answer)
+        }
     }
 }
 
-/// The status of an end: 0 where the check of licences has no errors, 4 where it has; 0 after help and the version,
+/// The status of an end: 0 where the check of licences has no errors, 4 where it has; 0 after a listing, a sample,
+/// help and the version,
 /// 2 after a mistake in the words, 1 after a refusal.
 fn exit_status(ended: &RunEnd) -> u8
     ensures { result ≡ run.exit_status ended.now }
 {
     match ended {
         RunEnd::Checked(report) => { if report.stats.has_errors() { 4 } else { 0 } }
-        RunEnd::Shown => 0,
+        RunEnd::Listed(_) | RunEnd::Sampled(_) | RunEnd::Shown => 0,
         RunEnd::Usage => 2,
         RunEnd::Refused(_) => 1,
     }
@@ -245,6 +302,14 @@ pub fn run<T: Tree, O: Sink, E: Sink, C: Catalog, I: Identifier>(
         (record { tree = T.fault_count tree.new; out = O.fault_count out.new; err = E.fault_count err.new }))
         result }
     ensures headline { ForSome (T.content tree.old) (λ c. Headline
+        (run_arguments_of (C.lists catalog.now) (I.match_of identifier.now) words.now cwd.now) c
+        (between
+        (record { tree = T.fault_count tree.old; out = O.fault_count out.old; err = E.fault_count err.old })
+        (record { tree = T.fault_count tree.new; out = O.fault_count out.new; err = E.fault_count err.new }))
+        result) }
+
+    // Lawful input with the command `list`, without a fault, is listed, but for want of memory.
+    ensures list_complete { ForSome (T.content tree.old) (λ c. IsListComplete
         (run_arguments_of (C.lists catalog.now) (I.match_of identifier.now) words.now cwd.now) c
         (between
         (record { tree = T.fault_count tree.old; out = O.fault_count out.old; err = E.fault_count err.old })

@@ -1,7 +1,7 @@
 //! Prints the completion of the command line for bash, which zsh reads through `bashcompinit`.
 #![tactic(auto)]
 
-use run_request::options::{OptionRow, OptionUse, OptionValues, check_rows, main_rows};
+use run_request::options::{OptionRow, OptionUse, OptionValues, main_rows, subcommand_rows};
 use std::alloc::{AllocError, Global};
 use std::io;
 
@@ -24,8 +24,7 @@ _cargo_deny() {
         case $subcommand,$word in
 ";
 
-static MIDDLE: &str = "            ,check) subcommand=check ;;
-        esac
+static MIDDLE: &str = "        esac
     done
     case $subcommand,$previous in
 ";
@@ -101,43 +100,66 @@ fn push_option_values(
     Ok(())
 }
 
-/// The words that may stand behind a subcommand: its options, and words without a name.
-fn push_words(
-    text: &mut String,
-    subcommand: &str,
-    rows: &[OptionRow],
-    more: &[&str],
-) -> Result<(), AllocError> {
-    write!(text, "        {subcommand},*) COMPREPLY=($(compgen -W '")?;
-    for row in rows {
-        match (row.kind, row.values) {
-            (OptionUse::Words, OptionValues::Names(names)) => {
-                push_names(text, names)?;
-                text.push_str(" ")?;
-            }
-            _ => {
-                let name = row.name;
-                write!(text, "--{name} ")?;
-            }
+/// The words by which subcommands are known.
+fn push_subcommands(text: &mut String) -> Result<(), AllocError> {
+    for row in subcommand_rows() {
+        let name = row.name;
+        write!(text, "            ,{name}) subcommand={name} ;;\n")?;
+    }
+    Ok(())
+}
+
+/// What an option adds to the words that may stand behind a subcommand: its name, or the names of its values.
+fn push_word(text: &mut String, row: &OptionRow) -> Result<(), AllocError> {
+    match (row.kind, row.values) {
+        (OptionUse::Words | OptionUse::Word, OptionValues::Names(names)) => {
+            push_names(text, names)?;
+            text.push_str(" ")
+        }
+        (OptionUse::Words | OptionUse::Word, _) => Ok(()),
+        _ => {
+            let name = row.name;
+            write!(text, "--{name} ")
         }
     }
-    push_names(text, more)?;
-    text.push_str("' -- \"$current\")) ;;\n")
+}
+
+/// Puts the words that may stand behind a subcommand: its options, words without a name, and `--help`.
+fn push_words(text: &mut String, subcommand: &str, rows: &[OptionRow]) -> Result<(), AllocError> {
+    write!(text, "        {subcommand},*) COMPREPLY=($(compgen -W '")?;
+    for row in rows {
+        push_word(text, row)?;
+    }
+    text.push_str("--help' -- \"$current\")) ;;\n")
+}
+
+/// The words that may stand behind the program's name: its options, and the subcommands.
+fn push_first_words(text: &mut String) -> Result<(), AllocError> {
+    text.push_str("        ,*) COMPREPLY=($(compgen -W '")?;
+    for row in main_rows() {
+        push_word(text, row)?;
+    }
+    text.push_str("--help --version ")?;
+    for row in subcommand_rows() {
+        let name = row.name;
+        write!(text, "{name} ")?;
+    }
+    text.push_str("help' -- \"$current\")) ;;\n")
 }
 
 fn script(alloc: Global) -> Result<String, AllocError> {
     let mut text = String::from_str(alloc, HEAD)?;
     push_valued(&mut text)?;
+    push_subcommands(&mut text)?;
     text.push_str(MIDDLE)?;
     push_option_values(&mut text, "", main_rows())?;
-    push_option_values(&mut text, "check", check_rows())?;
-    push_words(
-        &mut text,
-        "",
-        main_rows(),
-        &["--help", "--version", "check", "help"],
-    )?;
-    push_words(&mut text, "check", check_rows(), &["--help"])?;
+    for row in subcommand_rows() {
+        push_option_values(&mut text, row.name, row.rows)?;
+    }
+    push_first_words(&mut text)?;
+    for row in subcommand_rows() {
+        push_words(&mut text, row.name, row.rows)?;
+    }
     text.push_str("    esac\n")?;
     text.push_str(TAIL)?;
     Ok(text)

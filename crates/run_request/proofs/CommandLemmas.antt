@@ -1,29 +1,30 @@
--- Words are taken with the command `check` alone.
-use Rattle.std.proofs.Common.{◌≡◌, refl, sym, ap, Bool, true, false, not, cond, ◌&&◌, true≢false, List, [], ◌∷◌, Option, None, Some, Result, Ok, Err}
-use Rattle.std.specs.Prelude.{codes, find, is_some, option_map, IfOk}
-use Rattle.std.specs.List.{list_all}
-use Rattle.std.specs.Option.{option_map_or}
+-- The command of a request is the one that the words name, with the values that they give it.
+use Rattle.std.proofs.Common.{◌≡◌, ◌≤◌, ◌&&◌, ℕ, nat_le, arith, Bool, true, false, List, refl, ap, subst, cond, Option, None, Some, Result, Ok, Err}
+use Rattle.std.proofs.lemmas.Bool.Decides.{nat_tests}
+use Rattle.std.proofs.lemmas.Slice.Eq.{bytes_eq-Decides}
+use Rattle.std.specs.Prelude.{IfOk, codes}
+use Rattle.std.specs.Option.{IsSomeAnd, ok_or, option_and_then}
 use Rattle.std.specs.Result.{result_ok}
 use Rattle.std.specs.Str.{bytes_eq}
-use Rattle.clap.specs.Simple.{App, Shape, argument_words, entered, label_of, names_of, rows_at}
-use Rattle.clap.specs.Walk.{answers_to, stop_after}
-use Rattle.clap.specs.Words.{Text, Row, built, matches_of, subcommand_of}
-use Rattle.clap.proofs.OnLiterals.{clap_on_literals}
+use Rattle.clap.specs.Words.{Text, Row, first_of, matches_of, subcommand_of}
 use Rattle.diag_print.specs.declared.context.LogContext.{LogContext}
-use Rattle.run_request.specs.declared.check.Args.{Args}
+use Rattle.run_request.specs.declared.check.Args.{Args as CheckArgs}
+use Rattle.run_request.specs.declared.list.Args.{Args as ListArgs}
 use Rattle.run_request.specs.declared.context.KrateContext.{KrateContext}
 use Rattle.run_request.specs.declared.error.ArgsError.{ArgsError}
 use Rattle.run_request.specs.declared.error.ArgsError.TheVariants.{BadValue}
+use Rattle.run_request.specs.declared.number.SampleSize.{SampleSize}
 use Rattle.run_request.specs.declared.read.CliAnswer.{CliAnswer}
 use Rattle.run_request.specs.declared.read.CliAnswer.TheVariants.{Asked, Shown, Usage}
 use Rattle.run_request.specs.declared.request.Request.{Request}
 use Rattle.run_request.specs.declared.request.Subcommand.{Subcommand}
-use Rattle.run_request.specs.declared.request.Subcommand.TheVariants.{Check}
-use Rattle.run_request.specs.Args.{check_args_of}
+use Rattle.run_request.specs.declared.request.Subcommand.TheVariants.{Check, List as Listing, Sample}
+use Rattle.run_request.specs.Args.{check_args_of, list_args_of}
 use Rattle.run_request.specs.Cli.{cli}
-use Rattle.run_request.specs.Given.{IsCheckAsked, IsGivenFor}
-use Rattle.run_request.specs.Reading.{and_then}
-use Rattle.run_request.specs.Request.{args_of, krate_context_of, log_context_of, path_at, request_in, subcommand_asked}
+use Rattle.run_request.specs.Given.{HasSize, IsCommandAsked, IsGivenFor, IsSized}
+use Rattle.run_request.specs.Number.{number_of, sample_size_of, size_of}
+use Rattle.run_request.specs.Reading.{and_then, first_read, maybe_read}
+use Rattle.run_request.specs.Request.{IsCommandOf, krate_context_of, log_context_of, path_at, request_in, sample_of, subcommand_asked}
 
 same_value : {T E : Type 0} {one two : T} → ◌≡◌ {A = Result T E} (Ok one) (Ok two) → one ≡ two
 same_value e = cc
@@ -31,61 +32,42 @@ same_value e = cc
 same_some : {T : Type 0} {one two : T} → Some one ≡ Some two → one ≡ two
 same_some e = cc
 
--- a command that is asked for is `check`
-abbrev AsksCheck : Result Subcommand ArgsError → Type 0
-AsksCheck asked = (command : Subcommand) → asked ≡ Ok command → is_some (args_of command) ≡ true
+-- ---- a subcommand by its name
 
-no_command : (error : ArgsError) → AsksCheck (Err error)
-no_command error command e = absurd (cc)
+by_check : (name : Text) (rows : List Row) (command : Subcommand) (read : Result CheckArgs ArgsError) → name ≡ codes "check" → check_args_of rows ≡ read
+    → and_then (λ args. Ok (Check args)) read ≡ Ok command → IsCommandOf name rows command
+by_check name rows command (Ok args) is reads e = subst (IsCommandOf name rows) (same_value e) (is, reads)
+by_check name rows command (Err error) is reads e = absurd (cc)
 
-check_command : (args : Result Args ArgsError) → AsksCheck (and_then (λ given. Ok (Check given)) args)
-check_command (Ok args) command e = sym (ap (λ one. is_some (args_of one)) (same_value e))
-check_command (Err error) command e = absurd (cc)
+by_list : (name : Text) (rows : List Row) (command : Subcommand) (read : Result ListArgs ArgsError) → name ≡ codes "list" → list_args_of rows ≡ read
+    → and_then (λ args. Ok (Listing args)) read ≡ Ok command → IsCommandOf name rows command
+by_list name rows command (Ok args) is reads e = subst (IsCommandOf name rows) (same_value e) (is, reads)
+by_list name rows command (Err error) is reads e = absurd (cc)
 
--- ---- the names of subcommands
+by_sample : (name : Text) (rows : List Row) (command : Subcommand) (read : Result (Option SampleSize) ArgsError) → name ≡ codes "sample"
+    → first_read sample_size_of (codes "N") rows ≡ read → and_then sample_of read ≡ Ok command → IsCommandOf name rows command
+by_sample name rows command (Ok (Some size)) is reads e = subst (IsCommandOf name rows) (same_value e) (is, reads)
+by_sample name rows command (Ok None) is reads e = absurd (cc)
+by_sample name rows command (Err error) is reads e = absurd (cc)
 
--- neither of the two names that the command line has not
-abbrev is_no_other : Shape → Bool
-is_no_other shape = not (bytes_eq shape.name (codes "list")) && not (bytes_eq shape.name (codes "sample"))
+by_name : (name : Text) (rows : List Row) (command : Subcommand) (is_check is_list is_sample : Bool) → bytes_eq name (codes "check") ≡ is_check
+    → bytes_eq name (codes "list") ≡ is_list → bytes_eq name (codes "sample") ≡ is_sample
+    → cond is_check (and_then (λ args. Ok (Check args)) (check_args_of rows)) (cond is_list (and_then (λ args. Ok (Listing args)) (list_args_of rows))
+    (cond is_sample (and_then sample_of (first_read sample_size_of (codes "N") rows)) (Err (BadValue (codes "COMMAND") name)))) ≡ Ok command
+    → IsCommandOf name rows command
+by_name name rows command true is_list is_sample check list sample e =
+    by_check name rows command (check_args_of rows) ((bytes_eq-Decides name (codes "check")).0 check) refl e
+by_name name rows command false true is_sample check list sample e =
+    by_list name rows command (list_args_of rows) ((bytes_eq-Decides name (codes "list")).0 list) refl e
+by_name name rows command false false true check list sample e =
+    by_sample name rows command (first_read sample_size_of (codes "N") rows) ((bytes_eq-Decides name (codes "sample")).0 sample) refl e
+by_name name rows command false false false check list sample e = absurd (cc)
 
-no_others : list_all is_no_other (built cli).subs ≡ true
-unfolding clap_on_literals
-no_others = refl
-
-by_name : (is_check is_list is_sample : Bool) (check list sample none : Result Subcommand ArgsError) → (not is_list && not is_sample) ≡ true → AsksCheck check → AsksCheck none
-    → AsksCheck (cond is_check check (cond is_list list (cond is_sample sample none)))
-by_name true is_list is_sample check list sample none other checks nothing = checks
-by_name false true is_sample check list sample none other checks nothing = absurd (true≢false (sym other))
-by_name false false true check list sample none other checks nothing = absurd (true≢false (sym other))
-by_name false false false check list sample none other checks nothing = nothing
-
-both : (one more : Bool) → (one && more) ≡ true → (one ≡ true) × (more ≡ true)
-both true more e = (refl, e)
-both false more e = absurd (true≢false (sym e))
-
--- the first that passes a test is as all are
-found_is : (p test : Shape → Bool) (shapes : List Shape) → list_all p shapes ≡ true → option_map_or p (find test shapes) true ≡ true
-found_is p test [] all = refl
-found_is p test (shape ∷ shapes) all =
-    let parts = both (p shape) (list_all p shapes) all in
-    pick (test shape) shape (find test shapes) parts.0 (found_is p test shapes parts.1)
-  where
-    pick : (here : Bool) (shape : Shape) (later : Option Shape) → p shape ≡ true → option_map_or p later true ≡ true → option_map_or p (cond here (Some shape) later) true ≡ true
-    pick true shape later one more = one
-    pick false shape later one more = more
-
--- the command of a subcommand that has no other name
-of_shape : (found : Option Shape) (words : List Text) → option_map_or is_no_other found true ≡ true → AsksCheck (subcommand_asked (option_map (λ shape. rows_at shape words) found))
-of_shape None words other = no_command (BadValue (codes "COMMAND") [])
-of_shape (Some shape) words other =
-    by_name (bytes_eq shape.name (codes "check")) (bytes_eq shape.name (codes "list")) (bytes_eq shape.name (codes "sample")) _ _ _ _ other
-    (check_command (check_args_of (rows_at shape words).1)) (no_command (BadValue (codes "COMMAND") shape.name))
-
-of_stop : (app : App) (stop : Option (Text × List Text)) → list_all is_no_other app.subs ≡ true → AsksCheck (subcommand_asked (entered app stop))
-of_stop app None other = no_command (BadValue (codes "COMMAND") [])
-of_stop app (Some stop) other =
-    let test : Shape → Bool = λ shape. answers_to stop.0 (label_of shape) in
-    of_shape (find test app.subs) stop.1 (found_is is_no_other test app.subs other)
+named : (below : Option (Text × List Row)) (command : Subcommand) → subcommand_asked below ≡ Ok command
+    → IsSomeAnd below (λ named. IsCommandOf named.0 named.1 command)
+named None command e = absurd (cc)
+named (Some below) command e =
+    by_name below.0 below.1 command (bytes_eq below.0 (codes "check")) (bytes_eq below.0 (codes "list")) (bytes_eq below.0 (codes "sample")) refl refl refl e
 
 -- ---- the command of a request
 
@@ -93,22 +75,70 @@ abbrev with_command : LogContext → Option Text → KrateContext → Subcommand
 with_command log_ctx manifest_path krate_ctx command =
     record { log_ctx = log_ctx; manifest_path = manifest_path; krate_ctx = krate_ctx; command = command }
 
-asks : (log : Result LogContext ArgsError) (path : Option Text) (context : KrateContext) (asked : Result Subcommand ArgsError) (request : Request) → AsksCheck asked
-    → result_ok (and_then (λ log_ctx. and_then (λ command. Ok (with_command log_ctx path context command)) asked) log) ≡ Some request → is_some (args_of request.command) ≡ true
-asks (Err error) path context asked request checks e = absurd (cc)
-asks (Ok log) path context (Err error) request checks e = absurd (cc)
-asks (Ok log) path context (Ok command) request checks e =
+asks : (log : Result LogContext ArgsError) (path : Option Text) (context : KrateContext) (asked : Result Subcommand ArgsError) (request : Request)
+    → result_ok (and_then (λ log_ctx. and_then (λ command. Ok (with_command log_ctx path context command)) asked) log) ≡ Some request → asked ≡ Ok request.command
+asks (Err error) path context asked request e = absurd (cc)
+asks (Ok log) path context (Err error) request e = absurd (cc)
+asks (Ok log) path context (Ok command) request e =
     let command_in : Request → Result Subcommand ArgsError = λ one. Ok one.command in
-    checks request.command (ap command_in (same_some e))
+    ap command_in (same_some e)
 
-pub asks_check : (words : List Text) (cwd : Text) (request : Request) → request_in words cwd ≡ Some request → is_some (args_of request.command) ≡ true
-asks_check words cwd request e =
+pub asks_command : (words : List Text) (cwd : Text) (request : Request) → request_in words cwd ≡ Some request
+    → IsSomeAnd (subcommand_of cli words) (λ named. IsCommandOf named.0 named.1 request.command)
+asks_command words cwd request e =
     let rows = matches_of cli words in
-    asks (log_context_of rows) (path_at cwd (codes "manifest-path") rows) (krate_context_of rows cwd) (subcommand_asked (subcommand_of cli words)) request
-    (of_stop (built cli) (stop_after (built cli).top.rules (names_of (built cli)) (argument_words cli words)) no_others) e
+    named (subcommand_of cli words) request.command
+    (asks (log_context_of rows) (path_at cwd (codes "manifest-path") rows) (krate_context_of rows cwd) (subcommand_asked (subcommand_of cli words)) request e)
 
-pub command_clause : {E : Type 0} (words : List Text) (cwd : Text) (r : Result CliAnswer E) → IfOk r (IsGivenFor words cwd) → IfOk r IsCheckAsked
-command_clause words cwd (Ok (Asked request)) is = asks_check words cwd request is.1
+pub command_clause : {E : Type 0} (words : List Text) (cwd : Text) (r : Result CliAnswer E) → IfOk r (IsGivenFor words cwd) → IfOk r (IsCommandAsked words)
+command_clause words cwd (Ok (Asked request)) is = asks_command words cwd request is.1
 command_clause words cwd (Ok (Shown text)) is = tt
 command_clause words cwd (Ok (Usage text)) is = tt
 command_clause words cwd (Err error) is = tt
+
+-- ---- the size of a sample
+
+-- what is read of a word that stands for a size is at most 20,000
+abbrev FitsSize : Option SampleSize → Type 0
+FitsSize None = Unit {0}
+FitsSize (Some size) = size.0 ≤ 20000
+
+at_most : (number limit : ℕ) → nat_le number limit ≡ true → number ≤ limit
+at_most number limit is = grind (arith, nat_tests)
+
+sized : (number : ℕ) → FitsSize (size_of number)
+sized number = go (nat_le 1 number) (nat_le number 20000) refl
+  where
+    go : (low high : Bool) → nat_le number 20000 ≡ high → FitsSize (cond (low && high) (Some (record { 0 = number })) None)
+    go true true is = at_most number 20000 is
+    go true false is = tt
+    go false high is = tt
+
+size_fits : (number : Option ℕ) → FitsSize (option_and_then size_of number)
+size_fits None = tt
+size_fits (Some number) = sized number
+
+first_fits : (word : Option Text) (size : ℕ) → maybe_read sample_size_of (codes "N") word ≡ Ok (Some (record { 0 = size })) → size ≤ 20000
+first_fits None size e = absurd (cc)
+first_fits (Some word) size e = go (sample_size_of word) (size_fits (number_of word)) e
+  where
+    go : (read : Option SampleSize) → FitsSize read → and_then (λ value. Ok (Some value)) (ok_or read (BadValue (codes "N") word)) ≡ Ok (Some (record { 0 = size })) → size ≤ 20000
+    go None fits e = absurd (cc)
+    go (Some found) fits e =
+        let number : SampleSize → ℕ = λ one. one.0 in
+        subst (λ n. n ≤ 20000) (ap number (same_some (same_value e))) fits
+
+command_sized : (name : Text) (rows : List Row) (command : Subcommand) → IsCommandOf name rows command → IsSized command
+command_sized name rows (Check args) is = tt
+command_sized name rows (Listing args) is = tt
+command_sized name rows (Sample size) is = first_fits (first_of (codes "N") rows) size is.1
+
+sized_in : (below : Option (Text × List Row)) (command : Subcommand) → IsSomeAnd below (λ named. IsCommandOf named.0 named.1 command) → IsSized command
+sized_in None command is = absurd is
+sized_in (Some below) command is = command_sized below.0 below.1 command is
+
+pub size_clause : {E : Type 0} (words : List Text) (r : Result CliAnswer E) → IfOk r (IsCommandAsked words) → IfOk r HasSize
+size_clause words (Ok (Asked request)) is = sized_in (subcommand_of cli words) request.command is
+size_clause words (Ok (Shown text)) is = tt
+size_clause words (Ok (Usage text)) is = tt
+size_clause words (Err error) is = tt

@@ -1,6 +1,7 @@
 pub mod NumberLemmas
 pub mod RowLemmas
 pub mod ReadLemmas
+pub mod SubcommandLemmas
 pub mod CommandLemmas
 pub mod PieceLemmas
 pub mod LawLemmas

@@ -93,11 +93,15 @@ list_shape = subcommand_shape (codes "list") list_rules
 abbrev pub sample_shape : Shape
 sample_shape = subcommand_shape (codes "sample") sample_rules
 
+-- the subcommands, in the order in which help lists them
+abbrev pub subcommand_shapes : List Shape
+subcommand_shapes = check_shape ∷ list_shape ∷ sample_shape ∷ []
+
 -- a command without subcommands
 abbrev pub alone : Shape → App
 alone shape = record { top = shape; subs = [] }
 
--- the command line but for its subcommand: it tells its version, and asks for a subcommand
+-- the command line but for its subcommands: it tells its version, and asks for a subcommand
 abbrev pub top_shape : Shape
 top_shape = record (new_app (codes "cargo-deny")).top { rules = main_rules; has_version = true; subcommand_required = true }
 
@@ -110,5 +114,5 @@ cli = record {
     has_version = true;
     subcommand_required = true;
   };
-  subs = check_shape ∷ [];
+  subs = subcommand_shapes;
 }

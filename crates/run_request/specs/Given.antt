@@ -1,6 +1,7 @@
 -- Which answer words get.
-use Rattle.std.specs.Prelude.{◌≡◌, ◌≢◌, ◌⊎◌, Bool, true, false, not, List, [], Option, None, Some, Ok, is_err, is_some, map, string_bytes}
+use Rattle.std.specs.Prelude.{◌≡◌, ◌≤◌, ◌≢◌, ◌⊎◌, Bool, true, false, not, List, [], Option, None, Some, Ok, is_err, map, string_bytes}
 use Rattle.std.specs.List.{list_any}
+use Rattle.std.specs.Option.{IsSomeAnd}
 use Rattle.std.specs.declared.string.String.{String}
 use Rattle.clap.specs.Words.{Text, Row, Kinds, fault_of, found_of, rows_of, matches_of, subcommand_of, subcommand_rows_of}
 use Rattle.clap.specs.declared.parser.matches.ArgMatches.{ArgMatches}
@@ -9,8 +10,10 @@ use Rattle.clap.specs.declared.error.kind.ErrorKind.TheVariants.{DisplayHelp, Di
 use Rattle.run_request.specs.declared.request.Request.{Request}
 use Rattle.run_request.specs.declared.read.CliAnswer.{CliAnswer}
 use Rattle.run_request.specs.declared.read.CliAnswer.TheVariants.{Asked, Shown, Usage}
+use Rattle.run_request.specs.declared.request.Subcommand.{Subcommand}
+use Rattle.run_request.specs.declared.request.Subcommand.TheVariants.{Check, List as Listing, Sample}
 use Rattle.run_request.specs.Cli.{cli}
-use Rattle.run_request.specs.Request.{args_of, gate_words, request_in, request_of_rows}
+use Rattle.run_request.specs.Request.{IsCommandOf, gate_words, request_in, request_of_rows}
 
 -- the words as texts
 abbrev pub texts : {A : Type 0} → List (String A) → List Text
@@ -50,11 +53,22 @@ IsGivenFor words cwd (Usage text) = (may_refuse (word_faults words) ≡ true) �
 abbrev pub IsGiven : List Text → Text → CliAnswer → Type 0
 IsGiven words cwd given = IsGivenFor (gate_words words) cwd given
 
--- a request is one for the command `check`: words are taken with no other
-abbrev pub IsCheckAsked : CliAnswer → Type 0
-IsCheckAsked (Asked request) = is_some (args_of request.command) ≡ true
-IsCheckAsked (Shown text) = Unit {0}
-IsCheckAsked (Usage text) = Unit {0}
+-- the command of a request is the subcommand of the command line that the words name, with the values that they give it
+abbrev pub IsCommandAsked : List Text → CliAnswer → Type 0
+IsCommandAsked words (Asked request) = IsSomeAnd (subcommand_of cli words) (λ named. IsCommandOf named.0 named.1 request.command)
+IsCommandAsked words (Shown text) = Unit {0}
+IsCommandAsked words (Usage text) = Unit {0}
+
+-- a sample has at most 20,000 crates
+abbrev pub IsSized : Subcommand → Type 0
+IsSized (Check args) = Unit {0}
+IsSized (Listing args) = Unit {0}
+IsSized (Sample size) = size ≤ 20000
+
+abbrev pub HasSize : CliAnswer → Type 0
+HasSize (Asked request) = IsSized request.command
+HasSize (Shown text) = Unit {0}
+HasSize (Usage text) = Unit {0}
 
 -- a text to show
 abbrev pub IsShown : CliAnswer → Type 0

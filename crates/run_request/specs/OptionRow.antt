@@ -1,11 +1,12 @@
--- The rules of the rows of the table of options.
-use Rattle.std.specs.Prelude.{List, [], ◌∷◌, Option, None, Some}
+-- The rules of the rows of the table of options, and the subcommands that have such rows.
+use Rattle.std.specs.Prelude.{List, [], ◌∷◌, Option, None, Some, map}
 use Rattle.std.specs.Borrow.{Bor}
-use Rattle.clap.specs.Words.{Text, Rule, App, with_rule}
+use Rattle.clap.specs.Words.{Text, Rule, Shape, App, with_rule, with_subcommand}
 use Rattle.run_request.specs.declared.options.OptionUse.{OptionUse}
 use Rattle.run_request.specs.declared.options.OptionUse.TheVariants.{One, Many, Flag, Words, Word}
 use Rattle.run_request.specs.declared.options.OptionRow.{OptionRow}
-use Rattle.run_request.specs.Cli.{option_rule, many_rule, flag_rule, words_rule, word_rule}
+use Rattle.run_request.specs.declared.options.SubcommandRow.{SubcommandRow}
+use Rattle.run_request.specs.Cli.{option_rule, many_rule, flag_rule, words_rule, word_rule, subcommand_shape}
 
 -- a use of that kind, under this name
 abbrev pub rule_of_kind : OptionUse → Text → Rule
@@ -28,3 +29,12 @@ rule_of_row row = record (rule_of_kind row.kind row.name.now) { short = row.lett
 abbrev pub grown : List Rule → App → App
 grown [] app = app
 grown (rule ∷ rules) app = grown rules (with_rule app rule)
+
+-- the subcommand of a row
+abbrev pub shape_of_row : SubcommandRow → Shape
+shape_of_row row = subcommand_shape row.name.now (map rule_of_row row.rows.now)
+
+-- a command with subcommands added in turn
+abbrev pub with_all : List Shape → App → App
+with_all [] app = app
+with_all (shape ∷ shapes) app = with_all shapes (with_subcommand app shape)

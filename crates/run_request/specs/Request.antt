@@ -1,5 +1,5 @@
 -- What the words of a command line ask for.
-use Rattle.std.specs.Prelude.{◌||◌, List, [], ◌∷◌, Option, None, Some, option_map, Result, Ok, Err, unwrap_or, codes, if◌then◌else◌}
+use Rattle.std.specs.Prelude.{◌≡◌, ◌||◌, List, [], ◌∷◌, Option, None, Some, option_map, Result, Ok, Err, unwrap_or, codes, if◌then◌else◌}
 use Rattle.std.specs.Result.{result_ok}
 use Rattle.std.specs.Option.{option_to_list}
 use Rattle.std.specs.List.{flat_map, slice_split}
@@ -12,7 +12,6 @@ use Rattle.diag_print.specs.declared.context.Format.TheVariants.{Human}
 use Rattle.diag_print.specs.declared.context.Color.TheVariants.{Auto}
 use Rattle.run_request.specs.declared.error.ArgsError.{ArgsError}
 use Rattle.run_request.specs.declared.error.ArgsError.TheVariants.{BadValue}
-use Rattle.run_request.specs.declared.check.Args.{Args as CheckArgs}
 use Rattle.run_request.specs.declared.context.KrateContext.{KrateContext}
 use Rattle.run_request.specs.declared.request.Request.{Request}
 use Rattle.run_request.specs.declared.request.Subcommand.{Subcommand}
@@ -79,11 +78,11 @@ abbrev pub subcommand_asked : Option (Text × List Row) → Result Subcommand Ar
 subcommand_asked None = Err (BadValue (codes "COMMAND") [])
 subcommand_asked (Some named) = subcommand_named named.0 named.1
 
--- the options of the command `check`, where that is asked for
-abbrev pub args_of : Subcommand → Option CheckArgs
-args_of (Check args) = Some args
-args_of (Listing args) = None
-args_of (Sample size) = None
+-- the command is the one of that name, with the values that its rows give
+abbrev pub IsCommandOf : Text → List Row → Subcommand → Type 0
+IsCommandOf name rows (Check args) = (name ≡ codes "check") × (check_args_of rows ≡ Ok args)
+IsCommandOf name rows (Listing args) = (name ≡ codes "list") × (list_args_of rows ≡ Ok args)
+IsCommandOf name rows (Sample size) = (name ≡ codes "sample") × (first_read sample_size_of (codes "N") rows ≡ Ok (Some (record { 0 = size })))
 
 -- what the rows ask for, or the first value that is outside its table, or a depth beside hidden graphs
 abbrev pub request_of_rows : List Row → Option (Text × List Row) → Text → Result Request ArgsError

@@ -5,9 +5,10 @@ ghost use Rattle.run_request.specs.Cli.{alone, check_shape};
 ghost use Rattle.run_request.specs.Reading.{AnswersArgs};
 ghost use Rattle.run_request.specs.Args.{check_args_of, lint_levels_of};
 
-use crate::command::check_command;
+use crate::command::command_of_row;
 use crate::error::ArgsError;
 use crate::level::{CodeOrLevel, LintLevels, WhichCheck, WhichChecks};
+use crate::options::check_row;
 use crate::rows::{copied_path, is_set, read_all, read_first};
 use clap::{ArgMatches, Command};
 use deny_text::PathBuf;
@@ -31,7 +32,7 @@ impl Args {
     pub fn cmd<'a>(alloc: Global) -> Result<Command<'a>, AllocError>
         ensures { IfOk result (λ command. app_of command ≡ alone check_shape) }
     {
-        check_command(alloc)
+        command_of_row(alloc, check_row())
     }
 
     /// What the matches of `check` ask for. The first refusal is told, in the order of the options, and a

@@ -1,10 +1,10 @@
 //! The command line as a value.
 ghost use Rattle.std.specs.Prelude.{◌≡◌, IfOk, false, true, map};
 ghost use Rattle.clap.specs.Words.{rule_of, new_rule, app_of, shape_of, with_subcommand};
-ghost use Rattle.run_request.specs.Cli.{cli, top_shape, alone, check_shape, list_shape, sample_shape};
-ghost use Rattle.run_request.specs.OptionRow.{rule_of_row, defaults_of, grown};
+ghost use Rattle.run_request.specs.Cli.{cli, top_shape, alone};
+ghost use Rattle.run_request.specs.OptionRow.{rule_of_row, shape_of_row, defaults_of, grown, with_all};
 
-use crate::options::{OptionRow, OptionUse, check_rows, list_rows, main_rows, sample_rows};
+use crate::options::{OptionRow, OptionUse, SubcommandRow, main_rows, subcommand_rows};
 use clap::{Arg, ArgAction, Command};
 use std::alloc::{AllocError, Global};
 
@@ -24,7 +24,7 @@ Status:
   1  the run was refused: the last line on standard error says why
   2  the words were refused
 
-A request is not carried
+A request for another command than `sample` is not carried
   without --metadata-path;
   where `check` names another check than licenses, or none;
   with --format sarif, --target, check --graph or check --audit-compatible-output;
@@ -36,17 +36,11 @@ The commands `init` and `fetch` are no part of this program.";
 pub fn command<'a>(alloc: Global) -> Result<Command<'a>, AllocError>
     ensures { IfOk result (λ command. app_of command ≡ cli) }
 {
-    let check = check_command(alloc)?;
-    match top_command(alloc) {
-        Ok(command) => add_subcommand(command, check),
-        Err(error) => {
-            let_go(check);
-            Err(error)
-        }
-    }
+    let command = top_command(alloc)?;
+    with_subcommands(alloc, command, subcommand_rows())
 }
 
-/// The command line without its subcommand.
+/// The command line without its subcommands.
 fn top_command<'a>(alloc: Global) -> Result<Command<'a>, AllocError>
     ensures { IfOk result (λ command. app_of command ≡ alone top_shape) }
 {
@@ -59,44 +53,68 @@ fn top_command<'a>(alloc: Global) -> Result<Command<'a>, AllocError>
     Ok(command)
 }
 
+fn with_subcommands<'a>(
+    alloc: Global,
+    command: Command<'a>,
+    rows: &'static [SubcommandRow],
+) -> Result<Command<'a>, AllocError>
+    ensures { IfOk result (λ r. app_of r ≡ with_all (map shape_of_row rows.now) (app_of command.entry)) }
+{
+    let mut command = command;
+    'rows: for row in rows {
+        command = with_row(alloc, command, row)?;
+    }
+    Ok(command)
+}
+
+/// A command with the subcommand of a row behind those that it has.
+fn with_row<'a>(
+    alloc: Global,
+    command: Command<'a>,
+    row: &'static SubcommandRow,
+) -> Result<Command<'a>, AllocError>
+    ensures { IfOk result (λ r. app_of r ≡ with_subcommand (app_of command.entry) (shape_of_row row.now)) }
+{
+    match command_of_row(alloc, row) {
+        Ok(below) => add_subcommand(command, below),
+        Err(error) => {
+            let_go(command);
+            Err(error)
+        }
+    }
+}
+
 /// Lets a command go.
 fn let_go(_command: Command<'_>) {}
-
-/// The subcommand `check`.
-pub(crate) fn check_command<'a>(alloc: Global) -> Result<Command<'a>, AllocError>
-    ensures { IfOk result (λ command. app_of command ≡ alone check_shape) }
-{
-    let command = Command::new(alloc, "check").about("Checks a project's crates");
-    with_rows(alloc, command, check_rows())
-}
-
-/// The subcommand `check` by itself, whose usage has the program's name in front.
-pub(crate) fn check_alone<'a>(alloc: Global) -> Result<Command<'a>, AllocError> {
-    let command = check_command(alloc)?;
-    command.bin_name("cargo-deny check")
-}
-
-/// The subcommand `list`.
-pub(crate) fn list_command<'a>(alloc: Global) -> Result<Command<'a>, AllocError>
-    ensures { IfOk result (λ command. app_of command ≡ alone list_shape) }
-{
-    let command = Command::new(alloc, "list").about("Lists the licences of a project's crates");
-    with_rows(alloc, command, list_rows())
-}
-
-/// The subcommand `sample`.
-pub(crate) fn sample_command<'a>(alloc: Global) -> Result<Command<'a>, AllocError>
-    ensures { IfOk result (λ command. app_of command ≡ alone sample_shape) }
-{
-    let command = Command::new(alloc, "sample").about("Checks a sample of made-up crates");
-    with_rows(alloc, command, sample_rows())
-}
 
 fn add_subcommand<'a>(command: Command<'a>, below: Command<'a>) -> Result<Command<'a>, AllocError>
     requires { (app_of below).top.is_plain ≡ true }
     ensures { IfOk result (λ r. app_of r ≡ with_subcommand (app_of command.entry) (shape_of below.entry)) }
 {
     command.subcommand(below)
+}
+
+/// The subcommand of a row by itself.
+#[tactic(auto, using(crate::proofs::SubcommandLemmas::grown_new))]
+pub(crate) fn command_of_row<'a>(
+    alloc: Global,
+    row: &'static SubcommandRow,
+) -> Result<Command<'a>, AllocError>
+    ensures { IfOk result (λ command. app_of command ≡ alone (shape_of_row row.now)) }
+{
+    let command = Command::new(alloc, row.name).about(row.about);
+    with_rows(alloc, command, row.rows)
+}
+
+/// The subcommand of a row by itself, whose usage has the program's name in front.
+pub(crate) fn subcommand_alone<'a>(
+    alloc: Global,
+    row: &'static SubcommandRow,
+) -> Result<Command<'a>, AllocError> {
+    let name = row.name;
+    let called = format!(in alloc; "cargo-deny {name}")?;
+    let command = command_of_row(alloc, row)?;
+    command.bin_name(called.as_str())
 }
 
 fn with_rows<'a>(

@@ -5,9 +5,10 @@ ghost use Rattle.run_request.specs.Cli.{alone, list_shape};
 ghost use Rattle.run_request.specs.Reading.{AnswersArgs};
 ghost use Rattle.run_request.specs.Args.{list_args_of, hundredths_in};
 
-use crate::command::list_command;
+use crate::command::command_of_row;
 use crate::error::ArgsError;
 use crate::number::Threshold;
+use crate::options::list_row;
 use crate::output::{Layout, OutputFormat};
 use crate::rows::read_first;
 use clap::{ArgMatches, Command};
@@ -27,7 +28,7 @@ impl Args {
     pub fn cmd<'a>(alloc: Global) -> Result<Command<'a>, AllocError>
         ensures { IfOk result (λ command. app_of command ≡ alone list_shape) }
     {
-        list_command(alloc)
+        command_of_row(alloc, list_row())
     }
 
     /// What the matches of `list` ask for. The first refusal is told, in the order of the options.

@@ -1,7 +1,8 @@
 //! The options of the command line, in the order in which help lists them.
 ghost use Rattle.std.specs.Prelude.{◌≡◌, map};
-ghost use Rattle.run_request.specs.Cli.{main_rules, check_rules, list_rules, sample_rules};
-ghost use Rattle.run_request.specs.OptionRow.{rule_of_row};
+ghost use Rattle.run_request.specs.Cli.{main_rules, check_rules, list_rules};
+ghost use Rattle.run_request.specs.Cli.{check_shape, list_shape, subcommand_shapes};
+ghost use Rattle.run_request.specs.OptionRow.{rule_of_row, shape_of_row};
 
 /// How an option is used.
 #[derive(Clone, Copy, Debug, PartialEq, Eq)]
@@ -46,6 +47,16 @@ pub struct OptionRow {
     pub values: OptionValues,
     /// What the option does.
     pub help: &'static str,
+}
+
+/// A subcommand.
+#[derive(Clone, Copy)]
+pub struct SubcommandRow {
+    pub name: &'static str,
+    /// What the subcommand does.
+    pub about: &'static str,
+    /// Its options and words.
+    pub rows: &'static [OptionRow],
 }
 
 /// An option with one of some names.
@@ -232,106 +243,118 @@ static MAIN: [OptionRow; 17] = [
     ),
 ];
 
-static CHECK: [OptionRow; 9] = [
-    valued!(
-        One,
-        "graph",
-        Some('g'),
-        None,
-        "FOLDER",
-        OptionValues::Folder,
-        "A folder for graphs of crates; not carried"
-    ),
-    flag!(
-        "hide-inclusion-graph",
-        None,
-        "Writes no graph of what includes a crate, as ever; read, and without effect"
-    ),
-    flag!(
-        "audit-compatible-output",
-        None,
-        "Writes as cargo-audit does; not carried"
-    ),
-    flag!(
-        "show-stats",
-        Some('s'),
-        "Writes the summary in its full form"
-    ),
-    overriding!(
-        "warn",
-        'W',
-        "Findings of this code, or of a level (allowed, warnings, denied), are warnings; docs/GUIDE.md lists \
+static SUBCOMMANDS: [SubcommandRow; 3] = [
+    SubcommandRow {
+        name: "check",
+        about: "Checks a project's crates",
+        rows: &[
+            valued!(
+                One,
+                "graph",
+                Some('g'),
+                None,
+                "FOLDER",
+                OptionValues::Folder,
+                "A folder for graphs of crates; not carried"
+            ),
+            flag!(
+                "hide-inclusion-graph",
+                None,
+                "Writes no graph of what includes a crate, as ever; read, and without effect"
+            ),
+            flag!(
+                "audit-compatible-output",
+                None,
+                "Writes as cargo-audit does; not carried"
+            ),
+            flag!(
+                "show-stats",
+                Some('s'),
+                "Writes the summary in its full form"
+            ),
+            overriding!(
+                "warn",
+                'W',
+                "Findings of this code, or of a level (allowed, warnings, denied), are warnings; docs/GUIDE.md lists \
          the codes"
-    ),
-    overriding!(
-        "allow",
-        'A',
-        "Findings of this code or level are notes; docs/GUIDE.md lists the codes"
-    ),
-    overriding!(
-        "deny",
-        'D',
-        "Findings of this code or level are errors; docs/GUIDE.md lists the codes"
-    ),
-    valued!(
-        One,
-        "feature-depth",
-        None,
-        None,
-        "DEPTH",
-        OptionValues::Any,
-        "How deep graphs tell features, below 4294967296, not beside --hide-inclusion-graph; read, and \
+            ),
+            overriding!(
+                "allow",
+                'A',
+                "Findings of this code or level are notes; docs/GUIDE.md lists the codes"
+            ),
+            overriding!(
+                "deny",
+                'D',
+                "Findings of this code or level are errors; docs/GUIDE.md lists the codes"
+            ),
+            valued!(
+                One,
+                "feature-depth",
+                None,
+                None,
+                "DEPTH",
+                OptionValues::Any,
+                "How deep graphs tell features, below 4294967296, not beside --hide-inclusion-graph; read, and \
          without effect"
-    ),
-    valued!(
-        Words,
-        "WHICH",
-        None,
-        None,
-        "WHICH",
-        OptionValues::Names(&["advisories", "bans", "licenses", "sources", "all"]),
-        "The checks; licenses has to be given, and no other is carried [possible values: advisories, bans, \
+            ),
+            valued!(
+                Words,
+                "WHICH",
+                None,
+                None,
+                "WHICH",
+                OptionValues::Names(&["advisories", "bans", "licenses", "sources", "all"]),
+                "The checks; licenses has to be given, and no other is carried [possible values: advisories, bans, \
          licenses, sources, all]"
-    ),
+            ),
+        ],
+    },
+    SubcommandRow {
+        name: "list",
+        about: "Lists the licences of a project's crates, and judges none",
+        rows: &[
+            valued!(
+                One,
+                "threshold",
+                Some('t'),
+                Some("0.8"),
+                "SCORE",
+                OptionValues::Any,
+                "The least score at which a text is taken for a licence, from 0 to 1, with two decimals at most"
+            ),
+            chosen!(
+                "format",
+                'f',
+                "human",
+                "FORMAT",
+                ["human", "json", "tsv"],
+                "How the listing is written"
+            ),
+            chosen!(
+                "layout",
+                'l',
+                "license",
+                "LAYOUT",
+                ["crate", "license"],
+                "What the listing is grouped by"
+            ),
+        ],
+    },
+    SubcommandRow {
+        name: "sample",
+        about: "Checks a sample of made-up crates, without any file",
+        rows: &[valued!(
+            Word,
+            "N",
+            None,
+            None,
+            "N",
+            OptionValues::Any,
+            "How many crates the sample has, from 1 to 20000"
+        )],
+    },
 ];
-
-static LIST: [OptionRow; 3] = [
-    valued!(
-        One,
-        "threshold",
-        Some('t'),
-        Some("0.8"),
-        "SCORE",
-        OptionValues::Any,
-        "The least score at which a text is taken for a licence, from 0 to 1, with two decimals at most"
-    ),
-    chosen!(
-        "format",
-        'f',
-        "human",
-        "FORMAT",
-        ["human", "json", "tsv"],
-        "How the listing is written"
-    ),
-    chosen!(
-        "layout",
-        'l',
-        "license",
-        "LAYOUT",
-        ["crate", "license"],
-        "What the listing is grouped by"
-    ),
-];
-
-static SAMPLE: [OptionRow; 1] = [valued!(
-    Word,
-    "N",
-    None,
-    None,
-    "N",
-    OptionValues::Any,
-    "How many crates the sample has, from 1 to 20000"
-)];
 
 /// The options that stand before the subcommand.
 pub fn main_rows() -> &'static [OptionRow]
@@ -344,19 +367,33 @@ pub fn main_rows() -> &'static [OptionRow]
 pub fn check_rows() -> &'static [OptionRow]
     ensures { map rule_of_row result.now ≡ check_rules }
 {
-    &CHECK
+    check_row().rows
 }
 
 /// The options of `list`.
 pub fn list_rows() -> &'static [OptionRow]
     ensures { map rule_of_row result.now ≡ list_rules }
 {
-    &LIST
+    list_row().rows
 }
 
-/// The word of `sample`.
-pub fn sample_rows() -> &'static [OptionRow]
-    ensures { map rule_of_row result.now ≡ sample_rules }
+/// The subcommands.
+pub fn subcommand_rows() -> &'static [SubcommandRow]
+    ensures { map shape_of_row result.now ≡ subcommand_shapes }
 {
-    &SAMPLE
+    &SUBCOMMANDS
+}
+
+/// The subcommand `check`.
+pub(crate) fn check_row() -> &'static SubcommandRow
+    ensures { shape_of_row result.now ≡ check_shape }
+{
+    &SUBCOMMANDS[0]
+}
+
+/// The subcommand `list`.
+pub(crate) fn list_row() -> &'static SubcommandRow
+    ensures { shape_of_row result.now ≡ list_shape }
+{
+    &SUBCOMMANDS[1]
 }

@@ -3,16 +3,16 @@ ghost use Rattle.std.specs.Prelude.{◌≡◌, ◌≢◌, IfOk, IfErr, map};
 ghost use Rattle.clap.specs.Words.{HasKind, app_of, fault_of, found_of, kind_of, rows_of, subcommand_rows_of};
 ghost use Rattle.run_request.specs.Cli.{cli};
 ghost use Rattle.run_request.specs.Request.{gate_words};
-ghost use Rattle.run_request.specs.Given.{AnswersHelp, AnswersMistake, AnswersRequest, HasMatches, IsAsked};
-ghost use Rattle.run_request.specs.Given.{IsCheckAsked, IsGiven, IsGivenFor, IsErrorAnswer, IsUsage, texts};
+ghost use Rattle.run_request.specs.Given.{AnswersHelp, AnswersMistake, AnswersRequest, HasMatches, HasSize, IsAsked};
+ghost use Rattle.run_request.specs.Given.{IsCommandAsked, IsGiven, IsGivenFor, IsErrorAnswer, IsUsage, texts};
 ghost use Rattle.run_request.specs.declared.error.ArgsError.TheVariants.{Memory};
 
-use crate::command::{check_alone, command};
+use crate::command::{command, subcommand_alone};
 use crate::context::{KrateContext, path_at};
 use crate::error::ArgsError;
 use crate::message;
-use crate::options::{OptionRow, main_rows};
-use crate::request::{Request, Subcommand, log_context, rows_below, subcommand_asked};
+use crate::options::{OptionRow, SubcommandRow, main_rows};
+use crate::request::{Request, Subcommand, log_context, row_below, subcommand_asked};
 use crate::words::gate_words;
 use clap::error::{Error, ErrorKind};
 use clap::{ArgMatches, Command};
@@ -35,8 +35,10 @@ pub enum CliAnswer {
 pub fn read(alloc: Global, words: &[String], cwd: &str) -> Result<CliAnswer, AllocError>
     ensures given { IfOk result (IsGiven (texts words.now) cwd.now) }
     ensures request { IfOk result (AnswersRequest (gate_words (texts words.now)) cwd.now) }
-    // Words are taken with the command `check` alone.
-    ensures command { IfOk result IsCheckAsked }
+    // The command is the one that the words name, with their values.
+    ensures command { IfOk result (IsCommandAsked (gate_words (texts words.now))) }
+    // A sample has at most 20,000 crates.
+    ensures size { IfOk result HasSize }
     ensures help { IfOk result (AnswersHelp (gate_words (texts words.now))) }
     ensures mistake { IfOk result (AnswersMistake (gate_words (texts words.now)) cwd.now) }
 {
@@ -47,7 +49,8 @@ pub fn read(alloc: Global, words: &[String], cwd: &str) -> Result<CliAnswer, All
 fn given_for(alloc: Global, words: &[&str], cwd: &str) -> Result<CliAnswer, AllocError>
     ensures given { IfOk result (IsGivenFor (map (λ word. word.now) words.now) cwd.now) }
     ensures request { IfOk result (AnswersRequest (map (λ word. word.now) words.now) cwd.now) }
-    ensures command { IfOk result IsCheckAsked }
+    ensures command { IfOk result (IsCommandAsked (map (λ word. word.now) words.now)) }
+    ensures size { IfOk result HasSize }
     ensures help { IfOk result (AnswersHelp (map (λ word. word.now) words.now)) }
     ensures mistake { IfOk result (AnswersMistake (map (λ word. word.now) words.now) cwd.now) }
 {
@@ -136,7 +139,10 @@ fn asked(
     match log_context(alloc, matches) {
         Err(error) => refused(alloc, command, main_rows(), error),
         Ok(log_ctx) => match subcommand_asked(alloc, matches) {
-            Err(error) => refused_below(alloc, rows_below(matches), error),
+            Err(error) => match row_below(matches) {
+                Some(row) => refused_below(alloc, row, error),
+                None => refused(alloc, command, main_rows(), error),
+            },
             Ok(subcommand) => {
                 let manifest_path = path_at(alloc, matches, "manifest-path", cwd)?;
                 let krate_ctx = KrateContext::from_matches(alloc, matches, cwd)?;
@@ -151,17 +157,17 @@ fn asked(
     }
 }
 
-/// The refusal of a value behind the subcommand, with the usage of that.
+/// The refusal of a value behind a subcommand, with the usage of that.
 fn refused_below(
     alloc: Global,
-    rows: &[OptionRow],
+    row: &'static SubcommandRow,
     error: ArgsError,
 ) -> Result<CliAnswer, AllocError>
     ensures memory { IfOk result (λ _. error ≢ Memory) }
     ensures usage { IfOk result IsUsage }
 {
-    let mut command = check_alone(alloc)?;
-    refused(alloc, &mut command, rows, error)
+    let mut command = subcommand_alone(alloc, row)?;
+    refused(alloc, &mut command, row.rows, error)
 }
 
 /// The refusal of a value among these options.

@@ -7,7 +7,7 @@ ghost use Rattle.run_request.specs.Request.{log_context_of, sample_of, subcomman
 use crate::context::KrateContext;
 use crate::error::ArgsError;
 use crate::number::SampleSize;
-use crate::options::{OptionRow, check_rows, list_rows, sample_rows};
+use crate::options::{SubcommandRow, subcommand_rows};
 use crate::rows::read_first;
 use crate::{check, list};
 use clap::ArgMatches;
@@ -48,14 +48,10 @@ pub(crate) fn log_context(alloc: Global, matches: &ArgMatches<'_>) -> Result<Log
     })
 }
 
-/// The options of the subcommand that was used.
-pub(crate) fn rows_below(matches: &ArgMatches<'_>) -> &'static [OptionRow] {
-    match matches.subcommand_name() {
-        Some("check") => check_rows(),
-        Some("list") => list_rows(),
-        Some("sample") => sample_rows(),
-        _ => &[],
-    }
+/// The subcommand that was used.
+pub(crate) fn row_below(matches: &ArgMatches<'_>) -> Option<&'static SubcommandRow> {
+    let name = matches.subcommand_name()?;
+    subcommand_rows().iter().find(|row| row.name == name)
 }
 
 pub(crate) fn subcommand_asked(

@@ -11,11 +11,13 @@ use gather_location::{LocatedField, locate};
 use graph_metadata::records;
 use graph_selection::{ExcludeSpecs, Krates, Selection};
 use policy_valid::ValidConfig;
+use run_listing::list;
+use run_request::{FromWord, Layout, OutputFormat};
 use spdx_core::Table;
 use std::alloc::Global;
 use tests_files::tree::text_of;
 use tests_files::{AnswerText, Case, CaseEntry, NameIdentifier, ok, some};
-use tree_core::{MemTree, ReadRecord};
+use tree_core::{MemSink, MemTree, ReadRecord};
 use tree_reads::{FolderHeard, list_folder, listing_record, read_file};
 
 /// The crates of the metadata of a case.
@@ -184,6 +186,44 @@ pub fn put(alloc: Global, case: &Case<'_>, key: &str, out: &mut AnswerText) -> O
     let policy = policy_of(alloc, case);
     match (&krates, &policy) {
         (Some(krates), Some(policy)) => put_gathered(alloc, case, key, krates, policy, out),
+        _ => None,
+    }
+}
+
+/// A form and a layout, by their words.
+fn form_of(key: &str) -> Option<(OutputFormat, Layout)> {
+    let (format, layout) = key.split_once('-')?;
+    Some((OutputFormat::from_word(format)?, Layout::from_word(layout)?))
+}
+
+/// Puts the listing of some crates by a policy, or what is written of it until the sink is full.
+fn put_listed_crates(
+    alloc: Global,
+    case: &Case<'_>,
+    key: &str,
+    krates: &Krates,
+    policy: &ValidConfig,
+    out: &mut AnswerText,
+) -> Option<()> {
+    let (format, layout) = form_of(key)?;
+    let room = case.word("room").parse::<usize>().unwrap_or(4000);
+    let mut sink = ok!(MemSink::new(alloc, room, 64));
+    let mut world = some!(world_of(alloc, case));
+    let summary = some!(gathered(alloc, krates, &mut world, policy, 80));
+    let listed = list(alloc, &mut sink, &summary, format, layout);
+    out.put(str::from_utf8(sink.written()).unwrap_or("no UTF-8"));
+    if let Err(error) = listed {
+        write!(out, "{error:?}");
+    }
+    Some(())
+}
+
+/// Puts the listing of what is gathered in a case, in the form and the layout of the key.
+pub fn put_listing(alloc: Global, case: &Case<'_>, key: &str, out: &mut AnswerText) -> Option<()> {
+    let krates = krates(alloc, case);
+    let policy = policy_of(alloc, case);
+    match (&krates, &policy) {
+        (Some(krates), Some(policy)) => put_listed_crates(alloc, case, key, krates, policy, out),
         _ => None,
     }
 }

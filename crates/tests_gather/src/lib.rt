@@ -34,7 +34,8 @@ struct CrateCases;
 /// The keys that say what is put in.
 const GIVEN: &str =
     "file fail table metadata threshold clarify license-file clarified read list locate name field settles \
-    unlisted scanned joined-names missing plain marked package files-expr open-list line close-list";
+    unlisted scanned joined-names missing plain marked package files-expr open-list line close-list \
+    room";
 
 impl Cases for CrateCases {
     fn is_given(&self, key: &str) -> bool {
@@ -59,6 +60,12 @@ fn told_of_files(alloc: Global, case: &Case<'_>, key: &str, out: &mut AnswerText
         "heard" | "located" => gathering::put_each(alloc, case, out),
         "pack" => gathering::put_tried(alloc, case, out),
         "joined" => gathering::put_joined(alloc, case, out),
+        "human-license"
+        | "human-crate"
+        | "json-license"
+        | "json-crate"
+        | "tsv-license"
+        | "tsv-crate" => gathering::put_listing(alloc, case, key, out),
         _ => return KeyAnswer::NoSuchKey,
     };
     answered(tried)
@@ -72,13 +79,14 @@ pub fn answered(tried: Option<()>) -> KeyAnswer {
     }
 }
 
-const FILES: [&str; 6] = [
+const FILES: [&str; 7] = [
     "gather/gathered.txt",
     "gather/found.txt",
     "gather/packs.txt",
     "gather/located.txt",
     "gather/pointed.txt",
     "gather/manifests.txt",
+    "gather/listed.txt",
 ];
 
 /// Compares the rows and cases of the room, and returns whether nothing differs.

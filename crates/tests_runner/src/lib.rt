@@ -11,8 +11,9 @@ mod settings;
 use compared::compare_runs;
 
 /// Files of cases: of the first path and failures, of what words ask for and how they are refused, of metadata, of
-/// policies, of what is found, of what is read of each crate, of the calls of the tree, and of licence families.
-const FILES: [&str; 9] = [
+/// policies, of what is found, of what is read of each crate, of the calls of the tree, of licence families, of
+/// listings and of the sample.
+const FILES: [&str; 11] = [
     "run/gate.txt",
     "run/command.txt",
     "run/refused.txt",
@@ -22,6 +23,8 @@ const FILES: [&str; 9] = [
     "run/gathered.txt",
     "run/calls.txt",
     "run/families.txt",
+    "run/listed.txt",
+    "run/sampled.txt",
 ];
 
 /// Compares the runs of the cases of the room, and returns whether nothing differs.

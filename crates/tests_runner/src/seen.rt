@@ -317,6 +317,8 @@ fn put_unreported(out: &mut AnswerText, ended: &RunEnd, key: &str, err: &str) {
         RunEnd::Usage => out.put("usage"),
         RunEnd::Refused(error) => put_error(out, error),
         RunEnd::Checked(_) => out.put("checked"),
+        RunEnd::Listed(_) => out.put("listed"),
+        RunEnd::Sampled(_) => out.put("sampled"),
     }
 }
 

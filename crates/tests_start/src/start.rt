@@ -40,6 +40,8 @@ fn put_ended(out: &mut AnswerText, ended_at: &Result<Outcome, StartError>) {
     match ended_at {
         Ok(outcome) => match &outcome.ended {
             RunEnd::Checked(report) => put_crates(out, report.crates.items()),
+            RunEnd::Listed(_) => out.put("listed"),
+            RunEnd::Sampled(_) => out.put("sampled"),
             RunEnd::Shown => out.put("shown"),
             RunEnd::Usage => out.put("usage"),
             RunEnd::Refused(_) => out.put("refused"),

@@ -113,18 +113,25 @@ fn put_request(out: &mut AnswerText, request: &Request) {
     put_context(out, context);
     match &request.command {
         Subcommand::Check(args) => put_check(out, args),
-        Subcommand::List(_) => out.put(" list"),
+        Subcommand::List(args) => {
+            out.put(" list ");
+            put_list_args(out, args);
+        }
         Subcommand::Sample(size) => write!(out, " sample {size}"),
     }
 }
 
+fn put_list_args(out: &mut AnswerText, args: &list::Args) {
+    write!(
+        out,
+        "{} {:?} {:?}",
+        args.threshold, args.format, args.layout
+    );
+}
+
 fn put_list(out: &mut AnswerText, parsed: &Result<list::Args, ArgsError>) {
     match parsed {
-        Ok(args) => write!(
-            out,
-            "{} {:?} {:?}",
-            args.threshold, args.format, args.layout
-        ),
+        Ok(args) => put_list_args(out, args),
         Err(ArgsError::BadValue { option, value }) => write!(out, "{option}: {value}"),
         Err(_) => out.put("refused"),
     }

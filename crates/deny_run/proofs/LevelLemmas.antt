@@ -1,0 +1,81 @@
+-- The level of the log is asked nowhere on the way to a report.
+use Rattle.diag_core.specs.declared.severity.LevelFilter.{LevelFilter}
+use Rattle.gather_core.specs.Calls.{CrateReads}
+use Rattle.gather_core.proofs.ZipLemmas.{zip_weaker}
+use Rattle.run_found.specs.Finds.{HearsPolicy}
+use Rattle.run_found.specs.Found.{LooksEnd}
+use Rattle.run_found.specs.Hearing.{RequestHearing}
+use Rattle.run_check.specs.declared.report.CrateReport.{CrateReport}
+use Rattle.run_check.specs.declared.report.Report.{Report}
+use Rattle.run_check.specs.Found.{HearsAllDue}
+use Rattle.run_check.specs.Given.{CheckArguments}
+use Rattle.run_check.specs.Report.{Asks, CheckInput, GivesVerdicts, IsReport, IsReportOf, TellsVerdicts}
+use Rattle.deny_run.specs.Laws.{LevelChangesNoReport, at_level}
+
+module _ (given : CheckArguments) (level : LevelFilter) (found : RequestHearing) where
+  abbrev other : CheckArguments
+  other = at_level level given
+
+  looks_end : LooksEnd given.request found → LooksEnd other.request found
+  looks_end own = record { sought = own.sought; looks = own.looks }
+
+  hears_policy : HearsPolicy given.request found → HearsPolicy other.request found
+  hears_policy own = record { looks = looks_end own.looks; policy = own.policy; exceptions = own.exceptions }
+
+  hears_all : HearsAllDue given found → HearsAllDue other found
+  hears_all own = record { policy = hears_policy own.policy; metadata = own.metadata }
+
+  asks_as : (asked : CheckInput) → Asks given found asked → Asks other found asked
+  asks_as asked own = record {
+    carried = own.carried;
+    policy = record {
+      config = own.policy.config;
+      config_found = own.policy.config_found;
+      exceptions = own.policy.exceptions;
+      exceptions_found = own.policy.exceptions_found;
+      is = own.policy.is;
+    };
+    once = own.once;
+    metadata = record { text = own.metadata.text; heard = own.metadata.heard; tells = own.metadata.tells };
+    root = own.root;
+    selected = own.selected;
+  }
+
+  module _ (report : Report) where
+    report_as : (one : CrateReads) (crate : CrateReport) → IsReportOf given report.policy one crate → IsReportOf other report.policy one crate
+    report_as one crate own = record {
+      id = own.id;
+      reads = own.reads;
+      expression = own.expression;
+      answer = own.answer;
+      notes = own.notes;
+      verdict = own.verdict;
+    }
+
+    gives_as : (asked : CheckInput) → GivesVerdicts given found asked report → GivesVerdicts other found asked report
+    gives_as asked own = record {
+      policy = own.policy;
+      file = own.file;
+      crates = own.crates;
+      verdicts = zip_weaker (IsReportOf given report.policy) (IsReportOf other report.policy) report_as found.crates report.crates own.verdicts;
+      stats = own.stats;
+    }
+
+    verdicts_as : TellsVerdicts given found report → TellsVerdicts other found report
+    verdicts_as own = record {
+      due = hears_all own.due;
+      asked = own.asked;
+      asks = asks_as own.asked own.asks;
+      records = own.records;
+      files = own.files;
+      gives = gives_as own.asked own.gives;
+    }
+
+    is_report_as : IsReport given found report → IsReport other found report
+    is_report_as own = record { verdicts = verdicts_as own.verdicts; own = own.own; sources = own.sources; tells = own.tells }
+
+pub level_law : LevelChangesNoReport
+level_law given level tree hearing report heard is = (
+  record { begun = heard.begun; made = heard.made },
+  record { manifest = record { looked = is.manifest.looked; there = is.manifest.there }; is = is_report_as given level hearing.found report is.is },
+)

@@ -1,0 +1,48 @@
+-- Lawful input with the command `list`: where nothing refuses the request and the files, and no count rises, a run over these words
+-- ends with a listing or for want of memory.
+use Rattle.std.specs.Prelude.{◌≡◌, ℕ, true, List, ⊤}
+use Rattle.tree_core.specs.Call as call
+use Rattle.tree_core.specs.Content.{Content}
+use Rattle.tree_core.specs.Script.{FaultCounts, IsWithoutFault}
+use Rattle.tree_core.specs.Trace.{content_answer}
+use Rattle.run_request.specs.declared.list.Args.{Args}
+use Rattle.run_request.specs.declared.request.Request.{Request}
+use Rattle.run_request.specs.declared.request.Subcommand.TheVariants.{List as Listing}
+use Rattle.run_found.specs.Error.{MayEndLawful, cause_of}
+use Rattle.run_found.specs.Hearing.{RequestHearing}
+use Rattle.run_list.specs.Answer.{Asks, ListInput}
+use Rattle.run_list.specs.Complete.{IsHeardOf}
+use Rattle.run_list.specs.Given.{ListArguments}
+use Rattle.deny_run.specs.declared.outcome.Outcome.{Outcome}
+use Rattle.deny_run.specs.declared.outcome.RunEnd.{RunEnd}
+use Rattle.deny_run.specs.declared.outcome.RunEnd.TheVariants.{Checked, Listed, Sampled, Shown, Usage, Refused}
+use Rattle.deny_run.specs.Given.{RunArguments, list_asked}
+use Rattle.deny_run.specs.Manifest.{is_manifest}
+use Rattle.deny_run.specs.Words.{HasRequest}
+
+-- the words ask for this listing
+pub record AsksList (given : RunArguments) (list : ListArguments) : Type 0 where
+  pub request : Request
+  pub of_words : HasRequest given request
+  pub args : Args
+  pub command : request.command ≡ Listing args
+  pub is : list ≡ list_asked given.lists given.match_of request args
+
+-- the content has a file at a path of that name
+pub record HasManifestIn (content : Content) (path : List ℕ) : Type 0 where
+  pub named : is_manifest path ≡ true
+  pub there : call.told true ≡ content_answer content call.is_file path
+
+-- the run ended with a listing, or for want of memory
+abbrev pub EndsInListing : RunEnd → Type 0
+EndsInListing (Checked report) = ⊥
+EndsInListing (Listed reads) = ⊤
+EndsInListing (Sampled report) = ⊥
+EndsInListing Shown = ⊥
+EndsInListing Usage = ⊥
+EndsInListing (Refused error) = MayEndLawful (cause_of error)
+
+abbrev pub IsListComplete : RunArguments → Content → FaultCounts → Outcome → Type 0
+IsListComplete given content counts outcome =
+    (list : ListArguments) (hearing : RequestHearing) (asked : ListInput) → AsksList given list → HasManifestIn content list.request.context.manifest_path
+    → IsHeardOf list content counts.tree_before hearing → Asks list hearing asked → IsWithoutFault counts → EndsInListing outcome.ended

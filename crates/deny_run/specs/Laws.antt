@@ -1,0 +1,19 @@
+-- What the log level changes: which findings are written, and nothing of what is asked, heard and reported.
+use Rattle.diag_core.specs.declared.severity.LevelFilter.{LevelFilter}
+use Rattle.run_found.specs.Hearing.{TreeSeen}
+use Rattle.run_check.specs.declared.report.Report.{Report}
+use Rattle.run_check.specs.Given.{CheckArguments}
+use Rattle.deny_run.specs.Hearing.{IsRunHearing, RunHearing}
+use Rattle.deny_run.specs.Report.{IsRunReport}
+
+-- the same check at another level
+abbrev pub at_level : LevelFilter → CheckArguments → CheckArguments
+at_level level given = record given { request = record given.request { log = record given.request.log { log_level = level } } }
+
+-- the calls of a run are those that are due at each level, and its report is the one that is asked for at each, with its counts and so
+-- its status
+abbrev pub LevelChangesNoReport : Type 0
+LevelChangesNoReport =
+    (given : CheckArguments) (level : LevelFilter) (tree : TreeSeen) (hearing : RunHearing) (report : Report)
+    → IsRunHearing given tree hearing → IsRunReport given hearing report
+    → IsRunHearing (at_level level given) tree hearing × IsRunReport (at_level level given) hearing report

@@ -1,0 +1,74 @@
+use Rattle.std.proofs.Common.{arith}
+use Rattle.std.proofs.lemmas.Result.{err_from_is_err_and}
+use Rattle.tree_core.proofs.MadeLemmas.{some-later}
+use Rattle.run_found.specs.Licences.{scanner_of_policy}
+use Rattle.run_list.specs.Steps.{choice_left}
+use Rattle.run_list.proofs.StageLemmas.{carried_error, cut_behind, gathers_chosen, listed_behind, no_crates_by}
+use Rattle.run_list.proofs.stages.list_crates.Goals as goal
+
+pub returns-clause-lists : goal.returns-clause-lists
+returns-clause-lists g c path at =
+    let context = c.args.context.now in
+    let policy = c.args.policy.now in
+    let mid = g.T.Tree.fault_count c.gather_krates_since.new.tree in
+    let old = g.T.Tree.trace c.args.tree.now in
+    let between = g.T.Tree.trace c.gather_krates_since.new.tree in
+    let krates = c.in_ok-krates.krates in
+    let gathers = gathers_chosen (choice_left context policy) c.args.begun mid old between path krates (c.in_ok-krates.ensures.read path at c.requires.carried) in
+    listed_behind context (scanner_of_policy (g.C.Catalog.lists c.args.catalog.now) (g.I.Identifier.match_of c.args.identifier.now) policy.licenses) policy
+    (g.T.Tree.content c.args.tree.now) (g.T.Tree.content c.gather_krates_since.new.tree) (g.T.Tree.content c.settle_and_list.new.tree)
+    (g.T.Tree.fault_count c.args.tree.now) mid (g.T.Tree.fault_count c.settle_and_list.new.tree)
+    old between (g.T.Tree.trace c.settle_and_list.new.tree) c.args.begun path
+    c.in_ok-krates.ensures.made krates gathers c.args.files.now c.settle_and_list.new.files c.in_ok-listing.listing
+    c.in_ok-listing.ensures.listed
+
+pub returns-in_err-listing-clause-lists : goal.returns-in_err-listing-clause-lists
+returns-in_err-listing-clause-lists g c path at =
+    let context = c.args.context.now in
+    let policy = c.args.policy.now in
+    let mid = g.T.Tree.fault_count c.gather_krates_since.new.tree in
+    let old = g.T.Tree.trace c.args.tree.now in
+    let between = g.T.Tree.trace c.gather_krates_since.new.tree in
+    let krates = c.in_ok-krates.krates in
+    let gathers = gathers_chosen (choice_left context policy) c.args.begun mid old between path krates (c.in_ok-krates.ensures.read path at c.requires.carried) in
+    let p = err_from_is_err_and c.from_residual-in_err-listing.result c.from_residual-in_err-listing.ensures.1 in
+    rw (p.1, p.2)
+    (cut_behind context (scanner_of_policy (g.C.Catalog.lists c.args.catalog.now) (g.I.Identifier.match_of c.args.identifier.now) policy.licenses) policy
+    (g.T.Tree.content c.args.tree.now) (g.T.Tree.content c.gather_krates_since.new.tree) (g.T.Tree.content c.settle_and_list.new.tree)
+    (g.T.Tree.fault_count c.args.tree.now) mid (g.T.Tree.fault_count c.settle_and_list.new.tree)
+    old between (g.T.Tree.trace c.settle_and_list.new.tree) c.args.begun path
+    c.in_ok-krates.ensures.made krates gathers c.args.files.now c.in_err-listing.ensures.cut)
+
+pub returns-in_err-krates-clause-lists : goal.returns-in_err-krates-clause-lists
+returns-in_err-krates-clause-lists g c path at =
+    let context = c.args.context.now in
+    let policy = c.args.policy.now in
+    let error = c.in_err-krates.field-0.0 in
+    let p = err_from_is_err_and c.from_residual.result c.from_residual.ensures.1 in
+    rw (p.1, p.2)
+    (no_crates_by context (scanner_of_policy (g.C.Catalog.lists c.args.catalog.now) (g.I.Identifier.match_of c.args.identifier.now) policy.licenses) policy
+    (g.T.Tree.content c.args.tree.now) (g.T.Tree.content c.gather_krates_since.new.tree) (g.T.Tree.fault_count c.args.tree.now) (g.T.Tree.fault_count c.gather_krates_since.new.tree)
+    (g.T.Tree.trace c.args.tree.now) (g.T.Tree.trace c.gather_krates_since.new.tree) c.args.files.now c.args.begun path
+    c.in_err-krates.ensures.made error (carried_error context policy.graph.exclude error c.requires.carried c.in_err-krates.ensures.refused)
+    (c.in_err-krates.ensures.read path at c.requires.carried))
+
+pub returns-in_err-krates-clause-cause : goal.returns-in_err-krates-clause-cause
+returns-in_err-krates-clause-cause g c =
+    let p = err_from_is_err_and c.from_residual.result c.from_residual.ensures.1 in
+    rw (p.1, p.2)
+    (carried_error c.args.context.now c.args.policy.now.graph.exclude c.in_err-krates.field-0.0 c.requires.carried c.in_err-krates.ensures.refused)
+
+pub returns-clause-later : goal.returns-clause-later
+returns-clause-later g c =
+    let early = some-later c.in_ok-krates.ensures.made in
+    let then = c.in_ok-listing.ensures.later in
+    omega arith
+
+pub returns-in_err-listing-clause-later : goal.returns-in_err-listing-clause-later
+returns-in_err-listing-clause-later g c =
+    let early = some-later c.in_ok-krates.ensures.made in
+    let then = c.in_err-listing.ensures.later in
+    omega arith
+
+pub returns-in_err-krates-clause-later : goal.returns-in_err-krates-clause-later
+returns-in_err-krates-clause-later g c = some-later c.in_err-krates.ensures.made

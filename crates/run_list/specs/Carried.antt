@@ -1,0 +1,32 @@
+-- What of a request for a listing is not carried.
+use Rattle.std.specs.Prelude.{Bool, true, false, not, ◌==◌, List, [], ◌∷◌, find, length, is_none, Option, option_map}
+use Rattle.std.specs.List.{list_any}
+use Rattle.graph_selection.specs.Choice.{is_uncarried}
+use Rattle.diag_print.specs.declared.context.Format.{Format}
+use Rattle.diag_print.specs.declared.context.Format.TheVariants.{Human, Json, Sarif}
+use Rattle.diag_print.specs.declared.context.LogContext.{LogContext}
+use Rattle.run_request.specs.declared.context.KrateContext.{KrateContext}
+use Rattle.graph_workspace.specs.declared.error.What.{What}
+use Rattle.graph_workspace.specs.declared.error.What.TheVariants as what
+use Rattle.run_list.specs.Given.{ListArguments}
+
+abbrev pub is_sarif : Format → Bool
+is_sarif Human = false
+is_sarif Json = false
+is_sarif Sarif = true
+
+-- whether a part of the request is so that it is not carried, part after part
+abbrev pub parts_of : LogContext → KrateContext → List (Bool × What)
+parts_of log context =
+    (is_none context.metadata_path, what.MetadataPath)
+    ∷ (is_sarif log.format, what.Format)
+    ∷ (not (length context.targets == 0), what.Target)
+    ∷ (list_any is_uncarried context.exclude, what.ExcludeSpec)
+    ∷ []
+
+-- the first such part
+abbrev pub uncarried_of : LogContext → KrateContext → Option What
+uncarried_of log context = option_map (λ part. part.1) (find (λ part. part.0) (parts_of log context))
+
+abbrev pub uncarried_in : ListArguments → Option What
+uncarried_in given = uncarried_of given.request.log given.request.context

@@ -1,0 +1,5 @@
+mod Examples
+mod JsonLemmas
+mod ListLemmas
+mod MarkLemmas
+mod PendingLemmas

@@ -1,0 +1,10 @@
+use Rattle.std.proofs.Common.{◌++◌, ◌∙◌, ap}
+use Rattle.run_listing.specs.Listing.{plain}
+use Rattle.run_listing.proofs.ListLemmas.{text_step}
+use Rattle.run_listing.proofs.plain.push_further.Goals as goal
+
+pub texts-preserved : goal.texts-preserved
+texts-preserved c =
+    text_step c.args.texts.now c.texts.text-index c.text-item.result c.texts-test.true c.text-item.is
+    (λ text. c.args.between.now ++ plain text) _ _ _ c.texts.invariant
+    (c.in_ok-push_behind.ensures ∙ ap (λ text. c.texts.out.items ++ (c.args.between.now ++ plain text)) c.as_str.ensures)

@@ -1,0 +1,7 @@
+-- what was appended, and the columns that are left beside the licences that are left, are the whole
+use Rattle.std.proofs.Common.{◌≡◌, ◌++◌, drop}
+use Rattle.run_listing.specs.Marks.{walked}
+use Rattle.run_listing.proofs.table.push_marks.Given as goal
+
+abbrev pub invariant-columns : goal.invariant-columns
+invariant-columns l = l.out.items ++ walked (drop l.column-index l.columns) l.rest ≡ l.fn.out.items ++ walked l.columns l.licences

@@ -1,0 +1,4 @@
+pub mod Listed
+pub mod Listing
+pub mod Written
+pub mod Marks

@@ -1,0 +1,106 @@
+//! A listing for a person.
+ghost use Rattle.std.specs.Prelude.{◌≡◌, ◌++◌, IfOk, None, OnOk, ⊤};
+ghost use Rattle.run_listing.specs.Listed.{names_under};
+ghost use Rattle.run_listing.specs.Listing.{crate_line, crate_words, group_line, licence_line, title_of};
+ghost use Rattle.run_listing.specs.Listing.{unlicensed_line};
+
+use crate::lines::Lines;
+use crate::listed::{ListedCrate, names_under};
+use crate::plain::{push_joined, push_plain, push_text};
+use deny_text::Text;
+use std::alloc::{AllocError, Global};
+
+/// Appends a title, and how many stand under it.
+fn push_title(out: &mut Vec<u8>, alloc: Global, title: &str, count: usize) -> Result<(), AllocError>
+    ensures { OnOk result (out.new.items ≡ out.old.items ++ title_of title.now count) }
+{
+    push_plain(out, title)?;
+    let counted = format!(in alloc; " ({count}): ")?;
+    push_text(out, counted.as_str())
+}
+
+/// Appends what stands under a title.
+fn push_group(
+    out: &mut Vec<u8>,
+    alloc: Global,
+    title: &str,
+    texts: &[Text],
+) -> Result<(), AllocError>
+    ensures { OnOk result (out.new.items ≡ out.old.items ++ group_line title.now texts.now) }
+{
+    push_title(out, alloc, title, texts.len())?;
+    push_joined(out, ", ", texts)?;
+    push_text(out, "\n")
+}
+
+/// A crate and its licences.
+#[derive(Clone, Copy)]
+pub(crate) struct CrateLines;
+
+/// Appends the licences of a crate.
+fn push_licences(out: &mut Vec<u8>, licences: &[Text]) -> Result<(), AllocError>
+    ensures { OnOk result (out.new.items ≡ out.old.items ++ crate_words licences.now) }
+{
+    match licences.split_first() {
+        Some(_) => push_joined(out, ", ", licences),
+        None => push_text(out, "Unlicensed"),
+    }
+}
+
+impl Lines<ListedCrate> for CrateLines {
+    ghost line = { λ _ listed. crate_line listed };
+
+    ghost fits = { λ _ _. ⊤ };
+
+    fn push(&self, out: &mut Vec<u8>, alloc: Global, item: &ListedCrate) -> Result<(), AllocError> {
+        let licences = item.licences.items();
+        push_title(out, alloc, item.name.as_str(), licences.len())?;
+        push_licences(out, licences)?;
+        push_text(out, "\n")
+    }
+}
+
+/// A licence and the crates that have it.
+#[derive(Clone, Copy)]
+pub(crate) struct LicenceLines<'c> {
+    pub(crate) crates: &'c [ListedCrate],
+}
+
+impl<'c> Lines<Text> for LicenceLines<'c> {
+    ghost line = { λ lines licence. licence_line lines.crates.now licence };
+
+    ghost fits = { λ _ _. ⊤ };
+
+    fn push(&self, out: &mut Vec<u8>, alloc: Global, item: &Text) -> Result<(), AllocError> {
+        let licence = item.as_str();
+        let names = names_under(alloc, self.crates, Some(licence))?;
+        push_group(out, alloc, licence, names.items())
+    }
+}
+
+/// Appends the line of these crates, which have no licence; nothing where there are none.
+fn push_unlicensed(out: &mut Vec<u8>, alloc: Global, names: &[Text]) -> Result<(), AllocError>
+    ensures { OnOk result (out.new.items ≡ out.old.items ++ unlicensed_line names.now) }
+{
+    match names.split_first() {
+        Some(_) => push_group(out, alloc, "Unlicensed", names),
+        None => Ok(()),
+    }
+}
+
+/// The same as a text.
+fn line_of_unlicensed(alloc: Global, names: &[Text]) -> Result<Vec<u8>, AllocError>
+    ensures { IfOk result (λ line. line.items ≡ unlicensed_line names.now) }
+{
+    let mut line = Vec::new(alloc);
+    push_unlicensed(&mut line, alloc, names)?;
+    Ok(line)
+}
+
+/// The line of the crates without a licence; nothing where there are none.
+pub(crate) fn unlicensed_line(alloc: Global, crates: &[ListedCrate]) -> Result<Vec<u8>, AllocError>
+    ensures { IfOk result (λ line. line.items ≡ unlicensed_line (names_under None crates.now)) }
+{
+    let names = names_under(alloc, crates, None)?;
+    line_of_unlicensed(alloc, names.items())
+}

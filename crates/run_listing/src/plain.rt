@@ -1,0 +1,74 @@
+//! Texts in lines and columns.
+ghost use Rattle.std.specs.Prelude.{◌≡◌, ◌++◌, OnOk};
+ghost use Rattle.run_listing.specs.Listing.{further, joined, plain, plain_byte};
+
+use deny_text::Text;
+use std::alloc::AllocError;
+
+/// A space in the place of a tab or a line feed.
+fn plain_byte(byte: u8) -> u8
+    ensures { result ≡ plain_byte byte }
+{
+    if byte == b'\t' || byte == b'\n' {
+        b' '
+    } else {
+        byte
+    }
+}
+
+/// Appends a text as it is.
+pub(crate) fn push_text(out: &mut Vec<u8>, text: &str) -> Result<(), AllocError>
+    ensures { OnOk result (out.new.items ≡ out.old.items ++ text.now) }
+{
+    out.extend_from_slice(text.as_bytes())
+}
+
+/// Appends a text, with spaces in the place of its tabs and line feeds.
+pub(crate) fn push_plain(out: &mut Vec<u8>, text: &str) -> Result<(), AllocError>
+    ensures { OnOk result (out.new.items ≡ out.old.items ++ plain text.now) }
+{
+    let bytes = text.as_bytes();
+    'places: for byte in bytes {
+        out.push(plain_byte(*byte))?;
+    }
+    Ok(())
+}
+
+/// Appends a text behind one that stands between.
+fn push_behind(out: &mut Vec<u8>, between: &str, text: &str) -> Result<(), AllocError>
+    ensures { OnOk result (out.new.items ≡ out.old.items ++ (between.now ++ plain text.now)) }
+{
+    push_text(out, between)?;
+    push_plain(out, text)
+}
+
+/// Appends texts, each behind one that stands between.
+pub(crate) fn push_further(
+    out: &mut Vec<u8>,
+    between: &str,
+    texts: &[Text],
+) -> Result<(), AllocError>
+    ensures { OnOk result (out.new.items ≡ out.old.items ++ further between.now texts.now) }
+{
+    'texts: for text in texts {
+        push_behind(out, between, text.as_str())?;
+    }
+    Ok(())
+}
+
+/// Appends texts with one between.
+pub(crate) fn push_joined(
+    out: &mut Vec<u8>,
+    between: &str,
+    texts: &[Text],
+) -> Result<(), AllocError>
+    ensures { OnOk result (out.new.items ≡ out.old.items ++ joined between.now texts.now) }
+{
+    match texts.split_first() {
+        Some((first, rest)) => {
+            push_plain(out, first.as_str())?;
+            push_further(out, between, rest)
+        }
+        None => Ok(()),
+    }
+}
