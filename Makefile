@@ -4,11 +4,10 @@ PROJECT ?= examples/first
 WORDS ?= check licenses
 PROGRAM = crates/cargo_deny/out/cargo_deny
 METADATA = $(CURDIR)/crates/cargo_deny/out/metadata.json
-COMPLETION = crates/run_completions/stdout
 
 FIRST = ../../examples/first
 
-.PHONY: try build run sample test examples map wrong starve calls bench install
+.PHONY: try build run sample test examples map wrong starve calls bench dist install
 
 # A first answer in minutes, by an unproved build.
 try:
@@ -60,7 +59,13 @@ bench: build
 	sh bench/compare.sh
 	if command -v cargo > /dev/null && command -v valgrind > /dev/null; then sh bench/gates.sh; fi
 
-# Puts the proved program where `cargo deny ..` finds it, and its completion where the shell looks.
+# The archive that is handed out, with its SHA-256, in dist/.
+dist: build
+	@sh tools/build.sh licence_hash
+	@sh tools/dist.sh
+
+# Puts the same files under PREFIX: the proved programs where `cargo deny ..` finds them, completions and the manual page where the
+# shells and `man` look.
 install: build
-	install -D -m 755 $(PROGRAM) $(DESTDIR)$(PREFIX)/bin/cargo-deny
-	install -D -m 644 $(COMPLETION) $(DESTDIR)$(PREFIX)/share/bash-completion/completions/cargo-deny
+	@sh tools/build.sh licence_hash
+	@sh tools/stage.sh "$(DESTDIR)$(PREFIX)"

@@ -12,6 +12,9 @@ trap 'rm -rf "$room"' EXIT
 failed=0
 column=0
 sh tools/blocks.sh || failed=1
+for list in built-in spdx; do
+    cmp "examples/lists/$list.txt" "crates/tests_rows/data/spdx/$list-list.txt" || failed=1
+done
 
 # The status and the streams of a run, with the folder as the examples have it.
 told() {
@@ -50,6 +53,10 @@ for name in first workspace policy files rejected; do
     metadata "$top/examples/$name"
     compare "$name" "$top/examples/$name" "'$program' deny --metadata-path '$room/metadata.json' check licenses"
 done
+metadata "$top/examples/lists"
+compare lists "$top/examples/lists" "'$program' deny --metadata-path '$room/metadata.json' --catalog catalog.txt --store texts check licenses"
+compare lists-built-in "$top/examples/lists" "'$program' deny --metadata-path '$room/metadata.json' check licenses"
+metadata "$top/examples/rejected"
 compare rejected-json "$top/examples/rejected" "'$program' deny --metadata-path '$room/metadata.json' -f json check licenses"
 metadata "$top/examples/policy"
 compare policy-old "$top/examples/policy" "'$program' deny --metadata-path '$room/metadata.json' --config old.toml check licenses"

@@ -10,16 +10,16 @@ use Rattle.run_found.specs.declared.error.Error.{Error}
 use Rattle.run_found.specs.Error.{cause_of, fault_line}
 use Rattle.run_found.specs.Hearing.{TreeSeen}
 use Rattle.run_check.specs.declared.report.Report.{Report}
-use Rattle.run_check.specs.Given.{CheckArguments}
 use Rattle.run_check.specs.Report.{LabelsLie}
 use Rattle.deny_run.specs.Hearing.{RunHearing}
+use Rattle.deny_run.specs.Own.{CheckAsked}
 use Rattle.deny_run.specs.Report.{IsAnsweredBy, IsRefusedRun}
 use Rattle.deny_run.specs.Run.{EndsCheck, IfChecked, end_of}
 use Rattle.deny_run.specs.Script.{Writes, WritesFirst}
 use Rattle.deny_run.proofs.ScriptLemmas.{Writes-from_line, Writes-from_report, with_err}
 
 -- calls were made, however a run answers
-pub some_made_by : (given : CheckArguments) (tree : TreeSeen) (hearing : RunHearing) (answer : Result Report Error) → IsAnsweredBy given tree hearing answer
+pub some_made_by : (given : CheckAsked) (tree : TreeSeen) (hearing : RunHearing) (answer : Result Report Error) → IsAnsweredBy given tree hearing answer
     → MadeSome tree.told tree.tells tree.count_before tree.count_after tree.calls_before tree.calls_after
 some_made_by given tree hearing (Ok report) answers = some_made answers.0.made
 some_made_by given tree hearing (Err error) answers = some_by (cause_of error) answers
@@ -31,7 +31,7 @@ some_made_by given tree hearing (Err error) answers = some_by (cause_of error) a
     some_by (refused_write before after) up = some_made up.made
 
 -- a report is an end as it is, and a refusal has its line
-module _ (given : CheckArguments) (tree : TreeSeen) (counts : FaultCounts) (err_after : ℕ) (old mid : SinkTexts) (err : Option (List ℕ))
+module _ (given : CheckAsked) (tree : TreeSeen) (counts : FaultCounts) (err_after : ℕ) (old mid : SinkTexts) (err : Option (List ℕ))
     (first_later : counts.err_before ≤ counts.err_after) (later : counts.err_after ≤ err_after) where
   -- what stands behind it
   abbrev last : SinkTexts

@@ -1,5 +1,5 @@
 -- The headline, from what a run answers and writes, and from the headline of the check.
-use Rattle.std.proofs.Common.{◌≡◌, ◌∙◌, inl, inr, refl, sym, ap, subst, ℕ, ◌≤◌, Bool, true, false, List, [], ◌∷◌, ◌++◌, Option, Some, None, All, Ok, Err, append_assoc, arith}
+use Rattle.std.proofs.Common.{◌≡◌, ◌∙◌, inl, inr, refl, sym, ap, subst, ℕ, ◌≤◌, Bool, true, false, List, [], ◌++◌, Option, Some, None, All, Ok, Err, append_assoc, arith}
 use Rattle.std.specs.Prelude.{if◌then◌else◌}
 use Rattle.std.proofs.lemmas.List.{append_cancel_left}
 use Rattle.std.proofs.lemmas.List.Elements.{All-from_recursion, recursion_from_All}
@@ -9,7 +9,7 @@ use Rattle.tree_core.specs.Content.{Content}
 use Rattle.tree_core.specs.Faults.{Rose}
 use Rattle.tree_core.specs.Script.{OutputSink, to_out, to_err, Script, FaultCounts, IsWithoutFault, RefusedBy, SinkTexts}
 use Rattle.tree_core.specs.Trace.{Says, faults_after}
-use Rattle.tree_core.proofs.MadeLemmas.{made_as}
+use Rattle.tree_core.proofs.MadeLemmas.{faults_after-append, made_as}
 use Rattle.tree_texts.specs.Cause.{Cause, no_memory, failed_read, refused_write}
 use Rattle.tree_texts.specs.Cause as causes
 use Rattle.diag_stats.specs.ExitCode.{has_errors}
@@ -19,16 +19,20 @@ use Rattle.run_request.specs.declared.request.Subcommand.{Subcommand}
 use Rattle.run_request.specs.declared.request.Subcommand.TheVariants.{Check, List as Listing, Sample}
 use Rattle.run_request.specs.Given.{may_refuse, may_show}
 use Rattle.run_overrides.specs.Levels.{HasNoOverrides}
+use Rattle.graph_workspace.specs.declared.error.What.TheVariants.{Which}
 use Rattle.run_found.specs.declared.error.Error.{Error}
+use Rattle.run_found.specs.declared.error.Error.TheVariants.{NotCarried}
 use Rattle.run_found.specs.Error.{MayEndLawful, cause_of}
-use Rattle.run_found.specs.Hearing.{TreeSeen, count_behind, seen}
+use Rattle.run_found.specs.Hearing.{MadeOn, TreeSeen, count_behind, seen}
+use Rattle.run_lists.specs.Given.{ListsGiven}
+use Rattle.run_lists.specs.Heard.{ListsHearing, given_heard, lists_calls}
 use Rattle.run_check.specs.declared.report.Report.{Report}
 use Rattle.run_check.specs.Carried.{uncarried_in}
-use Rattle.run_check.specs.Found as check
+use Rattle.run_check.specs.Found as found
 use Rattle.run_check.specs.Found.{IsCheckHearing}
 use Rattle.run_check.specs.Given.{CheckArguments}
 use Rattle.run_check.specs.Headline.{CheckHeadline, CheckHeadlineRead, TellsContent, is_against}
-use Rattle.run_check.specs.Report.{Asks, CheckInput, IsRefusal, IsReport, Refuses}
+use Rattle.run_check.specs.Report.{Asks, CheckInput, IsRefusal, IsReport}
 use Rattle.run_check.specs.Script as check_script
 use Rattle.run_check.specs.Script.{RefusalWritten, WritesCheck}
 use Rattle.run_check.proofs.AnswerLemmas.{IsFree, refused_first}
@@ -38,21 +42,27 @@ use Rattle.deny_run.specs.declared.outcome.RunEnd.{RunEnd}
 use Rattle.deny_run.specs.declared.outcome.RunEnd.TheVariants.{Checked, Listed, Sampled, Shown, Usage, Refused}
 use Rattle.deny_run.specs.Given.{RunArguments, check_asked}
 use Rattle.deny_run.specs.Headline.{AsksCheck, ChecksRequest, EndsInReport, Headline, HeadlineRead, IsHeardOf, TellsAgainst}
-use Rattle.deny_run.specs.Hearing.{HasManifest, HearsBehind, IsRunHearing, RunHearing, calls_behind, calls_of, manifest_asked, manifest_in, run_input_of}
-use Rattle.deny_run.specs.Manifest.{IsLookedWhereDue, look_in, manifest_calls, manifest_due, unlooked}
-use Rattle.deny_run.specs.Report.{IsAnsweredBy, IsRefusedRun, IsRunRefusal, IsRunReport}
+use Rattle.deny_run.specs.Hearing.{ComesToCheck, HasBegun, HasManifest, HearsBehind, HearsDue, HearsFound, HearsLists, IsRunHearing, RunHearing, calls_behind, calls_of, check_found, found_calls, manifest_asked, manifest_in, own_calls, own_heard, own_in}
+use Rattle.deny_run.specs.Manifest.{IsLookedWhereDue, look_by, look_in, manifest_call, manifest_calls, manifest_due, unlooked}
+use Rattle.deny_run.specs.Own.{CheckAsked, check_by, check_heard, handed_in}
+use Rattle.deny_run.specs.Report.{IsAnsweredBy, IsRefusedRun, IsRunRefusal, IsRunReport, RefusesRun}
 use Rattle.deny_run.specs.Run.{EndsCheck, EndsRequest, IsOutcome, exit_status, status_of}
 use Rattle.deny_run.specs.Script.{BeginsRefusal, Writes}
 use Rattle.deny_run.specs.Words.{HasRequest, IsEndOfWords, IsLost, MayRefuse, MayShow}
 use Rattle.deny_run.proofs.ListLemmas.{list_no_check, sample_no_check}
-use Rattle.deny_run.proofs.BehindLemmas.{calls-is, input-is, there-is, there_call}
-use Rattle.deny_run.proofs.ManifestLemmas.{told_look, IsThere, due_named, is_there}
+use Rattle.deny_run.proofs.AlikeLemmas.{IsAlike, IsSameContent, IsSameTrace, all_behind, content_alike, trace_alike}
+use Rattle.deny_run.proofs.BehindLemmas.{calls-is, found-is, front_calls, there_call}
+use Rattle.deny_run.proofs.ManifestLemmas.{IsThere, due_named, found_named, is_there}
+use Rattle.deny_run.proofs.OwnLemmas.{lists_quiet, lists_same}
 
--- ---- a run whose manifest is there is a check behind it
+-- ---- a run that came to its check is a check behind what came before
 
-module _ (given : CheckArguments) (carried : uncarried_in given ≡ None) where
+module _ (given : CheckAsked) (carried : uncarried_in given.check ≡ None) where
   abbrev path : List ℕ
-  path = given.request.context.manifest_path
+  path = given.check.request.context.manifest_path
+
+  abbrev handed : ListsGiven
+  handed = handed_in given.check
 
   due_is : manifest_asked given ≡ manifest_due None path
   due_is = ap (λ what. manifest_due what path) carried
@@ -61,146 +71,169 @@ module _ (given : CheckArguments) (carried : uncarried_in given ≡ None) where
   is_there_by own has =
       is_there path own.found.begun (count_behind own.found.begun own.manifest) own.manifest (subst (λ due. IsLookedWhereDue due own.manifest) due_is has.looked) has.there
 
-  module _ (own : RunHearing) (there : IsThere path own.manifest) where
-    own_calls : calls_of given own ≡ there_call given ∷ check.calls_of given own.found
-    own_calls = ap (λ manifest. calls_of given (record { manifest = manifest; found = own.found })) there.told ∙ calls-is given carried there.named own.found
+  there_in : (own : RunHearing) → IsThere path own.manifest → manifest_in given.check.request.context own ≡ Ok tt
+  there_in own there =
+      ap (λ manifest. manifest_in given.check.request.context (record { manifest = manifest; lists = own.lists; found = own.found })) there.told
+      ∙ found_named path there.named own.found.begun (count_behind own.found.begun (Some (call.told true))) (Some (call.told true))
 
-    own_there : manifest_in given.request.context own ≡ Ok tt
-    own_there = ap (λ manifest. manifest_in given.request.context (record { manifest = manifest; found = own.found })) there.told ∙ there-is given carried there.named own.found
+  -- what is seen of a tree behind what came before
+  abbrev rest_of : ListsHearing → TreeSeen → TreeSeen
+  rest_of lists tree = seen tree.told tree.tells tree.count_before tree.count_after (tree.calls_before ++ front_calls given lists) tree.calls_after
 
-    own_refusal : (error : Error) → IsRunRefusal given own error → IsRefusal given own.found error
-    own_refusal error refusal = record {
-      due = subst (HearsBehind given own.found) own_there refusal.due.behind;
-      crates = refusal.crates;
-      refused =
-          subst (λ input. Refuses given input error)
-          (ap (λ manifest. run_input_of given (record { manifest = manifest; found = own.found })) there.told ∙ input-is given carried there.named own.found) refusal.refused;
+  module _ (had : ListsGiven) where
+    abbrev own_check : CheckArguments
+    own_check = check_by given.check had
+
+    made_rest : (tree : TreeSeen) (lists : ListsHearing) → given_heard handed given.own lists ≡ Some (Ok had) → (calls : List Call) → MadeOn tree (front_calls given lists ++ calls) → MadeOn (rest_of lists tree) calls
+    made_rest tree lists heard calls made = record {
+      content = made.content;
+      counts =
+          made.counts ∙ faults_after-append tree.count_before (front_calls given lists) calls
+          ∙ ap (λ n. faults_after n calls) (lists_quiet handed given.own lists had tree.count_before heard);
+      traced = made.traced ∙ sym (append_assoc tree.calls_before (front_calls given lists) calls);
+      says = λ content told. all_behind (Says content) (front_calls given lists) calls (made.says content told);
     }
 
-  -- what is seen of a tree behind the look
-  abbrev rest_of : TreeSeen → TreeSeen
-  rest_of tree = seen tree.told tree.tells tree.count_before tree.count_after (tree.calls_before ++ there_call given ∷ []) tree.calls_after
+    module _ (own : RunHearing) (there : IsThere path own.manifest) (heard : own_heard given own ≡ Some (Ok had)) where
+      own_calls_are : calls_of given own ≡ front_calls given own.lists ++ found.calls_of own_check own.found
+      own_calls_are =
+          ap (λ manifest. calls_of given (record { manifest = manifest; lists = own.lists; found = own.found })) there.told
+          ∙ calls-is given carried there.named own.lists had heard own.found
 
-  own_heard : (tree : TreeSeen) (own : RunHearing) → IsThere path own.manifest → IsRunHearing given tree own → IsCheckHearing given (rest_of tree) own.found
-  own_heard tree own there heard =
-      let C = check.calls_of given own.found in
-      let made = made_as (own_calls own there) heard.made in
-      record {
-        begun = heard.begun;
-        made = record {
-          content = made.content;
-          counts = made.counts;
-          traced = made.traced ∙ sym (append_assoc tree.calls_before (there_call given ∷ []) C);
-          says = λ content told. All-from_recursion (Says content) C (recursion_from_All (Says content) (there_call given ∷ C) (made.says content told)).1;
+      own_found : check_found given own ≡ Ok own_check
+      own_found =
+          ap (λ manifest. check_found given (record { manifest = manifest; lists = own.lists; found = own.found })) there.told
+          ∙ found-is given carried there.named own.lists had heard own.found
+
+      own_refusal : (error : Error) → IsRunRefusal given own error → IsRefusal own_check own.found error
+      own_refusal error refusal = record {
+        due = subst (λ one. HearsFound one own.found) (ap (check_heard given.check) heard) (subst (HearsBehind given own) (there_in own there) refusal.due.behind).1;
+        crates = refusal.crates;
+        refused = subst (λ one. RefusesRun one own.found error) own_found refusal.refused;
+      }
+
+      own_hears : (tree : TreeSeen) → IsRunHearing given tree own → IsCheckHearing own_check (rest_of own.lists tree) own.found
+      own_hears tree ran =
+          record { begun = ran.begun.found; made = made_rest tree own.lists heard (found.calls_of own_check own.found) (made_as own_calls_are ran.made) }
+
+      -- ---- the check's own headline
+
+      report_writes : (tree : TreeSeen) → IsRunHearing given tree own → (report : Report) → IsReport own_check own.found report → WritesCheck own_check (rest_of own.lists tree) None None 0 0 (Ok report)
+      report_writes tree ran report is = record {
+        text = check_script.load_text_heard own_check own.found;
+        tells = record { hearing = own.found; answers = (own_hears tree ran, is); is = refl };
+        written = refl;
+      }
+
+      refusal_writes : (tree : TreeSeen) → IsRunHearing given tree own → (error : Error) → IsRunRefusal given own error → (IsFree (cause_of error) → ⊥)
+          → WritesCheck own_check (rest_of own.lists tree) None None 0 0 (Err error)
+      refusal_writes tree ran error refusal bound = record {
+        text = check_script.load_text_heard own_check own.found;
+        tells = record {
+          hearing = own.found;
+          answers = refused_first own_check (rest_of own.lists tree) own.found error (own_hears tree ran) (own_refusal error refusal) bound;
+          is = refl;
         };
+        written = by_cause (cause_of error) bound;
       }
+        where
+          by_cause : (cause : Cause) → (IsFree cause → ⊥) → RefusalWritten own_check (rest_of own.lists tree) (check_script.load_text_heard own_check own.found) None None 0 0 cause
+          by_cause no_memory free = absurd (free tt)
+          by_cause causes.told free = refl
+          by_cause (failed_read first last) free = refl
+          by_cause (refused_write first last) free = absurd (free tt)
 
-  -- ---- the check's own headline
+    -- ---- what a run that is refused heard before its check is what a lawful one hears
 
-  report_writes : (tree : TreeSeen) (own : RunHearing) (there : IsThere path own.manifest) → IsRunHearing given tree own → (report : Report) → IsReport given own.found report
-      → WritesCheck given (rest_of tree) None None 0 0 (Ok report)
-  report_writes tree own there heard report is = record {
-    text = check_script.load_text_heard given own.found;
-    tells = record { hearing = own.found; answers = (own_heard tree own there heard, is); is = refl };
-    written = refl;
-  }
+    module _ (Same : List Call → List Call → Type 0) (alike : IsAlike Same) (hearing own : RunHearing) (there : IsThere path hearing.manifest) (heard : own_heard given hearing ≡ Some (Ok had))
+        (due : HearsDue given own) (same : Same (calls_of given hearing) (calls_of given own)) where
+      abbrev lawful_rest : List Call
+      lawful_rest = found.calls_of own_check hearing.found
 
-  refusal_writes : (tree : TreeSeen) (own : RunHearing) (there : IsThere path own.manifest) → IsRunHearing given tree own → (error : Error) → IsRunRefusal given own error
-      → (IsFree (cause_of error) → ⊥) → WritesCheck given (rest_of tree) None None 0 0 (Err error)
-  refusal_writes tree own there heard error refusal bound = record {
-    text = check_script.load_text_heard given own.found;
-    tells = record {
-      hearing = own.found;
-      answers = refused_first given (rest_of tree) own.found error (own_heard tree own there heard) (own_refusal own there error refusal) bound;
-      is = refl;
-    };
-    written = by_cause (cause_of error) bound;
-  }
-    where
-      by_cause : (cause : Cause) → (IsFree cause → ⊥) → RefusalWritten given (rest_of tree) (check_script.load_text_heard given own.found) None None 0 0 cause
-      by_cause no_memory free = absurd (free tt)
-      by_cause causes.told free = refl
-      by_cause (failed_read first last) free = refl
-      by_cause (refused_write first last) free = absurd (free tt)
+      abbrev more_calls : List Call
+      more_calls = calls_behind (manifest_in given.check.request.context own) (own_calls given own)
 
-  none_rose : Rose 0 0 → ⊥
-  none_rose (inl less) = absurd (omega arith)
-  none_rose (inr last) = absurd (omega arith)
+      due_path : manifest_asked given ≡ Some path
+      due_path = due_is ∙ due_named path there.named
 
-  -- ---- the look of a run that is refused is that of a lawful one
+      looked : look_in own.manifest ≡ unlooked → ⊥
+      looked = subst (λ asked. IsLookedWhereDue asked own.manifest) due_path due.manifest
 
-  abbrev first_answer : List Call → CallAnswer
-  first_answer [] = call.no_memory
-  first_answer (one ∷ calls) = one.answer
+      same_path : Same (front_calls given hearing.lists ++ lawful_rest) (manifest_calls (Some path) own.manifest ++ more_calls)
+      same_path =
+          subst (λ asked. Same (front_calls given hearing.lists ++ lawful_rest) (manifest_calls asked own.manifest ++ more_calls)) due_path
+          (subst (λ calls. Same calls (calls_of given own)) (own_calls_are hearing there heard) same)
 
-  same_look : (answer : Option CallAnswer) → (look_in answer ≡ unlooked → ⊥) → (more C : List Call) → manifest_calls (Some path) answer ++ more ≡ there_call given ∷ C → answer ≡ Some (call.told true)
-  same_look None looked more C same = absurd (looked refl)
-  same_look (Some answer) looked more C same = ap Some (ap first_answer same)
+      look_same : (answer : Option CallAnswer) → (look_in answer ≡ unlooked → ⊥) → Same (front_calls given hearing.lists ++ lawful_rest) (manifest_calls (Some path) answer ++ more_calls)
+          → (answer ≡ Some (call.told true)) × Same (lists_calls handed given.own hearing.lists ++ lawful_rest) more_calls
+      look_same None was_looked both = absurd (was_looked refl)
+      look_same (Some answer) was_looked both =
+          let first = alike (there_call given) (manifest_call path answer) (lists_calls handed given.own hearing.lists ++ lawful_rest) more_calls both refl refl (λ e. was_looked (ap look_by e)) in
+          (ap Some (sym first.0), first.1)
 
-  module _ (named : IsThere path (Some (call.told true))) (own : RunHearing) (looked : IsLookedWhereDue (manifest_asked given) own.manifest) where
-    due_path : manifest_asked given ≡ Some path
-    due_path = due_is ∙ due_named path named.named
+      own_there : IsThere path own.manifest
+      own_there = record { named = there.named; told = (look_same own.manifest looked same_path).0 }
 
-    own_looked : look_in own.manifest ≡ unlooked → ⊥
-    own_looked = subst (λ due. IsLookedWhereDue due own.manifest) due_path looked
+      own_behind : HearsBehind given own (Ok tt)
+      own_behind = subst (HearsBehind given own) (there_in own own_there) due.behind
 
-    abbrev own_more : List Call
-    own_more = calls_behind (manifest_in given.request.context own) (check.calls_of given own.found)
+      own_lists_heard : own_heard given own ≡ None → ⊥
+      own_lists_heard = subst (HearsLists given own) carried own_behind.0
 
-    calls_by_path : calls_of given own ≡ manifest_calls (Some path) own.manifest ++ own_more
-    calls_by_path = ap (λ due. manifest_calls due own.manifest ++ own_more) due_path
+      own_lists : (own_heard given own ≡ Some (Ok had)) × Same lawful_rest (found_calls (own_in given own) own.found)
+      own_lists =
+          lists_same Same alike handed given.own hearing.lists own.lists had lawful_rest (found_calls (own_in given own) own.found) heard own_lists_heard
+          (subst (λ one. Same (lists_calls handed given.own hearing.lists ++ lawful_rest) (calls_behind one (own_calls given own))) (there_in own own_there) (look_same own.manifest looked same_path).1)
 
-  lawful_named : (hearing : RunHearing) → IsThere path hearing.manifest → IsThere path (Some (call.told true))
-  lawful_named hearing there = record { named = there.named; told = refl }
+      own_had : own_heard given own ≡ Some (Ok had)
+      own_had = own_lists.0
 
-  -- by what was read
-  there_read : (tree : TreeSeen) (hearing own : RunHearing) → IsThere path hearing.manifest → IsRunHearing given tree hearing → IsRunHearing given tree own
-      → IsLookedWhereDue (manifest_asked given) own.manifest → IsThere path own.manifest
-  there_read tree hearing own there heard ran looked =
-      let named = lawful_named hearing there in
-      let same = append_cancel_left tree.calls_before (calls_of given own) (calls_of given hearing) (sym ran.made.traced ∙ heard.made.traced) in
-      record {
-        named = there.named;
-        told =
-            same_look own.manifest (own_looked named own looked) (own_more named own looked) (check.calls_of given hearing.found)
-            (sym (calls_by_path named own looked) ∙ same ∙ own_calls hearing there);
-      }
+      rest_same : Same lawful_rest (found.calls_of own_check own.found)
+      rest_same = subst (λ one. Same lawful_rest (found_calls one own.found)) (ap (check_heard given.check) own_had) own_lists.1
 
-  -- and by the content
-  there_told : (content : Content) (tree : TreeSeen) (hearing own : RunHearing) → tree.told ≡ Some content → IsThere path hearing.manifest → IsHeardOf given content tree.count_before hearing
-      → IsRunHearing given tree own → IsLookedWhereDue (manifest_asked given) own.manifest → ¬ (Rose tree.count_before tree.count_after) → IsThere path own.manifest
-  there_told content tree hearing own told there heard ran looked quiet =
-      let named = lawful_named hearing there in
-      let made = made_as (calls_by_path named own looked) ran.made in
-      let tells = (recursion_from_All (TellsContent content) (there_call given ∷ check.calls_of given hearing.found) (subst (All (TellsContent content)) (own_calls hearing there) heard.tells)).0 in
-      record {
-        named = there.named;
-        told = told_look path content tree.count_before tree.count_after own.manifest (own_looked named own looked) (own_more named own looked) (made.says content told) made.counts quiet tells;
-      }
+    none_rose : Rose 0 0 → ⊥
+    none_rose (inl less) = absurd (omega arith)
+    none_rose (inr last) = absurd (omega arith)
 
-  -- ---- lawful input is not refused
+    -- ---- lawful input is not refused
 
-  abbrev Bound : Error → Type 0
-  Bound error = IsFree (cause_of error) → ⊥
+    abbrev Bound : Error → Type 0
+    Bound error = IsFree (cause_of error) → ⊥
 
-  ends_read : (tree : TreeSeen) (hearing own : RunHearing) (asked : CheckInput) (error : Error) → HasManifest given hearing → check.HearsAllDue given hearing.found → Asks given hearing.found asked
-      → IsRunHearing given tree hearing → IsRunHearing given tree own → IsRunRefusal given own error → Bound error → MayEndLawful (cause_of error)
-  ends_read tree hearing own asked error has due asks heard ran refusal bound =
-      let there = is_there_by hearing has in
-      let own_is = there_read tree hearing own there heard ran refusal.due.manifest in
-      let head : CheckHeadlineRead given (rest_of tree) 0 0 (Err error) = headline_read given (rest_of tree) None None 0 0 (Err error) (refusal_writes tree own own_is ran error refusal bound) in
-      head.lawful hearing.found asked (own_heard tree hearing there heard) due asks none_rose
+    -- by what was read
+    ends_read : (tree : TreeSeen) (hearing own : RunHearing) (asked : CheckInput) (error : Error) → HasManifest given hearing → own_heard given hearing ≡ Some (Ok had) → found.HearsAllDue own_check hearing.found
+        → Asks own_check hearing.found asked → IsRunHearing given tree hearing → IsRunHearing given tree own → IsRunRefusal given own error → Bound error → MayEndLawful (cause_of error)
+    ends_read tree hearing own asked error has heard due asks ran_lawful ran refusal bound =
+        let there = is_there_by hearing has in
+        let same = append_cancel_left tree.calls_before (calls_of given hearing) (calls_of given own) (sym ran_lawful.made.traced ∙ ran.made.traced) in
+        let own_is = own_there IsSameTrace trace_alike hearing own there heard refusal.due same in
+        let own_had_is = own_had IsSameTrace trace_alike hearing own there heard refusal.due same in
+        let rest = rest_same IsSameTrace trace_alike hearing own there heard refusal.due same in
+        let hears = own_hears own own_is own_had_is tree ran in
+        let head : CheckHeadlineRead own_check (rest_of own.lists tree) 0 0 (Err error) =
+        headline_read own_check (rest_of own.lists tree) None None 0 0 (Err error) (refusal_writes own own_is own_had_is tree ran error refusal bound) in
+        head.lawful hearing.found asked (record { begun = ran_lawful.begun.found; made = made_as (sym rest) hears.made }) due asks none_rose
 
-  ends_told : (content : Content) (tree : TreeSeen) (hearing own : RunHearing) (asked : CheckInput) (error : Error) → tree.told ≡ Some content → HasManifest given hearing → check.HearsAllDue given hearing.found
-      → Asks given hearing.found asked → IsHeardOf given content tree.count_before hearing → ¬ (Rose tree.count_before tree.count_after) → IsRunHearing given tree own → IsRunRefusal given own error
-      → Bound error → MayEndLawful (cause_of error)
-  ends_told content tree hearing own asked error told has due asks heard quiet ran refusal bound =
-      let there = is_there_by hearing has in
-      let own_is = there_told content tree hearing own told there heard ran refusal.due.manifest quiet in
-      let head : CheckHeadline given content (rest_of tree) 0 0 (Err error) = headline_told given (rest_of tree) None None 0 0 (Err error) (refusal_writes tree own own_is ran error refusal bound) content told in
-      let tells = recursion_from_All (TellsContent content) (there_call given ∷ check.calls_of given hearing.found) (subst (All (TellsContent content)) (own_calls hearing there) heard.tells) in
-      head.lawful hearing.found asked
-      (record { begun = heard.begun; due = due; tells = All-from_recursion (TellsContent content) (check.calls_of given hearing.found) tells.1 }) asks quiet none_rose
+    -- and by the content
+    ends_told : (content : Content) (tree : TreeSeen) (hearing own : RunHearing) (asked : CheckInput) (error : Error) → tree.told ≡ Some content → HasManifest given hearing
+        → own_heard given hearing ≡ Some (Ok had) → found.HearsAllDue own_check hearing.found → Asks own_check hearing.found asked → IsHeardOf given content tree.count_before hearing
+        → ¬ (Rose tree.count_before tree.count_after) → IsRunHearing given tree own → IsRunRefusal given own error → Bound error → MayEndLawful (cause_of error)
+    ends_told content tree hearing own asked error told has heard due asks hears quiet ran refusal bound =
+        let there = is_there_by hearing has in
+        let Same = IsSameContent content tree.count_before tree.count_after in
+        let alike = content_alike content tree.count_before tree.count_after quiet in
+        let same : IsSameContent content tree.count_before tree.count_after (calls_of given hearing) (calls_of given own) = record {
+          tells = recursion_from_All (TellsContent content) (calls_of given hearing) hears.tells;
+          says = recursion_from_All (Says content) (calls_of given own) (ran.made.says content told);
+          counts = ran.made.counts;
+        } in
+        let own_is = own_there Same alike hearing own there heard refusal.due same in
+        let own_had_is = own_had Same alike hearing own there heard refusal.due same in
+        let rest = rest_same Same alike hearing own there heard refusal.due same in
+        let head : CheckHeadline own_check content (rest_of own.lists tree) 0 0 (Err error) =
+        headline_told own_check (rest_of own.lists tree) None None 0 0 (Err error) (refusal_writes own own_is own_had_is tree ran error refusal bound) content told in
+        head.lawful hearing.found asked
+        (record { begun = hears.begun.found; due = due; tells = All-from_recursion (TellsContent content) (found.calls_of own_check hearing.found) rest.tells }) asks quiet none_rose
 
 -- ---- a refused write
 
@@ -212,14 +245,14 @@ rose_by : (counts : FaultCounts) → IsWithoutFault counts → (target : OutputS
 rose_by counts quiet to_out before after refused = quiet.out refused.2
 rose_by counts quiet to_err before after refused = quiet.err (rose_widen counts.err_before before after counts.err_after refused.0 refused.1 refused.2)
 
-no_cut : (given : CheckArguments) (tree : TreeSeen) (counts : FaultCounts) → IsWithoutFault counts → (text : List ℕ) (begun : Script) (before after : ℕ)
+no_cut : (given : CheckAsked) (tree : TreeSeen) (counts : FaultCounts) → IsWithoutFault counts → (text : List ℕ) (begun : Script) (before after : ℕ)
     → BeginsRefusal given tree counts text begun (refused_write before after) → ⊥
 no_cut given tree counts quiet text begun before after (inl cut) = rose_by counts quiet cut.target before after cut.refused
 no_cut given tree counts quiet text begun before after (inr cut) = rose_by counts quiet cut.cut.target before after cut.cut.refused
 
 -- ---- the end of a check that is lawful
 
-module _ (given : CheckArguments) (tree : TreeSeen) (counts : FaultCounts) (quiet : IsWithoutFault counts) (own : RunHearing) (error : Error)
+module _ (given : CheckAsked) (tree : TreeSeen) (counts : FaultCounts) (quiet : IsWithoutFault counts) (own : RunHearing) (error : Error)
     (fails : IsRunHearing given tree own → IsRunRefusal given own error → (IsFree (cause_of error) → ⊥) → MayEndLawful (cause_of error)) where
   lawful_cause : (text : List ℕ) (begun : Script) (cause : Cause) → cause_of error ≡ cause → IsRefusedRun given tree own error cause → BeginsRefusal given tree counts text begun cause → MayEndLawful cause
   lawful_cause text begun no_memory is refused begins = tt
@@ -239,13 +272,15 @@ clear_status true is = absurd (cc)
 clear_status false is = refl
 
 -- the verdicts of a report whose status is zero
-clear : (given : CheckArguments) (tree : TreeSeen) (own : RunHearing) (report : Report) → IsRunHearing given tree own → IsRunReport given own report → HasNoOverrides given.args.lint_levels
+clear : (given : CheckAsked) (tree : TreeSeen) (own : RunHearing) (report : Report) → IsRunHearing given tree own → IsRunReport given own report → HasNoOverrides given.check.args.lint_levels
     → status_of report.stats ≡ 0 → All (λ crate. is_against crate.verdict ≡ false) report.crates
-clear given tree own report heard is none zero_is =
-    let carried = is.is.verdicts.asks.carried in
-    let there = is_there_by given carried own is.manifest in
-    let head : CheckHeadlineRead given (rest_of given carried tree) 0 0 (Ok report) =
-    headline_read given (rest_of given carried tree) None None 0 0 (Ok report) (report_writes given carried tree own there heard report is.is) in
+clear given tree own report ran is none zero_is =
+    let had = is.comes.lists in
+    let reported : IsReport (check_by given.check had) own.found report = subst (λ one. IsReport one own.found report) is.comes.is is.is in
+    let carried : uncarried_in given.check ≡ None = reported.verdicts.asks.carried in
+    let there = is_there_by given carried own is.comes.manifest in
+    let head : CheckHeadlineRead (check_by given.check had) (rest_of given carried own.lists tree) 0 0 (Ok report) =
+    headline_read (check_by given.check had) (rest_of given carried own.lists tree) None None 0 0 (Ok report) (report_writes given carried had own there is.comes.heard tree ran report reported) in
     head.status report refl none (clear_status (has_errors report.stats) zero_is)
 
 -- ---- words
@@ -262,7 +297,7 @@ module _ (given : RunArguments) where
   same_request one other first second = some_same one other (sym first.asks ∙ second.asks)
 
   -- and so one check
-  same_check : (request : Request) (args : Args) (check : CheckArguments) → HasRequest given request → request.command ≡ Check args → AsksCheck given check
+  same_check : (request : Request) (args : Args) (check : CheckAsked) → HasRequest given request → request.command ≡ Check args → AsksCheck given check
       → check ≡ check_asked given.lists given.match_of request args
   same_check request args check has command asks =
       let request_is : asks.request ≡ request = same_request asks.request request asks.of_words has in
@@ -312,7 +347,7 @@ module _ (given : RunArguments) (tree : TreeSeen) (counts : FaultCounts) (old ne
 
   -- ---- and one that is lawful
 
-  module _ (quiet : IsWithoutFault counts) (check : CheckArguments) (asks : AsksCheck given check)
+  module _ (quiet : IsWithoutFault counts) (check : CheckAsked) (asks : AsksCheck given check)
       (fails : (own : RunHearing) (error : Error) → IsRunHearing check tree own → IsRunRefusal check own error → (IsFree (cause_of error) → ⊥) → MayEndLawful (cause_of error)) where
     lawful_check : (ended : RunEnd) → EndsCheck check tree counts old new ended → EndsInReport ended
     lawful_check (Checked report) ends = tt
@@ -354,6 +389,10 @@ module _ (given : RunArguments) (tree : TreeSeen) (counts : FaultCounts) (old ne
 
 -- ---- the headline
 
+-- a lawful check is carried
+carried_of : (given : CheckAsked) (own : CheckArguments) (hearing : RunHearing) (asked : CheckInput) → ComesToCheck given hearing own → Asks own hearing.found asked → uncarried_in given.check ≡ None
+carried_of given own hearing asked comes asks = subst (λ one. uncarried_in one ≡ None) comes.is asks.carried
+
 module _ (given : RunArguments) (tree : TreeSeen) (counts : FaultCounts) (old new : SinkTexts) (outcome : Outcome)
     (is : IsOutcome given tree counts old new outcome.request outcome.ended) (status : outcome.status ≡ exit_status outcome.ended) where
   checked_of : (report : Report) → outcome.ended ≡ Checked report → IsChecked given tree counts old new outcome.request report
@@ -367,7 +406,7 @@ module _ (given : RunArguments) (tree : TreeSeen) (counts : FaultCounts) (old ne
       let own = checked_of report e in
       let same : check ≡ check_asked given.lists given.match_of own.request own.args = same_check given own.request own.args check own.has own.command checks.asks in
       clear (check_asked given.lists given.match_of own.request own.args) tree own.writes.tells.hearing report own.writes.tells.answers.0 own.writes.tells.answers.1
-      (subst (λ (one : CheckArguments). HasNoOverrides one.args.lint_levels) same none) (sym (ap exit_status e) ∙ sym status ∙ zero_is)
+      (subst (λ (one : CheckAsked). HasNoOverrides one.check.args.lint_levels) same none) (sym (ap exit_status e) ∙ sym status ∙ zero_is)
 
   pub run_headline_read : tree.count_before ≡ counts.tree_before → HeadlineRead given tree counts outcome
   run_headline_read before_is = record {
@@ -378,13 +417,16 @@ module _ (given : RunArguments) (tree : TreeSeen) (counts : FaultCounts) (old ne
           request = request_of report own;
           hearing = own.writes.tells.hearing;
           heard = own.writes.tells.answers.0;
-          manifest = own.writes.tells.answers.1.manifest;
+          own = own.writes.tells.answers.1.own;
+          comes = own.writes.tells.answers.1.comes;
           tells = own.writes.tells.answers.1.is.verdicts;
         };
     status = against;
     lawful = λ check hearing asked heard lawful quiet.
         lawful_end given tree counts old new quiet check lawful.words
-        (λ own error ran refusal bound. ends_read check lawful.asks.carried tree hearing own asked error lawful.manifest lawful.due lawful.asks heard ran refusal bound)
+        (λ own error ran refusal bound.
+        ends_read check (carried_of check lawful.own hearing asked lawful.comes lawful.asks) lawful.comes.lists tree hearing own asked error lawful.comes.manifest lawful.comes.heard
+        (subst (λ one. found.HearsAllDue one hearing.found) lawful.comes.is lawful.due) (subst (λ one. Asks one hearing.found asked) lawful.comes.is lawful.asks) heard ran refusal bound)
         outcome.request outcome.ended is;
   }
 
@@ -397,17 +439,19 @@ module _ (given : RunArguments) (tree : TreeSeen) (counts : FaultCounts) (old ne
           check = check_asked given.lists given.match_of own.request own.args;
           request = request_of report own;
           hearing = own.writes.tells.hearing;
-          begun = ran.begun ∙ before_is;
+          begun = subst (HasBegun own.writes.tells.hearing) before_is ran.begun;
           counts = sym after_is ∙ ran.made.counts ∙ ap (λ n. faults_after n (calls_of (check_asked given.lists given.match_of own.request own.args) own.writes.tells.hearing)) before_is;
           says = ran.made.says content told;
-          manifest = own.writes.tells.answers.1.manifest;
+          own = own.writes.tells.answers.1.own;
+          comes = own.writes.tells.answers.1.comes;
           tells = own.writes.tells.answers.1.is.verdicts;
         };
     status = against;
     lawful = λ check hearing asked heard lawful quiet.
         lawful_end given tree counts old new quiet check lawful.words
         (λ own error ran refusal bound.
-        ends_told check lawful.asks.carried content tree hearing own asked error told lawful.manifest lawful.due lawful.asks
+        ends_told check (carried_of check lawful.own hearing asked lawful.comes lawful.asks) lawful.comes.lists content tree hearing own asked error told lawful.comes.manifest lawful.comes.heard
+        (subst (λ one. found.HearsAllDue one hearing.found) lawful.comes.is lawful.due) (subst (λ one. Asks one hearing.found asked) lawful.comes.is lawful.asks)
         (subst (λ n. IsHeardOf check content n hearing) (sym before_is) heard)
         (subst (λ n. ¬ (Rose n tree.count_after)) (sym before_is) (subst (λ n. ¬ (Rose counts.tree_before n)) (sym after_is) quiet.tree)) ran refusal bound)
         outcome.request outcome.ended is;

@@ -1,3 +1,4 @@
+mod AlikeLemmas
 mod BehindLemmas
 mod EndLemmas
 mod HeadlineLemmas
@@ -5,6 +6,7 @@ mod LawfulLemmas
 mod LevelLemmas
 mod ListLemmas
 mod ManifestLemmas
+mod OwnLemmas
 mod ScriptLemmas
 mod StopLemmas
 mod SummaryLemmas

@@ -14,26 +14,28 @@ use Rattle.run_found.specs.Error.{cause_of, fault_line}
 use Rattle.run_found.specs.Hearing.{TreeSeen}
 use Rattle.run_check.specs.declared.report.Report.{Report}
 use Rattle.run_list.specs.declared.reads.CrateRead.{CrateRead}
-use Rattle.run_list.specs.Given.{ListArguments}
 use Rattle.run_list.specs.Script.{SinkSeen}
 use Rattle.run_list.proofs.AnswerLemmas.{some_made_by}
 use Rattle.run_sample.specs.Sample.{IsSampleComplete, IsSampled, IsUnfailed, WritesLines}
 use Rattle.deny_run.specs.declared.outcome.RunEnd.TheVariants.{Refused}
-use Rattle.deny_run.specs.Listing.{Lists, behind, err_seen, from_there, no_manifest, out_seen, uncarried}
+use Rattle.deny_run.specs.Listing.{Lists, behind, err_seen, from_there, no_lists, no_manifest, out_seen, uncarried}
+use Rattle.deny_run.specs.Own.{ListAsked, list_by}
 use Rattle.deny_run.specs.Run.{EndsList, EndsSample, IfChecked, IfRefused, listed_end, sampled_end}
 use Rattle.deny_run.specs.Words.{IsUntouched}
 use Rattle.deny_run.proofs.ScriptLemmas.{with_err}
 
 -- calls were made, however a listing is answered
-pub lists_made : (given : ListArguments) (tree : TreeSeen) (err out : SinkSeen) (answer : Result (List CrateRead) Error) → Lists given tree err out answer
+pub lists_made : (given : ListAsked) (tree : TreeSeen) (err out : SinkSeen) (answer : Result (List CrateRead) Error) → Lists given tree err out answer
     → MadeSome tree.told tree.tells tree.count_before tree.count_after tree.calls_before tree.calls_after
 lists_made given tree err out answer (uncarried what is same untouched silent quiet) = some_made untouched
 lists_made given tree err out answer (no_manifest carried error looked same silent quiet) = some_made looked.made
-lists_made given tree err out answer (behind carried told count calls looked writes) =
-    some_joined (some_made looked.made) (some_made_by given (from_there tree told count calls) writes.tells.hearing writes.crates answer writes.tells.answers)
+lists_made given tree err out answer (no_lists carried told count calls looked error finds same silent quiet) = some_joined (some_made looked.made) (some_made finds.made)
+lists_made given tree err out answer (behind carried told mid count middle calls between looked lists finds writes) =
+    some_joined (some_made looked.made)
+    (some_joined (some_made finds.made) (some_made_by (list_by given.list lists) (from_there tree mid middle between) writes.tells.hearing writes.crates answer writes.tells.answers))
 
 -- a listing is an end as it is, and a refusal has its line
-pub ends_list : (given : ListArguments) (tree : TreeSeen) (counts : FaultCounts) (err_after : ℕ) (old mid : SinkTexts) (err : Option (List ℕ)) (answer : Result (List CrateRead) Error)
+pub ends_list : (given : ListAsked) (tree : TreeSeen) (counts : FaultCounts) (err_after : ℕ) (old mid : SinkTexts) (err : Option (List ℕ)) (answer : Result (List CrateRead) Error)
     → counts.err_after ≤ err_after → Lists given tree (err_seen counts old mid) (out_seen counts old mid) answer
     → IfErr answer (λ error. LineWritten mid.err err counts.err_after err_after (fault_line error)) → OnOk answer ((err ≡ mid.err) × (err_after ≡ counts.err_after))
     → EndsList given tree (with_err counts err_after) old (record { out = mid.out; err = err }) (listed_end answer)

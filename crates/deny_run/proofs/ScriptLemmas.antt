@@ -1,5 +1,5 @@
 -- What the check of a request writes to two sinks, from what each of them gained.
-use Rattle.std.proofs.Common.{◌≡◌, ◌∙◌, inl, inr, refl, sym, ap, subst, ℕ, ◌≤◌, true, List, [], ◌∷◌, ◌++◌, Option, None, Result, Ok, Err, cond, append-nil, append_assoc, arith}
+use Rattle.std.proofs.Common.{◌≡◌, ◌∙◌, inl, inr, refl, sym, ap, subst, ℕ, ◌≤◌, true, List, [], ◌∷◌, ◌++◌, Option, Some, None, Result, Ok, Err, cond, append-nil, append_assoc, arith}
 use Rattle.std.proofs.lemmas.Grind.{flat_map-append}
 use Rattle.tree_core.specs.Call.{Call}
 use Rattle.tree_core.specs.Content.{Content}
@@ -11,6 +11,8 @@ use Rattle.tree_texts.specs.Cause as causes
 use Rattle.run_found.specs.declared.error.Error.{Error}
 use Rattle.run_found.specs.Error.{cause_of, fault_line}
 use Rattle.run_found.specs.Hearing.{MadeOn, RequestHearing, TreeSeen, crates_heard, seen}
+use Rattle.run_lists.specs.Given.{ListsGiven}
+use Rattle.run_lists.specs.Heard.{ListsHearing, given_heard}
 use Rattle.run_check.specs.declared.report.Report.{Report}
 use Rattle.run_check.specs.Carried.{uncarried_in}
 use Rattle.run_check.specs.Given.{CheckArguments}
@@ -21,9 +23,10 @@ use Rattle.run_check.proofs.AnswerLemmas.{IsFree}
 use Rattle.run_check.proofs.FoundLemmas.{input_by_Asks}
 use Rattle.deny_run.specs.Hearing.{IsRunHearing, RunHearing, calls_of}
 use Rattle.deny_run.specs.Manifest.{is_manifest}
+use Rattle.deny_run.specs.Own.{CheckAsked, check_by, handed_in}
 use Rattle.deny_run.specs.Report.{IsRefusedRun, IsRunGivenUp, IsRunReport, behind}
 use Rattle.deny_run.specs.Script.{BeginsRefusal, CutsSummary, TellsLoad, Writes, WritesFirst, load_script, script_of, summary_asked}
-use Rattle.deny_run.proofs.BehindLemmas.{there_call, told_behind}
+use Rattle.deny_run.proofs.BehindLemmas.{front_calls, told_behind}
 use Rattle.deny_run.proofs.StopLemmas.{gained-nil}
 
 gained-append_nil : (old new : Option (List ℕ)) (text : List ℕ) → Gained old new text → Gained old new (text ++ [])
@@ -54,17 +57,22 @@ stops_at given found report is = at_crates is.verdicts.due (record {
 
 -- ---- a refusal of the check
 
-module _ (given : CheckArguments) (carried : uncarried_in given ≡ None) (named : is_manifest given.request.context.manifest_path ≡ true)
-    (told mid tells : Option Content) (before middle after : ℕ) (old between new : List Call) (first : MadeOn (seen told mid before middle old between) (there_call given ∷ []))
-    (counts : FaultCounts) where
+module _ (given : CheckAsked) (carried : uncarried_in given.check ≡ None) (named : is_manifest given.check.request.context.manifest_path ≡ true)
+    (lists : ListsHearing) (had : ListsGiven) (heard_lists : given_heard (handed_in given.check) given.own lists ≡ Some (Ok had))
+    (told mid tells : Option Content) (before middle after : ℕ) (old between new : List Call) (lists_begun : lists.begun ≡ before)
+    (first : MadeOn (seen told mid before middle old between) (front_calls given lists)) (counts : FaultCounts) where
   abbrev whole_tree : TreeSeen
   whole_tree = seen told tells before after old new
 
   abbrev rest : TreeSeen
   rest = seen mid tells middle after between new
 
-  abbrev lift : (answer : Result Report Error) (text : List ℕ) → check.TellsLoad given rest answer text → TellsLoad given whole_tree answer text
-  lift answer text tells_load = told_behind given carried named told mid tells before middle after old between new first answer text tells_load
+  -- the check, by the names and texts that are had
+  abbrev own_check : CheckArguments
+  own_check = check_by given.check had
+
+  abbrev lift : (answer : Result Report Error) (text : List ℕ) → check.TellsLoad own_check rest answer text → TellsLoad given whole_tree answer text
+  lift answer text tells_load = told_behind given carried named lists had heard_lists told mid tells before middle after old between new lists_begun first answer text tells_load
 
   -- a cut of what is told of the load, or of that and what a report found
   load_cut : (text : List ℕ) (front : List ℕ) (back : List ℕ) → text ≡ front ++ back → (one other : ℕ) → one ≡ counts.err_before → other ≤ counts.err_after → Rose one other
@@ -80,7 +88,7 @@ module _ (given : CheckArguments) (carried : uncarried_in given ≡ None) (named
     refused = (first_is, last_is, rose);
   }
 
-  found_cut : (report : Report) (text front back : List ℕ) → findings_text given report ≡ front ++ back → (one other : ℕ) → one ≡ counts.err_before → other ≤ counts.err_after → Rose one other
+  found_cut : (report : Report) (text front back : List ℕ) → findings_text given.check report ≡ front ++ back → (one other : ℕ) → one ≡ counts.err_before → other ≤ counts.err_after → Rose one other
       → IsCut counts one other (script_of given text report) ((to_err, text) ∷ (to_err, front) ∷ [])
   found_cut report text front back parts one other first_is last_is rose = record {
     earlier = (to_err, text) ∷ [];
@@ -95,7 +103,7 @@ module _ (given : CheckArguments) (carried : uncarried_in given ≡ None) (named
 
   module _ (out err_old err_new : Option (List ℕ)) where
     first_by : (error : Error) (text : List ℕ) → TellsLoad given whole_tree (Err error) text → (cause : Cause) → cause_of error ≡ cause
-        → RefusalWritten given rest text err_old err_new counts.err_before counts.err_after cause
+        → RefusalWritten own_check rest text err_old err_new counts.err_before counts.err_after cause
         → WritesFirst given whole_tree counts (record { out = out; err = err_old }) (record { out = out; err = err_new }) (Err error)
     first_by error text tells_load no_memory is (inl front) = record {
       text = text;
@@ -156,30 +164,30 @@ module _ (given : CheckArguments) (carried : uncarried_in given ≡ None) (named
           gains = err_both out err_old err_new text found.front found.gained;
         }
 
-    pub refused_first : (error : Error) → WritesCheck given rest err_old err_new counts.err_before counts.err_after (Err error)
+    pub refused_first : (error : Error) → WritesCheck own_check rest err_old err_new counts.err_before counts.err_after (Err error)
         → WritesFirst given whole_tree counts (record { out = out; err = err_old }) (record { out = out; err = err_new }) (Err error)
     refused_first error writes = first_by error writes.text (lift (Err error) writes.text writes.tells) (cause_of error) refl writes.written
 
   -- ---- a report, and its summary
 
-  module _ (old_texts : SinkTexts) (found : Option (List ℕ)) (first_count last_count : ℕ) (report : Report) (writes : WritesCheck given rest old_texts.err found first_count last_count (Ok report)) where
+  module _ (old_texts : SinkTexts) (found : Option (List ℕ)) (first_count last_count : ℕ) (report : Report) (writes : WritesCheck own_check rest old_texts.err found first_count last_count (Ok report)) where
     -- what stood before the summary
     abbrev middle_texts : SinkTexts
     middle_texts = record { out = old_texts.out; err = found }
 
     abbrev earlier_script : Script
-    earlier_script = (to_err, writes.text) ∷ (to_err, findings_text given report) ∷ []
+    earlier_script = (to_err, writes.text) ∷ (to_err, findings_text given.check report) ∷ []
 
     told_report : TellsLoad given whole_tree (Ok report) writes.text
     told_report = lift (Ok report) writes.text writes.tells
 
     -- a script behind what was written
-    with_found : (new_texts : SinkTexts) (more : Script) → Gains middle_texts new_texts more → Gains old_texts new_texts ((to_err, writes.text) ∷ (to_err, findings_text given report) ∷ more)
+    with_found : (new_texts : SinkTexts) (more : Script) → Gains middle_texts new_texts more → Gains old_texts new_texts ((to_err, writes.text) ∷ (to_err, findings_text given.check report) ∷ more)
     with_found new_texts more gains = record {
       out = gains.out;
       err =
-          subst (Gained old_texts.err new_texts.err) (append_assoc writes.text (findings_text given report) (text_for to_err more))
-          (Gained-then old_texts.err found new_texts.err (writes.text ++ findings_text given report) (text_for to_err more) writes.written gains.err);
+          subst (Gained old_texts.err new_texts.err) (append_assoc writes.text (findings_text given.check report) (text_for to_err more))
+          (Gained-then old_texts.err found new_texts.err (writes.text ++ findings_text given.check report) (text_for to_err more) writes.written gains.err);
     }
 
     pub reported_first : (new_texts : SinkTexts) → Gains middle_texts new_texts (summary_asked given report) → WritesFirst given whole_tree counts old_texts new_texts (Ok report)
@@ -197,7 +205,7 @@ module _ (given : CheckArguments) (carried : uncarried_in given ≡ None) (named
       begun = heard.begun;
       lost = [];
       made = subst (MadeOn whole_tree) (sym (append-nil (calls_of given hearing))) heard.made;
-      stops = behind is.manifest (stops_at given hearing.found report is.is);
+      stops = behind is.own is.comes (stops_at is.own hearing.found report is.is);
     }
 
     own_up : IsRunGivenUp given whole_tree told_report.hearing
@@ -228,7 +236,7 @@ module _ (given : CheckArguments) (carried : uncarried_in given ≡ None) (named
           begun = earlier_script;
           begins =
               subst (BeginsRefusal given whole_tree counts writes.text earlier_script) (sym is)
-              (inr (record { report = report; is = told_report; front = findings_text given report; rest = []; parts = sym (append-nil (findings_text given report)); begun_is = refl }));
+              (inr (record { report = report; is = told_report; front = findings_text given.check report; rest = []; parts = sym (append-nil (findings_text given.check report)); begun_is = refl }));
           gains = with_found new_texts [] gains;
         }
         by_cause causes.told is none = absurd none
@@ -236,20 +244,20 @@ module _ (given : CheckArguments) (carried : uncarried_in given ≡ None) (named
         by_cause (refused_write first_one last_one) is short = record {
           text = writes.text;
           tells = up_as error (refused_write first_one last_one) is tt;
-          begun = (to_err, writes.text) ∷ (to_err, findings_text given report) ∷ short.begun;
+          begun = (to_err, writes.text) ∷ (to_err, findings_text given.check report) ∷ short.begun;
           begins =
-              subst (BeginsRefusal given whole_tree counts writes.text ((to_err, writes.text) ∷ (to_err, findings_text given report) ∷ short.begun)) (sym is)
+              subst (BeginsRefusal given whole_tree counts writes.text ((to_err, writes.text) ∷ (to_err, findings_text given.check report) ∷ short.begun)) (sym is)
               (inr (record {
                 report = report;
                 is = told_report;
                 cut = record {
-                  earlier = (to_err, writes.text) ∷ (to_err, findings_text given report) ∷ short.cut.earlier;
+                  earlier = (to_err, writes.text) ∷ (to_err, findings_text given.check report) ∷ short.cut.earlier;
                   target = short.cut.target;
                   front = short.cut.front;
                   rest = short.cut.rest;
                   later = short.cut.later;
-                  parts = ap (λ summary. (to_err, writes.text) ∷ (to_err, findings_text given report) ∷ summary) short.cut.parts;
-                  written = ap (λ summary. (to_err, writes.text) ∷ (to_err, findings_text given report) ∷ summary) short.cut.written;
+                  parts = ap (λ summary. (to_err, writes.text) ∷ (to_err, findings_text given.check report) ∷ summary) short.cut.parts;
+                  written = ap (λ summary. (to_err, writes.text) ∷ (to_err, findings_text given.check report) ∷ summary) short.cut.written;
                   refused = refused_as short.cut.target first_one last_one short.cut.refused;
                 };
               }));
@@ -300,7 +308,7 @@ with_err counts err_after = record {
   err_after = err_after;
 }
 
-module _ (given : CheckArguments) (tree : TreeSeen) (counts : FaultCounts) (err_after : ℕ) (first_later : counts.err_before ≤ counts.err_after) (later : counts.err_after ≤ err_after) where
+module _ (given : CheckAsked) (tree : TreeSeen) (counts : FaultCounts) (err_after : ℕ) (first_later : counts.err_before ≤ counts.err_after) (later : counts.err_after ≤ err_after) where
   wider : Rose counts.err_after err_after → Rose counts.err_before err_after
   wider (inl less) = inl (omega arith)
   wider (inr last) = inr last
@@ -351,7 +359,7 @@ module _ (given : CheckArguments) (tree : TreeSeen) (counts : FaultCounts) (err_
   }
 
 -- after a report nothing comes behind
-pub Writes-from_report : (given : CheckArguments) (tree : TreeSeen) (counts : FaultCounts) (old new : SinkTexts) (report : Report)
+pub Writes-from_report : (given : CheckAsked) (tree : TreeSeen) (counts : FaultCounts) (old new : SinkTexts) (report : Report)
     → WritesFirst given tree counts old new (Ok report) → Writes given tree counts old new (Ok report)
 Writes-from_report given tree counts old new report first =
     record { text = first.text; tells = first.tells; begun = first.begun; begins = first.begins; script = first.begun; ends = refl; gains = first.gains }

@@ -6,9 +6,11 @@ use Rattle.spdx_catalog.specs.declared.identifier.Match.{Match}
 use Rattle.run_request.specs.declared.check.Args.{Args}
 use Rattle.run_request.specs.declared.request.Request.{Request}
 use Rattle.run_request.specs.Given.{texts}
-use Rattle.run_check.specs.Given.{CheckArguments, check_arguments_of}
-use Rattle.run_list.specs.Given.{ListArguments, list_arguments_of}
+use Rattle.run_lists.specs.Given.{lists_asked}
+use Rattle.run_check.specs.Given.{check_arguments_of}
+use Rattle.run_list.specs.Given.{list_arguments_of}
 use Rattle.run_request.specs.declared.list.Args.{Args as ListArgs}
+use Rattle.deny_run.specs.Own.{CheckAsked, ListAsked}
 
 -- the catalogue's lists, what the identifier says of each text, the words and the working folder
 pub record RunArguments : Type 0 where
@@ -20,10 +22,12 @@ pub record RunArguments : Type 0 where
 abbrev pub run_arguments_of : {A : Type 0} → CatalogLists → (List ℕ → Match) → List (String A) → List ℕ → RunArguments
 run_arguments_of lists match_of words cwd = record { lists = lists; match_of = match_of; words = texts words; cwd = cwd }
 
--- what the check of a request is given
-abbrev pub check_asked : CatalogLists → (List ℕ → Match) → Request → Args → CheckArguments
-check_asked lists match_of request args = check_arguments_of lists match_of request.log_ctx args request.krate_ctx
+-- the check of a request
+abbrev pub check_asked : CatalogLists → (List ℕ → Match) → Request → Args → CheckAsked
+check_asked lists match_of request args =
+    record { check = check_arguments_of lists match_of request.log_ctx args request.krate_ctx; own = lists_asked request.catalog request.store }
 
--- what its listing is given
-abbrev pub list_asked : CatalogLists → (List ℕ → Match) → Request → ListArgs → ListArguments
-list_asked lists match_of request args = list_arguments_of lists match_of request.log_ctx args request.krate_ctx
+-- its listing
+abbrev pub list_asked : CatalogLists → (List ℕ → Match) → Request → ListArgs → ListAsked
+list_asked lists match_of request args =
+    record { list = list_arguments_of lists match_of request.log_ctx args request.krate_ctx; own = lists_asked request.catalog request.store }

@@ -13,7 +13,8 @@
 -- what was read is lawful and no call failed, it ends in a `Report` or for want of memory.
 --
 -- A report comes with its request, which is that of the words, and whose command is `check`. Without overrides: the request's
--- three lists of codes and levels are empty. Lawful: words that are taken, and a request and files that nothing refuses.
+-- three lists of codes and levels are empty. Lawful: words that are taken, and a request and files that nothing refuses. Where the
+-- request names a catalogue's file or a folder of texts, what these were read as takes the place of what is handed in.
 use Rattle.std.specs.Prelude.{◌≡◌, ℕ, false, All, Some, ⊤}
 use Rattle.tree_core.specs.Content.{Content}
 use Rattle.tree_core.specs.Script.{FaultCounts, IsWithoutFault}
@@ -33,11 +34,12 @@ use Rattle.deny_run.specs.declared.outcome.Outcome.{Outcome}
 use Rattle.deny_run.specs.declared.outcome.RunEnd.{RunEnd}
 use Rattle.deny_run.specs.declared.outcome.RunEnd.TheVariants.{Checked, Listed, Sampled, Shown, Usage, Refused}
 use Rattle.deny_run.specs.Given.{RunArguments, check_asked}
-use Rattle.deny_run.specs.Hearing.{HasManifest, IsRunHearing, RunHearing, calls_of}
+use Rattle.deny_run.specs.Hearing.{ComesToCheck, HasBegun, IsRunHearing, RunHearing, calls_of}
+use Rattle.deny_run.specs.Own.{CheckAsked}
 use Rattle.deny_run.specs.Words.{HasRequest}
 
 -- the words ask for this check
-pub record AsksCheck (given : RunArguments) (check : CheckArguments) : Type 0 where
+pub record AsksCheck (given : RunArguments) (check : CheckAsked) : Type 0 where
   pub request : Request
   pub of_words : HasRequest given request
   pub args : Args
@@ -45,7 +47,7 @@ pub record AsksCheck (given : RunArguments) (check : CheckArguments) : Type 0 wh
   pub is : check ≡ check_asked given.lists given.match_of request args
 
 -- and their request is told
-pub record ChecksRequest (given : RunArguments) (outcome : Outcome) (check : CheckArguments) : Type 0 where
+pub record ChecksRequest (given : RunArguments) (outcome : Outcome) (check : CheckAsked) : Type 0 where
   pub asks : AsksCheck given check
   pub told : outcome.request ≡ Some asks.request
 
@@ -61,54 +63,58 @@ EndsInReport (Refused error) = MayEndLawful (cause_of error)
 -- without overrides the status is zero only if no crate is unlicensed or rejected
 abbrev pub TellsAgainst : RunArguments → Outcome → Type 0
 TellsAgainst given outcome =
-    (report : Report) (check : CheckArguments) → outcome.ended ≡ Checked report → ChecksRequest given outcome check
-    → HasNoOverrides check.args.lint_levels → outcome.status ≡ 0 → All (λ crate. is_against crate.verdict ≡ false) report.crates
+    (report : Report) (check : CheckAsked) → outcome.ended ≡ Checked report → ChecksRequest given outcome check
+    → HasNoOverrides check.check.args.lint_levels → outcome.status ≡ 0 → All (λ crate. is_against crate.verdict ≡ false) report.crates
 
--- what is lawful: the words ask for this check, the manifest is there, and what was heard asks to check this
-pub record IsLawful (given : RunArguments) (check : CheckArguments) (hearing : RunHearing) (asked : CheckInput) : Type 0 where
+-- What is lawful: the words ask for this check, what was heard comes to it, by an organisation's own names and texts where some are asked
+-- for, and asks to check this.
+pub record IsLawful (given : RunArguments) (check : CheckAsked) (hearing : RunHearing) (asked : CheckInput) : Type 0 where
   pub words : AsksCheck given check
-  pub manifest : HasManifest check hearing
-  pub due : HearsAllDue check hearing.found
-  pub asks : Asks check hearing.found asked
+  pub own : CheckArguments
+  pub comes : ComesToCheck check hearing own
+  pub due : HearsAllDue own hearing.found
+  pub asks : Asks own hearing.found asked
 
 -- ---- by what was read
 
 -- the report gives the verdicts that are asked for by what was read, and no other call was made
 pub record HasVerdictsRead (given : RunArguments) (tree : TreeSeen) (outcome : Outcome) (report : Report) : Type 0 where
-  pub check : CheckArguments
+  pub check : CheckAsked
   pub request : ChecksRequest given outcome check
   pub hearing : RunHearing
   pub heard : IsRunHearing check tree hearing
-  pub manifest : HasManifest check hearing
-  pub tells : TellsVerdicts check hearing.found report
+  pub own : CheckArguments
+  pub comes : ComesToCheck check hearing own
+  pub tells : TellsVerdicts own hearing.found report
 
 pub record HeadlineRead (given : RunArguments) (tree : TreeSeen) (counts : FaultCounts) (outcome : Outcome) : Type 0 where
   pub verdicts : (report : Report) → outcome.ended ≡ Checked report → HasVerdictsRead given tree outcome report
   pub status : TellsAgainst given outcome
-  pub lawful : (check : CheckArguments) (hearing : RunHearing) (asked : CheckInput) → IsRunHearing check tree hearing → IsLawful given check hearing asked
+  pub lawful : (check : CheckAsked) (hearing : RunHearing) (asked : CheckInput) → IsRunHearing check tree hearing → IsLawful given check hearing asked
       → IsWithoutFault counts → EndsInReport outcome.ended
 
 -- ---- by a content
 
 -- what is heard of the content, from a count of faults on, where no call fails and no memory is wanting
-pub record IsHeardOf (check : CheckArguments) (content : Content) (count : ℕ) (hearing : RunHearing) : Type 0 where
-  pub begun : hearing.found.begun ≡ count
+pub record IsHeardOf (check : CheckAsked) (content : Content) (count : ℕ) (hearing : RunHearing) : Type 0 where
+  pub begun : HasBegun hearing count
   pub tells : All (TellsContent content) (calls_of check hearing)
 
 -- the report gives the verdicts that are asked for by calls that say what the content has, but for those that failed, each of which
 -- raised the count of faults
 pub record HasVerdictsIn (given : RunArguments) (content : Content) (before after : ℕ) (outcome : Outcome) (report : Report) : Type 0 where
-  pub check : CheckArguments
+  pub check : CheckAsked
   pub request : ChecksRequest given outcome check
   pub hearing : RunHearing
-  pub begun : hearing.found.begun ≡ before
+  pub begun : HasBegun hearing before
   pub counts : after ≡ faults_after before (calls_of check hearing)
   pub says : All (Says content) (calls_of check hearing)
-  pub manifest : HasManifest check hearing
-  pub tells : TellsVerdicts check hearing.found report
+  pub own : CheckArguments
+  pub comes : ComesToCheck check hearing own
+  pub tells : TellsVerdicts own hearing.found report
 
 pub record Headline (given : RunArguments) (content : Content) (counts : FaultCounts) (outcome : Outcome) : Type 0 where
   pub verdicts : (report : Report) → outcome.ended ≡ Checked report → HasVerdictsIn given content counts.tree_before counts.tree_after outcome report
   pub status : TellsAgainst given outcome
-  pub lawful : (check : CheckArguments) (hearing : RunHearing) (asked : CheckInput) → IsHeardOf check content counts.tree_before hearing → IsLawful given check hearing asked
+  pub lawful : (check : CheckAsked) (hearing : RunHearing) (asked : CheckInput) → IsHeardOf check content counts.tree_before hearing → IsLawful given check hearing asked
       → IsWithoutFault counts → EndsInReport outcome.ended

@@ -4,16 +4,20 @@ use Rattle.run_found.specs.Hearing.{TreeSeen}
 use Rattle.run_check.specs.declared.report.Report.{Report}
 use Rattle.run_check.specs.Given.{CheckArguments}
 use Rattle.deny_run.specs.Hearing.{IsRunHearing, RunHearing}
+use Rattle.deny_run.specs.Own.{CheckAsked}
 use Rattle.deny_run.specs.Report.{IsRunReport}
 
 -- the same check at another level
-abbrev pub at_level : LevelFilter → CheckArguments → CheckArguments
-at_level level given = record given { request = record given.request { log = record given.request.log { log_level = level } } }
+abbrev pub check_at : LevelFilter → CheckArguments → CheckArguments
+check_at level given = record given { request = record given.request { log = record given.request.log { log_level = level } } }
+
+abbrev pub at_level : LevelFilter → CheckAsked → CheckAsked
+at_level level given = record given { check = check_at level given.check }
 
 -- the calls of a run are those that are due at each level, and its report is the one that is asked for at each, with its counts and so
 -- its status
 abbrev pub LevelChangesNoReport : Type 0
 LevelChangesNoReport =
-    (given : CheckArguments) (level : LevelFilter) (tree : TreeSeen) (hearing : RunHearing) (report : Report)
+    (given : CheckAsked) (level : LevelFilter) (tree : TreeSeen) (hearing : RunHearing) (report : Report)
     → IsRunHearing given tree hearing → IsRunReport given hearing report
     → IsRunHearing (at_level level given) tree hearing × IsRunReport (at_level level given) hearing report

@@ -5,6 +5,7 @@ pub mod Lawful
 pub mod Laws
 pub mod Listing
 pub mod Manifest
+pub mod Own
 pub mod Report
 pub mod Run
 pub mod Sample

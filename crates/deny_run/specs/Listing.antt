@@ -8,11 +8,13 @@ use Rattle.run_found.specs.declared.error.Error.{Error}
 use Rattle.run_found.specs.declared.error.Error.TheVariants.{NotCarried}
 use Rattle.run_found.specs.Error.{fault_line}
 use Rattle.run_found.specs.Hearing.{TreeSeen, seen}
+use Rattle.run_lists.specs.Found.{FindsLists}
+use Rattle.run_lists.specs.Given.{ListsGiven}
 use Rattle.run_list.specs.declared.reads.CrateRead.{CrateRead}
 use Rattle.run_list.specs.Carried.{uncarried_in}
-use Rattle.run_list.specs.Given.{ListArguments}
 use Rattle.run_list.specs.Script.{SinkSeen, WritesList, sink_seen}
 use Rattle.deny_run.specs.Manifest.{LooksAtManifest}
+use Rattle.deny_run.specs.Own.{ListAsked, list_by, list_handed_in}
 use Rattle.deny_run.specs.Words.{IsUntouched}
 
 -- nothing was written
@@ -27,14 +29,19 @@ abbrev pub from_there : TreeSeen → Option Content → ℕ → List Call → Tr
 from_there tree told count calls = seen told tree.tells count tree.count_after calls tree.calls_after
 
 -- A part of the request is not carried, and that is the refusal, without a call; or the manifest is not there, or memory was wanting at
--- the look, and nothing else was called; or the manifest is there, and of what the tree told behind the look holds what is said of a
--- listing.
-pub data Lists (given : ListArguments) (tree : TreeSeen) (err out : SinkSeen) (answer : Result (List CrateRead) Error) : Type 0 where
-  uncarried : (what : What) → uncarried_in given ≡ Some what → answer ≡ Err (NotCarried what) → IsUntouched tree → IsSilent err → IsSilent out → Lists given tree err out answer
-  no_manifest : uncarried_in given ≡ None → (error : Error) → LooksAtManifest given.request.context.manifest_path tree (Err error) → answer ≡ Err error → IsSilent err → IsSilent out
+-- the look, and nothing else was called; or it is there, and an organisation's own names and texts are not had, and nothing was called
+-- behind them; or they are had, where some are asked for, and of what the tree told behind them holds what is said of a listing by them.
+pub data Lists (given : ListAsked) (tree : TreeSeen) (err out : SinkSeen) (answer : Result (List CrateRead) Error) : Type 0 where
+  uncarried : (what : What) → uncarried_in given.list ≡ Some what → answer ≡ Err (NotCarried what) → IsUntouched tree → IsSilent err → IsSilent out → Lists given tree err out answer
+  no_manifest : uncarried_in given.list ≡ None → (error : Error) → LooksAtManifest given.list.request.context.manifest_path tree (Err error) → answer ≡ Err error → IsSilent err → IsSilent out
       → Lists given tree err out answer
-  behind : uncarried_in given ≡ None → (told : Option Content) (count : ℕ) (calls : List Call) → LooksAtManifest given.request.context.manifest_path (up_to tree told count calls) (Ok tt)
-      → WritesList given (from_there tree told count calls) err out answer → Lists given tree err out answer
+  no_lists : uncarried_in given.list ≡ None → (told : Option Content) (count : ℕ) (calls : List Call)
+      → LooksAtManifest given.list.request.context.manifest_path (up_to tree told count calls) (Ok tt) → (error : Error)
+      → FindsLists (list_handed_in given.list) given.own (from_there tree told count calls) (Err error) → answer ≡ Err error → IsSilent err → IsSilent out → Lists given tree err out answer
+  behind : uncarried_in given.list ≡ None → (told mid : Option Content) (count middle : ℕ) (calls between : List Call)
+      → LooksAtManifest given.list.request.context.manifest_path (up_to tree told count calls) (Ok tt) → (lists : ListsGiven)
+      → FindsLists (list_handed_in given.list) given.own (seen told mid count middle calls between) (Ok lists)
+      → WritesList (list_by given.list lists) (from_there tree mid middle between) err out answer → Lists given tree err out answer
 
 -- the sinks behind a refusal, before its line is written
 abbrev pub err_seen : FaultCounts → SinkTexts → SinkTexts → SinkSeen
@@ -44,7 +51,7 @@ abbrev pub out_seen : FaultCounts → SinkTexts → SinkTexts → SinkSeen
 out_seen counts old new = sink_seen old.out new.out counts.out_before counts.out_after
 
 -- the listing was refused, and the line of the refusal, or a front of it, was written behind
-pub record RefusesList (given : ListArguments) (tree : TreeSeen) (counts : FaultCounts) (old new : SinkTexts) (error : Error) : Type 0 where
+pub record RefusesList (given : ListAsked) (tree : TreeSeen) (counts : FaultCounts) (old new : SinkTexts) (error : Error) : Type 0 where
   pub written : Option (List ℕ)
   pub count : ℕ
   pub later : count ≤ counts.err_after

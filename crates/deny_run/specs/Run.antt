@@ -20,15 +20,14 @@ use Rattle.run_found.specs.Error.{cause_of}
 use Rattle.run_found.specs.Hearing.{TreeSeen}
 use Rattle.run_check.specs.Carried.{uncarried_in}
 use Rattle.run_check.specs.declared.report.Report.{Report}
-use Rattle.run_check.specs.Given.{CheckArguments}
 use Rattle.run_list.specs.declared.reads.CrateRead.{CrateRead}
 use Rattle.run_list.specs.Carried as listing
-use Rattle.run_list.specs.Given.{ListArguments}
 use Rattle.deny_run.specs.declared.outcome.Outcome.{Outcome}
 use Rattle.deny_run.specs.declared.outcome.RunEnd.{RunEnd}
 use Rattle.deny_run.specs.declared.outcome.RunEnd.TheVariants.{Checked, Listed, Sampled, Shown, Usage, Refused}
 use Rattle.deny_run.specs.Given.{RunArguments, check_asked, list_asked}
 use Rattle.deny_run.specs.Listing.{Lists, RefusesList, err_seen, out_seen}
+use Rattle.deny_run.specs.Own.{CheckAsked, ListAsked}
 use Rattle.deny_run.specs.Sample.{RefusesSample, ReportsSample}
 use Rattle.deny_run.specs.Script.{Writes}
 use Rattle.deny_run.specs.Words.{HasRequest, IsEndOfWords, IsUntouched}
@@ -36,7 +35,7 @@ use Rattle.deny_run.specs.Words.{HasRequest, IsEndOfWords, IsUntouched}
 -- ---- a request
 
 -- the end of a run over a request for a check: a report or a refusal, answered and written as it is asked for
-abbrev pub EndsCheck : CheckArguments → TreeSeen → FaultCounts → SinkTexts → SinkTexts → RunEnd → Type 0
+abbrev pub EndsCheck : CheckAsked → TreeSeen → FaultCounts → SinkTexts → SinkTexts → RunEnd → Type 0
 EndsCheck check tree counts old new (Checked report) = Writes check tree counts old new (Ok report)
 EndsCheck check tree counts old new (Listed reads) = ⊥
 EndsCheck check tree counts old new (Sampled report) = ⊥
@@ -45,7 +44,7 @@ EndsCheck check tree counts old new Usage = ⊥
 EndsCheck check tree counts old new (Refused error) = Writes check tree counts old new (Err error)
 
 -- the end of a run over a request for a listing
-abbrev pub EndsList : ListArguments → TreeSeen → FaultCounts → SinkTexts → SinkTexts → RunEnd → Type 0
+abbrev pub EndsList : ListAsked → TreeSeen → FaultCounts → SinkTexts → SinkTexts → RunEnd → Type 0
 EndsList list tree counts old new (Checked report) = ⊥
 EndsList list tree counts old new (Listed reads) = Lists list tree (err_seen counts old new) (out_seen counts old new) (Ok reads)
 EndsList list tree counts old new (Sampled report) = ⊥
@@ -71,12 +70,12 @@ EndsRequest lists match_of tree counts old new request (Sample size) ended = End
 -- a request of which a part is not carried is refused with the first such part, and no call is made
 abbrev pub RefusesCheckUncarried : CatalogLists → (List ℕ → Match) → TreeSeen → Request → RunEnd → Type 0
 RefusesCheckUncarried lists match_of tree request ended =
-    (args : Args) (what : What) → request.command ≡ Check args → uncarried_in (check_asked lists match_of request args) ≡ Some what
+    (args : Args) (what : What) → request.command ≡ Check args → uncarried_in (check_asked lists match_of request args).check ≡ Some what
     → (ended ≡ Refused (NotCarried what)) × IsUntouched tree
 
 abbrev pub RefusesListUncarried : CatalogLists → (List ℕ → Match) → TreeSeen → Request → RunEnd → Type 0
 RefusesListUncarried lists match_of tree request ended =
-    (args : ListArgs) (what : What) → request.command ≡ Listing args → listing.uncarried_in (list_asked lists match_of request args) ≡ Some what
+    (args : ListArgs) (what : What) → request.command ≡ Listing args → listing.uncarried_in (list_asked lists match_of request args).list ≡ Some what
     → (ended ≡ Refused (NotCarried what)) × IsUntouched tree
 
 abbrev pub RefusesUncarried : CatalogLists → (List ℕ → Match) → TreeSeen → Request → RunEnd → Type 0

@@ -6,14 +6,12 @@ use Rattle.diag_stats.specs.Summary.{IsCutShort, summary_of}
 use Rattle.run_found.specs.declared.error.Error.{Error}
 use Rattle.run_found.specs.Error.{cause_of, fault_line}
 use Rattle.run_found.specs.Found.{load_text, loaded_of}
-use Rattle.run_found.specs.Hearing.{TreeSeen}
-use Rattle.run_found.specs.Steps.{◌>>=◌}
+use Rattle.run_found.specs.Hearing.{RequestHearing, TreeSeen}
 use Rattle.run_check.specs.declared.report.Report.{Report}
-use Rattle.run_check.specs.Carried.{uncarried_in}
-use Rattle.run_check.specs.Found.{unless_uncarried}
 use Rattle.run_check.specs.Given.{CheckArguments}
 use Rattle.run_check.specs.Script.{findings_text}
-use Rattle.deny_run.specs.Hearing.{RunHearing, manifest_in}
+use Rattle.deny_run.specs.Hearing.{RunHearing, check_found}
+use Rattle.deny_run.specs.Own.{CheckAsked}
 use Rattle.deny_run.specs.Report.{IsAnsweredBy}
 
 -- ---- the counts, and the line of a refusal
@@ -48,22 +46,17 @@ EndsIn counts begun script (Err error) = HasLine counts error begun script
 
 -- ---- of a check
 
--- the load, where the run came to it: where all is carried and the manifest is there
-abbrev pub load_text_behind : CheckArguments → RunHearing → Result (Unit {0}) Error → List ℕ
-load_text_behind given hearing (Ok there) = load_text given.request.log (loaded_of given.request hearing.found)
-load_text_behind given hearing (Err error) = []
-
-abbrev pub before_load : CheckArguments → RunHearing → Result (Unit {0}) Error
-before_load given hearing = do
-  carried ← unless_uncarried (uncarried_in given)
-  manifest_in given.request.context hearing
+-- the load, where the run came to the check
+abbrev pub load_text_by : Result CheckArguments Error → RequestHearing → List ℕ
+load_text_by (Ok own) found = load_text own.request.log (loaded_of own.request found)
+load_text_by (Err error) found = []
 
 -- what is told of the load by what was heard
-abbrev pub load_text_heard : CheckArguments → RunHearing → List ℕ
-load_text_heard given hearing = load_text_behind given hearing (before_load given hearing)
+abbrev pub load_text_heard : CheckAsked → RunHearing → List ℕ
+load_text_heard given hearing = load_text_by (check_found given hearing) hearing.found
 
 -- the text is what is told of the load, by what was heard in a run on a tree that answers so
-pub record TellsLoad (given : CheckArguments) (tree : TreeSeen) (answer : Result Report Error) (text : List ℕ) : Type 0 where
+pub record TellsLoad (given : CheckAsked) (tree : TreeSeen) (answer : Result Report Error) (text : List ℕ) : Type 0 where
   pub hearing : RunHearing
   pub answers : IsAnsweredBy given tree hearing answer
   pub is : text ≡ load_text_heard given hearing
@@ -73,30 +66,30 @@ abbrev pub load_script : List ℕ → Script
 load_script text = (to_err, text) ∷ []
 
 -- the summary of a report, in the format and at the level that are asked for
-abbrev pub summary_asked : CheckArguments → Report → Script
-summary_asked given report = summary_of given.request.log.format given.request.log.log_level given.args.show_stats report.stats
+abbrev pub summary_asked : CheckAsked → Report → Script
+summary_asked given report = summary_of given.check.request.log.format given.check.request.log.log_level given.check.args.show_stats report.stats
 
 -- what a report is written as: what is told of the load, what was found, both on `err`, and its summary
-abbrev pub script_of : CheckArguments → List ℕ → Report → Script
-script_of given text report = (to_err, text) ∷ (to_err, findings_text given report) ∷ summary_asked given report
+abbrev pub script_of : CheckAsked → List ℕ → Report → Script
+script_of given text report = (to_err, text) ∷ (to_err, findings_text given.check report) ∷ summary_asked given report
 
 -- a report that is asked for, of which nothing is told but what was written: by what was heard the text is what is told of the load
-abbrev pub IsReportTold : CheckArguments → TreeSeen → List ℕ → Report → Type 0
+abbrev pub IsReportTold : CheckAsked → TreeSeen → List ℕ → Report → Type 0
 IsReportTold given tree text report = TellsLoad given tree (Ok report) text
 
 -- the script of such a report was cut
-pub record CutsReport (given : CheckArguments) (tree : TreeSeen) (counts : FaultCounts) (text : List ℕ) (before after : ℕ) (begun : Script) : Type 0 where
+pub record CutsReport (given : CheckAsked) (tree : TreeSeen) (counts : FaultCounts) (text : List ℕ) (before after : ℕ) (begun : Script) : Type 0 where
   pub report : Report
   pub is : IsReportTold given tree text report
   pub cut : IsCut counts before after (script_of given text report) begun
 
 -- all that is told of the load was written, and then a front of what such a report found
-pub record FrontsReport (given : CheckArguments) (tree : TreeSeen) (text : List ℕ) (begun : Script) : Type 0 where
+pub record FrontsReport (given : CheckAsked) (tree : TreeSeen) (text : List ℕ) (begun : Script) : Type 0 where
   pub report : Report
   pub is : IsReportTold given tree text report
   pub front : List ℕ
   pub rest : List ℕ
-  pub parts : findings_text given report ≡ front ++ rest
+  pub parts : findings_text given.check report ≡ front ++ rest
   pub begun_is : begun ≡ (to_err, text) ∷ (to_err, front) ∷ []
 
 -- a front of the text, on `err`
@@ -108,19 +101,19 @@ pub record IsFrontOnErr (text : List ℕ) (begun : Script) : Type 0 where
 
 -- What was begun before a refusal: where memory was wanting a front of what is told of the load, or all of that and a front of
 -- what was found; where a write was refused a cut of what is told of the load, or of a report; else all that is told of the load.
-abbrev pub BeginsRefusal : CheckArguments → TreeSeen → FaultCounts → List ℕ → Script → Cause → Type 0
+abbrev pub BeginsRefusal : CheckAsked → TreeSeen → FaultCounts → List ℕ → Script → Cause → Type 0
 BeginsRefusal given tree counts text begun no_memory = IsFrontOnErr text begun ⊎ FrontsReport given tree text begun
 BeginsRefusal given tree counts text begun (refused_write before after) =
     IsCut counts before after (load_script text) begun ⊎ CutsReport given tree counts text before after begun
 BeginsRefusal given tree counts text begun _ = begun ≡ load_script text
 
 -- what was written before a fault line, if there is one
-abbrev pub HasBegun : CheckArguments → TreeSeen → FaultCounts → List ℕ → Script → Result Report Error → Type 0
+abbrev pub HasBegun : CheckAsked → TreeSeen → FaultCounts → List ℕ → Script → Result Report Error → Type 0
 HasBegun given tree counts text begun (Ok report) = begun ≡ script_of given text report
 HasBegun given tree counts text begun (Err error) = BeginsRefusal given tree counts text begun (cause_of error)
 
 -- what a run on a tree wrote before a fault line: the text is what is told of the load, by what was heard
-pub record WritesFirst (given : CheckArguments) (tree : TreeSeen) (counts : FaultCounts) (old new : SinkTexts) (answer : Result Report Error) : Type 0 where
+pub record WritesFirst (given : CheckAsked) (tree : TreeSeen) (counts : FaultCounts) (old new : SinkTexts) (answer : Result Report Error) : Type 0 where
   pub text : List ℕ
   pub tells : TellsLoad given tree answer text
   pub begun : Script
@@ -128,7 +121,7 @@ pub record WritesFirst (given : CheckArguments) (tree : TreeSeen) (counts : Faul
   pub gains : Gains old new begun
 
 -- what a run on a tree answers, and what it wrote
-pub record Writes (given : CheckArguments) (tree : TreeSeen) (counts : FaultCounts) (old new : SinkTexts) (answer : Result Report Error) : Type 0 where
+pub record Writes (given : CheckAsked) (tree : TreeSeen) (counts : FaultCounts) (old new : SinkTexts) (answer : Result Report Error) : Type 0 where
   pub text : List ℕ
   pub tells : TellsLoad given tree answer text
   pub begun : Script

@@ -6,29 +6,29 @@ ghost use Rattle.graph_workspace.specs.declared.error.What.{What};
 ghost use Rattle.run_found.specs.Error.{cause_of};
 ghost use Rattle.run_found.specs.Hearing.{seen};
 ghost use Rattle.run_check.specs.Carried.{uncarried_of};
-ghost use Rattle.run_check.specs.Given.{check_arguments_of};
 ghost use Rattle.run_check.specs.Report.{LabelsLie};
+ghost use Rattle.deny_run.specs.Given.{check_asked};
 ghost use Rattle.deny_run.specs.Script.{WritesFirst, between};
 ghost use Rattle.deny_run.specs.Words.{IsUntouched};
 
 use crate::manifest::look_at_manifest;
+use crate::own::own_lists;
 use crate::summary::write_summary;
-use diag_print::LogContext;
 use run_check::{Report, check_since, uncarried_in};
 use run_found::Error;
-use run_request::KrateContext;
+use run_request::Request;
 use run_request::check::Args;
 use spdx_core::{Catalog, Identifier};
 use std::alloc::Global;
 use tree_core::{Sink, Tree};
 
-/// The report that a request for a check asks for: the manifest is looked at, and then the check runs. What is
-/// told of the policy's load and what was found goes to `err`, and the summary to its sink.
+/// The report that a request for a check asks for: the manifest is looked at, then an organisation's own names and
+/// texts are read, where some are asked for, and then the check runs. What is told of the policy's load and what was
+/// found goes to `err`, and the summary to its sink.
 pub fn check_request<T: Tree, O: Sink, E: Sink, C: Catalog, I: Identifier>(
     alloc: Global,
-    log_ctx: LogContext,
+    request: &Request,
     args: &Args,
-    context: &KrateContext,
     tree: &mut T,
     out: &mut O,
     err: &mut E,
@@ -39,7 +39,7 @@ pub fn check_request<T: Tree, O: Sink, E: Sink, C: Catalog, I: Identifier>(
     ensures counts { IfErr result (λ error. ReadCounts
         (T.fault_count tree.old) (T.fault_count tree.old) (T.fault_count tree.new) (cause_of error)) }
     ensures written { WritesFirst
-        (check_arguments_of (C.lists catalog.now) (I.match_of identifier.now) log_ctx args.now context.now)
+        (check_asked (C.lists catalog.now) (I.match_of identifier.now) request.now args.now)
         (seen (T.content tree.old) (T.content tree.new) (T.fault_count tree.old) (T.fault_count tree.new)
         (T.trace tree.old) (T.trace tree.new))
         (between
@@ -48,7 +48,7 @@ pub fn check_request<T: Tree, O: Sink, E: Sink, C: Catalog, I: Identifier>(
         (record { out = O.written out.old; err = E.written err.old })
         (record { out = O.written out.new; err = E.written err.new })
         result }
-    ensures uncarried { (what : What) → uncarried_of log_ctx args.now context.now ≡ Some what
+    ensures uncarried { (what : What) → uncarried_of request.now.log_ctx args.now request.now.krate_ctx ≡ Some what
         → (result ≡ Err (Error.NotCarried what)) × IsUntouched
         (seen (T.content tree.old) (T.content tree.new) (T.fault_count tree.old) (T.fault_count tree.new)
         (T.trace tree.old) (T.trace tree.new)) }
@@ -56,32 +56,29 @@ pub fn check_request<T: Tree, O: Sink, E: Sink, C: Catalog, I: Identifier>(
     ensures out_later { O.fault_count out.old ≤ O.fault_count out.new }
     ensures err_later { E.fault_count err.old ≤ E.fault_count err.new }
 {
-    if let Some(what) = uncarried_in(log_ctx, args, context) {
+    if let Some(what) = uncarried_in(request.log_ctx, args, &request.krate_ctx) {
         return Err(Error::NotCarried(what));
     }
-    check_carried(
-        alloc, log_ctx, args, context, tree, out, err, catalog, identifier,
-    )
+    check_carried(alloc, request, args, tree, out, err, catalog, identifier)
 }
 
 /// The same of a request all of which is carried.
 fn check_carried<T: Tree, O: Sink, E: Sink, C: Catalog, I: Identifier>(
     alloc: Global,
-    log_ctx: LogContext,
+    request: &Request,
     args: &Args,
-    context: &KrateContext,
     tree: &mut T,
     out: &mut O,
     err: &mut E,
     catalog: &C,
     identifier: &I,
 ) -> Result<Report, Error>
-    requires { uncarried_of log_ctx args.now context.now ≡ None }
+    requires { uncarried_of request.now.log_ctx args.now request.now.krate_ctx ≡ None }
     ensures policy { result ≢ Err (Error.ConfigRead ReadFault.Absent) }
     ensures counts { IfErr result (λ error. ReadCounts
         (T.fault_count tree.old) (T.fault_count tree.old) (T.fault_count tree.new) (cause_of error)) }
     ensures written { WritesFirst
-        (check_arguments_of (C.lists catalog.now) (I.match_of identifier.now) log_ctx args.now context.now)
+        (check_asked (C.lists catalog.now) (I.match_of identifier.now) request.now args.now)
         (seen (T.content tree.old) (T.content tree.new) (T.fault_count tree.old) (T.fault_count tree.new)
         (T.trace tree.old) (T.trace tree.new))
         (between
@@ -95,18 +92,34 @@ fn check_carried<T: Tree, O: Sink, E: Sink, C: Catalog, I: Identifier>(
     ensures err_later { E.fault_count err.old ≤ E.fault_count err.new }
 {
     let begun = err.faults();
-    match look_at_manifest(alloc, tree, context.manifest_path.as_path()) {
+    match look_at_manifest(alloc, tree, request.krate_ctx.manifest_path.as_path()) {
         Err(error) => Err(error),
-        Ok(()) => match check_since(
-            alloc, tree, err, catalog, identifier, log_ctx, args, context,
-        ) {
+        Ok(()) => match own_lists(alloc, tree, request, catalog, identifier) {
             Err(error) => Err(error),
-            Ok(report) => {
-                match write_summary(alloc, &report, args.show_stats, log_ctx, out, err, begun) {
+            Ok(found) => match check_since(
+                alloc,
+                tree,
+                err,
+                &found.catalog,
+                &found.identifier,
+                request.log_ctx,
+                args,
+                &request.krate_ctx,
+            ) {
+                Err(error) => Err(error),
+                Ok(report) => match write_summary(
+                    alloc,
+                    &report,
+                    args.show_stats,
+                    request.log_ctx,
+                    out,
+                    err,
+                    begun,
+                ) {
                     Ok(()) => Ok(report),
                     Err(error) => Err(error),
-                }
-            }
+                },
+            },
         },
     }
 }

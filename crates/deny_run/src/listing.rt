@@ -6,28 +6,28 @@ ghost use Rattle.graph_workspace.specs.declared.error.What.{What};
 ghost use Rattle.run_found.specs.Error.{cause_of};
 ghost use Rattle.run_found.specs.Hearing.{seen};
 ghost use Rattle.run_list.specs.Carried.{uncarried_of};
-ghost use Rattle.run_list.specs.Given.{list_arguments_of};
 ghost use Rattle.run_list.specs.Script.{sink_seen};
+ghost use Rattle.deny_run.specs.Given.{list_asked};
 ghost use Rattle.deny_run.specs.Listing.{Lists};
 ghost use Rattle.deny_run.specs.Words.{IsUntouched};
 
 use crate::manifest::look_at_manifest;
-use diag_print::LogContext;
+use crate::own::own_lists;
 use run_found::Error;
 use run_list::{CrateReads, list_since, uncarried_in};
-use run_request::KrateContext;
+use run_request::Request;
 use run_request::list::Args;
 use spdx_core::{Catalog, Identifier};
 use std::alloc::Global;
 use tree_core::{Sink, Tree};
 
-/// The listing that a request asks for: the manifest is looked at, and then the crates are listed. What is told of
-/// the policy's load goes to `err`, and the listing to `out`.
+/// The listing that a request asks for: the manifest is looked at, then an organisation's own names and texts are
+/// read, where some are asked for, and then the crates are listed. What is told of the policy's load goes to `err`,
+/// and the listing to `out`.
 pub fn list_request<T: Tree, O: Sink, E: Sink, C: Catalog, I: Identifier>(
     alloc: Global,
-    log_ctx: LogContext,
+    request: &Request,
     args: Args,
-    context: &KrateContext,
     tree: &mut T,
     out: &mut O,
     err: &mut E,
@@ -38,45 +38,42 @@ pub fn list_request<T: Tree, O: Sink, E: Sink, C: Catalog, I: Identifier>(
     ensures counts { IfErr result (λ error. ReadCounts
         (T.fault_count tree.old) (T.fault_count tree.old) (T.fault_count tree.new) (cause_of error)) }
     ensures listed { Lists
-        (list_arguments_of (C.lists catalog.now) (I.match_of identifier.now) log_ctx args context.now)
+        (list_asked (C.lists catalog.now) (I.match_of identifier.now) request.now args)
         (seen (T.content tree.old) (T.content tree.new) (T.fault_count tree.old) (T.fault_count tree.new)
         (T.trace tree.old) (T.trace tree.new))
         (sink_seen (E.written err.old) (E.written err.new) (E.fault_count err.old) (E.fault_count err.new))
         (sink_seen (O.written out.old) (O.written out.new) (O.fault_count out.old) (O.fault_count out.new))
         result }
-    ensures uncarried { (what : What) → uncarried_of log_ctx context.now ≡ Some what
+    ensures uncarried { (what : What) → uncarried_of request.now.log_ctx request.now.krate_ctx ≡ Some what
         → (result ≡ Err (Error.NotCarried what)) × IsUntouched
         (seen (T.content tree.old) (T.content tree.new) (T.fault_count tree.old) (T.fault_count tree.new)
         (T.trace tree.old) (T.trace tree.new)) }
     ensures out_later { O.fault_count out.old ≤ O.fault_count out.new }
     ensures err_later { E.fault_count err.old ≤ E.fault_count err.new }
 {
-    if let Some(what) = uncarried_in(log_ctx, context) {
+    if let Some(what) = uncarried_in(request.log_ctx, &request.krate_ctx) {
         return Err(Error::NotCarried(what));
     }
-    list_carried(
-        alloc, log_ctx, args, context, tree, out, err, catalog, identifier,
-    )
+    list_carried(alloc, request, args, tree, out, err, catalog, identifier)
 }
 
 /// The same of a request all of which is carried.
 fn list_carried<T: Tree, O: Sink, E: Sink, C: Catalog, I: Identifier>(
     alloc: Global,
-    log_ctx: LogContext,
+    request: &Request,
     args: Args,
-    context: &KrateContext,
     tree: &mut T,
     out: &mut O,
     err: &mut E,
     catalog: &C,
     identifier: &I,
 ) -> Result<CrateReads, Error>
-    requires { uncarried_of log_ctx context.now ≡ None }
+    requires { uncarried_of request.now.log_ctx request.now.krate_ctx ≡ None }
     ensures policy { result ≢ Err (Error.ConfigRead ReadFault.Absent) }
     ensures counts { IfErr result (λ error. ReadCounts
         (T.fault_count tree.old) (T.fault_count tree.old) (T.fault_count tree.new) (cause_of error)) }
     ensures listed { Lists
-        (list_arguments_of (C.lists catalog.now) (I.match_of identifier.now) log_ctx args context.now)
+        (list_asked (C.lists catalog.now) (I.match_of identifier.now) request.now args)
         (seen (T.content tree.old) (T.content tree.new) (T.fault_count tree.old) (T.fault_count tree.new)
         (T.trace tree.old) (T.trace tree.new))
         (sink_seen (E.written err.old) (E.written err.new) (E.fault_count err.old) (E.fault_count err.new))
@@ -85,10 +82,21 @@ fn list_carried<T: Tree, O: Sink, E: Sink, C: Catalog, I: Identifier>(
     ensures out_later { O.fault_count out.old ≤ O.fault_count out.new }
     ensures err_later { E.fault_count err.old ≤ E.fault_count err.new }
 {
-    match look_at_manifest(alloc, tree, context.manifest_path.as_path()) {
+    match look_at_manifest(alloc, tree, request.krate_ctx.manifest_path.as_path()) {
         Err(error) => Err(error),
-        Ok(()) => list_since(
-            alloc, tree, out, err, catalog, identifier, log_ctx, args, context,
-        ),
+        Ok(()) => match own_lists(alloc, tree, request, catalog, identifier) {
+            Err(error) => Err(error),
+            Ok(found) => list_since(
+                alloc,
+                tree,
+                out,
+                err,
+                &found.catalog,
+                &found.identifier,
+                request.log_ctx,
+                args,
+                &request.krate_ctx,
+            ),
+        },
     }
 }

@@ -122,31 +122,11 @@ pub fn run_request<T: Tree, O: Sink, E: Sink, C: Catalog, I: Identifier>(
 {
     match &request.command {
         Subcommand::Check(args) => {
-            let answer = check_request(
-                alloc,
-                request.log_ctx,
-                args,
-                &request.krate_ctx,
-                tree,
-                out,
-                err,
-                catalog,
-                identifier,
-            );
+            let answer = check_request(alloc, request, args, tree, out, err, catalog, identifier);
             told(err, answer)
         }
         Subcommand::List(args) => {
-            let answer = list_request(
-                alloc,
-                request.log_ctx,
-                *args,
-                &request.krate_ctx,
-                tree,
-                out,
-                err,
-                catalog,
-                identifier,
-            );
+            let answer = list_request(alloc, request, *args, tree, out, err, catalog, identifier);
             told_listing(err, answer)
         }
         Subcommand::Sample(size) => {

@@ -21,7 +21,7 @@ use Rattle.diag_stats.specs.ExitCode.{has_errors}
 use Rattle.run_overrides.specs.Levels.{HasNoOverrides}
 use Rattle.run_overrides.proofs.LevelLemmas.{packs_kept}
 use Rattle.run_found.specs.declared.error.Error.{Error}
-use Rattle.run_found.specs.declared.error.Error.TheVariants.{Memory, NotCarried, ManifestPath, ManifestRead, ConfigRead, ConfigSyntax, ConfigShape, ConfigInvalid, OverrideTwice, MetadataRead, MetadataSyntax, MetadataShape, NoRoots, WriteFault}
+use Rattle.run_found.specs.declared.error.Error.TheVariants.{Memory, NotCarried, ManifestPath, ManifestRead, CatalogRead, CatalogSyntax, StoreRead, ConfigRead, ConfigSyntax, ConfigShape, ConfigInvalid, OverrideTwice, MetadataRead, MetadataSyntax, MetadataShape, NoRoots, WriteFault}
 use Rattle.run_found.specs.Error.{MayEndLawful, cause_of}
 use Rattle.run_found.specs.Hearing.{RequestHearing, TreeSeen}
 use Rattle.run_check.specs.declared.report.Report.{Report}
@@ -43,6 +43,9 @@ module _ (given : CheckArguments) (hearing : RequestHearing) (asked : CheckInput
   selection_apart (NotCarried what) refuses = refuses
   selection_apart (ManifestPath path) refuses = refuses
   selection_apart (ManifestRead before after) refuses = refuses
+  selection_apart (CatalogRead fault) refuses = refuses
+  selection_apart (CatalogSyntax line) refuses = refuses
+  selection_apart (StoreRead fault) refuses = refuses
   selection_apart (ConfigRead fault) refuses = refuses
   selection_apart (ConfigSyntax fault) refuses = refuses
   selection_apart (ConfigShape faults) refuses = refuses

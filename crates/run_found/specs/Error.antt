@@ -13,8 +13,13 @@ use Rattle.diag_print.specs.declared.printer.PrintError.TheVariants as print
 use Rattle.tree_texts.specs.declared.search.SearchError.{SearchError}
 use Rattle.tree_texts.specs.declared.search.SearchError.TheVariants as search
 use Rattle.graph_workspace.specs.declared.error.What.TheVariants.{ExcludeSpec}
+use Rattle.spdx_listing.specs.declared.error.ListingError.{ListingError}
+use Rattle.spdx_listing.specs.declared.error.ListingError.TheVariants as listing
+use Rattle.spdx_listing.specs.declared.error.StoreError.{StoreError}
+use Rattle.spdx_listing.specs.declared.error.StoreError.TheVariants as stored
+use Rattle.spdx_listing.specs.declared.error.StoreFault.TheVariants as store
 use Rattle.run_found.specs.declared.error.Error.{Error}
-use Rattle.run_found.specs.declared.error.Error.TheVariants.{Memory, NotCarried, ManifestPath, ManifestRead, ConfigRead, ConfigSyntax, ConfigShape, ConfigInvalid, OverrideTwice, MetadataRead, MetadataSyntax, MetadataShape, NoRoots, WriteFault}
+use Rattle.run_found.specs.declared.error.Error.TheVariants.{Memory, NotCarried, ManifestPath, ManifestRead, CatalogRead, CatalogSyntax, StoreRead, ConfigRead, ConfigSyntax, ConfigShape, ConfigInvalid, OverrideTwice, MetadataRead, MetadataSyntax, MetadataShape, NoRoots, WriteFault}
 use Rattle.run_found.specs.declared.policy.PolicyRefusal.{PolicyRefusal}
 use Rattle.run_found.specs.declared.policy.PolicyRefusal.TheVariants as refusal
 
@@ -23,6 +28,9 @@ error_text Memory = codes "out of memory"
 error_text (NotCarried what) = codes "the request is not carried"
 error_text (ManifestPath path) = codes "--manifest-path must point to a Cargo.toml file"
 error_text (ManifestRead before after) = codes "the manifest could not be looked up"
+error_text (CatalogRead fault) = codes "the catalogue could not be read"
+error_text (CatalogSyntax line) = codes "the catalogue could not be parsed"
+error_text (StoreRead fault) = codes "the license texts could not be read"
 error_text (ConfigRead fault) = codes "the policy could not be read"
 error_text (ConfigSyntax fault) = codes "the policy could not be parsed"
 error_text (ConfigShape faults) = codes "the policy could not be deserialized"
@@ -41,6 +49,8 @@ fault_line error = codes "error: " ++ error_text error ++ codes "\n"
 abbrev pub cause_of : Error → Cause
 cause_of Memory = no_memory
 cause_of (ManifestRead before after) = failed_read before after
+cause_of (CatalogRead (Failed before after)) = failed_read before after
+cause_of (StoreRead (store.Failed before after)) = failed_read before after
 cause_of (ConfigRead (Failed before after)) = failed_read before after
 cause_of (MetadataRead (Failed before after)) = failed_read before after
 cause_of (WriteFault before after) = refused_write before after
@@ -67,6 +77,16 @@ error_of_krates (krates.MetadataRead fault) = MetadataRead fault
 error_of_krates krates.MetadataSyntax = MetadataSyntax
 error_of_krates (krates.MetadataShape fault) = MetadataShape fault
 error_of_krates (krates.NoRoots base excluded unpublished) = NoRoots base excluded unpublished
+
+-- why there is no catalogue
+abbrev pub error_of_listing : ListingError → Error
+error_of_listing (listing.Syntax line) = CatalogSyntax line
+error_of_listing listing.Memory = Memory
+
+-- why there are no licence texts
+abbrev pub error_of_store : StoreError → Error
+error_of_store (stored.Fault fault) = StoreRead fault
+error_of_store stored.Memory = Memory
 
 -- why a file was not looked for
 abbrev pub error_of_search : SearchError → Error

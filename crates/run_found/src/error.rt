@@ -9,6 +9,7 @@ use diag_print::PrintError;
 use graph_workspace::{KratesError, MetaFault, What};
 use policy_load::{Diagnostics, LoadError, ReadFault, ShapeErrors, SyntaxError};
 use run_overrides::OverrideError;
+use spdx_listing::{ListingError, StoreError, StoreFault};
 use std::alloc::AllocError;
 use tree_texts::SearchError;
 
@@ -26,6 +27,14 @@ pub enum Error {
         before: u64,
         after: u64,
     },
+    /// The catalogue's file was not read. It is never without UTF-8 here: that is a fault of its lines.
+    CatalogRead(ReadFault),
+    /// The catalogue's file has a fault. The number is that of the first line with one, from 1.
+    CatalogSyntax {
+        line: usize,
+    },
+    /// The folder of licence texts was not read.
+    StoreRead(StoreFault),
     /// The policy was not read, or it was not found out where its files are. It is never absent: an absent policy
     /// is an empty one.
     ConfigRead(ReadFault),
@@ -73,6 +82,9 @@ impl Error {
             Error::NotCarried(_) => "error: the request is not carried\n",
             Error::ManifestPath(_) => "error: --manifest-path must point to a Cargo.toml file\n",
             Error::ManifestRead { .. } => "error: the manifest could not be looked up\n",
+            Error::CatalogRead(_) => "error: the catalogue could not be read\n",
+            Error::CatalogSyntax { .. } => "error: the catalogue could not be parsed\n",
+            Error::StoreRead(_) => "error: the license texts could not be read\n",
             Error::ConfigRead(_) => "error: the policy could not be read\n",
             Error::ConfigSyntax(_) => "error: the policy could not be parsed\n",
             Error::ConfigShape(_) => "error: the policy could not be deserialized\n",
@@ -106,6 +118,32 @@ impl From<PrintError> for Error {
         match refused {
             PrintError::Memory => Error::Memory,
             PrintError::WriteFault { before, after } => Error::WriteFault { before, after },
+        }
+    }
+}
+
+impl From<ListingError> for Error {
+    ghost use Rattle.run_found.specs.Error.{error_of_listing};
+
+    ghost from_gives = { λ refused error. error ≡ error_of_listing refused };
+
+    fn from(refused: ListingError) -> Error {
+        match refused {
+            ListingError::Memory => Error::Memory,
+            ListingError::Syntax { line } => Error::CatalogSyntax { line },
+        }
+    }
+}
+
+impl From<StoreError> for Error {
+    ghost use Rattle.run_found.specs.Error.{error_of_store};
+
+    ghost from_gives = { λ refused error. error ≡ error_of_store refused };
+
+    fn from(refused: StoreError) -> Error {
+        match refused {
+            StoreError::Memory => Error::Memory,
+            StoreError::Fault(fault) => Error::StoreRead(fault),
         }
     }
 }

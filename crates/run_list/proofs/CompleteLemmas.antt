@@ -13,7 +13,7 @@ use Rattle.tree_texts.specs.Cause.{Cause, no_memory, failed_read, refused_write}
 use Rattle.tree_texts.specs.Cause as causes
 use Rattle.tree_reads.proofs.ReadLemmas.{rose_counted}
 use Rattle.run_found.specs.declared.error.Error.{Error}
-use Rattle.run_found.specs.declared.error.Error.TheVariants.{Memory, NotCarried, ManifestPath, ManifestRead, ConfigRead, ConfigSyntax, ConfigShape, ConfigInvalid, OverrideTwice, MetadataRead, MetadataSyntax, MetadataShape, NoRoots, WriteFault}
+use Rattle.run_found.specs.declared.error.Error.TheVariants.{Memory, NotCarried, ManifestPath, ManifestRead, CatalogRead, CatalogSyntax, StoreRead, ConfigRead, ConfigSyntax, ConfigShape, ConfigInvalid, OverrideTwice, MetadataRead, MetadataSyntax, MetadataShape, NoRoots, WriteFault}
 use Rattle.run_found.specs.Error.{MayEndLawful, cause_of}
 use Rattle.run_found.specs.Hearing.{RequestHearing, TreeSeen}
 use Rattle.run_listing.specs.declared.listed.ListedCrate.{ListedCrate}
@@ -35,6 +35,9 @@ module _ (given : ListArguments) (hearing : RequestHearing) (asked : ListInput) 
   selection_apart (NotCarried what) refuses = refuses
   selection_apart (ManifestPath path) refuses = refuses
   selection_apart (ManifestRead before after) refuses = refuses
+  selection_apart (CatalogRead fault) refuses = refuses
+  selection_apart (CatalogSyntax line) refuses = refuses
+  selection_apart (StoreRead fault) refuses = refuses
   selection_apart (ConfigRead fault) refuses = refuses
   selection_apart (ConfigSyntax fault) refuses = refuses
   selection_apart (ConfigShape faults) refuses = refuses

@@ -10,7 +10,6 @@ use Rattle.clap.specs.Words.{Text, Row, first_of, matches_of, subcommand_of}
 use Rattle.diag_print.specs.declared.context.LogContext.{LogContext}
 use Rattle.run_request.specs.declared.check.Args.{Args as CheckArgs}
 use Rattle.run_request.specs.declared.list.Args.{Args as ListArgs}
-use Rattle.run_request.specs.declared.context.KrateContext.{KrateContext}
 use Rattle.run_request.specs.declared.error.ArgsError.{ArgsError}
 use Rattle.run_request.specs.declared.error.ArgsError.TheVariants.{BadValue}
 use Rattle.run_request.specs.declared.number.SampleSize.{SampleSize}
@@ -71,15 +70,21 @@ named (Some below) command e =
 
 -- ---- the command of a request
 
-abbrev with_command : LogContext → Option Text → KrateContext → Subcommand → Request
-with_command log_ctx manifest_path krate_ctx command =
-    record { log_ctx = log_ctx; manifest_path = manifest_path; krate_ctx = krate_ctx; command = command }
+abbrev with_command : List Row → Text → LogContext → Subcommand → Request
+with_command rows cwd log_ctx command = record {
+  log_ctx = log_ctx;
+  manifest_path = path_at cwd (codes "manifest-path") rows;
+  catalog = path_at cwd (codes "catalog") rows;
+  store = path_at cwd (codes "store") rows;
+  krate_ctx = krate_context_of rows cwd;
+  command = command;
+}
 
-asks : (log : Result LogContext ArgsError) (path : Option Text) (context : KrateContext) (asked : Result Subcommand ArgsError) (request : Request)
-    → result_ok (and_then (λ log_ctx. and_then (λ command. Ok (with_command log_ctx path context command)) asked) log) ≡ Some request → asked ≡ Ok request.command
-asks (Err error) path context asked request e = absurd (cc)
-asks (Ok log) path context (Err error) request e = absurd (cc)
-asks (Ok log) path context (Ok command) request e =
+asks : (rows : List Row) (cwd : Text) (log : Result LogContext ArgsError) (asked : Result Subcommand ArgsError) (request : Request)
+    → result_ok (and_then (λ log_ctx. and_then (λ command. Ok (with_command rows cwd log_ctx command)) asked) log) ≡ Some request → asked ≡ Ok request.command
+asks rows cwd (Err error) asked request e = absurd (cc)
+asks rows cwd (Ok log) (Err error) request e = absurd (cc)
+asks rows cwd (Ok log) (Ok command) request e =
     let command_in : Request → Result Subcommand ArgsError = λ one. Ok one.command in
     ap command_in (same_some e)
 
@@ -88,7 +93,7 @@ pub asks_command : (words : List Text) (cwd : Text) (request : Request) → requ
 asks_command words cwd request e =
     let rows = matches_of cli words in
     named (subcommand_of cli words) request.command
-    (asks (log_context_of rows) (path_at cwd (codes "manifest-path") rows) (krate_context_of rows cwd) (subcommand_asked (subcommand_of cli words)) request e)
+    (asks rows cwd (log_context_of rows) (subcommand_asked (subcommand_of cli words)) request e)
 
 pub command_clause : {E : Type 0} (words : List Text) (cwd : Text) (r : Result CliAnswer E) → IfOk r (IsGivenFor words cwd) → IfOk r (IsCommandAsked words)
 command_clause words cwd (Ok (Asked request)) is = asks_command words cwd request is.1

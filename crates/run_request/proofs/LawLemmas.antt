@@ -29,6 +29,8 @@ abbrev read_of : List Row → LogContext → Subcommand → Text → Request
 read_of rows log_ctx command cwd = record {
   log_ctx = log_ctx;
   manifest_path = path_at cwd (codes "manifest-path") rows;
+  catalog = path_at cwd (codes "catalog") rows;
+  store = path_at cwd (codes "store") rows;
   krate_ctx = krate_context_of rows cwd;
   command = command;
 }
@@ -36,11 +38,15 @@ read_of rows log_ctx command cwd = record {
 same_read : (rows : List Row) (log_ctx : LogContext) (command : Subcommand) (one other : Text) → without_folder (read_of rows log_ctx command one) ≡ without_folder (read_of rows log_ctx command other)
 same_read rows log_ctx command one other =
     let manifest = gone (first_of (codes "manifest-path") rows) (join_of one) (join_of other) in
+    let catalog = gone (first_of (codes "catalog") rows) (join_of one) (join_of other) in
+    let store = gone (first_of (codes "store") rows) (join_of one) (join_of other) in
     let metadata = gone (first_of (codes "metadata-path") rows) (join_of one) (join_of other) in
     let context : KrateContext = krate_context_of rows [] in
     λ i. record {
       log_ctx = log_ctx;
       manifest_path = manifest i;
+      catalog = catalog i;
+      store = store i;
       krate_ctx = record context { manifest_path = []; metadata_path = metadata i; cwd = [] };
       command = command;
     }

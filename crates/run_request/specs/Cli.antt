@@ -41,6 +41,8 @@ main_rules =
     ∷ option_rule (codes "manifest-path")
     ∷ option_rule (codes "metadata-path")
     ∷ option_rule (codes "config")
+    ∷ option_rule (codes "catalog")
+    ∷ option_rule (codes "store")
     ∷ with_letter 116 (option_rule (codes "target"))
     ∷ many_rule (codes "exclude")
     ∷ many_rule (codes "features")

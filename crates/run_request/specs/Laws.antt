@@ -20,6 +20,8 @@ hidden path = option_map (λ _. []) path
 abbrev pub without_folder : Request → Request
 without_folder request = record request {
   manifest_path = hidden request.manifest_path;
+  catalog = hidden request.catalog;
+  store = hidden request.store;
   krate_ctx = record request.krate_ctx { manifest_path = []; metadata_path = hidden request.krate_ctx.metadata_path; cwd = [] };
 }
 

@@ -90,6 +90,8 @@ request_of_rows rows below cwd =
     and_then (λ log_ctx. and_then (λ command. Ok (record {
       log_ctx = log_ctx;
       manifest_path = path_at cwd (codes "manifest-path") rows;
+      catalog = path_at cwd (codes "catalog") rows;
+      store = path_at cwd (codes "store") rows;
       krate_ctx = krate_context_of rows cwd;
       command = command;
     }))

@@ -6,8 +6,8 @@ pub fn second_deny_changes_nothing()
     ensures { SecondDenyChangesNothing }
 {}
 
-/// The working folder shows in the paths of a request alone: in that of the manifest, of the metadata and of
-/// the folder itself.
+/// The working folder shows in the paths of a request alone: in that of the manifest, of the catalogue, of the
+/// store, of the metadata and of the folder itself.
 pub fn folder_shows_in_paths()
     ensures { FolderShowsInPaths }
 {}

@@ -126,7 +126,7 @@ macro_rules! overriding {
     };
 }
 
-static MAIN: [OptionRow; 17] = [
+static MAIN: [OptionRow; 19] = [
     chosen!(
         "log-level",
         'L',
@@ -177,6 +177,24 @@ static MAIN: [OptionRow; 17] = [
         "PATH",
         OptionValues::File,
         "The policy [default: the nearest deny.toml, .deny.toml or .cargo/deny.toml above the manifest]"
+    ),
+    valued!(
+        One,
+        "catalog",
+        None,
+        None,
+        "FILE",
+        OptionValues::File,
+        "A file of licence names, in place of the built-in catalogue"
+    ),
+    valued!(
+        One,
+        "store",
+        None,
+        None,
+        "DIR",
+        OptionValues::Folder,
+        "A folder of licence texts, in place of the built-in ones"
     ),
     valued!(
         One,

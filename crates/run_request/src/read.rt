@@ -145,10 +145,14 @@ fn asked(
             },
             Ok(subcommand) => {
                 let manifest_path = path_at(alloc, matches, "manifest-path", cwd)?;
+                let catalog = path_at(alloc, matches, "catalog", cwd)?;
+                let store = path_at(alloc, matches, "store", cwd)?;
                 let krate_ctx = KrateContext::from_matches(alloc, matches, cwd)?;
                 Ok(CliAnswer::Asked(Request {
                     log_ctx,
                     manifest_path,
+                    catalog,
+                    store,
                     krate_ctx,
                     command: subcommand,
                 }))

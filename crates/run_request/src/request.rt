@@ -31,6 +31,10 @@ pub struct Request {
     pub log_ctx: LogContext,
     /// The manifest that is given, joined to the working folder.
     pub manifest_path: Option<PathBuf>,
+    /// A file of licence names in place of the built-in ones, joined to the working folder.
+    pub catalog: Option<PathBuf>,
+    /// A folder of licence texts in place of the built-in ones, joined to the working folder.
+    pub store: Option<PathBuf>,
     pub krate_ctx: KrateContext,
     pub command: Subcommand,
 }

@@ -6,10 +6,7 @@ use Rattle.spdx_catalog.specs.declared.catalog.LicenseEntry.{LicenseEntry}
 use Rattle.spdx_catalog.specs.Catalog.{CatalogLists, names_of}
 use Rattle.spdx_listing.specs.File.{license_in, exception_in, imprecise_in, lists_of, names_in}
 use Rattle.spdx_listing.specs.Form.{LineForm, nothing, license, exception, imprecise, form_of}
-use Rattle.spdx_listing.specs.ListsView.{no_lists, with_form}
-
-abbrev lists_from : List (List ℕ × LicenseEntry) → List (List ℕ) → List (List ℕ × List ℕ) → CatalogLists
-lists_from licences exceptions texts = record { licences = licences; exceptions = exceptions; imprecise = texts }
+use Rattle.spdx_listing.specs.ListsView.{lists_from, no_lists, with_form}
 
 -- lists of the same parts are the same
 same_lists : (l m : List (List ℕ × LicenseEntry)) (e f : List (List ℕ)) (t u : List (List ℕ × List ℕ)) → l ≡ m → e ≡ f → t ≡ u → lists_from l e t ≡ lists_from m f u

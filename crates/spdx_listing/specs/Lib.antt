@@ -6,3 +6,4 @@ pub mod Index
 pub mod IndexView
 pub mod Listed
 pub mod ListsView
+pub mod Ordered

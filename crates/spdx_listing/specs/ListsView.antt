@@ -1,11 +1,15 @@
 -- What the lines of a catalogue's file list, as the values of the code stand for it.
-use Rattle.std.specs.Prelude.{◌≡◌, [], ◌∷◌, ◌++◌, Option, Some, None}
+use Rattle.std.specs.Prelude.{◌≡◌, ℕ, List, [], ◌∷◌, ◌++◌, Option, Some, None}
+use Rattle.spdx_catalog.specs.declared.catalog.LicenseEntry.{LicenseEntry}
 use Rattle.spdx_catalog.specs.Catalog.{CatalogLists, entry_of}
 use Rattle.spdx_listing.specs.Form.{LineForm, nothing, license, exception, imprecise}
 use Rattle.spdx_listing.specs.declared.lists.Lists.{Lists}
 
+abbrev pub lists_from : List (List ℕ × LicenseEntry) → List (List ℕ) → List (List ℕ × List ℕ) → CatalogLists
+lists_from licences exceptions texts = record { licences = licences; exceptions = exceptions; imprecise = texts }
+
 abbrev pub lists_view : Lists → CatalogLists
-lists_view lists = record { licences = lists.licenses; exceptions = lists.exceptions; imprecise = lists.meanings }
+lists_view lists = lists_from lists.licenses lists.exceptions lists.meanings
 
 abbrev pub no_lists : CatalogLists
 no_lists = record { licences = []; exceptions = []; imprecise = [] }

@@ -11,6 +11,7 @@ pub mod listing;
 mod lists;
 mod meanings;
 mod names;
+mod ordered;
 pub mod reading;
 pub mod store;
 mod words;

@@ -1,31 +1,35 @@
 //! A catalogue that owns its lists.
 ghost use Rattle.spdx_catalog.specs.Catalog.{IsCatalog};
-ghost use Rattle.spdx_listing.specs.ListsView.{lists_view};
+ghost use Rattle.spdx_listing.specs.ListsView.{lists_from};
 
-use crate::lists::Lists;
+use crate::entries::LicenseList;
+use crate::names::NameList;
+use crate::ordered::OrderedMeanings;
 use spdx_catalog::{Catalog, Imprecise, LicenseEntry};
 
-/// The catalogue that a file defines. A name is found without going through all of them.
+/// The catalogue that a file defines. A name and an imprecise text are found without going through all of them.
 #[derive(Drop)]
 pub struct Listing {
-    pub(crate) lists: Lists,
-    ghost is_catalog: { IsCatalog (lists_view lists) },
+    pub(crate) licenses: LicenseList,
+    pub(crate) exceptions: NameList,
+    pub(crate) meanings: OrderedMeanings,
+    ghost is_catalog: { IsCatalog (lists_from licenses exceptions meanings) },
 }
 
 impl Catalog for Listing {
-    ghost lists = { λ c. lists_view c.lists };
+    ghost lists = { λ c. lists_from c.licenses c.exceptions c.meanings };
 
     ghost lawful = { λ c. c.is_catalog };
 
     fn license(&self, name: &str) -> Option<LicenseEntry> {
-        self.lists.licenses.get(name)
+        self.licenses.get(name)
     }
 
     fn exception(&self, name: &str) -> bool {
-        self.lists.exceptions.has(name)
+        self.exceptions.has(name)
     }
 
     fn imprecise(&self, text: &str) -> Option<Imprecise<'_>> {
-        self.lists.meanings.longest(text)
+        self.meanings.longest(text)
     }
 }

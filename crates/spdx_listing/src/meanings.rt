@@ -1,13 +1,11 @@
 //! Imprecise texts, each with the licence that it means.
-ghost use Rattle.std.specs.Prelude.{◌≡◌, IsTrue, ◌↔◌, [], ◌∷◌, ◌++◌, IfOk, IfSome, IfNone, length};
+ghost use Rattle.std.specs.Prelude.{◌≡◌, [], ◌∷◌, ◌++◌, IfOk};
 ghost use Rattle.std.specs.List.{list_any};
 ghost use Rattle.std.specs.Str.{str_eq_ignore_ascii_case, str_to_ascii_lowercase};
-ghost use Rattle.spdx_catalog.specs.Catalog.{BeginsText, BeginsNone, IsLongestImprecise, names_of};
-ghost use Rattle.spdx_catalog.specs.Words.{ends_word};
+ghost use Rattle.spdx_catalog.specs.Catalog.{names_of};
 ghost use Rattle.spdx_listing.specs.IndexView.{meanings_listed};
 
 use deny_text::{ListOf, Text, TextMap};
-use spdx_catalog::Imprecise;
 use std::alloc::{AllocError, Global};
 use std::marker::Model;
 
@@ -18,7 +16,7 @@ pub(crate) struct Meaning {
     pub(crate) name: Text,
 }
 
-/// Imprecise texts in order.
+/// Imprecise texts in order, as a file is read that lists them.
 #[derive(Drop)]
 pub(crate) struct MeaningList {
     listed: ListOf<Meaning>,
@@ -38,66 +36,12 @@ impl Model for MeaningList {
 }
 
 /// A text in lower case.
-fn lowered(alloc: Global, text: &str) -> Result<Text, AllocError>
+pub(crate) fn lowered(alloc: Global, text: &str) -> Result<Text, AllocError>
     ensures { IfOk result (λ lower. lower ≡ str_to_ascii_lowercase text.now) }
 {
     let mut lower = String::from_str(alloc, text)?;
     lower.make_ascii_lowercase();
     Ok(Text::from(lower))
-}
-
-/// Whether nothing stands here that goes on a word.
-fn ends_word(rest: &[u8]) -> bool
-    ensures { result ≡ ends_word rest.now }
-{
-    match rest.first() {
-        None => true,
-        Some(byte) => !(byte.is_ascii_alphanumeric() || matches!(*byte, b'-' | b'.' | b':')),
-    }
-}
-
-/// Whether an imprecise text begins a text.
-fn begins(imprecise: &Text, text: &str) -> bool
-    ensures { IsTrue result ↔ BeginsText imprecise.now text.now }
-{
-    let imprecise = imprecise.as_str().as_bytes();
-    let text = text.as_bytes();
-    if text.len() < imprecise.len() {
-        return false;
-    }
-    let (start, rest) = text.split_at(imprecise.len());
-    imprecise.eq_ignore_ascii_case(start) && ends_word(rest)
-}
-
-fn len_of(text: &Text) -> usize
-    ensures { result ≡ length text.now }
-{
-    text.as_str().len()
-}
-
-/// The longest of the texts that begins a text.
-fn longest<'l>(meanings: &'l [Meaning], text: &str) -> Option<Imprecise<'l>>
-    ensures found { IfSome result (λ found.
-        IsLongestImprecise (meanings_listed meanings.now) text.now found.len found.name.now) }
-    ensures none { IfNone result (BeginsNone (meanings_listed meanings.now) text.now) }
-{
-    match meanings.split_first() {
-        None => None,
-        Some((first, rest)) => {
-            let behind = longest(rest, text);
-            if !begins(&first.text, text) {
-                return behind;
-            }
-            let len = len_of(&first.text);
-            match behind {
-                Some(found) if len <= found.len => Some(found),
-                _ => Some(Imprecise {
-                    len,
-                    name: first.name.as_str(),
-                }),
-            }
-        }
-    }
 }
 
 impl MeaningList {
@@ -120,13 +64,12 @@ impl MeaningList {
         Ok(self.lowered.get(lower.as_str()).is_some())
     }
 
-    /// The longest of them that begins a text.
-    pub(crate) fn longest(&self, text: &str) -> Option<Imprecise<'_>>
-        ensures found { IfSome result (λ found.
-            IsLongestImprecise self.now text.now found.len found.name.now) }
-        ensures none { IfNone result (BeginsNone self.now text.now) }
+    /// The texts, in order.
+    pub(crate) fn into_listed(self) -> ListOf<Meaning>
+        ensures { meanings_listed result ≡ self }
     {
-        longest(self.listed.items(), text)
+        let MeaningList { listed, .. } = self;
+        listed
     }
 
     /// The texts and a further one. Where memory ends, nothing is left.

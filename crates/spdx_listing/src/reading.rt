@@ -4,7 +4,7 @@ ghost use Rattle.std.specs.Prelude.{Some, None, IfOk, IfErr, false};
 ghost use Rattle.spdx_listing.specs.File.{catalog_of, fault_behind, fault_in, first_fault, has_fault, line_at};
 ghost use Rattle.spdx_listing.specs.File.{license_in, lines_of, lists_of, names_in, TellsFault, TellsLine};
 ghost use Rattle.std.specs.List.{cons_option};
-ghost use Rattle.spdx_catalog.specs.Catalog.{names_of};
+ghost use Rattle.spdx_catalog.specs.Catalog.{IsCatalog, names_of};
 ghost use Rattle.spdx_listing.specs.Form.{form_of};
 ghost use Rattle.spdx_listing.specs.FormView.{form_view};
 ghost use Rattle.spdx_listing.specs.Listed.{lists_in};
@@ -16,6 +16,7 @@ use crate::line::form_of;
 use crate::listing::Listing;
 use crate::lists::Lists;
 use crate::names::NameList;
+use crate::ordered::OrderedMeanings;
 use crate::words::cut_at_line_end;
 use std::alloc::{AllocError, Global};
 
@@ -121,6 +122,24 @@ fn read_text(alloc: Global, text: &str) -> Result<Lists, ListingError>
     read_lines(alloc, text, &names)
 }
 
+/// The catalogue of these lists.
+fn listing_with(alloc: Global, lists: Lists) -> Result<Listing, AllocError>
+    requires { IsCatalog (lists_view lists) }
+    ensures { IfOk result (λ listing. lists_in listing ≡ lists_view lists) }
+{
+    let Lists {
+        licenses,
+        exceptions,
+        meanings,
+    } = lists;
+    let meanings = OrderedMeanings::new(alloc, meanings.into_listed())?;
+    Ok(Listing {
+        licenses,
+        exceptions,
+        meanings,
+    })
+}
+
 /// The catalogue that a text defines, with its laws.
 fn listing_of(alloc: Global, text: &str) -> Result<Listing, ListingError>
     ensures ok { IfOk result (λ listing. (fault_in (lines_of text.now) ≡ None)
@@ -128,7 +147,10 @@ fn listing_of(alloc: Global, text: &str) -> Result<Listing, ListingError>
     ensures err { IfErr result (TellsFault (fault_in (lines_of text.now))) }
 {
     match read_text(alloc, text) {
-        Ok(lists) => Ok(Listing { lists }),
+        Ok(lists) => {
+            let listing = listing_with(alloc, lists)?;
+            Ok(listing)
+        }
         Err(error) => Err(error),
     }
 }

@@ -12,8 +12,8 @@ use compared::compare_runs;
 
 /// Files of cases: of the first path and failures, of what words ask for and how they are refused, of metadata, of
 /// policies, of what is found, of what is read of each crate, of the calls of the tree, of licence families, of
-/// listings and of the sample.
-const FILES: [&str; 11] = [
+/// listings, of the sample, and of own catalogues and texts.
+const FILES: [&str; 12] = [
     "run/gate.txt",
     "run/command.txt",
     "run/refused.txt",
@@ -25,6 +25,7 @@ const FILES: [&str; 11] = [
     "run/families.txt",
     "run/listed.txt",
     "run/sampled.txt",
+    "run/lists.txt",
 ];
 
 /// Compares the runs of the cases of the room, and returns whether nothing differs.

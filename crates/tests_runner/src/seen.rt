@@ -4,7 +4,7 @@ use crate::counted::CountedSink;
 use crate::settings::Ending;
 use deny_run::{
     Color, CrateReport, DiagPrinter, Diagnostics, Error, Format, LicenseExprSource, LogContext,
-    Report, Request, RunEnd, ShapeErrors, Stats, SyntaxError, Verdict,
+    Report, Request, RunEnd, ShapeErrors, Stats, StoreFault, SyntaxError, Verdict,
 };
 use deny_text::Span;
 use diag_core::LevelFilter;
@@ -83,6 +83,18 @@ fn put_invalid(out: &mut AnswerText, found: &Diagnostics) {
     }
 }
 
+/// Puts why the licence texts were not read.
+fn put_store(out: &mut AnswerText, fault: &StoreFault) {
+    match fault {
+        StoreFault::Failed { before, after } => {
+            write!(out, "texts: Failed {{ before: {before}, after: {after} }}")
+        }
+        StoreFault::Absent => out.put("texts: Absent"),
+        StoreFault::NotFolder => out.put("texts: NotFolder"),
+        StoreFault::NotUtf8 { name } => write!(out, "texts: NotUtf8 {name}"),
+    }
+}
+
 /// Puts a refusal. Of the faults of a policy it is the places alone.
 fn put_error(out: &mut AnswerText, error: &Error) {
     match error {
@@ -90,6 +102,9 @@ fn put_error(out: &mut AnswerText, error: &Error) {
         Error::NotCarried(what) => write!(out, "not carried: {what:?}"),
         Error::ManifestPath(path) => write!(out, "manifest path: {path}"),
         Error::ManifestRead { before, after } => write!(out, "manifest: {before} {after}"),
+        Error::CatalogRead(fault) => write!(out, "catalogue: {fault:?}"),
+        Error::CatalogSyntax { line } => write!(out, "catalogue: line {line}"),
+        Error::StoreRead(fault) => put_store(out, fault),
         Error::ConfigRead(fault) => write!(out, "policy: {fault:?}"),
         Error::ConfigSyntax(fault) => put_syntax(out, fault),
         Error::ConfigShape(faults) => put_shape(out, faults),

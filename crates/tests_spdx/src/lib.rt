@@ -31,6 +31,10 @@ impl Rows for RowTexts {
             "places of a family" => families::put(alloc, out, text),
             "catalogue file" | "catalogue look-up" => listings::put_file(alloc, out, text),
             "folder of texts" => listings::put_folder(alloc, out, text),
+            "catalogue of an example" => {
+                let built_in = self.text("built-in-list.txt");
+                listings::put_list(alloc, out, self.text(text), built_in)
+            }
             _ => return terms::put(alloc, out, group, text),
         }
         true

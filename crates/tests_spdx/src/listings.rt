@@ -1,6 +1,6 @@
 //! Files of an organisation's own catalogue, and folders of its texts.
 use deny_text::Bytes;
-use spdx_catalog::{Catalog, Identifier};
+use spdx_catalog::{Catalog, Identifier, Table};
 use spdx_listing::{Listing, ListingError, StoreError, StoreFault, read_catalog, read_store};
 use std::alloc::{AllocError, Global};
 use tests_files::AnswerText;
@@ -58,6 +58,54 @@ pub fn put_file(alloc: Global, out: &mut AnswerText, text: &str) {
     match read(alloc, file) {
         Ok(_) if asked.is_empty() => out.put("a catalogue"),
         Ok(listing) => put_known(out, &listing, asked),
+        Err(error) => put_listing_error(out, &error),
+    }
+}
+
+/// How many lines of a file begin so.
+fn count_lines(file: &str, start: &str) -> usize {
+    file.lines().filter(|line| line.starts_with(start)).count()
+}
+
+/// Whether a catalogue and the built-in one begin a text with all of it, and for the same licence.
+fn begin_alike(listing: &Listing, text: &str) -> bool {
+    match (Table.imprecise(text), listing.imprecise(text)) {
+        (Some(found), Some(own)) => {
+            found.len == text.len() && own.len == text.len() && found.name == own.name
+        }
+        _ => false,
+    }
+}
+
+/// Whether the built-in catalogue has what a line lists, and a catalogue tells the same of it.
+fn is_as_built_in(listing: &Listing, line: &str) -> bool {
+    let (kind, rest) = line.split_once(' ').unwrap_or((line, ""));
+    let (name, behind) = rest.split_once(' ').unwrap_or((rest, ""));
+    match kind {
+        "license" => match Table.license(name) {
+            Some(entry) => listing.license(name) == Some(entry),
+            None => false,
+        },
+        "exception" => Table.exception(name) && listing.exception(name),
+        "imprecise" => begin_alike(listing, behind),
+        _ => true,
+    }
+}
+
+/// How much a file lists, and whether its catalogue tells of the lines of the built-in one as that does.
+pub fn put_list(alloc: Global, out: &mut AnswerText, file: &str, built_in: &str) {
+    match read_catalog(alloc, file.as_bytes()) {
+        Ok(listing) => {
+            let licences = count_lines(file, "license ");
+            let exceptions = count_lines(file, "exception ");
+            let texts = count_lines(file, "imprecise ");
+            write!(
+                out,
+                "{licences} licences, {exceptions} exceptions, {texts} imprecise texts"
+            );
+            let is_alike = built_in.lines().all(|line| is_as_built_in(&listing, line));
+            out.put(if is_alike { "" } else { "; not as built in" });
+        }
         Err(error) => put_listing_error(out, &error),
     }
 }

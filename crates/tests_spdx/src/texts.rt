@@ -14,7 +14,7 @@ pub struct RowTexts {
 
 impl RowTexts {
     /// The text of a file, or none.
-    fn text(&self, name: &str) -> &str {
+    pub fn text(&self, name: &str) -> &str {
         for (path, text) in self.items.iter() {
             if path.strip_prefix("spdx/") == Some(name) {
                 return text.as_str();
@@ -24,12 +24,14 @@ impl RowTexts {
     }
 }
 
-const PATHS: [&str; 5] = [
+const PATHS: [&str; 7] = [
     "spdx/mit.txt",
     "spdx/mit-capitals.txt",
     "spdx/mit-words.txt",
     "spdx/isc.txt",
     "spdx/stored.txt",
+    "spdx/built-in-list.txt",
+    "spdx/spdx-list.txt",
 ];
 
 fn push_file(rt: &HostRuntime, files: &mut RowTexts, path: &'static str) -> io::Result<()> {

@@ -110,6 +110,8 @@ fn put_request(out: &mut AnswerText, request: &Request) {
     write!(out, "{:?} {:?}", log.log_level, log.format);
     write!(out, " {:?} {}", log.color, context.manifest_path);
     put_path(out, "given", &request.manifest_path);
+    put_path(out, "catalog", &request.catalog);
+    put_path(out, "store", &request.store);
     put_context(out, context);
     match &request.command {
         Subcommand::Check(args) => put_check(out, args),

@@ -1,13 +1,13 @@
 -- A request of which a part is not carried.
 use Rattle.std.proofs.Common.{◌∙◌, sym}
 use Rattle.tree_core.specs.Script.{FaultCounts, SinkTexts}
-use Rattle.run_check.specs.Given.{check_arguments_of}
+use Rattle.deny_run.specs.Given.{check_asked}
 use Rattle.deny_run.proofs.StopLemmas.{uncarried_first}
 use Rattle.deny_run.proofs.check.check_request.Goals as goal
 
 pub returns-in-Some-clause-written : goal.returns-in-Some-clause-written
 returns-in-Some-clause-written g c =
-    let given = check_arguments_of (g.C.Catalog.lists c.args.catalog.now) (g.I.Identifier.match_of c.args.identifier.now) c.args.log_ctx c.args.args.now c.args.context.now in
+    let given = check_asked (g.C.Catalog.lists c.args.catalog.now) (g.I.Identifier.match_of c.args.identifier.now) c.args.request.now c.args.args.now in
     let counts : FaultCounts = record {
       tree_before = g.T.Tree.fault_count c.args.tree.now;
       tree_after = g.T.Tree.fault_count c.args.tree.now;

@@ -1,5 +1,5 @@
 -- The check of a request, and the line of a refusal.
-use Rattle.std.proofs.Common.{◌≡◌, subst, sym, All, Result, Ok, Err, IfOk, OnOk}
+use Rattle.std.proofs.Common.{◌≡◌, refl, subst, sym, All, Result, Ok, Err, IfOk, OnOk}
 use Rattle.tree_core.proofs.MadeLemmas.{made_none}
 use Rattle.tree_core.specs.Script.{FaultCounts, SinkTexts}
 use Rattle.check_core.specs.Labels.{PackLies}

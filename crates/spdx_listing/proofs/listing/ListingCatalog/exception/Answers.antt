@@ -6,6 +6,6 @@ use Rattle.spdx_listing.proofs.listing.ListingCatalog.exception.Goals as goal
 
 pub returns : goal.returns
 returns c = (
-  λ listed. Contains-from_any (λ x y. (bytes_eq-Decides x y).0) c.args.name.now c.args.self.now.lists.exceptions (sym c.has.ensures ∙ listed),
-  λ known. c.has.ensures ∙ list_any-from_Contains nat_list_eq_equiv c.args.name.now c.args.self.now.lists.exceptions known,
+  λ listed. Contains-from_any (λ x y. (bytes_eq-Decides x y).0) c.args.name.now c.args.self.now.exceptions (sym c.has.ensures ∙ listed),
+  λ known. c.has.ensures ∙ list_any-from_Contains nat_list_eq_equiv c.args.name.now c.args.self.now.exceptions known,
 )

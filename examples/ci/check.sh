@@ -1,0 +1,38 @@
+#!/bin/sh
+# Checks the licences of a cargo project, as a step of a pipeline does, and ends with the status of the check:
+# 0 ok, 4 a finding is an error, 1 and 2 nothing was checked.
+# usage: check.sh [FOLDER]     DENY_CONFIG names another policy, CARGO_DENY another program
+#
+# Features are cargo's to apply. Of the policy's table [graph] these three keys are read here, each by a line of sed, so each has to
+# stand in a line of its own: all-features, no-default-features, features.
+set -u
+cd "${1:-.}" || exit 1
+
+# The policy, where the check looks for it: in this folder, or the nearest above.
+policy=${DENY_CONFIG:-}
+folder=$PWD
+while [ -z "$policy" ]; do
+    for name in deny.toml .deny.toml .cargo/deny.toml; do
+        if [ -z "$policy" ] && [ -e "${folder%/}/$name" ]; then policy=${folder%/}/$name; fi
+    done
+    if [ "$folder" = / ]; then break; fi
+    folder=$(dirname "$folder")
+done
+if [ -z "$policy" ]; then
+    echo "check.sh: there is no deny.toml here or above" >&2
+    exit 1
+fi
+
+# What a key of [graph] is.
+graph_key() {
+    sed -n "/^\[graph\]/,/^\[/s/^ *$1 *= *//p" "$policy" | sed 's/ *#.*//'
+}
+set --
+if [ "$(graph_key all-features)" = true ]; then set -- "$@" --all-features; fi
+if [ "$(graph_key no-default-features)" = true ]; then set -- "$@" --no-default-features; fi
+features=$(graph_key features | tr -d '[]" ')
+if [ -n "$features" ]; then set -- "$@" --features "$features"; fi
+
+# Where cargo fails it prints nothing, and the check refuses that with status 1.
+cargo metadata --format-version 1 "$@" |
+    "${CARGO_DENY:-cargo-deny}" --metadata-path /dev/stdin --config "$policy" check licenses

@@ -1,0 +1,1 @@
+//! Shows how fast the engine turns.
