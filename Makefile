@@ -45,7 +45,7 @@ wrong:
 	@sh tools/wrong.sh $(NAME)
 
 # Compares the rows and cases of a folder of crates/tests_rows/data while memory is wanting: make starve NAME=spdx; or runs the
-# built program with less and less memory: make starve NAME=program
+# built program with less and less memory (NAME=program), or with each growth failing in turn (NAME=growths)
 starve:
 	@sh tools/starve.sh $(NAME)
 

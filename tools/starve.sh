@@ -9,7 +9,8 @@
 # and less memory, in steps of 16 KiB, from enough down to where the system cannot start it. Each run answers as with enough, or
 # ends with status 1 and `error: out of memory`, behind a front of what it writes with enough.
 #
-# starve.sh growths [PROGRAM] lets each call of malloc, calloc, realloc and reallocarray fail in turn, over examples/first, by gdb.
+# starve.sh growths [PROGRAM] lets each call of malloc, calloc, realloc and reallocarray fail in turn, over examples/first. It needs
+# rustc, for tools/growths.rs.
 # usage: tools/starve.sh NAME [FIRST] | program [PROGRAM] | growths [PROGRAM]
 set -eu
 name=${1:?the name of a folder of rows, or program, or growths}
@@ -104,31 +105,14 @@ less_and_less() {
     echo "$1: $tried runs, $right as with enough, $wanting out of memory; $least KiB were enough, and with $memory none starts"
 }
 
-# Lets the growth of a number fail, and tells how many there were up to there, and the status; at 0 none fails.
+# Runs the program with the growth of a number failing; at 0 none fails. How many there were stands in a file.
 growth() {
-    cat >"$room/growth.py" <<END
-import gdb
-for line in ("confirm off", "pagination off", "breakpoint pending on"):
-    gdb.execute("set " + line)
-gdb.execute("break main")
-gdb.execute("run >'$room/out' 2>'$room/err'", to_string=True)
-gdb.execute("delete")
-for call in ("malloc", "calloc", "realloc", "reallocarray"):
-    gdb.execute("break " + call)
-count = 0
-while True:
-    gdb.execute("continue", to_string=True)
-    if gdb.selected_inferior().pid == 0:
-        break
-    count += 1
-    if count == $1:
-        gdb.execute("return (void *) 0", to_string=True)
-        gdb.execute("delete")
-code = gdb.convenience_variable("_exitcode")
-print("told", count, "signal" if code is None else int(code))
-END
-    (cd "$room/w" && timeout 300 gdb -batch -nx -x "$room/growth.py" --args "$program" \
-        --metadata-path m.json --config p.toml check licenses) 2>&1 | sed -n 's/^told //p'
+    status=0
+    (
+        cd "$room/w"
+        GROWTH=$1 GROWTHS="$room/count" LD_PRELOAD="$room/growths.so" exec "$program" \
+            --metadata-path m.json --config p.toml check licenses
+    ) >"$room/out" 2>"$room/err" || status=$?
 }
 
 each_growth() {
@@ -137,16 +121,15 @@ each_growth() {
     cp examples/first/Cargo.toml "$room/w"
     cp examples/first/deny.toml "$room/w/p.toml"
     sed -e "s|\"/project|\"$room/w|g" -e "s|file:///project|file://$room/w|g" examples/first/metadata.json >"$room/w/m.json"
-    limited all
+    rustc --edition 2024 -O --crate-type cdylib -o "$room/growths.so" tools/growths.rs
+    growth 0
     keep_enough
-    told=$(growth 0)
-    count=${told% *}
+    count=$(cat "$room/count")
     right=0
     wanting=0
     for number in $(seq 1 "$count"); do
-        told=$(growth "$number")
-        status=${told#* }
-        if [ "$status" = signal ] || ! is_right; then
+        growth "$number"
+        if ! is_right; then
             echo "growth $number of $count: status $status" >&2
             tail -n 3 "$room/err" >&2
             exit 1
