@@ -23,5 +23,8 @@ put_printed man share/man/man1/cargo-deny.1
 for file in LICENSE-APACHE LICENSE-MIT docs/GUIDE.md docs/RULES.md docs/THIRD-PARTY.md; do
     put 644 "$here/$file" "share/doc/cargo-deny/$(basename "$file")"
 done
+for list in built-in spdx; do
+    put 644 "$here/examples/lists/$list.txt" "share/cargo-deny/$list.txt"
+done
 sh "$here/tools/proved.sh" >"$folder/share/doc/cargo-deny/PROVED"
 chmod 644 "$folder/share/doc/cargo-deny/PROVED"
