@@ -26,8 +26,8 @@ fn satisfies_term<L: Ledger>(licensee: &Licensee, term: &LicenseReq, steps: &mut
     licensee.0.value.satisfies(term, steps)
 }
 
-/// Whether the licensee at a place satisfies a term.
-fn satisfies_at<L: Ledger>(
+/// Whether the licensee at a place satisfies a term. It takes a step where there is one.
+pub fn satisfies_at<L: Ledger>(
     licensees: &[Licensee],
     place: usize,
     term: &LicenseReq,
@@ -66,7 +66,7 @@ fn first_entry<L: Ledger>(
 }
 
 /// The licensees of the exception at a place.
-fn granted(exceptions: &[ValidException], place: usize) -> &[Licensee]
+pub fn granted(exceptions: &[ValidException], place: usize) -> &[Licensee]
     ensures { map req_of result.now ≡ spec.granted (map grant_of exceptions.now) place }
 {
     match exceptions.get(place) {
@@ -134,7 +134,7 @@ fn allowed_hit<L: Ledger>(
 
 /// What allows a term, where `exception` is the place of the first exception that matches the crate. It takes
 /// a step for each licensee that it asks.
-fn hit_by<L: Ledger>(
+pub fn hit_by<L: Ledger>(
     policy: &ValidConfig,
     index: &EntryIndex,
     exception: Option<usize>,

@@ -9,6 +9,8 @@ pub mod laws;
 pub mod private_index;
 mod room;
 
+pub use entry_index::EntryIndex;
 pub use evaluator::Evaluator;
+pub use hits::{granted, hit_by, satisfies_at};
 pub use private_index::PrivateIndex;
 pub use spdx_certificates::{Hit, Hits, TermPlaces, Verdict};

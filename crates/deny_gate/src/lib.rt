@@ -11,10 +11,12 @@ ghost use Rattle.run_request.specs.Given.{texts};
 ghost use Rattle.run_found.specs.Hearing.{seen};
 ghost use Rattle.deny_run.specs.Run as run;
 ghost use Rattle.deny_run.specs.Script.{between};
-ghost use Rattle.deny_gate.specs.Start.{IsRun, RunsOverSome, ending_of, start_line};
+ghost use Rattle.deny_gate.specs.Start.{IsRun, RunsAndTells, RunsOverSome, ending_of, moment, start_line};
 
+mod behind;
 mod named;
 
+use behind::{is_whole, tell_behind};
 use deny_run::Outcome;
 use deny_run::run::run;
 pub use named::named_paths;
@@ -148,6 +150,34 @@ fn run_started<T: Tree, O: Sink, E: Sink>(
     )
 }
 
+/// Runs the gate as a process was started, and tells the help of a refusal behind it.
+fn run_told<T: Tree, O: Sink, E: Sink>(
+    alloc: Global,
+    start: &Start,
+    tree: &mut T,
+    out: &mut O,
+    err: &mut E,
+) -> Outcome
+    requires { start.now.store ≡ built_in }
+    ensures made { MadeSome (T.content tree.old) (T.content tree.new) (T.fault_count tree.old)
+        (T.fault_count tree.new) (T.trace tree.old) (T.trace tree.new) }
+    ensures ran { RunsAndTells (texts start.now.words.items) (path_buf_bytes start.now.folder)
+        (moment (T.content tree.old) (T.trace tree.old)
+        (record { tree = T.fault_count tree.old; out = O.fault_count out.old; err = E.fault_count err.old })
+        (record { out = O.written out.old; err = E.written err.old }))
+        (moment (T.content tree.new) (T.trace tree.new)
+        (record { tree = T.fault_count tree.new; out = O.fault_count out.new; err = E.fault_count err.new })
+        (record { out = O.written out.new; err = E.written err.new }))
+        result }
+    ensures status { result.status ≡ run.exit_status result.ended }
+{
+    let begun = err.faults();
+    let outcome = run_started(alloc, start, tree, out, err);
+    let is_whole = is_whole(begun, err.faults());
+    tell_behind(alloc, &outcome, is_whole, tree, err);
+    outcome
+}
+
 /// The start of a process. Where the environment does not tell it, one line on `err` says so.
 fn started<V: Env + AllocGlobal, E: Sink>(env: &V, err: &mut E) -> Result<Start, StartError>
     ensures store { IfOk result (λ start. start.store ≡ built_in) }
@@ -181,18 +211,18 @@ pub fn gate_over<V: Env + AllocGlobal, T: Tree, O: Sink, E: Sink>(
         (E.fault_count err.old) (E.fault_count err.new) (start_line error)) }
     ensures silent { OnErr result (O.written out.new ≡ O.written out.old) }
 
-    // Where it ran, it did what a run over some words and some folder does.
+    // Where it ran, it did what a run over some words and some folder does, and behind that standard error gained the
+    // help of a refusal; a front of it where a write was refused, and nothing where the run's own text was cut.
     ensures ran { IfOk result (RunsOverSome
-        (seen (T.content tree.old) (T.content tree.new) (T.fault_count tree.old) (T.fault_count tree.new)
-        (T.trace tree.old) (T.trace tree.new))
-        (between
+        (moment (T.content tree.old) (T.trace tree.old)
         (record { tree = T.fault_count tree.old; out = O.fault_count out.old; err = E.fault_count err.old })
-        (record { tree = T.fault_count tree.new; out = O.fault_count out.new; err = E.fault_count err.new }))
-        (record { out = O.written out.old; err = E.written err.old })
-        (record { out = O.written out.new; err = E.written err.new })) }
+        (record { out = O.written out.old; err = E.written err.old }))
+        (moment (T.content tree.new) (T.trace tree.new)
+        (record { tree = T.fault_count tree.new; out = O.fault_count out.new; err = E.fault_count err.new })
+        (record { out = O.written out.new; err = E.written err.new }))) }
 {
     let start = started(env, err)?;
-    Ok(run_started(env.alloc(), &start, tree, out, err))
+    Ok(run_told(env.alloc(), &start, tree, out, err))
 }
 
 /// The real files, of which those that the words name may be pipes or devices. Where memory is wanting, one
@@ -219,7 +249,7 @@ pub fn gate(rt: HostRuntime) -> Result<Outcome, StartError>
     let mut err = StdSink::new(rt.stderr());
     let start = started(&rt, &mut err)?;
     let mut tree = files_of(&rt, &start, &mut err)?;
-    Ok(run_started(rt.alloc(), &start, &mut tree, &mut out, &mut err))
+    Ok(run_told(rt.alloc(), &start, &mut tree, &mut out, &mut err))
 }
 
 /// What the process ends with: the status of the run, or 1 where the gate could not begin.

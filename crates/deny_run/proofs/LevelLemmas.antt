@@ -1,22 +1,36 @@
--- The level of the log is asked nowhere on the way to a report.
-use Rattle.std.proofs.Common.{◌≡◌, ◌∙◌, refl, sym, ap, subst, ◌++◌}
+-- The level of the log is asked nowhere on the way to a report, and a content that is read without a failure has one report.
+use Rattle.std.proofs.Common.{◌≡◌, ◌∙◌, refl, sym, ap, subst, ℕ, List, [], ◌∷◌, ◌++◌, append-nil, Option, Some, None, Result, Ok}
+use Rattle.std.specs.List.{AllByRecursion}
+use Rattle.std.proofs.lemmas.List.Elements.{recursion_from_All}
+use Rattle.tree_core.specs.Call.{Call}
+use Rattle.tree_core.specs.Content.{Content}
+use Rattle.tree_core.specs.Trace.{content_answer}
 use Rattle.diag_core.specs.declared.severity.LevelFilter.{LevelFilter}
 use Rattle.gather_core.specs.Calls.{CrateReads}
 use Rattle.gather_core.proofs.ZipLemmas.{zip_weaker}
 use Rattle.tree_core.proofs.MadeLemmas.{made_as}
+use Rattle.run_found.specs.declared.error.Error.{Error}
 use Rattle.run_found.specs.Finds.{HearsPolicy}
 use Rattle.run_found.specs.Found.{LooksEnd}
 use Rattle.run_found.specs.Hearing.{RequestHearing}
+use Rattle.run_lists.specs.Given.{ListsGiven}
 use Rattle.run_lists.specs.Heard.{lists_calls}
 use Rattle.run_check.specs.declared.report.CrateReport.{CrateReport}
 use Rattle.run_check.specs.declared.report.Report.{Report}
+use Rattle.run_check.specs.Found as check
 use Rattle.run_check.specs.Found.{HearsAllDue}
 use Rattle.run_check.specs.Given.{CheckArguments}
+use Rattle.run_check.specs.Headline.{TellsContent}
 use Rattle.run_check.specs.Report.{Asks, CheckInput, GivesVerdicts, IsReport, IsReportOf, TellsVerdicts}
-use Rattle.deny_run.specs.Hearing.{calls_behind, calls_of, found_calls, manifest_asked, manifest_in}
-use Rattle.deny_run.specs.Laws.{LevelChangesNoReport, at_level, check_at}
+use Rattle.run_check.proofs.ReportAlike.{counted_alike, each_back, each_front}
+use Rattle.deny_run.specs.Headline.{IsHeardOf}
+use Rattle.deny_run.specs.Hearing.{ComesToCheck, RunHearing, calls_behind, calls_of, found_calls, manifest_asked, manifest_in, own_calls, own_heard}
+use Rattle.deny_run.specs.Laws.{LevelChangesNoReport, LevelKeepsStatus, at_level, check_at}
 use Rattle.deny_run.specs.Manifest.{manifest_calls}
-use Rattle.deny_run.specs.Own.{check_by, check_heard, handed_in}
+use Rattle.deny_run.specs.Own.{CheckAsked, check_by, check_heard, handed_in}
+use Rattle.deny_run.specs.Run.{status_of}
+use Rattle.deny_run.proofs.AlikeLemmas.{IsAlike}
+use Rattle.deny_run.proofs.OwnLemmas.{lists_same}
 
 module _ (given : CheckArguments) (level : LevelFilter) (found : RequestHearing) where
   abbrev other : CheckArguments
@@ -97,3 +111,77 @@ level_law given level tree hearing report ran is =
         is = is_report_as own level hearing.found report reported;
       },
     )
+
+-- ---- two runs over one content
+
+-- the calls for a run's names and texts, and those of its check, say what the content has
+record TellsBoth (given : CheckAsked) (content : Content) (hearing : RunHearing) (own : CheckArguments) : Type 0 where
+  lists : AllByRecursion (TellsContent content) (lists_calls (handed_in given.check) given.own hearing.lists)
+  found : AllByRecursion (TellsContent content) (check.calls_of own hearing.found)
+
+tells_both : (given : CheckAsked) (content : Content) (hearing : RunHearing) (own : CheckArguments) (count : ℕ) → ComesToCheck given hearing own → IsHeardOf given content count hearing
+    → TellsBoth given content hearing own
+tells_both given content hearing own count comes heard =
+    let Tells = TellsContent content in
+    let look = manifest_calls (manifest_asked given) hearing.manifest in
+    let lists = lists_calls (handed_in given.check) given.own hearing.lists in
+    let behind : AllByRecursion Tells (own_calls given hearing) =
+    each_back Tells look (own_calls given hearing)
+    (subst (λ there. AllByRecursion Tells (look ++ calls_behind there (own_calls given hearing))) comes.manifest.there
+    (recursion_from_All Tells (calls_of given hearing) heard.tells)) in
+    let found : AllByRecursion Tells (lists ++ check.calls_of (check_by given.check comes.lists) hearing.found) =
+    subst (λ one. AllByRecursion Tells (lists ++ found_calls (check_heard given.check one) hearing.found)) comes.heard behind in
+    let own_found : AllByRecursion Tells (lists ++ check.calls_of own hearing.found) = subst (λ one. AllByRecursion Tells (lists ++ check.calls_of one hearing.found)) (sym comes.is) found in
+    record { lists = each_front Tells lists (check.calls_of own hearing.found) own_found; found = each_back Tells lists (check.calls_of own hearing.found) own_found }
+
+module _ (content : Content) where
+  -- calls that both say what the content has
+  abbrev BothTell : List Call → List Call → Type 0
+  BothTell calls others = AllByRecursion (TellsContent content) calls × AllByRecursion (TellsContent content) others
+
+  both_alike : IsAlike BothTell
+  both_alike one other more rest both asked path lost = (
+    both.0.0 ∙ ap (λ kind. content_answer content kind one.path) asked ∙ ap (content_answer content other.asked) path ∙ sym both.1.0,
+    (both.0.1, both.1.1),
+  )
+
+same_lists : (heard : Option (Result ListsGiven Error)) (one other : ListsGiven) → heard ≡ Some (Ok one) → heard ≡ Some (Ok other) → one ≡ other
+same_lists heard one other first second = both (sym first ∙ second)
+  where
+    both : ◌≡◌ {A = Option (Result ListsGiven Error)} (Some (Ok one)) (Some (Ok other)) → one ≡ other
+    both e = cc
+
+some_heard : (heard : Option (Result ListsGiven Error)) (own : ListsGiven) → heard ≡ Some (Ok own) → heard ≡ None → ⊥
+some_heard heard own is none = absurd (apart (sym none ∙ is))
+  where
+    apart : ◌≡◌ {A = Option (Result ListsGiven Error)} None (Some (Ok own)) → ⊥
+    apart e = cc
+
+-- two checks of one content have the same names and texts, at whatever level
+lists_alike : (given : CheckAsked) (level : LevelFilter) (content : Content) (one other : RunHearing) (own more : CheckArguments) (first : ComesToCheck given one own) (second : ComesToCheck (at_level level given) other more)
+    → TellsBoth given content one own → TellsBoth (at_level level given) content other more → first.lists ≡ second.lists
+lists_alike given level content one other own more first second tells told =
+    let handed = handed_in given.check in
+    let calls = lists_calls handed given.own one.lists in
+    let others = lists_calls handed given.own other.lists in
+    let both : BothTell content (calls ++ []) (others ++ []) =
+    subst (λ those. BothTell content those (others ++ [])) (sym (append-nil calls)) (subst (λ those. BothTell content calls those) (sym (append-nil others)) (tells.lists, told.lists)) in
+    let heard = lists_same (BothTell content) (both_alike content) handed given.own one.lists other.lists first.lists [] [] first.heard
+    (some_heard (own_heard (at_level level given) other) second.lists second.heard) both in
+    same_lists (own_heard (at_level level given) other) first.lists second.lists heard.0 second.heard
+
+pub status_law : LevelKeepsStatus
+status_law given level content count one other report more heard is told is_more =
+    let lists = is.comes.lists in
+    let leveled = check_at level (check_by given.check lists) in
+    let tells = tells_both given content one is.own count is.comes heard in
+    let tells_more = tells_both (at_level level given) content other is_more.own count is_more.comes told in
+    let same : lists ≡ is_more.comes.lists = lists_alike given level content one other is.own is_more.own is.comes is_more.comes tells tells_more in
+    let more_is : is_more.own ≡ leveled = is_more.comes.is ∙ ap (check_by (check_at level given.check)) (sym same) in
+    let reported : IsReport leveled one.found report =
+    is_report_as (check_by given.check lists) level one.found report (subst (λ own. IsReport own one.found report) is.comes.is is.is) in
+    let reported_more : IsReport leveled other.found more = subst (λ own. IsReport own other.found more) more_is is_more.is in
+    ap status_of
+    (counted_alike leveled content one.found other.found (heard.begun.found ∙ sym told.begun.found)
+    (subst (λ own. AllByRecursion (TellsContent content) (check.calls_of own one.found)) is.comes.is tells.found)
+    (subst (λ own. AllByRecursion (TellsContent content) (check.calls_of own other.found)) more_is tells_more.found) report more reported reported_more)

@@ -16,7 +16,7 @@ use Rattle.run_check.specs.declared.report.Report.{Report}
 use Rattle.run_list.specs.declared.reads.CrateRead.{CrateRead}
 use Rattle.run_list.specs.Script.{SinkSeen}
 use Rattle.run_list.proofs.AnswerLemmas.{some_made_by}
-use Rattle.run_sample.specs.Sample.{IsSampleComplete, IsSampled, IsUnfailed, WritesLines}
+use Rattle.run_sample.specs.Sample.{IsSampleComplete, IsSampled, IsUnfailed, IsWholeSample, WritesLines}
 use Rattle.deny_run.specs.declared.outcome.RunEnd.TheVariants.{Refused}
 use Rattle.deny_run.specs.Listing.{Lists, behind, err_seen, from_there, no_lists, no_manifest, out_seen, uncarried}
 use Rattle.deny_run.specs.Own.{ListAsked, list_by}
@@ -48,13 +48,13 @@ ends_list given tree counts err_after old mid err (Err error) later lists line s
 -- so is a sample
 pub ends_sample : (size : ℕ) (lists : CatalogLists) (match_of : List ℕ → Match) (tree : TreeSeen) (counts : FaultCounts) (err_after : ℕ) (old : SinkTexts) (out err : Option (List ℕ))
     (answer : Result Report Error) → IsUntouched tree → (own : (report : Report) → answer ≡ Ok report → IsSampled size lists match_of report)
-    → WritesLines size lists match_of old.out out counts.out_before counts.out_after answer → IfErr answer (λ error. IsUnfailed (cause_of error)) → IsSampleComplete size lists match_of answer
+    → WritesLines size lists match_of old.out out counts.out_before counts.out_after answer → IfErr answer (λ error. IsUnfailed (cause_of error)) → IsSampleComplete size lists match_of answer → IsWholeSample size lists answer
     → IfErr answer (λ error. LineWritten old.err err counts.err_before err_after (fault_line error)) → OnOk answer (err ≡ old.err)
     → EndsSample size lists match_of tree (with_err counts err_after) old (record { out = out; err = err }) (sampled_end answer)
-ends_sample size lists match_of tree counts err_after old out err (Ok report) untouched own lines unfailed complete line silent =
+ends_sample size lists match_of tree counts err_after old out err (Ok report) untouched own lines unfailed complete built_in line silent =
     (untouched, record { is = own report refl; lines = lines; silent = silent })
-ends_sample size lists match_of tree counts err_after old out err (Err error) untouched own lines unfailed complete line silent =
-    (untouched, record { lines = lines; unfailed = unfailed; complete = complete; line = line })
+ends_sample size lists match_of tree counts err_after old out err (Err error) untouched own lines unfailed complete built_in line silent =
+    (untouched, record { lines = lines; unfailed = unfailed; complete = complete; built_in = built_in; line = line })
 
 -- ---- no report, and no other refusal
 

@@ -4,6 +4,7 @@ use Rattle.std.specs.Option.{option_and_then}
 use Rattle.tree_core.specs.Call as call
 use Rattle.tree_core.specs.Call.{CallKind, CallAnswer, Call}
 use Rattle.tree_core.specs.Trace.{faults_after}
+use Rattle.diag_core.specs.File.{File}
 use Rattle.gather_core.specs.Calls.{calls_of_all}
 use Rattle.tree_texts.specs.declared.fault.ReadFault.{ReadFault}
 use Rattle.policy_core.specs.Policy.{PolicyFound}
@@ -13,7 +14,7 @@ use Rattle.policy_load.specs.declared.loading.PolicyPaths.{PolicyPaths}
 use Rattle.policy_text.specs.Text.{config_text_of}
 use Rattle.run_overrides.specs.Twice.{first_twice}
 use Rattle.run_found.specs.declared.error.Error.{Error}
-use Rattle.run_found.specs.Found.{config_by, config_in, count_exceptions, count_looked, count_metadata, count_policy, count_sought, due_by_text, exceptions_due, exceptions_in, graph_heard, load_heard, looked_behind, metadata_heard, or_load_error, path_by, paths_found, paths_looked, paths_sought, policy_due, policy_found}
+use Rattle.run_found.specs.Found.{config_by, config_in, count_exceptions, count_looked, count_metadata, count_policy, count_sought, due_by_text, exceptions_due, exceptions_in, files_loaded, files_of_load, graph_heard, load_heard, looked_behind, metadata_heard, or_load_error, path_by, paths_found, paths_looked, paths_sought, policy_due, policy_found}
 use Rattle.run_found.specs.Given.{RequestArguments}
 use Rattle.run_found.specs.Hearing.{LooksResult, unended, IsReadWhereDue, RequestHearing, count_behind, is_heard, look_by, look_calls, looks_behind, looks_by, read_calls, text_by}
 use Rattle.run_found.specs.Steps.{◌>>=◌, unless_refused}
@@ -42,11 +43,20 @@ asked_by given found = do
   once ← unless_twice (first_twice given.args.lint_levels)
   Ok policy
 
+abbrev files_by : RequestArguments → Result PolicyPaths Error → LoadHeard → List File
+files_by request paths heard = files_of_load (paths >>= λ own. Ok (load_of request.lists [] own heard))
+
 abbrev input_by : Result PolicyFound Error → Result (List ℕ) ReadFault → Result FoundInput Error
 input_by asked metadata = do
   policy ← asked
   graph ← graph_heard metadata
   Ok (record { policy = policy; graph = graph })
+
+-- what is found is the same, and so are the file tables; and so much holds of the calls behind it
+pub record FindsAlike (given : CheckArguments) (D : List Call → List Call → Type 0) (one other : RequestHearing) : Type 0 where
+  pub input : check_input_of given one ≡ check_input_of given other
+  pub files : files_loaded given.request one ≡ files_loaded given.request other
+  pub crates : D (calls_of_all one.crates) (calls_of_all other.crates)
 
 -- ---- answers that are alike
 
@@ -140,8 +150,8 @@ module _ (D : List Call → List Call → Type 0)
         calls-carried given hearing carried
         ∙ append_assoc (S ++ L ++ P ++ E) M C ∙ append_assoc (S ++ L ++ P) E (M ++ C) ∙ append_assoc (S ++ L) P (E ++ (M ++ C)) ∙ append_assoc S L (P ++ (E ++ (M ++ C)))
 
-    pub found_alike : D (calls_of given one) (calls_of given other) → check_input_of given one ≡ check_input_of given other
-    found_alike alike =
+    pub finds_alike : D (calls_of given one) (calls_of given other) → FindsAlike given D one other
+    finds_alike alike =
         let whole = subst (λ own. D own (calls_of given other)) (from_right one) alike in
         let right = subst (D (look_calls (paths_sought request) one.sought ++ behind_sought one)) (from_right other) whole in
         let sought = looks_alike (paths_sought request) one.sought other.sought _ _ first.policy.looks.sought second.policy.looks.sought right in
@@ -200,4 +210,11 @@ module _ (D : List Call → List Call → Type 0)
         let told : metadata_heard request one ≡ metadata_heard request other =
         ap (λ n. text_by n (count_metadata request one) one.metadata) begun ∙ ap (λ n. text_by other.begun n one.metadata) metadata_count
         ∙ ap (text_by other.begun (count_metadata request other)) metadata.0 in
-        ap (λ own. input_by own (metadata_heard request one)) asked ∙ ap (input_by (policy_asked given other)) told
+        record {
+          input = ap (λ own. input_by own (metadata_heard request one)) asked ∙ ap (input_by (policy_asked given other)) told;
+          files = ap (λ own. files_by request own (load_heard request one)) paths ∙ ap (files_by request (paths_found request other)) heard;
+          crates = metadata.1;
+        }
+
+    pub found_alike : D (calls_of given one) (calls_of given other) → check_input_of given one ≡ check_input_of given other
+    found_alike alike = (finds_alike alike).input

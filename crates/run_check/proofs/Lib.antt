@@ -6,7 +6,10 @@ pub mod GatheredLemmas
 pub mod HeadlineLemmas
 pub mod HeardAlike
 pub mod NamedLemmas
+pub mod OrderAlike
 pub mod PlaceLemmas
+pub mod ReadsAlike
+pub mod ReportAlike
 pub mod ReportLemmas
 pub mod ScriptLemmas
 pub mod StageLemmas

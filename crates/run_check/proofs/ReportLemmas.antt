@@ -14,7 +14,7 @@ use Rattle.tree_texts.specs.declared.fault.ReadFault.TheVariants.{Failed, Absent
 use Rattle.graph_selection.specs.Listed.{IsListOf}
 use Rattle.graph_selection.specs.Roots.{HasRoot, LacksRoots}
 use Rattle.graph_selection.specs.Walks.{Selected}
-use Rattle.graph_workspace.specs.Krates.{graph_in}
+use Rattle.graph_workspace.specs.Krates.{IsCarried, graph_in}
 use Rattle.graph_workspace.specs.declared.error.KratesError.{KratesError}
 use Rattle.graph_workspace.specs.declared.error.KratesError.TheVariants as krates
 use Rattle.policy_parts.specs.declared.graph.GraphConfig.{GraphConfig}
@@ -54,7 +54,7 @@ use Rattle.run_check.specs.Found.{HearsAllDue, calls_of, metadata_due, policy_as
 use Rattle.run_check.specs.Given.{CheckArguments}
 use Rattle.run_check.specs.Report.{IsAnsweredBy, IsGivenUp, IsRefusal, Refuses, at_crates, at_metadata, at_policy}
 use Rattle.run_check.specs.Script.{WritesLoad, cause_in}
-use Rattle.run_check.specs.Steps.{AreCheckedInPart, ChecksAt, HasNoCrates, IsBehindPolicy, IsCheckGivenUp, IsChecked, IsCheckedAt, choice_left, report_with}
+use Rattle.run_check.specs.Steps.{AreCheckedInPart, ChecksAt, HasNoCrates, IsBehindPolicy, IsCheckGivenUp, IsChecked, IsCheckedAt, NoCratesBy, choice_left, report_with}
 use Rattle.run_check.proofs.AnswerLemmas.{IsFree, first_of, given_up, is_reported, refused_first, up_without}
 use Rattle.run_check.proofs.FoundLemmas.{asked-once, asked-refused, asked-twice, calls-carried, calls-unread, due-carried, input-graph, input-refused, metadata-is, metadata-refused, text-carried}
 
@@ -155,11 +155,11 @@ due_behind given begun heard metadata crates due =
     record { looks = record { sought = due.looks.sought; looks = due.looks.looks }; policy = due.policy; exceptions = due.exceptions }
 
 -- what is left out by the policy that was answered is what is left out by the one that was found
-same_choice : (given : CheckArguments) (found : PolicyFound) (loaded : LoadedPolicy) → IsPolicyOf found loaded → choice_left given.request.context loaded ≡ choice_in given.request found
+pub same_choice : (given : CheckArguments) (found : PolicyFound) (loaded : LoadedPolicy) → IsPolicyOf found loaded → choice_left given.request.context loaded ≡ choice_in given.request found
 same_choice given found loaded is =
     ap (λ (graph : GraphConfig). choice_asked given.request.context (record { exclude = graph.exclude; exclude_dev = graph.exclude_dev; exclude_unpublished = graph.exclude_unpublished })) is.graph
 
-same_flags : (found : PolicyFound) (loaded : LoadedPolicy) → IsPolicyOf found loaded → include_of loaded.licenses ≡ included_in found
+pub same_flags : (found : PolicyFound) (loaded : LoadedPolicy) → IsPolicyOf found loaded → include_of loaded.licenses ≡ included_in found
 same_flags found loaded is = ap (λ (one : ValidConfig). include_of one) is.licenses.rest
 
 module _ (given : CheckArguments) (carried : uncarried_in given ≡ None) (once : first_twice given.args.lint_levels ≡ None) (path : List ℕ) (at : given.request.context.metadata_path ≡ Some path)
@@ -181,7 +181,7 @@ module _ (given : CheckArguments) (carried : uncarried_in given ≡ None) (once 
   abbrev text : List ℕ
   text = load_text given.request.log (loaded_of given.request (hearing_of begun finds.heard None []))
 
-  found_at : (metadata : Option CallAnswer) (crates : List CrateReads) → policy_found given.request (hears metadata crates) ≡ Ok finds.found
+  pub found_at : (metadata : Option CallAnswer) (crates : List CrateReads) → policy_found given.request (hears metadata crates) ≡ Ok finds.found
   found_at metadata crates = finds.is
 
   asked_at : (metadata : Option CallAnswer) (crates : List CrateReads) → policy_asked given (hears metadata crates) ≡ Ok finds.found
@@ -194,7 +194,7 @@ module _ (given : CheckArguments) (carried : uncarried_in given ≡ None) (once 
   text_at metadata crates = refl
 
   -- the calls, with those behind the policy
-  calls_at : (metadata : Option CallAnswer) (crates : List CrateReads)
+  pub calls_at : (metadata : Option CallAnswer) (crates : List CrateReads)
       → calls_of given (hears metadata crates) ≡ policy_calls given.request (hears metadata crates) ++ (read_calls (Some path) metadata ++ calls_of_all crates)
   calls_at metadata crates =
       let before = policy_calls given.request (hears metadata crates) in
@@ -208,7 +208,7 @@ module _ (given : CheckArguments) (carried : uncarried_in given ≡ None) (once 
   made_all : (metadata : Option CallAnswer) (crates : List CrateReads) → MadeOn behind (read_calls (Some path) metadata ++ calls_of_all crates) → MadeOn whole (calls_of given (hears metadata crates))
   made_all metadata crates then = made_as (sym (calls_at metadata crates)) (made_joined (made_first metadata crates) then)
 
-  made_lost : (metadata : Option CallAnswer) (crates : List CrateReads) (lost : List Call) → MadeOn behind (read_calls (Some path) metadata ++ calls_of_all crates ++ lost)
+  pub made_lost : (metadata : Option CallAnswer) (crates : List CrateReads) (lost : List Call) → MadeOn behind (read_calls (Some path) metadata ++ calls_of_all crates ++ lost)
       → MadeOn whole (calls_of given (hears metadata crates) ++ lost)
   made_lost metadata crates lost then =
       made_as
@@ -218,7 +218,7 @@ module _ (given : CheckArguments) (carried : uncarried_in given ≡ None) (once 
   policy_due_at : (metadata : Option CallAnswer) (crates : List CrateReads) → HearsPolicy given.request (hears metadata crates)
   policy_due_at metadata crates = due_behind given begun finds.heard metadata crates finds.due
 
-  due_at : (answer : CallAnswer) (crates : List CrateReads) → is_heard (Some answer) ≡ true → HearsAllDue given (hears (Some answer) crates)
+  pub due_at : (answer : CallAnswer) (crates : List CrateReads) → is_heard (Some answer) ≡ true → HearsAllDue given (hears (Some answer) crates)
   due_at answer crates heard_by = record {
     policy = policy_due_at (Some answer) crates;
     metadata = subst (λ due. IsReadWhereDue due (Some answer)) (sym (metadata_at (Some answer) crates)) heard_by;
@@ -228,18 +228,18 @@ module _ (given : CheckArguments) (carried : uncarried_in given ≡ None) (once 
   mid_is : count_exceptions given.request (hears None []) ≡ mid
   mid_is = sym (count-behind given.request (hears None []) (policy_due_at None [])) ∙ sym (made_first None []).counts
 
-  count_at : (answer : CallAnswer) (crates : List CrateReads) → count_metadata given.request (hears (Some answer) crates) ≡ fault_behind mid answer
+  pub count_at : (answer : CallAnswer) (crates : List CrateReads) → count_metadata given.request (hears (Some answer) crates) ≡ fault_behind mid answer
   count_at answer crates = ap (λ n. fault_behind n answer) mid_is
 
   metadata_text : (answer : CallAnswer) (crates : List CrateReads) (heard : Result (List ℕ) ReadFault) → text_answered begun (fault_behind mid answer) answer ≡ Some heard
       → metadata_heard given.request (hears (Some answer) crates) ≡ heard
   metadata_text answer crates heard is = ap (λ n. text_by begun n (Some answer)) (count_at answer crates) ∙ text_heard_by answer begun (fault_behind mid answer) heard is
 
-  drawn_at : (answer : CallAnswer) (crates : List CrateReads) (heard : Result (List ℕ) ReadFault) (graph : Graph) → text_answered begun (fault_behind mid answer) answer ≡ Some heard → graph_in heard ≡ Ok graph
+  pub drawn_at : (answer : CallAnswer) (crates : List CrateReads) (heard : Result (List ℕ) ReadFault) (graph : Graph) → text_answered begun (fault_behind mid answer) answer ≡ Some heard → graph_in heard ≡ Ok graph
       → graph_heard (metadata_heard given.request (hears (Some answer) crates)) ≡ Ok graph
   drawn_at answer crates heard graph hears_it tells_graph = ap graph_heard (metadata_text answer crates heard hears_it) ∙ ap or_krates_error tells_graph
 
-  table_at : (metadata : Option CallAnswer) (crates : List CrateReads) → files ≡ files_loaded given.request (hears metadata crates)
+  pub table_at : (metadata : Option CallAnswer) (crates : List CrateReads) → files ≡ files_loaded given.request (hears metadata crates)
   table_at metadata crates = finds.files_are
 
   -- an answer behind the policy
@@ -348,6 +348,14 @@ module _ (given : CheckArguments) (carried : uncarried_in given ≡ None) (once 
       any_last : (error : KratesError) → ChecksAt given.request.context scanner given.args.lint_levels policy behind files last begun path (Err (refusal.Krates error))
           → ChecksAt given.request.context scanner given.args.lint_levels policy behind files files begun path (Err (refusal.Krates error))
       any_last error is = is
+
+  -- the same, without how a check says it
+  pub given_up_ends : IsCheckGivenUp given.request.context scanner policy behind files begun path → WritesLoad given whole err_old err_new err_before err_after (Err Memory)
+  given_up_ends up = memory_ends Memory tt (all_of err_old err_new text finds.written) up
+
+  pub krates_refused : (error : KratesError) → IsCarried error → NoCratesBy given.request.context scanner policy behind files begun path error
+      → WritesLoad given whole err_old err_new err_before err_after (Err (error_of_krates error))
+  krates_refused error carried_by none = krates_ends error carried_by none
 
   -- ---- the report
 

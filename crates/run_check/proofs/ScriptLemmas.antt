@@ -70,7 +70,7 @@ module _ (given : CheckArguments) (tree : TreeSeen) (old middle : Option (List �
   }
 
   -- a refusal that comes behind the report
-  freely_told : (error : Error) → IsFree (cause_of error) → TellsLoad given tree (Err error) writes.text
+  pub freely_told : (error : Error) → IsFree (cause_of error) → TellsLoad given tree (Err error) writes.text
   freely_told error free =
       let own = writes.tells in
       record { hearing = own.hearing; answers = given_up given tree own.hearing error (report_up own.hearing own.answers.0 own.answers.1) free; is = own.is }

@@ -88,6 +88,38 @@ fn report_by<T: Tree, S: Sink, C: Catalog, I: Identifier>(
     Ok(report_of(log_ctx, checked, files))
 }
 
+/// The report that a request asks for, all of which is carried. What is told of the policy's load is written to the
+/// sink; what was found is not.
+pub fn report_since<T: Tree, S: Sink, C: Catalog, I: Identifier>(
+    alloc: Global,
+    tree: &mut T,
+    sink: &mut S,
+    catalog: &C,
+    identifier: &I,
+    log_ctx: LogContext,
+    args: &Args,
+    context: &KrateContext,
+) -> Result<Report, Error>
+    requires { uncarried_of log_ctx args.now context.now ≡ None }
+    ensures policy { result ≢ Err (Error.ConfigRead ReadFault.Absent) }
+    ensures counts { IfErr result (λ error. ReadCounts
+        (T.fault_count tree.old) (T.fault_count tree.old) (T.fault_count tree.new) (cause_of error)) }
+    ensures written { WritesLoad
+        (check_arguments_of (C.lists catalog.now) (I.match_of identifier.now) log_ctx args.now context.now)
+        (seen (T.content tree.old) (T.content tree.new) (T.fault_count tree.old) (T.fault_count tree.new)
+        (T.trace tree.old) (T.trace tree.new))
+        (S.written sink.old) (S.written sink.new) (S.fault_count sink.old) (S.fault_count sink.new) result }
+    ensures labels { LabelsLie result }
+    ensures later { S.fault_count sink.old ≤ S.fault_count sink.new }
+{
+    match report_by(
+        alloc, tree, sink, catalog, identifier, log_ctx, args, context,
+    ) {
+        Ok(report) => Ok(report),
+        Err(refusal) => Err(refusal.into_error()),
+    }
+}
+
 /// The report that a request asks for, all of which is carried, with what is told of the policy's load, and then
 /// what was found, written to the sink.
 pub fn check_since<T: Tree, S: Sink, C: Catalog, I: Identifier>(
@@ -113,7 +145,7 @@ pub fn check_since<T: Tree, S: Sink, C: Catalog, I: Identifier>(
     ensures later { S.fault_count sink.old ≤ S.fault_count sink.new }
 {
     let begun = sink.faults();
-    match report_by(
+    match report_since(
         alloc, tree, sink, catalog, identifier, log_ctx, args, context,
     ) {
         Ok(report) => match print_packs(
@@ -127,7 +159,7 @@ pub fn check_since<T: Tree, S: Sink, C: Catalog, I: Identifier>(
             Ok(()) => Ok(report),
             Err(refused) => Err(Error::from(refused)),
         },
-        Err(refusal) => Err(refusal.into_error()),
+        Err(error) => Err(error),
     }
 }
 

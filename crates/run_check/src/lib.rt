@@ -9,5 +9,5 @@ pub mod report;
 mod stages;
 
 pub use carried::uncarried_in;
-pub use command::{check_since, cmd};
+pub use command::{check_since, cmd, report_since};
 pub use report::{CrateReport, Report};

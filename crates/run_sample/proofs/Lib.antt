@@ -1,7 +1,15 @@
+mod AsciiLemmas
 mod ContentLemmas
+mod GraphLemmas
+mod HearingLemmas
 mod LineLemmas
 mod NumberLemmas
 mod PathLemmas
+mod RowLemmas
+mod SampleData
 mod SampleLemmas
 mod ShallowLemmas
+mod StandLemmas
 mod SteadyLemmas
+mod TextLemmas
+mod WholeLemmas

@@ -1,10 +1,12 @@
 -- Where the paths of the sample lead.
-use Rattle.std.proofs.Common.{◌≡◌, ◌∙◌, refl, sym, ap, ap₂, subst, ℕ, suc, ◌+◌, ◌%◌, ◌<◌, ◌≤◌, ◌^◌, ◌==◌, inl, inr, Bool, true, false, not, ◌&&◌, ◌||◌, List, [], ◌∷◌, ◌++◌, get_or, length, codes, decimal, filter, ne_eqb, arith}
+use Rattle.std.proofs.Common.{◌≡◌, ◌∙◌, refl, sym, ap, ap₂, subst, ℕ, suc, ◌+◌, ◌%◌, ◌<◌, ◌≤◌, ◌^◌, ◌==◌, ◌⊎◌, inl, inr, Option, Some, None, Bool, true, false, not, ◌&&◌, ◌||◌, List, [], ◌∷◌, ◌++◌, get_or, length, codes, decimal, filter, ne_eqb, arith}
 use Rattle.std.specs.List.{fold}
 use Rattle.std.specs.Str.{bytes_eq}
 use Rattle.std.specs.Path.{cur_dir, slash, has_no_slash, is_name, first_piece, later_pieces, path_names, path_components}
 use Rattle.std.proofs.lemmas.Bool.{cond-true, cond-false}
 use Rattle.std.proofs.lemmas.Fmt.{decimal_by_steps}
+use Rattle.deny_text.specs.Path.{components_of, parent_of}
+use Rattle.deny_text.proofs.ParentLemmas.{root_has_no_parent}
 use Rattle.deny_text.proofs.PathLemmas.{names_append}
 use Rattle.tree_core.specs.Content.{Place, resolve, step}
 use Rattle.run_sample.specs.Files.{manifest_path}
@@ -54,12 +56,31 @@ one_name i small =
     ap₂ (λ first later. filter is_name (first ∷ later)) (ap (λ rest. 99 ∷ rest) (first_whole (decimal i) (slashless i small))) (later_none (decimal i) (slashless i small))
     ∙ cond-true _ _ _ (named i)
 
-pub resolve_manifest : (i : ℕ) → i < 2 ^ 64 → resolve (manifest_path i) ≡ codes "s" ∷ (99 ∷ decimal i) ∷ codes "Cargo.toml" ∷ []
+-- the parts of a manifest's path
+pub parts_of_manifest : (i : ℕ) → i < 2 ^ 64 → components_of (manifest_path i) ≡ codes "/" ∷ codes "s" ∷ (99 ∷ decimal i) ∷ codes "Cargo.toml" ∷ []
 unfolding path_components path_names
-resolve_manifest i small =
-    ap (λ names. fold step [] (codes "/" ∷ names))
+parts_of_manifest i small =
+    ap (λ names. codes "/" ∷ names)
     (names_append (115 ∷ []) (99 ∷ (decimal i ++ (slash ∷ codes "Cargo.toml")))
     ∙ ap (λ names. (115 ∷ []) ∷ names) (names_append (99 ∷ decimal i) (codes "Cargo.toml") ∙ ap (λ names. names ++ path_names (codes "Cargo.toml")) (one_name i small)))
+
+pub resolve_manifest : (i : ℕ) → i < 2 ^ 64 → resolve (manifest_path i) ≡ codes "s" ∷ (99 ∷ decimal i) ∷ codes "Cargo.toml" ∷ []
+resolve_manifest i small = ap (fold step []) (parts_of_manifest i small)
+
+-- a manifest stands in a folder
+pub folder_of_manifest : (i : ℕ) → i < 2 ^ 64 → (folder : List ℕ) × (parent_of (manifest_path i) ≡ Some folder)
+folder_of_manifest i small = by (parent_of (manifest_path i)) refl
+  where
+    parts : components_of (manifest_path i) ≡ codes "/" ∷ codes "s" ∷ (99 ∷ decimal i) ∷ codes "Cargo.toml" ∷ []
+    parts = parts_of_manifest i small
+
+    none_apart : (components_of (manifest_path i) ≡ []) ⊎ (components_of (manifest_path i) ≡ codes "/" ∷ []) → ⊥
+    none_apart (inl none) = let bad : 4 ≡ 0 = ap length (sym parts ∙ none) in omega (arith, bad)
+    none_apart (inr root) = let bad : 4 ≡ 1 = ap length (sym parts ∙ root) in omega (arith, bad)
+
+    by : (found : Option (List ℕ)) → parent_of (manifest_path i) ≡ found → (folder : List ℕ) × (parent_of (manifest_path i) ≡ Some folder)
+    by None is = absurd (none_apart ((root_has_no_parent (manifest_path i)).0 is))
+    by (Some folder) is = (folder, is)
 
 abbrev first_of_second : Place → ℕ
 first_of_second place = get_or (get_or place 1 []) 0 0

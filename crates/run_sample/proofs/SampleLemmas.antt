@@ -30,7 +30,7 @@ use Rattle.run_sample.specs.Files.{sample_content}
 use Rattle.run_sample.specs.Request.{sample_args, sample_context, sample_log, sample_request}
 use Rattle.run_sample.specs.Sample.{EndsSampled, IsHeard, IsSampleComplete, IsSampleReport, IsSampleTree, IsSampled, IsUnfailed, IsUnwritten, LinesCut, MayEndSample, RefusalWritten}
 
-never_rose : Rose 0 0 → ⊥
+pub never_rose : Rose 0 0 → ⊥
 never_rose (inl less) = omega arith
 never_rose (inr last) = omega arith
 

@@ -80,7 +80,7 @@ module _ (old new : Content) (place : Place) (bytes : List ℕ) (shallow : IsSha
   pub still_shallow : IsShallow new
   still_shallow = record { folders = folders_after; files = files_after }
 
-nothing_else : (q : Place) → q ≢ [] → finmap.get root_alone q ≡ None
+pub nothing_else : (q : Place) → q ≢ [] → finmap.get root_alone q ≡ None
 nothing_else q differs = get-insert_other finmap.empty [] q folder differs ∙ get-empty place_cmp q
 
 root_there : finmap.get root_alone [] ≡ Some folder

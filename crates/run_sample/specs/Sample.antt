@@ -1,9 +1,10 @@
 -- What a sample answers and writes.
-use Rattle.std.specs.Prelude.{◌≡◌, ℕ, List, [], Option, Some, All, Result, Ok, Err, ⊤}
+use Rattle.std.specs.Prelude.{◌≡◌, ◌≤◌, ℕ, List, [], Option, Some, All, Result, Ok, Err, ⊤}
 use Rattle.tree_core.specs.Faults.{Rose, Gained, GainedPrefix}
 use Rattle.tree_core.specs.declared.reads.ReadAnswer.{ReadAnswer}
 use Rattle.tree_core.specs.declared.reads.ReadAnswer.TheVariants.{Got, Absent, WrongKind, NotUtf8, Failed}
 use Rattle.spdx_catalog.specs.Catalog.{CatalogLists}
+use Rattle.spdx_catalog.specs.Table.{table_lists}
 use Rattle.spdx_catalog.specs.declared.identifier.Match.{Match}
 use Rattle.tree_texts.specs.Cause.{Cause, no_memory, failed_read, refused_write}
 use Rattle.run_found.specs.declared.error.Error.{Error}
@@ -104,3 +105,7 @@ abbrev pub IsSampleComplete : ℕ → CatalogLists → (List ℕ → Match) → 
 IsSampleComplete n lists match_of answer =
     (hearing : RequestHearing) (asked : CheckInput) → IsHeardOf (sample_request lists match_of) (sample_content n) 0 hearing → Asks (sample_request lists match_of) hearing asked
     → EndsSampled answer
+
+-- With the built-in catalogue there is no other refusal at all, however many crates the sample has.
+abbrev pub IsWholeSample : ℕ → CatalogLists → Result Report Error → Type 0
+IsWholeSample n lists answer = 1 ≤ n → lists ≡ table_lists → EndsSampled answer

@@ -4,7 +4,7 @@ ghost use Rattle.tree_core.specs.Faults.{Gained};
 ghost use Rattle.tree_texts.specs.declared.fault.ReadFault.{ReadFault};
 ghost use Rattle.run_found.specs.Error.{cause_of};
 ghost use Rattle.run_sample.specs.Lines.{sample_lines as lines_of};
-ghost use Rattle.run_sample.specs.Sample.{IsSampleComplete, IsSampled, IsUnfailed, IsUnwritten, LinesCut, WritesLines};
+ghost use Rattle.run_sample.specs.Sample.{IsSampleComplete, IsSampled, IsUnfailed, IsUnwritten, IsWholeSample, LinesCut, WritesLines};
 
 use crate::lines::sample_lines;
 use crate::request::{sample_args, sample_context, sample_log};
@@ -28,6 +28,7 @@ fn report_on<C: Catalog, I: Identifier>(
     ensures unfailed { IfErr result (λ error. IsUnfailed (cause_of error)) }
     ensures unwritten { IfErr result (λ error. IsUnwritten (cause_of error)) }
     ensures complete { IsSampleComplete count (C.lists catalog.now) (I.match_of identifier.now) result }
+    ensures built_in { IsWholeSample count (C.lists catalog.now) result }
 {
     let tree = sample_tree(alloc, count)?;
     let context = sample_context(alloc)?;
@@ -88,6 +89,10 @@ pub fn sample<O: Sink, C: Catalog, I: Identifier>(
     // refused write.
     ensures unfailed { IfErr result (λ error. IsUnfailed (cause_of error)) }
     ensures complete { IsSampleComplete count (C.lists catalog.now) (I.match_of identifier.now) result }
+
+    // With the built-in catalogue the sample's files ask for a check, whatever the number of crates, so that there is
+    // no refusal but want of memory and a refused write.
+    ensures built_in { IsWholeSample count (C.lists catalog.now) result }
 {
     match report_on(alloc, count, catalog, identifier) {
         Ok(report) => match write_lines(alloc, out, report.crates.items()) {

@@ -7,3 +7,4 @@ mod PlaceLemmas
 mod RunLemmas
 mod SpelledLemmas
 mod StoreLemmas
+mod StorePlaceLemmas

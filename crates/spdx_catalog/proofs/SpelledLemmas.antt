@@ -1,15 +1,19 @@
 -- Words with a space after each are the same bytes exactly where they are the same words.
-use Rattle.std.proofs.Common.{◌≡◌, ◌∙◌, ℕ, nat_eq, Bool, true, false, cond, ◌&&◌, List, [], ◌∷◌, ◌++◌, filter, refl, ap, arith, codes}
+use Rattle.std.proofs.Common.{◌≡◌, ◌∙◌, ◌<◌, ℕ, nat_eq, Bool, true, false, cond, ◌&&◌, List, [], ◌∷◌, ◌++◌, filter, refl, ap, arith, codes}
+use Rattle.std.proofs.Common.{lit<}
+use Rattle.std.proofs.lemmas.Str.{IsAscii-append, IsUtf8-from_ascii}
+use Rattle.std.proofs.lemmas.Str.Ascii.{IsAscii-nil, IsAscii-cons}
+use Rattle.std.specs.Prelude.{IsAscii, IsUtf8}
 use Rattle.std.specs.Char.{is_ascii_alphanumeric, to_ascii_lowercase}
 use Rattle.std.specs.Str.{bytes_eq}
 use Rattle.std.specs.List.{flat_map, slice_split, onto_first}
 use Rattle.std.specs.Cmp.Lexicographic.{pointwise}
 use Rattle.spdx_catalog.specs.TextWords.{has_some, is_between, is_copyright, is_line_end, runs_of, lower_of, words_kept, line_words, words_of, spelled}
 
--- no space
+-- ASCII, and no space
 abbrev pub Spaceless : List ℕ → Type 0
 Spaceless [] = Unit {0}
-Spaceless (b ∷ bs) = (nat_eq b 32 ≡ false) × (nat_eq 32 b ≡ false) × Spaceless bs
+Spaceless (b ∷ bs) = (nat_eq b 32 ≡ false) × (nat_eq 32 b ≡ false) × Spaceless bs × (b < 128)
 
 abbrev pub AllSpaceless : List (List ℕ) → Type 0
 AllSpaceless [] = Unit {0}
@@ -47,12 +51,15 @@ same_spelled (word ∷ words) (other ∷ others) clean others_clean =
 lower_no_space : (b : ℕ) → is_ascii_alphanumeric b ≡ true → (nat_eq (to_ascii_lowercase b) 32 ≡ false) × (nat_eq 32 (to_ascii_lowercase b) ≡ false)
 lower_no_space b is = let h : (nat_eq (to_ascii_lowercase b) 32 ≡ false) × (nat_eq 32 (to_ascii_lowercase b) ≡ false) = grind arith in h
 
+lower_ascii : (b : ℕ) → is_ascii_alphanumeric b ≡ true → to_ascii_lowercase b < 128
+lower_ascii b is = let h : to_ascii_lowercase b < 128 = grind arith in h
+
 abbrev AllParts : List (List ℕ) → Type 0
 AllParts parts = AllSpaceless (lower_of parts)
 
 onto : (b : ℕ) (parts : List (List ℕ)) → is_ascii_alphanumeric b ≡ true → AllParts parts → AllParts (onto_first b parts)
-onto b [] is clean = let h = lower_no_space b is in ((h.0, h.1, tt), tt)
-onto b (part ∷ parts) is clean = let h = lower_no_space b is in ((h.0, h.1, clean.0), clean.1)
+onto b [] is clean = let h = lower_no_space b is in ((h.0, h.1, tt, lower_ascii b is), tt)
+onto b (part ∷ parts) is clean = let h = lower_no_space b is in ((h.0, h.1, clean.0, lower_ascii b is), clean.1)
 
 part_at : (b : ℕ) (bs : List ℕ) (is : Bool) → is_ascii_alphanumeric b ≡ is → AllParts (slice_split is_between bs) → AllParts (slice_split is_between (b ∷ bs))
 part_at b bs true e clean = rw e (onto b (slice_split is_between bs) e clean)
@@ -85,3 +92,16 @@ of_lines (line ∷ lines) =
 -- the words of a text have no spaces
 pub words_spaceless : (text : List ℕ) → AllSpaceless (words_of text)
 words_spaceless text = of_lines (slice_split is_line_end text)
+
+ascii_word : (word : List ℕ) → Spaceless word → IsAscii word
+ascii_word [] clean = IsAscii-nil
+ascii_word (b ∷ bs) clean = IsAscii-cons b bs clean.3 (ascii_word bs clean.2)
+
+ascii_words : (words : List (List ℕ)) → AllSpaceless words → IsAscii (spelled words)
+ascii_words [] clean = IsAscii-nil
+ascii_words (word ∷ words) clean =
+    IsAscii-append (word ++ codes " ") (spelled words) (IsAscii-append word (codes " ") (ascii_word word clean.0) (IsAscii-cons 32 [] (lit< tt) IsAscii-nil)) (ascii_words words clean.1)
+
+-- so their spelling is a text
+pub words_text : (text : List ℕ) → IsUtf8 (spelled (words_of text))
+words_text text = IsUtf8-from_ascii (spelled (words_of text)) (ascii_words (words_of text) (words_spaceless text))

@@ -11,6 +11,7 @@ use Rattle.std.specs.List.{position_or_len}
 use Rattle.spdx_catalog.specs.declared.store.StoreText.{StoreText}
 use Rattle.spdx_catalog.specs.TextWords.{words_of, spelled}
 use Rattle.spdx_catalog.specs.Store.{same_words, stored_for}
+use Rattle.spdx_catalog.specs.StorePlaces.{all_spelled}
 use Rattle.spdx_catalog.proofs.SpelledLemmas.{AllSpaceless, same_spelled, words_spaceless}
 
 -- a place among what is made of the items is a place among the items
@@ -28,10 +29,6 @@ nothing_stored (first ∷ rest) = nothing_stored rest
 some_spelled : (words : List (List ℕ)) → AllSpaceless words → (stored : StoreText) → 0 < length (spelled words) → same_words (words_of stored.body) words ≡ bytes_eq (spelled (words_of stored.body)) (spelled words)
 some_spelled [] clean stored some = absurd (omega (arith, some))
 some_spelled (word ∷ words) clean stored some = same_spelled (words_of stored.body) (word ∷ words) (words_spaceless stored.body) clean
-
--- the words of each text, with a space after each word
-abbrev pub all_spelled : List StoreText → List (List ℕ)
-all_spelled texts = map (λ (stored : StoreText). spelled (words_of stored.body)) texts
 
 -- the text at the place of the same spelled words is the stored one
 pub stored_at : (texts : List StoreText) (text words : List ℕ) → words ≡ spelled (words_of text) → 0 < length words → stored_for texts text ≡ slice_get texts (position_or_len (λ known. bytes_eq known words) (all_spelled texts))

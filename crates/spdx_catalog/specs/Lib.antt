@@ -3,6 +3,7 @@ pub mod Catalog
 pub mod Identifier
 pub mod NameOrder
 pub mod Store
+pub mod StorePlaces
 pub mod Table
 pub mod TextWords
 pub mod Words

@@ -1,15 +1,15 @@
 //! The identifier over stored licence texts.
-ghost use Rattle.std.specs.Prelude.{◌≡◌, ℕ, List, [], IfOk, position};
-ghost use Rattle.std.specs.Str.{bytes_eq};
+ghost use Rattle.std.specs.Prelude.{◌≡◌, ℕ, List, [], IfOk, OnOk};
 ghost use Rattle.std.specs.Option.{option_copied};
 ghost use Rattle.spdx_catalog.specs.BuiltIn.{built_in};
 ghost use Rattle.spdx_catalog.specs.Store.{match_of, score_within, stored_for};
+ghost use Rattle.spdx_catalog.specs.StorePlaces.{FindsPlaces, all_spelled, with_new};
 ghost use Rattle.spdx_catalog.specs.TextWords.{spelled, words_of};
 
 use crate::built_in::{BUILT_IN, built_in_texts};
 use crate::identifier::{Identifier, Match};
 use crate::text_words::spelled_words;
-use deny_text::{Bytes, ListOf, Text};
+use deny_text::{ListOf, Text, TextMap};
 use std::alloc::{AllocError, Global};
 use std::marker::Model;
 
@@ -28,20 +28,20 @@ pub type StoreTexts = ListOf<StoreText>;
 #[derive(Drop)]
 pub struct LicenseStore {
     texts: StoreTexts,
-    /// The words of each text, with a space after each word.
-    words: ListOf<Bytes>,
+    /// By the words of texts, with a space after each word, the place of the first with these words.
+    places: TextMap<usize>,
 }
 
 impl Model for LicenseStore {
-    ghost use Rattle.std.specs.Prelude.{◌≡◌, List, map};
+    ghost use Rattle.std.specs.Prelude.{List};
     ghost use Rattle.spdx_catalog.specs.declared.store.StoreText.{StoreText};
-    ghost use Rattle.spdx_catalog.specs.TextWords.{spelled, words_of};
+    ghost use Rattle.spdx_catalog.specs.StorePlaces.{FindsPlaces, all_spelled};
 
     ghost Value = { List StoreText };
 
     ghost view = { λ s. s.texts };
 
-    ghost invariant = { λ s. s.words ≡ map (λ stored. spelled (words_of stored.body)) s.texts };
+    ghost invariant = { λ s. FindsPlaces s.places (all_spelled s.texts) };
 }
 
 impl LicenseStore {
@@ -49,12 +49,8 @@ impl LicenseStore {
     pub fn new(alloc: Global, texts: StoreTexts) -> Result<LicenseStore, AllocError>
         ensures { IfOk result (λ store. store ≡ texts) }
     {
-        let mut words = ListOf::new(alloc);
-        'texts: for stored in texts.items() {
-            let spelled = spelled_words(alloc, stored.body.as_str())?;
-            words.push(spelled)?;
-        }
-        Ok(LicenseStore { texts, words })
+        let places = places_of(alloc, texts.items())?;
+        Ok(LicenseStore { texts, places })
     }
 
     /// The store of the built-in texts: MIT with four headings, and ISC with two.
@@ -72,28 +68,59 @@ impl LicenseStore {
     {
         LicenseStore {
             texts: StoreTexts::new(alloc),
-            words: ListOf::new(alloc),
+            places: TextMap::new(alloc),
         }
     }
 
     /// The first stored text with these words, which have a space after each.
-    fn stored_with(&self, words: &[u8]) -> Option<&StoreText>
+    fn stored_with(&self, words: &str) -> Option<&StoreText>
         ensures { (text : List ℕ) → words.now ≡ spelled (words_of text)
             → option_copied result ≡ stored_for self.now text }
     {
         if words.is_empty() {
             return None;
         }
-        let place = place_of_words(self.words.items(), words)?;
+        let place = *self.places.get(words)?;
         self.texts.items().get(place)
     }
 }
 
-/// The place of the same words.
-fn place_of_words(known: &[Bytes], words: &[u8]) -> Option<usize>
-    ensures { result ≡ position (λ one. bytes_eq one words.now) known.now }
+/// The words of a text, with a space after each: ASCII letters, digits and spaces.
+fn key_of(alloc: Global, text: &str) -> Result<Text, AllocError>
+    ensures { IfOk result (λ key. key ≡ spelled (words_of text.now)) }
 {
-    known.iter().position(|one| one.items() == words)
+    let words = spelled_words(alloc, text)?;
+    match String::from_utf8(words.into_vec()) {
+        Ok(key) => Ok(Text::from(key)),
+        Err(_) => unreachable!(),
+    }
+}
+
+/// Adds the place of a text, unless one with its words has one.
+fn add_place(
+    alloc: Global,
+    places: &mut TextMap<usize>,
+    body: &str,
+    place: usize,
+) -> Result<(), AllocError>
+    ensures { OnOk result (places.new ≡ with_new places.old (spelled (words_of body.now)) place) }
+{
+    let key = key_of(alloc, body)?;
+    if places.get(key.as_str()).is_none() {
+        places.insert(key, place)?;
+    }
+    Ok(())
+}
+
+/// The first place of each text's words.
+fn places_of(alloc: Global, texts: &[StoreText]) -> Result<TextMap<usize>, AllocError>
+    ensures { IfOk result (λ places. FindsPlaces places (all_spelled texts.now)) }
+{
+    let mut places = TextMap::new(alloc);
+    'texts: for (place, stored) in texts.iter().enumerate() {
+        add_place(alloc, &mut places, stored.body.as_str(), place)?;
+    }
+    Ok(places)
 }
 
 impl Identifier for LicenseStore {
@@ -102,8 +129,8 @@ impl Identifier for LicenseStore {
     ghost within_hundred = { λ texts text. score_within (stored_for texts text) };
 
     fn scan(&self, alloc: Global, text: &str) -> Result<Match, AllocError> {
-        let words = spelled_words(alloc, text)?;
-        match self.stored_with(words.items()) {
+        let words = key_of(alloc, text)?;
+        match self.stored_with(words.as_str()) {
             Some(stored) => {
                 let name = Text::copy(alloc, stored.name.as_str())?;
                 Ok(Match {

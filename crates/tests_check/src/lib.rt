@@ -1,7 +1,8 @@
-//! Rows and cases of verdicts, and of what the check tells of crates and of policies.
+//! Rows and cases of verdicts, of verdict files, and of what the check tells of crates and of policies.
 #![tactic(auto)]
 
 mod judged;
+mod recorded;
 
 use std::alloc::Global;
 use tests_files::{AnswerText, Case, Cases, KeyAnswer, Rows, compare_cases, compare_rows};
@@ -16,6 +17,8 @@ impl Rows for TextRows {
         let tried = match group {
             "verdict" => judged::put_verdict(alloc, text, out),
             "passed over" => judged::put_passed_over(alloc, text, out),
+            "verdict file" => recorded::put_read(alloc, text, out),
+            "verified" => recorded::put_verified(alloc, text, out),
             _ => return false,
         };
         if tried.is_none() {
@@ -55,6 +58,7 @@ const FILES: [&str; 3] = [
 /// Compares the rows and cases of the room, and returns whether nothing differs.
 pub fn compare(rt: &HostRuntime) -> bool {
     let mut is_as_wanted = compare_rows(rt, "check/verdicts.txt", &TextRows);
+    is_as_wanted = compare_rows(rt, "check/recorded.txt", &TextRows) & is_as_wanted;
     for file in FILES {
         is_as_wanted = compare_cases(rt, file, &ToldCases) & is_as_wanted;
     }

@@ -11,8 +11,6 @@ mod licences;
 #[cfg(test)]
 mod listing;
 #[cfg(test)]
-mod records;
-#[cfg(test)]
 mod searches;
 #[cfg(test)]
 mod shapes;

@@ -125,7 +125,7 @@ returns-in-Sample-clause-ended g c =
     let last : SinkTexts = record { out = out; err = err } in
     let own = c.sample-answer.ensures in
     let ends = ends_sample size lists match_of tree counts err_after old out err c.sample-answer.result (made_none told count calls) (is_sampled (IsSampled size lists match_of) c.sample-answer.result own.sampled)
-    own.written own.unfailed own.complete c.told_sample.ensures.line (silent_err _ _ c.sample-answer.result c.told_sample.ensures.silent) in
+    own.written own.unfailed own.complete own.built_in c.told_sample.ensures.line (silent_err _ _ c.sample-answer.result c.told_sample.ensures.silent) in
     subst (λ command. EndsRequest lists match_of tree (with_err counts err_after) old last c.args.request.now command c.told_sample.result) (sym c.in-Sample.is)
     (subst (EndsSample size lists match_of tree (with_err counts err_after) old last) (sym c.told_sample.ensures.ended) ends)
   where

@@ -1,12 +1,14 @@
 -- A check of the sample answers with its report, and nothing is written by it.
-use Rattle.std.proofs.Common.{IfOk, Some, subst}
+use Rattle.std.proofs.Common.{IfOk, Some, ◌<◌, ◌^◌, arith, rules, subst}
 use Rattle.std.proofs.lemmas.Result.{err_from_is_err_and}
 use Rattle.run_check.specs.Given.{check_arguments_of}
 use Rattle.run_check.specs.Headline.{CheckHeadline}
+use Rattle.run_check.specs.Report.{IsCheckAnswer}
 use Rattle.run_found.specs.Hearing.{seen}
 use Rattle.run_sample.specs.Files.{sample_content}
 use Rattle.run_sample.specs.Sample.{IsSampleReport}
 use Rattle.run_sample.proofs.SampleLemmas.{complete_by, given_by, sample_seen, sampled_by}
+use Rattle.run_sample.proofs.WholeLemmas.{built_in_by}
 use Rattle.run_sample.proofs.command.report_on.Goals as goal
 
 pub returns-in_err-args-clause-complete : goal.returns-in_err-args-clause-complete
@@ -44,3 +46,24 @@ returns-clause-complete g c =
     (subst (λ given. CheckHeadline given (sample_content n) tree 0 0 c.cmd.result)
     (given_by lists match_of c.sample_log.result c.in_ok-args.args c.in_ok-context.context c.sample_log.ensures c.in_ok-args.ensures c.in_ok-context.ensures)
     (c.cmd.ensures.headline (sample_content n) sample.told))
+
+pub returns-in_err-args-clause-built_in : goal.returns-in_err-args-clause-built_in
+returns-in_err-args-clause-built_in g c =
+    let p = err_from_is_err_and c.from_residual-in_err-args.result c.from_residual-in_err-args.ensures.1 in
+    rw (p.1, p.2) (λ some built_in. tt)
+
+pub returns-clause-built_in : goal.returns-clause-built_in
+returns-clause-built_in g c =
+    let n = c.args.count in
+    let lists = g.C.Catalog.lists c.args.catalog.now in
+    let match_of = g.I.Identifier.match_of c.args.identifier.now in
+    let state = c.new-tree.result in
+    let tells = Some c.cmd.new.tree.content in
+    let calls = c.cmd.new.tree.calls in
+    let tree = seen (Some state.content) tells 0 0 state.calls calls in
+    let sample = sample_seen n state c.in_ok-tree.tree tells calls c.new-tree.ensures c.in_ok-tree.ensures.content c.in_ok-tree.ensures.no_calls in
+    let fits : n < 2 ^ 32 = search rules in
+    built_in_by n (omega (arith, fits)) lists match_of tree c.cmd.result sample
+    (subst (λ given. IsCheckAnswer given tree c.cmd.result)
+    (given_by lists match_of c.sample_log.result c.in_ok-args.args c.in_ok-context.context c.sample_log.ensures c.in_ok-args.ensures c.in_ok-context.ensures)
+    c.cmd.ensures.answer)

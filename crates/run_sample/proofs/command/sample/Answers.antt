@@ -46,3 +46,15 @@ returns-in-Err-write_lines-clause-complete g c hearing asked heard asks =
 pub returns-in-Ok-write_lines-clause-written : goal.returns-in-Ok-write_lines-clause-written
 returns-in-Ok-write_lines-clause-written g c =
     subst (λ crates. Gained (g.O.Sink.written c.args.out.now) (g.O.Sink.written c.write_lines.new.out) (sample_lines crates)) c.items.ensures c.in-Ok-write_lines.ensures.ok
+
+pub returns-in-Err-clause-built_in : goal.returns-in-Err-clause-built_in
+returns-in-Err-clause-built_in g c = c.in-Err.ensures.built_in
+
+pub returns-in-Err-write_lines-clause-built_in : goal.returns-in-Err-write_lines-clause-built_in
+returns-in-Err-write_lines-clause-built_in g c some built_in =
+    let old = g.O.Sink.written c.args.out.now in
+    let new = g.O.Sink.written c.write_lines.new.out in
+    let before = g.O.Sink.fault_count c.args.out.now in
+    let after = g.O.Sink.fault_count c.write_lines.new.out in
+    let cause = cause_of c.in-Err-write_lines.refused in
+    cut_ends c.in-Ok.report old new before after cause (subst (λ crates. LinesCut crates old new before after cause) c.items.ensures c.in-Err-write_lines.ensures.err)

@@ -2,7 +2,8 @@ use Rattle.std.proofs.Common.{◌≡◌, ◌∙◌, ℕ, ◌<◌, List, length, 
 use Rattle.std.specs.Option.{option_copied}
 use Rattle.std.specs.Str.{bytes_eq}
 use Rattle.spdx_catalog.proofs.PlaceLemmas.{none_found, place_found}
-use Rattle.spdx_catalog.proofs.StoreLemmas.{all_spelled, item_at, none_behind, none_stored, stored_at}
+use Rattle.spdx_catalog.specs.StorePlaces.{all_spelled}
+use Rattle.spdx_catalog.proofs.StoreLemmas.{item_at, none_behind, none_stored, stored_at}
 use Rattle.spdx_catalog.proofs.store.LicenseStore.stored_with.Goals as goal
 
 pub returns-then-is_empty : goal.returns-then-is_empty
@@ -14,8 +15,7 @@ returns-in_err-place c = λ text is.
     let test = λ (known : List ℕ). bytes_eq known c.args.words.now in
     let some : 0 < length c.args.words.now = grind arith in
     let view : c.self.inside.texts ≡ texts = cc in
-    let known : c.items.result.now ≡ all_spelled texts = c.items.ensures ∙ c.self.invariant ∙ ap all_spelled view in
-    let place : None ≡ position test (all_spelled texts) = c.in_err-place.ensures ∙ ap (position test) known in
+    let place : None ≡ position test (all_spelled texts) = c.in_err-place.ensures ∙ c.self.invariant c.args.words.now ∙ ap (λ known. position test (all_spelled known)) view in
     ap option_copied c.from_residual.ensures
     ∙ sym (stored_at texts text c.args.words.now is some ∙ none_behind texts _ (none_found test (all_spelled texts) place))
 
@@ -25,9 +25,9 @@ returns c = λ text is.
     let test = λ (known : List ℕ). bytes_eq known c.args.words.now in
     let some : 0 < length c.args.words.now = grind arith in
     let view : c.self.inside.texts ≡ texts = cc in
-    let known : c.items.result.now ≡ all_spelled texts = c.items.ensures ∙ c.self.invariant ∙ ap all_spelled view in
-    let place : Some c.in_ok-place.place ≡ position test (all_spelled texts) = c.in_ok-place.ensures ∙ ap (position test) known in
-    let got : option_copied c.get.result ≡ slice_get texts c.in_ok-place.place = item_at c.items-2.result.now c.in_ok-place.place c.get.result c.get.ensures.lookup ∙ ap (λ items. slice_get items c.in_ok-place.place) (cc) in
+    let at : ℕ = c.in_ok-place.field-0.now in
+    let place : Some at ≡ position test (all_spelled texts) = c.in_ok-place.ensures ∙ c.self.invariant c.args.words.now ∙ ap (λ known. position test (all_spelled known)) view in
+    let got : option_copied c.get-2.result ≡ slice_get texts at = item_at c.items.result.now at c.get-2.result c.get-2.ensures.lookup ∙ ap (λ items. slice_get items at) (cc) in
     got
-    ∙ ap (λ n. slice_get texts n) (place_found test (all_spelled texts) c.in_ok-place.place place).0
+    ∙ ap (λ n. slice_get texts n) (place_found test (all_spelled texts) at place).0
     ∙ sym (stored_at texts text c.args.words.now is some)

@@ -1,0 +1,8 @@
+use Rattle.std.proofs.Common.{take}
+use Rattle.std.specs.List.{AllZip}
+use Rattle.policy_valid.specs.View.{policy_of}
+use Rattle.check_verify.specs.Verified.{IsFlagged}
+use Rattle.check_verify.proofs.verifying.private_flags.Given as goal
+
+abbrev pub invariant-crates : goal.invariant-crates
+invariant-crates l = AllZip (IsFlagged (policy_of l.policy)) (take l.license-index l.licenses) l.flags.items

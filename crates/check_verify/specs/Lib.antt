@@ -1,0 +1,6 @@
+pub mod Crates
+pub mod Laws
+pub mod Reasons
+pub mod Recorded
+pub mod Terms
+pub mod Verified

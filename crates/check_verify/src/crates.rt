@@ -1,0 +1,205 @@
+//! What is wrong with a crate's recorded verdict.
+ghost use Rattle.std.specs.Prelude.{◌≡◌, ◌+◌, ◌≤◌, IfOk, None, Some, length, map, sum_by};
+ghost use Rattle.graph_core.specs.Krate.{record_of};
+ghost use Rattle.policy_valid.specs.Policy.{first_exception};
+ghost use Rattle.policy_valid.specs.View.{policy_of};
+ghost use Rattle.gather_findings.specs.License.{expression_of};
+ghost use Rattle.check_verify.specs.Crates as spec;
+ghost use Rattle.check_verify.specs.Crates.{SeenCrate};
+ghost use Rattle.check_evaluate.specs.Entries.{entry_families};
+ghost use Rattle.check_verify.specs.Terms.{entries_at};
+ghost use Rattle.check_verify.specs.Verified.{steps_for};
+
+use crate::answer::Fault;
+use crate::certificates::{is_choice, meet_each};
+use crate::entries::{any_has_hit, are_allowed};
+use check_evaluate::EntryIndex;
+use check_record::RecordVerdict;
+use deny_text::Steps;
+use gather_core::LicenseInfo;
+use graph_core::Krate;
+use policy_valid::ValidConfig;
+use spdx_certificates::Hit;
+use spdx_core::Expression;
+use std::alloc::{AllocError, Global};
+use std::sync::ledger::Ledger;
+
+/// A crate with the exception that counts for it, and where the entries of each licence family stand in the policy.
+#[derive(Clone, Copy)]
+pub struct Asked<'k> {
+    pub krate: &'k Krate,
+    pub counted: Option<usize>,
+    pub index: &'k EntryIndex,
+}
+
+/// What is wrong with a choice and its hits.
+fn choice_fault<L: Ledger>(
+    alloc: Global,
+    policy: &ValidConfig,
+    asked: &Asked<'_>,
+    expr: &Expression,
+    choice: &[usize],
+    hits: &[Hit],
+    steps: &mut Steps<L>,
+) -> Result<Option<Fault>, AllocError>
+    requires counted { asked.now.counted
+        ≡ first_exception (policy_of policy.now) (record_of asked.now.krate.now) }
+    requires families { entry_families (policy_of policy.now) ≡ asked.now.index.now }
+    ensures fault { let krate = record_of asked.now.krate.now in IfOk result (λ fault.
+        fault ≡ spec.choice_fault (policy_of policy.now) krate expr.now choice.now hits.now) }
+    ensures bound { steps.new ≤ steps.old + length hits.now }
+{
+    if !is_choice(alloc, expr, choice)? {
+        return Ok(Some(Fault::NotAChoice));
+    }
+    let terms = expr.requirements();
+    if are_allowed(policy, asked.counted, terms, choice, hits, steps) {
+        Ok(None)
+    } else {
+        Ok(Some(Fault::NotSatisfied))
+    }
+}
+
+/// What is wrong with places that are to stand in the way.
+fn blocks_fault<L: Ledger>(
+    alloc: Global,
+    policy: &ValidConfig,
+    asked: &Asked<'_>,
+    expr: &Expression,
+    blocks: &[usize],
+    steps: &mut Steps<L>,
+) -> Result<Option<Fault>, AllocError>
+    requires counted { asked.now.counted
+        ≡ first_exception (policy_of policy.now) (record_of asked.now.krate.now) }
+    requires families { entry_families (policy_of policy.now) ≡ asked.now.index.now }
+    ensures fault { let krate = record_of asked.now.krate.now in IfOk result (λ fault.
+        fault ≡ spec.blocks_fault (policy_of policy.now) krate expr.now blocks.now) }
+    ensures bound { steps.new
+        ≤ steps.old + sum_by (entries_at (policy_of policy.now) asked.now.counted expr.now.terms) blocks.now }
+{
+    if any_has_hit(
+        policy,
+        asked.index,
+        asked.counted,
+        expr.requirements(),
+        blocks,
+        steps,
+    ) {
+        return Ok(Some(Fault::HasHit));
+    }
+    if meet_each(alloc, expr, blocks)? {
+        Ok(None)
+    } else {
+        Ok(Some(Fault::NotBlocking))
+    }
+}
+
+/// What is wrong with a verdict on an expression.
+fn certificate_fault<L: Ledger>(
+    alloc: Global,
+    policy: &ValidConfig,
+    asked: &Asked<'_>,
+    expr: &Expression,
+    verdict: &RecordVerdict,
+    steps: &mut Steps<L>,
+) -> Result<Option<Fault>, AllocError>
+    requires counted { asked.now.counted
+        ≡ first_exception (policy_of policy.now) (record_of asked.now.krate.now) }
+    requires families { entry_families (policy_of policy.now) ≡ asked.now.index.now }
+    ensures fault { let krate = record_of asked.now.krate.now in IfOk result (λ fault.
+        fault ≡ spec.certificate_fault (policy_of policy.now) krate expr.now verdict.now) }
+    ensures bound { steps.new
+        ≤ steps.old + steps_for (policy_of policy.now) (record_of asked.now.krate.now)
+        (Some expr.now) verdict.now }
+{
+    match verdict {
+        RecordVerdict::Accepted { choice, hits } => {
+            choice_fault(
+                alloc,
+                policy,
+                asked,
+                expr,
+                choice.items(),
+                hits.items(),
+                steps,
+            )
+        }
+        RecordVerdict::Rejected { blocks } => {
+            blocks_fault(alloc, policy, asked, expr, blocks.items(), steps)
+        }
+        RecordVerdict::Skipped | RecordVerdict::Unlicensed => Ok(Some(Fault::Variant)),
+    }
+}
+
+/// What is wrong with the verdict on a crate that the policy passes over.
+fn skipped_fault(verdict: &RecordVerdict) -> Option<Fault>
+    ensures { result ≡ spec.skipped_fault verdict.now }
+{
+    match verdict {
+        RecordVerdict::Skipped => None,
+        _ => Some(Fault::Variant),
+    }
+}
+
+/// What is wrong with the verdict on a crate without an expression.
+fn unlicensed_fault(verdict: &RecordVerdict) -> Option<Fault>
+    ensures { result ≡ spec.unlicensed_fault verdict.now }
+{
+    match verdict {
+        RecordVerdict::Unlicensed => None,
+        _ => Some(Fault::Variant),
+    }
+}
+
+/// What is wrong with the verdict on a crate that is not passed over.
+fn asked_fault<L: Ledger>(
+    alloc: Global,
+    policy: &ValidConfig,
+    asked: &Asked<'_>,
+    info: &LicenseInfo,
+    verdict: &RecordVerdict,
+    steps: &mut Steps<L>,
+) -> Result<Option<Fault>, AllocError>
+    requires counted { asked.now.counted
+        ≡ first_exception (policy_of policy.now) (record_of asked.now.krate.now) }
+    requires families { entry_families (policy_of policy.now) ≡ asked.now.index.now }
+    ensures fault { let krate = record_of asked.now.krate.now in IfOk result (λ fault.
+        fault ≡ spec.asked_fault (policy_of policy.now) krate (expression_of info.now) verdict.now) }
+    ensures bound { steps.new
+        ≤ steps.old + steps_for (policy_of policy.now) (record_of asked.now.krate.now)
+        (expression_of info.now) verdict.now }
+{
+    match info {
+        LicenseInfo::SpdxExpression { expr, .. } => {
+            certificate_fault(alloc, policy, asked, expr, verdict, steps)
+        }
+        LicenseInfo::Unlicensed => Ok(unlicensed_fault(verdict)),
+    }
+}
+
+/// What is wrong with a crate's verdict, where it is known whether the policy passes the crate over.
+pub fn fault_of<L: Ledger>(
+    alloc: Global,
+    policy: &ValidConfig,
+    asked: &Asked<'_>,
+    private: bool,
+    info: &LicenseInfo,
+    verdict: &RecordVerdict,
+    steps: &mut Steps<L>,
+) -> Result<Option<Fault>, AllocError>
+    requires counted { asked.now.counted
+        ≡ first_exception (policy_of policy.now) (record_of asked.now.krate.now) }
+    requires families { entry_families (policy_of policy.now) ≡ asked.now.index.now }
+    ensures fault { let krate = record_of asked.now.krate.now in
+        let seen : SeenCrate = record { krate = krate; private = private; expression = expression_of info.now } in
+        IfOk result (λ fault. fault ≡ spec.fault_of (policy_of policy.now) seen verdict.now) }
+    ensures bound { steps.new
+        ≤ steps.old + steps_for (policy_of policy.now) (record_of asked.now.krate.now)
+        (expression_of info.now) verdict.now }
+{
+    if private {
+        Ok(skipped_fault(verdict))
+    } else {
+        asked_fault(alloc, policy, asked, info, verdict, steps)
+    }
+}

@@ -1,0 +1,137 @@
+//! Recorded entries against terms.
+ghost use Rattle.std.specs.Prelude.{◌≡◌, ◌+◌, ◌≤◌, false, true, map, length, is_some, slice_get, sum_by};
+ghost use Rattle.std.specs.List.{list_any};
+ghost use Rattle.std.specs.Option.{option_map_or, option_to_list};
+ghost use Rattle.policy_valid.specs.View.{policy_of};
+ghost use Rattle.check_evaluate.specs.Entries.{entry_families};
+ghost use Rattle.check_verify.specs.Terms as spec;
+ghost use Rattle.check_verify.specs.Terms.{entries_at};
+
+use check_evaluate::{EntryIndex, granted, hit_by, satisfies_at};
+use deny_text::Steps;
+use policy_valid::ValidConfig;
+use spdx_certificates::Hit;
+use spdx_core::{ExpressionReq, LicenseReq};
+use std::sync::ledger::Ledger;
+
+/// Whether an exception is the one that counts.
+fn counts(counted: Option<usize>, exception: usize) -> bool
+    ensures { result ≡ spec.is_among (option_to_list counted) exception }
+{
+    match counted {
+        Some(place) => place == exception,
+        None => false,
+    }
+}
+
+/// Whether a hit is one of the policy for a crate, and satisfies a term. It takes a step at most.
+fn is_allowed_by<L: Ledger>(
+    policy: &ValidConfig,
+    counted: Option<usize>,
+    term: &LicenseReq,
+    hit: Hit,
+    steps: &mut Steps<L>,
+) -> bool
+    ensures answer { result ≡ spec.is_allowed_by (policy_of policy.now) (option_to_list counted) term.now hit }
+    ensures bound { steps.new ≤ steps.old + 1 }
+{
+    match hit {
+        Hit::Allowed(entry) => satisfies_at(policy.allowed.items(), entry, term, steps),
+        Hit::Exception { exception, entry } => {
+            if !counts(counted, exception) {
+                return false;
+            }
+            satisfies_at(
+                granted(policy.exceptions.items(), exception),
+                entry,
+                term,
+                steps,
+            )
+        }
+    }
+}
+
+/// Whether a hit allows the term at a place.
+fn is_allowed_at<L: Ledger>(
+    policy: &ValidConfig,
+    counted: Option<usize>,
+    terms: &[ExpressionReq],
+    place: usize,
+    hit: Hit,
+    steps: &mut Steps<L>,
+) -> bool
+    ensures answer { let policy = policy_of policy.now in
+        result ≡ option_map_or (λ term. spec.is_allowed_by policy (option_to_list counted) term.req hit)
+        (slice_get terms.now place) false }
+    ensures bound { steps.new ≤ steps.old + 1 }
+{
+    match terms.get(place) {
+        Some(term) => is_allowed_by(policy, counted, &term.req, hit, steps),
+        None => false,
+    }
+}
+
+/// Whether each hit allows the term at its place. It takes a step a hit at most.
+pub fn are_allowed<L: Ledger>(
+    policy: &ValidConfig,
+    counted: Option<usize>,
+    terms: &[ExpressionReq],
+    places: &[usize],
+    hits: &[Hit],
+    steps: &mut Steps<L>,
+) -> bool
+    ensures answer { result
+        ≡ spec.are_allowed (policy_of policy.now) (option_to_list counted) terms.now places.now hits.now }
+    ensures bound { steps.new ≤ steps.old + length hits.now }
+{
+    if places.len() != hits.len() {
+        return false;
+    }
+    let mut allowed = true;
+    'hits: for place in 0..hits.len() {
+        let here = is_allowed_at(policy, counted, terms, places[place], hits[place], steps);
+        allowed = allowed & here;
+    }
+    allowed
+}
+
+/// Whether a place is outside an expression, or its term is allowed. It takes a step for each entry that it asks.
+fn has_hit_or_none<L: Ledger>(
+    policy: &ValidConfig,
+    index: &EntryIndex,
+    counted: Option<usize>,
+    terms: &[ExpressionReq],
+    place: usize,
+    steps: &mut Steps<L>,
+) -> bool
+    requires { entry_families (policy_of policy.now) ≡ index.now }
+    ensures answer { result ≡ spec.hit_or_none_by (policy_of policy.now) counted terms.now place }
+    ensures bound { steps.new ≤ steps.old + entries_at (policy_of policy.now) counted terms.now place }
+{
+    match terms.get(place) {
+        Some(term) => hit_by(policy, index, counted, &term.req, steps).is_some(),
+        None => true,
+    }
+}
+
+/// Whether one of some places is outside an expression, or its term is allowed.
+pub fn any_has_hit<L: Ledger>(
+    policy: &ValidConfig,
+    index: &EntryIndex,
+    counted: Option<usize>,
+    terms: &[ExpressionReq],
+    places: &[usize],
+    steps: &mut Steps<L>,
+) -> bool
+    requires { entry_families (policy_of policy.now) ≡ index.now }
+    ensures answer { result ≡ list_any (spec.hit_or_none_by (policy_of policy.now) counted terms.now) places.now }
+    ensures bound { steps.new
+        ≤ steps.old + sum_by (entries_at (policy_of policy.now) counted terms.now) places.now }
+{
+    let mut found = false;
+    'places: for place in places {
+        let here = has_hit_or_none(policy, index, counted, terms, *place, steps);
+        found = found | here;
+    }
+    found
+}

@@ -1,0 +1,14 @@
+//! What is recorded of a verdict, and whether a record is right about crates as they are now.
+#![tactic(auto)]
+
+pub mod answer;
+mod certificates;
+mod crates;
+mod entries;
+pub mod laws;
+pub mod recorded;
+pub mod verifying;
+
+pub use answer::{Answer, NoReason};
+pub use recorded::recorded_verdict;
+pub use verifying::verify;

@@ -1,0 +1,139 @@
+-- What is told behind the line of a refusal: where it comes from, and what to do.
+use Rattle.std.specs.Prelude.{ℕ, ◌+◌, Bool, true, false, ◌&&◌, List, [], ◌∷◌, ◌++◌, Option, Some, None, Result, Ok, Err, codes, decimal}
+use Rattle.std.specs.Str.{bytes_eq}
+use Rattle.deny_text.specs.Path.{join_of}
+use Rattle.diag_core.specs.declared.position.FilesErr.{FilesErr}
+use Rattle.diag_core.specs.declared.position.Location.{Location}
+use Rattle.diag_core.specs.declared.severity.Severity.{Severity}
+use Rattle.diag_core.specs.Position.{location_of}
+use Rattle.graph_metadata.specs.declared.fault.MetaFault.{MetaFault}
+use Rattle.graph_metadata.specs.declared.fault.MetaReason.{MetaReason}
+use Rattle.graph_metadata.specs.declared.fault.MetaReason.TheVariants as reason
+use Rattle.run_found.specs.declared.error.Error.{Error}
+use Rattle.run_found.specs.declared.error.Error.TheVariants.{Memory, NotCarried, ManifestPath, ManifestRead, CatalogRead, CatalogSyntax, StoreRead, ConfigRead, ConfigSyntax, ConfigShape, ConfigInvalid, OverrideTwice, MetadataRead, MetadataSyntax, MetadataShape, NoRoots, WriteFault}
+use Rattle.run_request.specs.declared.request.Request.{Request}
+use Rattle.spdx_listing.specs.declared.error.StoreFault.{StoreFault}
+use Rattle.spdx_listing.specs.declared.error.StoreFault.TheVariants as store
+use Rattle.toml_subset.specs.declared.error.SyntaxError.{SyntaxError}
+use Rattle.refusal_help.specs.declared.again.Again.{Again}
+use Rattle.refusal_help.specs.Unknown.{names_unknown}
+use Rattle.refusal_help.specs.Words.{built_in_words, fault_words, level_option, line_words, manifest_words, own_words, read_words, reason_words, store_words, what_words}
+
+-- ---- lines
+
+-- what is so of a file, or at a place in it
+abbrev pub at_file : List ℕ → List ℕ → List ℕ
+at_file file words = codes "  --> " ++ file ++ codes ": " ++ words ++ codes "\n"
+
+-- nothing where the path is not known
+abbrev pub at_file_if : Option (List ℕ) → List ℕ → List ℕ
+at_file_if (Some file) words = at_file file words
+at_file_if None words = []
+
+-- what to do
+abbrev pub advice : List ℕ → List ℕ
+advice words = codes "  = " ++ words ++ codes "\n"
+
+-- ---- places
+
+abbrev pub found_at : Result Location FilesErr → Option Location
+found_at (Ok at) = Some at
+found_at (Err error) = None
+
+-- the line and the column of a place of a text, where the text was read and has the place
+abbrev pub place_in : Option (List ℕ) → ℕ → Option Location
+place_in (Some text) place = found_at (location_of place text)
+place_in None place = None
+
+-- a policy at a line and a column, both from 1
+abbrev pub line_and_column : List ℕ → Location → List ℕ
+line_and_column file at = file ++ codes ":" ++ decimal (at.line + 1) ++ codes ":" ++ decimal (at.column + 1)
+
+-- a fault of its text: at a line and a column, or else at a byte
+abbrev pub fault_at : List ℕ → Option Location → ℕ → List ℕ → List ℕ
+fault_at file (Some at) place words = at_file (line_and_column file at) words
+fault_at file None place words = at_file file (codes "at byte " ++ decimal place ++ codes ": " ++ words)
+
+abbrev pub syntax_help : Option (List ℕ) → Option (List ℕ) → SyntaxError → List ℕ
+syntax_help (Some file) text fault = fault_at file (place_in text fault.span.start) fault.span.start (reason_words fault.reason)
+syntax_help None text fault = []
+
+-- ---- the catalogue and the licence texts
+
+-- a fault of the catalogue's file, at a line from 1
+abbrev pub line_help : Option (List ℕ) → ℕ → List ℕ
+line_help (Some file) line = at_file (file ++ codes ":" ++ decimal line) line_words
+line_help None line = []
+
+-- what was not read: the folder, or a file in it
+abbrev pub store_place : List ℕ → StoreFault → List ℕ
+store_place folder (store.NotUtf8 name) = join_of folder name
+store_place folder _ = folder
+
+abbrev pub store_help : Option (List ℕ) → StoreFault → List ℕ
+store_help (Some folder) fault = at_file (store_place folder fault) (store_words fault)
+store_help None fault = []
+
+-- which catalogue lacks a licence, and how it comes to have it
+abbrev pub catalog_words : Option (List ℕ) → List ℕ
+catalog_words (Some file) = own_words file
+catalog_words None = built_in_words
+
+abbrev pub unknown_help : Option (List ℕ) → Bool → List ℕ
+unknown_help catalog true = advice (catalog_words catalog)
+unknown_help catalog false = []
+
+-- ---- metadata
+
+-- a place of metadata with a blank behind it; the root is nothing
+abbrev pub place_text : List ℕ → List ℕ
+place_text [] = []
+place_text (byte ∷ place) = (byte ∷ place) ++ codes " "
+
+abbrev pub is_kind_fault : MetaReason → Bool
+is_kind_fault reason.WrongKind = true
+is_kind_fault _ = false
+
+-- a `resolve` that is null, as cargo writes it where it looks at no dependencies
+abbrev pub is_unresolved : MetaFault → Bool
+is_unresolved fault = is_kind_fault fault.fault && bytes_eq fault.place (codes "/resolve")
+
+abbrev pub resolve_help : Bool → List ℕ
+resolve_help true = advice (codes "cargo metadata was run with --no-deps: run it without")
+resolve_help false = []
+
+abbrev pub shape_help : Option (List ℕ) → MetaFault → List ℕ
+shape_help file fault = at_file_if file (place_text fault.place ++ fault_words fault.fault) ++ resolve_help (is_unresolved fault)
+
+-- ---- counts and levels
+
+abbrev pub roots_help : ℕ → ℕ → ℕ → List ℕ
+roots_help base excluded unpublished =
+    advice (codes "root crates: " ++ decimal base ++ codes "; left out by name: " ++ decimal excluded ++ codes "; published nowhere: " ++ decimal unpublished)
+
+abbrev pub twice_help : List ℕ → Severity → Severity → List ℕ
+twice_help name first second =
+    advice (codes "'" ++ name ++ codes "' is given twice: to " ++ level_option first ++ codes " and to " ++ level_option second)
+
+-- ---- the whole
+
+-- By the request and by what was heard of the policy behind the run. A policy whose shape is wrong, or that is not valid, was told
+-- of before the line, with its places; a refused write and want of memory have no help.
+unfoldable pub help_of : Request → Again → Error → List ℕ
+help_of request again Memory = []
+help_of request again (NotCarried what) = advice (what_words what)
+help_of request again (ManifestPath path) = at_file path (manifest_words path)
+help_of request again (ManifestRead before after) = at_file request.krate_ctx.manifest_path (codes "could not be looked at")
+help_of request again (CatalogRead fault) = at_file_if request.catalog (read_words fault)
+help_of request again (CatalogSyntax line) = line_help request.catalog line
+help_of request again (StoreRead fault) = store_help request.store fault
+help_of request again (ConfigRead fault) = at_file_if again.policy (read_words fault)
+help_of request again (ConfigSyntax fault) = syntax_help again.policy again.text fault
+help_of request again (ConfigShape faults) = unknown_help request.catalog (names_unknown (ConfigShape faults))
+help_of request again (ConfigInvalid found) = unknown_help request.catalog (names_unknown (ConfigInvalid found))
+help_of request again (OverrideTwice name first second) = twice_help name first second
+help_of request again (MetadataRead fault) = at_file_if request.krate_ctx.metadata_path (read_words fault)
+help_of request again MetadataSyntax = at_file_if request.krate_ctx.metadata_path (codes "is no JSON")
+help_of request again (MetadataShape fault) = shape_help request.krate_ctx.metadata_path fault
+help_of request again (NoRoots base excluded unpublished) = roots_help base excluded unpublished
+help_of request again (WriteFault before after) = []

@@ -1,0 +1,5 @@
+pub mod Again
+pub mod Help
+pub mod Told
+pub mod Unknown
+pub mod Words

@@ -1,0 +1,104 @@
+//! What is heard of the policy once more, behind a run that refused it.
+ghost use Rattle.std.specs.Prelude.{◌≡◌, None};
+ghost use Rattle.std.specs.Option.{ForSome};
+ghost use Rattle.tree_core.specs.Hearing.{MadeSome};
+ghost use Rattle.refusal_help.specs.Again.{IsAgain, IsAskedWhereDue, IsReadAgain};
+
+use deny_text::{PathBuf, Text};
+use run_context::config_path_since;
+use run_found::Error;
+use run_request::KrateContext;
+use std::alloc::Global;
+use tree_core::Tree;
+use tree_texts::read_file_text;
+
+/// Where the policy is, and its text, as they were heard behind a run.
+#[derive(Drop)]
+pub struct Again {
+    pub policy: Option<PathBuf>,
+    /// Only of a regular file, and only where its syntax was refused.
+    pub text: Option<Text>,
+}
+
+impl Again {
+    /// Nothing was heard.
+    pub(crate) fn nothing() -> Again
+        ensures { result.policy ≡ None }
+    {
+        Again {
+            policy: None,
+            text: None,
+        }
+    }
+}
+
+/// The text of a regular file. A pipe is not read twice: a second read could wait for ever.
+fn text_again<T: Tree>(alloc: Global, tree: &mut T, path: &str) -> Option<Text>
+    ensures read { ForSome result (IsReadAgain (T.trace tree.old) (T.trace tree.new) path.now) }
+    ensures made { MadeSome (T.content tree.old) (T.content tree.new) (T.fault_count tree.old)
+        (T.fault_count tree.new) (T.trace tree.old) (T.trace tree.new) }
+{
+    let Ok(true) = tree.is_file(alloc, path) else {
+        return None;
+    };
+    let begun = tree.faults();
+    match read_file_text(alloc, tree, path, begun) {
+        Ok(Ok(text)) => Some(text),
+        _ => None,
+    }
+}
+
+/// The same where it is asked for.
+fn text_where<T: Tree>(alloc: Global, tree: &mut T, path: &str, is_asked: bool) -> Option<Text>
+    ensures read { ForSome result (IsReadAgain (T.trace tree.old) (T.trace tree.new) path.now) }
+    ensures made { MadeSome (T.content tree.old) (T.content tree.new) (T.fault_count tree.old)
+        (T.fault_count tree.new) (T.trace tree.old) (T.trace tree.new) }
+{
+    if is_asked {
+        text_again(alloc, tree, path)
+    } else {
+        None
+    }
+}
+
+/// The search for the policy once more, and its text where that is asked for.
+fn policy_again<T: Tree>(
+    alloc: Global,
+    tree: &mut T,
+    context: &KrateContext,
+    with_text: bool,
+) -> Again
+    ensures again { IsAgain context.now (T.trace tree.old) (T.trace tree.new) result }
+    ensures made { MadeSome (T.content tree.old) (T.content tree.new) (T.fault_count tree.old)
+        (T.fault_count tree.new) (T.trace tree.old) (T.trace tree.new) }
+{
+    let begun = tree.faults();
+    let Ok(Some(policy)) = config_path_since(context, alloc, tree, begun) else {
+        return Again::nothing();
+    };
+    let text = text_where(alloc, tree, policy.as_path(), with_text);
+    Again {
+        policy: Some(policy),
+        text,
+    }
+}
+
+/// What is heard of the policy behind a run that ended with a refusal: nothing, where the refusal is not one of
+/// the policy's file.
+pub(crate) fn heard_again<T: Tree>(
+    alloc: Global,
+    tree: &mut T,
+    context: &KrateContext,
+    error: &Error,
+) -> Again
+    ensures again { IsAgain context.now (T.trace tree.old) (T.trace tree.new) result }
+    ensures due { IsAskedWhereDue error.now (T.trace tree.old) (T.trace tree.new) }
+    ensures made { MadeSome (T.content tree.old) (T.content tree.new) (T.fault_count tree.old)
+        (T.fault_count tree.new) (T.trace tree.old) (T.trace tree.new) }
+{
+    match error {
+        Error::ConfigRead(_) => policy_again(alloc, tree, context, false),
+        Error::ConfigSyntax(_) => policy_again(alloc, tree, context, true),
+        _ => Again::nothing(),
+    }
+}

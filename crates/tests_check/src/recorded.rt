@@ -1,0 +1,133 @@
+//! Verdict files, and whether a record is right about the crate `a`.
+ghost use Rattle.std.specs.Prelude.{◌≡◌, ◌<◌};
+
+use check_record::{Record, RecordError, decode, encode};
+use check_verify::{Answer, NoReason, verify};
+use deny_text::{Steps, Texts};
+use diag_core::Notes;
+use gather_core::{
+    Diags, KrateLicense, KrateLicenses, LicenseExprInfo, LicenseExprSource, LicenseInfo, Summary,
+};
+use graph_core::Krate;
+use policy_valid::ValidConfig;
+use std::alloc::Global;
+use std::marker::Brand;
+use std::sync::ledger::{Blank, Ledger};
+use tests_files::AnswerText;
+use tests_gather::given::{expression, krate, policy};
+use tree_core::Reads;
+
+/// Whether a text is a verdict file, and is written as it was read.
+pub fn put_read(alloc: Global, text: &str, out: &mut AnswerText) -> Option<()> {
+    let verdicts = match decode(alloc, text.as_bytes()) {
+        Ok(verdicts) => verdicts,
+        Err(RecordError::Memory) => return None,
+        Err(_) => {
+            out.put("none");
+            return Some(());
+        }
+    };
+    let written = encode(alloc, &verdicts).ok()?;
+    out.put(if written.items() == text.as_bytes() {
+        "same"
+    } else {
+        "other"
+    });
+    Some(())
+}
+
+/// The part before a bar, and what stands behind it.
+fn cut(text: &str) -> (&str, &str) {
+    let (part, rest) = text.split_once('|').unwrap_or((text, ""));
+    (part.trim(), rest)
+}
+
+/// A file of lines, each an id without blanks, and a verdict.
+fn file_of(alloc: Global, lines: &str) -> Option<String> {
+    let mut file = String::from_str(alloc, "deny-record 1\n").ok()?;
+    for line in lines.split_terminator(';') {
+        let line = line.trim();
+        let (id, verdict) = line.split_once(' ').unwrap_or((line, ""));
+        let count = id.len();
+        write!(file, "c {count}:{id} {verdict}\n").ok()?;
+    }
+    file.push_str("end\n").ok()?;
+    Some(file)
+}
+
+/// The licence of a crate; there is none of one that is private or has none.
+fn license(alloc: Global, text: &str) -> Option<LicenseInfo> {
+    if text == "none" || text == "private" {
+        return Some(LicenseInfo::Unlicensed);
+    }
+    let expr = expression(alloc, text)?;
+    let nfo = LicenseExprInfo {
+        file_id: 0,
+        offset: 0,
+        whole: None,
+        source: LicenseExprSource::UserOverride,
+    };
+    Some(LicenseInfo::SpdxExpression { expr, nfo })
+}
+
+fn summary_of<'k>(alloc: Global, krate: &'k Krate, lic_info: LicenseInfo) -> Option<Summary<'k>> {
+    let mut nfos = KrateLicenses::new(alloc);
+    let license = KrateLicense {
+        krate,
+        lic_info,
+        notes: Notes::new(alloc),
+        diags: Diags::new(alloc),
+        reads: Reads::new(alloc),
+    };
+    nfos.push(license).ok()?;
+    Some(Summary { nfos })
+}
+
+fn put_answer(out: &mut AnswerText, answer: &Answer) {
+    out.put(match answer {
+        Answer::Yes => "verified",
+        Answer::No(NoReason::Crates) => "the crates differ",
+        Answer::No(NoReason::Variant(_)) => "the verdict differs",
+        Answer::No(NoReason::NotAChoice(_)) => "the places are no choice",
+        Answer::No(NoReason::NotSatisfied(_)) => "an entry does not satisfy",
+        Answer::No(NoReason::HasHit(_)) => "a place has a hit",
+        Answer::No(NoReason::NotBlocking(_)) => "the places do not block",
+    });
+}
+
+fn verify_file<L: Ledger>(
+    alloc: Global,
+    out: &mut AnswerText,
+    verdicts: &Record,
+    krate: &Krate,
+    lic_info: LicenseInfo,
+    policy: &ValidConfig,
+    ledger: Blank,
+) -> Option<()>
+    requires name { ledger.name ≡ L.name }
+    requires parts { ledger.parts ≡ L.parts }
+    requires some { 0 < ledger.parts }
+{
+    let summary = summary_of(alloc, krate, lic_info)?;
+    let mut steps = Steps::<L>::new(ledger);
+    let answer = verify(alloc, verdicts, &summary, policy, &mut steps).ok()?;
+    put_answer(out, &answer);
+    Some(())
+}
+
+/// Whether a record is right about the crate `a`: its expression, the allowed licences, the exceptions, and the
+/// lines of the record, with bars between them.
+pub fn put_verified(alloc: Global, text: &str, out: &mut AnswerText) -> Option<()> {
+    let (text, rest) = cut(text);
+    let (allow, rest) = cut(rest);
+    let (exceptions, lines) = cut(rest);
+    let file = file_of(alloc, lines)?;
+    let policy = policy(alloc, allow, exceptions)?;
+    let mut krate = krate(alloc, "a", "a")?;
+    if text == "private" {
+        krate.publish = Some(Texts::new(alloc));
+    }
+    let info = license(alloc, text)?;
+    let verdicts = decode(alloc, file.as_bytes()).ok()?;
+    verify_file::<Brand>(alloc, out, &verdicts, &krate, info, &policy, Blank::new(1))
+}
