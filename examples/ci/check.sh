@@ -4,7 +4,8 @@
 # usage: check.sh [FOLDER]     DENY_CONFIG names another policy, CARGO_DENY another program
 #
 # Features are cargo's to apply. Of the policy's table [graph] these three keys are read here, each by a line of sed, so each has to
-# stand in a line of its own: all-features, no-default-features, features.
+# stand in a line of its own: all-features, no-default-features, features. A policy that names one in another form is refused, since
+# crates behind a feature would go unchecked.
 set -u
 cd "${1:-.}" || exit 1
 
@@ -27,6 +28,12 @@ fi
 graph_key() {
     sed -n "/^\[graph\]/,/^\[/s/^ *$1 *= *//p" "$policy" | sed 's/ *#.*//'
 }
+values=$(graph_key all-features; graph_key no-default-features; graph_key features)
+named=$(sed 's/#.*//' "$policy" | grep -cE '(^|[^a-z-])(all-features|no-default-features|features)([^a-z-]|$)')
+if [ "$named" -ne "$(printf '%s' "$values" | grep -c .)" ] || printf '%s' "$values" | grep -qvxE 'true|false|\[[^][]*\]'; then
+    echo "check.sh: $policy names features in a form that is not read here; put each of all-features, no-default-features and features in a line of its own below [graph]" >&2
+    exit 1
+fi
 set --
 if [ "$(graph_key all-features)" = true ]; then set -- "$@" --all-features; fi
 if [ "$(graph_key no-default-features)" = true ]; then set -- "$@" --no-default-features; fi
