@@ -240,6 +240,7 @@ fn judge_by_ledger<L: Ledger>(
     // each at the levels that the sink's overrides say
     ensures packs { IfOk result (λ verdicts. sink.new.packs ≡ map (pack_overridden sink.old.overrides)
         (findings_of ctx.now.cfg (gathered_of_licenses summary.now.nfos) verdicts)) }
+    ensures front { OnErr result (HasFront (policy_of ctx.now.cfg) summary.now.nfos sink.old sink.new) }
     ensures terms { All (VerdictPoints ctx.now.files.now (policy_of ctx.now.cfg)) (gathered_of_licenses summary.now.nfos) }
     ensures labels { OnOk result (All (PackLies ctx.now.files.now) sink.new.packs) }
 {
@@ -248,7 +249,7 @@ fn judge_by_ledger<L: Ledger>(
 }
 
 /// The verdicts on the crates of a summary, as `check` gives them, with its steps counted in a ledger of its own,
-/// and a sink that holds no packs yet.
+/// and a sink that holds no packs yet. Where memory is wanted the sink has the packs of some first crates.
 pub fn judge_all(
     alloc: Global,
     ctx: &CheckCtx<'_, ValidConfig>,
@@ -263,6 +264,7 @@ pub fn judge_all(
     // each at the levels that the sink's overrides say
     ensures packs { IfOk result (λ verdicts. sink.new.packs ≡ map (pack_overridden sink.old.overrides)
         (findings_of ctx.now.cfg (gathered_of_licenses summary.now.nfos) verdicts)) }
+    ensures front { OnErr result (HasFront (policy_of ctx.now.cfg) summary.now.nfos sink.old sink.new) }
     ensures terms { All (VerdictPoints ctx.now.files.now (policy_of ctx.now.cfg)) (gathered_of_licenses summary.now.nfos) }
     ensures labels { OnOk result (All (PackLies ctx.now.files.now) sink.new.packs) }
 {

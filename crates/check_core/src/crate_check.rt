@@ -1,5 +1,5 @@
 //! The check of one crate.
-ghost use Rattle.std.specs.Prelude.{◌≡◌, ◌↔◌, ◌+◌, ◌≤◌, ◌++◌, ◌∷◌, [], Bool, IsTrue, List, IfOk, length};
+ghost use Rattle.std.specs.Prelude.{◌≡◌, ◌↔◌, ◌+◌, ◌≤◌, ◌++◌, ◌∷◌, ◌⊎◌, [], Bool, IsTrue, List, IfOk, OnErr, length};
 ghost use Rattle.std.specs.Prelude.{false};
 ghost use Rattle.graph_core.specs.Krate.{record_of};
 ghost use Rattle.spdx_core.specs.Reading.{postfix};
@@ -193,6 +193,7 @@ impl Checker {
 
     /// The check of one crate: its verdict, and its findings. A crate that the policy passes over is skipped,
     /// also where it has no expression; what it has hits no entry. It takes a step for each entry that is asked.
+    /// Where memory is wanted no hit is marked, or those of the crate's terms are.
     pub fn judge<L: Ledger>(
         &mut self,
         alloc: Global,
@@ -216,6 +217,9 @@ impl Checker {
         ensures hits { (before : List Hit) → self.old.flags ≡ flags_by policy.now before
             → IfOk result (λ checked. self.new.flags ≡ flags_by policy.now
             (before ++ hits_by (is_skipped checked.verdict) (policy_of policy.now) (gathered_of_license license.now))) }
+        ensures marks { (before : List Hit) → self.old.flags ≡ flags_by policy.now before
+            → OnErr result ((self.new.flags ≡ self.old.flags) ⊎ (self.new.flags ≡ flags_by policy.now
+            (before ++ hits_by false (policy_of policy.now) (gathered_of_license license.now)))) }
         ensures steps { steps.old ≤ steps.new }
         ensures bound { let asked = gathered_of_license license.now in
             (private : Bool) → IsTrue private ↔ IsPrivate (policy_of policy.now) asked.krate

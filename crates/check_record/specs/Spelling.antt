@@ -1,11 +1,15 @@
 -- The file of a record.
-use Rattle.std.specs.Prelude.{ℕ, List, [], ◌∷◌, ◌++◌, length, codes, decimal}
+use Rattle.std.specs.Prelude.{◌≡◌, ℕ, List, [], ◌∷◌, ◌++◌, length, codes, decimal}
 use Rattle.std.specs.List.{flat_map}
 use Rattle.spdx_certificates.specs.declared.verdict.Hit.{Hit}
 use Rattle.spdx_certificates.specs.declared.verdict.Hit.TheVariants.{Allowed, Exception}
 use Rattle.check_record.specs.declared.items.RecordItem.{RecordItem}
 use Rattle.check_record.specs.declared.items.RecordVerdict.{RecordVerdict}
 use Rattle.check_record.specs.declared.items.RecordVerdict.TheVariants.{Skipped, Unlicensed, Accepted, Rejected}
+
+-- what stood stays, in front of what was added
+abbrev pub StandsInFront : {X : Type 0} → List X → List X → Type 0
+StandsInFront {X} old new = (more : List X) × (new ≡ old ++ more)
 
 -- an entry of the allowed licences, or one of an exception's
 abbrev pub hit_text : Hit → List ℕ

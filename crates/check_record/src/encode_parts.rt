@@ -2,6 +2,7 @@
 ghost use Rattle.std.specs.Prelude.{◌≡◌, ◌++◌, decimal, OnOk};
 ghost use Rattle.std.specs.List.{flat_map};
 ghost use Rattle.check_record.specs.Spelling as spec;
+ghost use Rattle.check_record.specs.Spelling.{StandsInFront};
 
 use crate::items::{RecordItem, RecordVerdict};
 use itoa::Buffer;
@@ -9,7 +10,8 @@ use spdx_certificates::Hit;
 use std::alloc::AllocError;
 
 fn put_number(out: &mut Vec<u8>, number: usize) -> Result<(), AllocError>
-    ensures { OnOk result (out.new.items ≡ out.old.items ++ decimal number) }
+    ensures ok { OnOk result (out.new.items ≡ out.old.items ++ decimal number) }
+    ensures front { StandsInFront out.old.items out.new.items }
 {
     let mut digits = Buffer::new();
     out.extend_from_slice(digits.format(number).as_bytes())?;
@@ -18,7 +20,8 @@ fn put_number(out: &mut Vec<u8>, number: usize) -> Result<(), AllocError>
 
 #[tactic(auto, using(std::proofs::Common::append_assoc))]
 fn put_hit(out: &mut Vec<u8>, hit: Hit) -> Result<(), AllocError>
-    ensures { OnOk result (out.new.items ≡ out.old.items ++ spec.hit_text hit) }
+    ensures ok { OnOk result (out.new.items ≡ out.old.items ++ spec.hit_text hit) }
+    ensures front { StandsInFront out.old.items out.new.items }
 {
     match hit {
         Hit::Allowed(entry) => {
@@ -36,7 +39,8 @@ fn put_hit(out: &mut Vec<u8>, hit: Hit) -> Result<(), AllocError>
 }
 
 fn put_place(out: &mut Vec<u8>, place: usize) -> Result<(), AllocError>
-    ensures { OnOk result (out.new.items ≡ out.old.items ++ spec.place_text place) }
+    ensures ok { OnOk result (out.new.items ≡ out.old.items ++ spec.place_text place) }
+    ensures front { StandsInFront out.old.items out.new.items }
 {
     out.extend_from_slice(b" ")?;
     put_number(out, place)?;
@@ -44,8 +48,9 @@ fn put_place(out: &mut Vec<u8>, place: usize) -> Result<(), AllocError>
 }
 
 fn put_place_hit(out: &mut Vec<u8>, place: usize, hit: Hit) -> Result<(), AllocError>
-    ensures { OnOk result (out.new.items
+    ensures ok { OnOk result (out.new.items
         ≡ out.old.items ++ spec.place_hit_text place hit) }
+    ensures front { StandsInFront out.old.items out.new.items }
 {
     put_place(out, place)?;
     out.extend_from_slice(b"=")?;
@@ -55,8 +60,9 @@ fn put_place_hit(out: &mut Vec<u8>, place: usize, hit: Hit) -> Result<(), AllocE
 
 /// Each place of a choice with its hit.
 fn put_chosen(out: &mut Vec<u8>, choice: &[usize], hits: &[Hit]) -> Result<(), AllocError>
-    ensures { OnOk result (out.new.items
+    ensures ok { OnOk result (out.new.items
         ≡ out.old.items ++ spec.chosen_text choice.now hits.now) }
+    ensures front { StandsInFront out.old.items out.new.items }
 {
     'terms: for (place, hit) in choice.iter().zip(hits.iter()) {
         put_place_hit(out, *place, *hit)?;
@@ -65,8 +71,9 @@ fn put_chosen(out: &mut Vec<u8>, choice: &[usize], hits: &[Hit]) -> Result<(), A
 }
 
 fn put_places(out: &mut Vec<u8>, places: &[usize]) -> Result<(), AllocError>
-    ensures { OnOk result (out.new.items
+    ensures ok { OnOk result (out.new.items
         ≡ out.old.items ++ flat_map spec.place_text places.now) }
+    ensures front { StandsInFront out.old.items out.new.items }
 {
     'places: for place in places {
         put_place(out, *place)?;
@@ -75,7 +82,8 @@ fn put_places(out: &mut Vec<u8>, places: &[usize]) -> Result<(), AllocError>
 }
 
 fn put_verdict(out: &mut Vec<u8>, verdict: &RecordVerdict) -> Result<(), AllocError>
-    ensures { OnOk result (out.new.items ≡ out.old.items ++ spec.verdict_text verdict.now) }
+    ensures ok { OnOk result (out.new.items ≡ out.old.items ++ spec.verdict_text verdict.now) }
+    ensures front { StandsInFront out.old.items out.new.items }
 {
     match verdict {
         RecordVerdict::Skipped => out.extend_from_slice(b" s")?,
@@ -92,9 +100,10 @@ fn put_verdict(out: &mut Vec<u8>, verdict: &RecordVerdict) -> Result<(), AllocEr
     Ok(())
 }
 
-/// A line.
+/// A line. Where memory is wanted what was written stays, in front of what was added.
 pub fn put_item(out: &mut Vec<u8>, item: &RecordItem) -> Result<(), AllocError>
-    ensures { OnOk result (out.new.items ≡ out.old.items ++ spec.item_text item.now) }
+    ensures ok { OnOk result (out.new.items ≡ out.old.items ++ spec.item_text item.now) }
+    ensures front { StandsInFront out.old.items out.new.items }
 {
     let id = item.id.as_str().as_bytes();
     out.extend_from_slice(b"c ")?;

@@ -1,5 +1,5 @@
 //! The line of a finding for a program.
-ghost use Rattle.std.specs.Prelude.{◌≡◌, ◌++◌, ◌∷◌, [], OnOk, All, codes, decimal, map, string_bytes};
+ghost use Rattle.std.specs.Prelude.{◌≡◌, ◌++◌, ◌∷◌, [], OnErr, OnOk, All, codes, decimal, map, string_bytes};
 ghost use Rattle.json.specs.Token.{key, string, number};
 ghost use Rattle.serde_json.specs.Data.{array, string as string_data};
 ghost use Rattle.serde_json.specs.View.{items_of};
@@ -112,7 +112,7 @@ fn write_finding(out: &mut Writer, files: &Files, diag: &Diagnostic) -> Result<(
 const LINE_ROOM: usize = 512;
 
 /// Appends the text of the object, and a line feed. The line is made apart, since a writer that begins behind
-/// a long text clears much room ahead.
+/// a long text clears much room ahead, and so that all of it is appended or nothing.
 pub(crate) fn push_json_line(
     out: &mut String,
     alloc: Global,
@@ -120,11 +120,12 @@ pub(crate) fn push_json_line(
     diag: &Diagnostic,
 ) -> Result<(), AllocError>
     requires { LabelsAreInside files.now diag.now }
-    ensures { OnOk result (string_bytes out.new ≡ string_bytes out.old ++ json_line files.now diag.now) }
+    ensures ok { OnOk result (string_bytes out.new ≡ string_bytes out.old ++ json_line files.now diag.now) }
+    ensures err { OnErr result (string_bytes out.new ≡ string_bytes out.old) }
 {
     let mut writer = Writer::new(Vec::with_capacity(alloc, LINE_ROOM)?);
     write_finding(&mut writer, files, diag)?;
-    let line = unsafe { String::from_utf8_unchecked(writer.into_inner()) };
-    out.push_str(line.as_str())?;
-    out.push_str("\n")
+    let mut line = unsafe { String::from_utf8_unchecked(writer.into_inner()) };
+    line.push_str("\n")?;
+    out.push_str(line.as_str())
 }

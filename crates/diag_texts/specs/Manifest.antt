@@ -5,11 +5,14 @@ use Rattle.diag_texts.specs.Synthetic.{Bit, plain, marked}
 use Rattle.diag_texts.specs.declared.manifest.FileNote.{FileNote}
 use Rattle.diag_texts.specs.declared.manifest.FileNote.TheVariants.{Joined, Unknown, Low, Unnamed, Bad}
 
+-- the licence field
+abbrev pub field_pieces : List ℕ → List Bit
+field_pieces field = plain (codes "\"\nlicense = \"") ∷ marked field ∷ plain (codes "\"\n") ∷ []
+
 -- the head, with the name and the field marked
 abbrev pub manifest_pieces : List ℕ → List ℕ → List ℕ → List Bit
 manifest_pieces name version field =
-    plain (codes "[package]\nname = \"") ∷ marked name ∷ plain (codes "\"\nversion = \"") ∷ plain version
-    ∷ plain (codes "\"\nlicense = \"") ∷ marked field ∷ plain (codes "\"\n") ∷ []
+    plain (codes "[package]\nname = \"") ∷ marked name ∷ plain (codes "\"\nversion = \"") ∷ plain version ∷ field_pieces field
 
 abbrev pub expression_pieces : List ℕ → List Bit
 expression_pieces expression = plain (codes "files-expr = \"") ∷ marked expression ∷ plain (codes "\"\n") ∷ []

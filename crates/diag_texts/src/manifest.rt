@@ -1,11 +1,11 @@
 //! The manifest that is written in place of a crate's own, and the list of its licence files.
 ghost use Rattle.std.specs.Prelude.{◌≡◌, OnOk, IfOk, string_bytes};
-ghost use Rattle.diag_texts.specs.Manifest.{closing_pieces, expression_pieces, hash_pieces, line_pieces};
+ghost use Rattle.diag_texts.specs.Manifest.{closing_pieces, expression_pieces, field_pieces, hash_pieces, line_pieces};
 ghost use Rattle.diag_texts.specs.Manifest.{listing_pieces, manifest_pieces, opening_pieces, score_text};
 ghost use Rattle.diag_texts.specs.Manifest.{named_pieces, told_pieces};
 ghost use Rattle.diag_texts.specs.Pieces.{bit_of};
 ghost use Rattle.diag_texts.specs.declared.manifest.FileNote.TheVariants.{Unknown, Low, Unnamed, Bad};
-ghost use Rattle.diag_texts.specs.Synthetic.{written_all};
+ghost use Rattle.diag_texts.specs.Synthetic.{StandsInFront, written_all};
 
 use crate::synthetic::{Synthetic, TextPiece};
 use std::alloc::{AllocError, Global};
@@ -49,21 +49,23 @@ impl Synthetic {
         version: &str,
         field: &str,
     ) -> Result<(), AllocError>
-        ensures { OnOk result (self.new
+        ensures ok { OnOk result (self.new
             ≡ written_all self.old (manifest_pieces name.now version.now field.now)) }
+        ensures text { StandsInFront self.old.text self.new.text }
+        ensures places { StandsInFront self.old.spans self.new.spans }
     {
         self.write(TextPiece::Plain("[package]\nname = \""))?;
         self.write(TextPiece::Marked(name))?;
         self.write(TextPiece::Plain("\"\nversion = \""))?;
         self.write(TextPiece::Plain(version))?;
-        self.write(TextPiece::Plain("\"\nlicense = \""))?;
-        self.write(TextPiece::Marked(field))?;
-        self.write(TextPiece::Plain("\"\n"))
+        self.write_field(field)
     }
 
     /// The expression of the joined names, marked.
     pub fn write_expression(&mut self, expression: &str) -> Result<(), AllocError>
-        ensures { OnOk result (self.new ≡ written_all self.old (expression_pieces expression.now)) }
+        ensures ok { OnOk result (self.new ≡ written_all self.old (expression_pieces expression.now)) }
+        ensures text { StandsInFront self.old.text self.new.text }
+        ensures places { StandsInFront self.old.spans self.new.spans }
     {
         self.write(TextPiece::Plain("files-expr = \""))?;
         self.write(TextPiece::Marked(expression))?;
@@ -72,7 +74,9 @@ impl Synthetic {
 
     /// The words of a listing that did not come, marked.
     pub fn write_listing(&mut self, words: &str) -> Result<(), AllocError>
-        ensures { OnOk result (self.new ≡ written_all self.old (listing_pieces words.now)) }
+        ensures ok { OnOk result (self.new ≡ written_all self.old (listing_pieces words.now)) }
+        ensures text { StandsInFront self.old.text self.new.text }
+        ensures places { StandsInFront self.old.spans self.new.spans }
     {
         self.write(TextPiece::Plain("license-files = \""))?;
         self.write(TextPiece::Marked(words))?;
@@ -81,14 +85,18 @@ impl Synthetic {
 
     /// What stands before the lines of the list.
     pub fn open_list(&mut self) -> Result<(), AllocError>
-        ensures { OnOk result (self.new ≡ written_all self.old opening_pieces) }
+        ensures ok { OnOk result (self.new ≡ written_all self.old opening_pieces) }
+        ensures text { StandsInFront self.old.text self.new.text }
+        ensures places { StandsInFront self.old.spans self.new.spans }
     {
         self.write(TextPiece::Plain("license-files = [\n"))
     }
 
     /// What stands behind the lines of the list.
     pub fn close_list(&mut self) -> Result<(), AllocError>
-        ensures { OnOk result (self.new ≡ written_all self.old closing_pieces) }
+        ensures ok { OnOk result (self.new ≡ written_all self.old closing_pieces) }
+        ensures text { StandsInFront self.old.text self.new.text }
+        ensures places { StandsInFront self.old.spans self.new.spans }
     {
         self.write(TextPiece::Plain("]\n"))
     }
@@ -100,7 +108,9 @@ impl Synthetic {
         path: &str,
         told: FileNote<'_>,
     ) -> Result<(), AllocError>
-        ensures { OnOk result (self.new ≡ written_all self.old (line_pieces path.now told.entry)) }
+        ensures ok { OnOk result (self.new ≡ written_all self.old (line_pieces path.now told.entry)) }
+        ensures text { StandsInFront self.old.text self.new.text }
+        ensures places { StandsInFront self.old.spans self.new.spans }
     {
         self.write(TextPiece::Plain("    { path = \""))?;
         self.write(TextPiece::Plain(path))?;
@@ -111,8 +121,21 @@ impl Synthetic {
 }
 
 impl Synthetic {
+    /// The licence field, marked.
+    fn write_field(&mut self, field: &str) -> Result<(), AllocError>
+        ensures ok { OnOk result (self.new ≡ written_all self.old (field_pieces field.now)) }
+        ensures text { StandsInFront self.old.text self.new.text }
+        ensures places { StandsInFront self.old.spans self.new.spans }
+    {
+        self.write(TextPiece::Plain("\"\nlicense = \""))?;
+        self.write(TextPiece::Marked(field))?;
+        self.write(TextPiece::Plain("\"\n"))
+    }
+
     fn write_told(&mut self, alloc: Global, told: FileNote<'_>) -> Result<(), AllocError>
-        ensures { OnOk result (self.new ≡ written_all self.old (told_pieces told.entry)) }
+        ensures ok { OnOk result (self.new ≡ written_all self.old (told_pieces told.entry)) }
+        ensures text { StandsInFront self.old.text self.new.text }
+        ensures places { StandsInFront self.old.spans self.new.spans }
     {
         match told {
             FileNote::Joined { hash } => { self.write_hash(alloc, hash) }
@@ -130,7 +153,9 @@ impl Synthetic {
         score: u32,
         name: &str,
     ) -> Result<(), AllocError>
-        ensures { OnOk result (self.new ≡ written_all self.old (told_pieces (Unknown hash score name.entry))) }
+        ensures ok { OnOk result (self.new ≡ written_all self.old (told_pieces (Unknown hash score name.entry))) }
+        ensures text { StandsInFront self.old.text self.new.text }
+        ensures places { StandsInFront self.old.spans self.new.spans }
     {
         self.write_hash(alloc, hash)?;
         let score = score_of(alloc, score)?;
@@ -144,7 +169,9 @@ impl Synthetic {
         score: u32,
         name: &str,
     ) -> Result<(), AllocError>
-        ensures { OnOk result (self.new ≡ written_all self.old (told_pieces (Low hash score name.entry))) }
+        ensures ok { OnOk result (self.new ≡ written_all self.old (told_pieces (Low hash score name.entry))) }
+        ensures text { StandsInFront self.old.text self.new.text }
+        ensures places { StandsInFront self.old.spans self.new.spans }
     {
         self.write_hash(alloc, hash)?;
         let score = score_of(alloc, score)?;
@@ -152,7 +179,9 @@ impl Synthetic {
     }
 
     fn write_unnamed(&mut self, alloc: Global, hash: u32, score: u32) -> Result<(), AllocError>
-        ensures { OnOk result (self.new ≡ written_all self.old (told_pieces (Unnamed hash score))) }
+        ensures ok { OnOk result (self.new ≡ written_all self.old (told_pieces (Unnamed hash score))) }
+        ensures text { StandsInFront self.old.text self.new.text }
+        ensures places { StandsInFront self.old.spans self.new.spans }
     {
         self.write_hash(alloc, hash)?;
         let score = score_of(alloc, score)?;
@@ -161,7 +190,9 @@ impl Synthetic {
     }
 
     fn write_bad(&mut self, words: &str) -> Result<(), AllocError>
-        ensures { OnOk result (self.new ≡ written_all self.old (told_pieces (Bad words.entry))) }
+        ensures ok { OnOk result (self.new ≡ written_all self.old (told_pieces (Bad words.entry))) }
+        ensures text { StandsInFront self.old.text self.new.text }
+        ensures places { StandsInFront self.old.spans self.new.spans }
     {
         self.write(TextPiece::Plain("err = \""))?;
         self.write(TextPiece::Marked(words))?;
@@ -170,7 +201,9 @@ impl Synthetic {
 
     /// The score and the name of a file.
     fn write_named(&mut self, score: TextPiece<'_>, name: TextPiece<'_>) -> Result<(), AllocError>
-        ensures { OnOk result (self.new ≡ written_all self.old (named_pieces (bit_of score.entry) (bit_of name.entry))) }
+        ensures ok { OnOk result (self.new ≡ written_all self.old (named_pieces (bit_of score.entry) (bit_of name.entry))) }
+        ensures text { StandsInFront self.old.text self.new.text }
+        ensures places { StandsInFront self.old.spans self.new.spans }
     {
         self.write(TextPiece::Plain("score = "))?;
         self.write(score)?;
@@ -180,7 +213,9 @@ impl Synthetic {
     }
 
     fn write_hash(&mut self, alloc: Global, hash: u32) -> Result<(), AllocError>
-        ensures { OnOk result (self.new ≡ written_all self.old (hash_pieces hash)) }
+        ensures ok { OnOk result (self.new ≡ written_all self.old (hash_pieces hash)) }
+        ensures text { StandsInFront self.old.text self.new.text }
+        ensures places { StandsInFront self.old.spans self.new.spans }
     {
         let digits = format!(in alloc; "{hash:08x}")?;
         self.write(TextPiece::Plain("hash = 0x"))?;

@@ -2,7 +2,7 @@
 ghost use Rattle.std.specs.Prelude.{◌≡◌, All, OnOk, OnErr};
 ghost use Rattle.diag_texts.specs.Pieces.{bit_of};
 ghost use Rattle.deny_text.specs.Spans.{LiesBetween};
-ghost use Rattle.diag_texts.specs.Synthetic.{PlacesAlwaysCutOut, nothing_kept, with_piece};
+ghost use Rattle.diag_texts.specs.Synthetic.{PlacesAlwaysCutOut, StandsInFront, nothing_kept, with_piece};
 
 use deny_text::{Span, Text};
 use std::alloc::{AllocError, Global};
@@ -49,6 +49,8 @@ impl Synthetic {
     pub fn write(&mut self, piece: TextPiece<'_>) -> Result<(), AllocError>
         ensures ok { OnOk result (self.new ≡ with_piece self.old (bit_of piece.entry)) }
         ensures err { OnErr result (self.new ≡ self.old) }
+        ensures text { StandsInFront self.old.text self.new.text }
+        ensures places { StandsInFront self.old.spans self.new.spans }
     {
         match piece {
             TextPiece::Plain(text) => {

@@ -2,7 +2,11 @@
 use Rattle.std.proofs.Common.{◌≡◌, ◌∙◌, refl, sym, ap, ℕ, suc, ◌+◌, ◌<◌, List, ◌∷◌, ◌++◌, drop, get_or, length, Option, Some, None, append_assoc, add-one, drop-cons}
 use Rattle.std.specs.List.{cons_option, filter_map}
 use Rattle.std.specs.Option.{option_to_list}
-use Rattle.graph_selection.specs.Choice.{ExcludeSpecView, read_one, spec_read}
+use Rattle.graph_selection.specs.Choice.{ExcludeSpecView, StandsInFront, read_one, spec_read}
+
+-- what stands in front stays there
+pub front_then : {A : Type 0} (first second third : List A) → StandsInFront first second → StandsInFront second third → StandsInFront first third
+front_then first second third (more, is) (others, grown) = (more ++ others, grown ∙ ap (λ items. items ++ others) is ∙ append_assoc first more others)
 
 one_or_none : {A : Type 0} (first : Option A) (rest : List A) → option_to_list first ++ rest ≡ cons_option first rest
 one_or_none None rest = refl

@@ -1,5 +1,5 @@
 -- What crates are selected by, and which crates a spec leaves out.
-use Rattle.std.specs.Prelude.{ℕ, ◌==◌, ◌&&◌, ◌||◌, Bool, true, List, map, bytes_eq, Option, Some, None, option_map, Result, Ok, Err, if◌then◌else◌}
+use Rattle.std.specs.Prelude.{◌≡◌, ℕ, ◌==◌, ◌&&◌, ◌||◌, Bool, true, List, ◌++◌, map, bytes_eq, Option, Some, None, option_map, Result, Ok, Err, if◌then◌else◌}
 use Rattle.std.specs.Option.{option_or, option_to_list}
 use Rattle.std.specs.List.{list_any}
 use Rattle.deny_text.specs.Cut.{cut_at, is_at_sign, is_colon}
@@ -9,6 +9,10 @@ use Rattle.semver.specs.declared.error.Error.{Error}
 use Rattle.graph_core.specs.Krate.{Record, Version}
 use Rattle.graph_selection.specs.declared.exclude.ExcludeSpec.{ExcludeSpec}
 use Rattle.graph_selection.specs.declared.selection.Selection.{Selection}
+
+-- what stood stays, in front of what was added
+abbrev pub StandsInFront : {X : Type 0} → List X → List X → Type 0
+StandsInFront {X} old new = (more : List X) × (new ≡ old ++ more)
 
 -- crates that are left out: each of the name, or those of them that have the version
 pub record ExcludeSpecView : Type 0 where

@@ -7,7 +7,7 @@ ghost use Rattle.semver.specs.Identifiers.{parts_of};
 ghost use Rattle.semver.specs.Parse.{version_parts};
 ghost use Rattle.graph_core.specs.Krate.{record_of};
 ghost use Rattle.graph_selection.specs.Choice as spec;
-ghost use Rattle.graph_selection.specs.Choice.{exclude_spec_of, spec_read};
+ghost use Rattle.graph_selection.specs.Choice.{StandsInFront, exclude_spec_of, spec_read};
 ghost use Rattle.graph_selection.specs.ExcludeOrder.{AreInSearchOrder, AreSorted, key_behind, key_of, key_order, key_with};
 ghost use Rattle.graph_selection.specs.ExcludeOrder.{version_key};
 
@@ -107,7 +107,8 @@ impl ExcludeSpec {
 
 /// Appends the spec that a text is read as. An unreadable one is passed over.
 fn push_spec(alloc: Global, specs: &mut ExcludeSpecs, text: &Text) -> Result<(), AllocError>
-    ensures { OnOk result (map exclude_spec_of specs.new ≡ map exclude_spec_of specs.old ++ spec.read_one text.now) }
+    ensures ok { OnOk result (map exclude_spec_of specs.new ≡ map exclude_spec_of specs.old ++ spec.read_one text.now) }
+    ensures front { StandsInFront specs.old specs.new }
 {
     if let Some(read) = ExcludeSpec::read(alloc, text.as_str())? {
         specs.push(read)?;
@@ -115,9 +116,11 @@ fn push_spec(alloc: Global, specs: &mut ExcludeSpecs, text: &Text) -> Result<(),
     Ok(())
 }
 
-/// Appends the specs that texts are read as. Unreadable ones are passed over.
+/// Appends the specs that texts are read as. Unreadable ones are passed over. Where memory is wanted the specs
+/// so far stay, in front of those that were read.
 pub fn read_specs(alloc: Global, specs: &mut ExcludeSpecs, texts: &[Text]) -> Result<(), AllocError>
-    ensures { OnOk result (map exclude_spec_of specs.new ≡ map exclude_spec_of specs.old ++ filter_map spec_read texts.now) }
+    ensures ok { OnOk result (map exclude_spec_of specs.new ≡ map exclude_spec_of specs.old ++ filter_map spec_read texts.now) }
+    ensures front { StandsInFront specs.old specs.new }
 {
     'texts: for text in texts {
         push_spec(alloc, specs, text)?;

@@ -1,5 +1,5 @@
 -- Addresses of git repositories: their normal form, and the branch, tag or revision that their query names.
-use Rattle.std.specs.Prelude.{ℕ, ◌-◌, ◌==◌, Bool, not, ◌&&◌, ◌||◌, List, [], ◌∷◌, ◌++◌, map, filter, take, length, slice_get, codes, bytes_eq, Option, Some, None, is_some, unwrap_or, option_map, option_and_then, if◌then◌else◌}
+use Rattle.std.specs.Prelude.{◌≡◌, ◌⊎◌, ℕ, ◌-◌, ◌==◌, Bool, not, ◌&&◌, ◌||◌, List, [], ◌∷◌, ◌++◌, map, filter, take, length, slice_get, codes, bytes_eq, Option, Some, None, is_some, unwrap_or, option_map, option_and_then, if◌then◌else◌}
 use Rattle.std.specs.List.{list_any, join_with_byte, ends_with}
 use Rattle.std.specs.Str.Lossy.{utf8_lossy}
 use Rattle.form_urlencoded.specs.Form.{raw_pairs, decode}
@@ -26,6 +26,11 @@ without_last_slash address = if cannot_be_a_base address then address else pop_e
 -- The path loses `.git` at its end, and then one `/`. A path that is no base keeps both.
 abbrev pub with_normal_path : Parts → Parts
 with_normal_path address = without_last_slash (without_extension address)
+
+-- what an address may be on the way to its normal form, before its query is changed: the address itself, without
+-- `.git`, or with the normal path
+abbrev pub IsPathOnTheWay : Parts → Parts → Type 0
+IsPathOnTheWay old new = (new ≡ old) ⊎ ((new ≡ without_extension old) ⊎ (new ≡ with_normal_path old))
 
 -- ---- the query
 

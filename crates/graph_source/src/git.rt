@@ -1,8 +1,8 @@
 //! Addresses of git repositories.
-ghost use Rattle.std.specs.Prelude.{◌≡◌, IfOk, OnOk};
+ghost use Rattle.std.specs.Prelude.{◌≡◌, ◌⊎◌, IfOk, OnOk, OnErr};
 ghost use Rattle.graph_source.specs.Git as spec;
 ghost use Rattle.graph_source.specs.Git.{query_of, with_normal_path, without_master, normal_address, git_spec_of};
-ghost use Rattle.graph_source.specs.Git.{value_of};
+ghost use Rattle.graph_source.specs.Git.{IsPathOnTheWay, value_of};
 
 use crate::query::{QueryPairs, query_pairs};
 use crate::source::GitSpec;
@@ -12,7 +12,8 @@ use url::{ParseResult, Url};
 
 /// Takes `.git` from the end of the path.
 fn cut_extension(alloc: Global, url: &mut Url) -> ParseResult<()>
-    ensures { OnOk result (url.new ≡ spec.without_extension url.old) }
+    ensures ok { OnOk result (url.new ≡ spec.without_extension url.old) }
+    ensures err { OnErr result (url.new ≡ url.old) }
 {
     let path = url.path();
     if !path.as_bytes().ends_with(b".git") || url.cannot_be_a_base() {
@@ -24,7 +25,8 @@ fn cut_extension(alloc: Global, url: &mut Url) -> ParseResult<()>
 
 /// Takes one `/` from the end of the path, unless it is `/` alone.
 fn cut_slash(url: &mut Url) -> ParseResult<()>
-    ensures { OnOk result (url.new ≡ spec.without_last_slash url.old) }
+    ensures ok { OnOk result (url.new ≡ spec.without_last_slash url.old) }
+    ensures err { OnErr result (url.new ≡ url.old) }
 {
     if url.cannot_be_a_base() {
         return Ok(());
@@ -34,7 +36,8 @@ fn cut_slash(url: &mut Url) -> ParseResult<()>
 }
 
 fn normalize_path(alloc: Global, url: &mut Url) -> ParseResult<()>
-    ensures { OnOk result (url.new ≡ with_normal_path url.old) }
+    ensures ok { OnOk result (url.new ≡ with_normal_path url.old) }
+    ensures err { OnErr result ((url.new ≡ url.old) ⊎ (url.new ≡ spec.without_extension url.old)) }
 {
     cut_extension(alloc, url)?;
     cut_slash(url)
@@ -42,7 +45,8 @@ fn normalize_path(alloc: Global, url: &mut Url) -> ParseResult<()>
 
 /// Takes `branch=master` out of the query, which has these pairs.
 fn cut_master(alloc: Global, url: &mut Url, pairs: &QueryPairs) -> ParseResult<()>
-    ensures { OnOk result (url.new ≡ without_master pairs.now url.old) }
+    ensures ok { OnOk result (url.new ≡ without_master pairs.now url.old) }
+    ensures err { OnErr result (url.new ≡ url.old) }
 {
     if !pairs.has_master() {
         return Ok(());
@@ -56,7 +60,7 @@ fn cut_master(alloc: Global, url: &mut Url, pairs: &QueryPairs) -> ParseResult<(
 
 /// Brings the address of a git repository into its normal form: its path without `.git` and then without a
 /// `/` at the end, its query without `branch=master`. Answers what its query named, and the value of that.
-/// When memory is refused the address may be half changed.
+/// Where memory is wanted its query is as before, and its path as before, without `.git`, or in normal form.
 pub fn normalize_git_url(
     alloc: Global,
     url: &mut Url,
@@ -64,6 +68,7 @@ pub fn normalize_git_url(
     ensures address { OnOk result (url.new ≡ normal_address url.old) }
     ensures spec { IfOk result (λ named. named.0 ≡ git_spec_of url.old) }
     ensures value { IfOk result (λ named. named.1 ≡ value_of url.old) }
+    ensures err { OnErr result (IsPathOnTheWay url.old url.new) }
 {
     let pairs = query_pairs(alloc, url)?;
     let spec = pairs.spec();

@@ -14,10 +14,18 @@ use Rattle.toml_shapes.specs.Shaped.{faults_in}
 use Rattle.tree_core.specs.Call.{CallAnswer, Call}
 use Rattle.policy_valid.specs.declared.policy.ValidConfig.{ValidConfig}
 use Rattle.policy_valid.specs.declared.policy.ValidException.{ValidException}
-use Rattle.policy_core.specs.Exceptions.{valid_exceptions_in, exceptions_kept, exceptions_findings, with_exceptions, shape_diagnostic, syntax_finding, itself_finding, unread_finding}
+use Rattle.policy_core.specs.Exceptions.{HasMoreExceptions, valid_exceptions_in, exceptions_kept, exceptions_findings, with_exceptions, shape_diagnostic, syntax_finding, itself_finding, unread_finding}
 use Rattle.policy_core.specs.ExceptionsText.{Answer, HadMemory, ReadsBy, answer_exceptions, diagnostics_of}
 use Rattle.policy_core.specs.Heard.{ExceptionsHeard, IsFileText, IsReadAt, IsReadOf, LoadState, LoadsExceptionsBy, MayReadAt, MayReadOf, after_exceptions, fault_words, heard, the_policy, value_or_fault}
 use Rattle.policy_core.specs.declared.exceptions_text.NoExceptions.TheVariants.{Syntax, Shape, Memory}
+
+-- a policy with more behind its exceptions, and one that is as it was
+pub more_exceptions : (policy : ValidConfig) (exceptions more : List ValidException) → exceptions ≡ policy.exceptions ++ more
+    → HasMoreExceptions policy (record policy { exceptions = exceptions })
+more_exceptions policy exceptions more is = (more, ap (λ (kept : List ValidException). let one : ValidConfig = record policy { exceptions = kept } in one) is)
+
+pub no_more_exceptions : (policy : ValidConfig) → HasMoreExceptions policy policy
+no_more_exceptions policy = more_exceptions policy policy.exceptions [] (sym (append-nil policy.exceptions))
 
 -- what is kept of a text is what is kept of the answer
 pub kept_is : (lists : CatalogLists) (file : ℕ) (read : TomlReading Toml) (answer : Answer) → ReadsBy lists read answer → HadMemory answer

@@ -1,5 +1,5 @@
 -- What was read of an exceptions file, and what comes of it.
-use Rattle.std.specs.Prelude.{ℕ, List, [], ◌∷◌, ◌++◌, map, codes, Ok, Err}
+use Rattle.std.specs.Prelude.{◌≡◌, ℕ, List, [], ◌∷◌, ◌++◌, map, codes, Ok, Err}
 use Rattle.spdx_catalog.specs.Catalog.{CatalogLists}
 use Rattle.deny_text.specs.declared.span.Span.{Span}
 use Rattle.diag_core.specs.Diagnostic.{plain}
@@ -43,6 +43,10 @@ exceptions_kept lists file (value toml) = valid_exceptions_in file (exceptions_f
 -- a policy with further exceptions behind its own
 abbrev pub with_exceptions : List ValidException → ValidConfig → ValidConfig
 with_exceptions more policy = record policy { exceptions = policy.exceptions ++ more }
+
+-- all of a policy is as before, but for more exceptions behind its own, if any
+abbrev pub HasMoreExceptions : ValidConfig → ValidConfig → Type 0
+HasMoreExceptions old new = (more : List ValidException) × (new ≡ with_exceptions more old)
 
 -- ---- what is told
 

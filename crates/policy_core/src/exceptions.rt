@@ -2,7 +2,9 @@
 ghost use Rattle.std.specs.Prelude.{◌≡◌, ◌++◌, is_some, false, Ok, Some, OnErr, OnOk};
 ghost use Rattle.std.specs.Option.{ForSome};
 ghost use Rattle.diag_core.specs.File.{Grows, file_id_at};
+ghost use Rattle.policy_validate.specs.Fronts.{StandsInFront};
 ghost use Rattle.tree_core.specs.Hearing.{MadeSome};
+ghost use Rattle.policy_core.specs.Exceptions.{HasMoreExceptions};
 ghost use Rattle.policy_core.specs.ExceptionsText.{HadMemory, answer_exceptions, diagnostics_of};
 ghost use Rattle.policy_core.specs.Heard.{LoadState, after_exceptions, heard as heard_at};
 ghost use Rattle.policy_core.specs.Heard.{IsFileText, LoadsExceptionsBy, MayReadOf};
@@ -33,6 +35,8 @@ fn keep_or_tell(
     ensures answered { OnOk result (HadMemory read) }
     ensures kept { OnOk result (exceptions.new ≡ exceptions.old ++ answer_exceptions file read) }
     ensures told { OnOk result (diags.new ≡ diags.old ++ diagnostics_of file read) }
+    ensures exceptions_front { StandsInFront exceptions.old exceptions.new }
+    ensures findings { StandsInFront diags.old diags.new }
 {
     match read {
         Ok(held) => add_exceptions(file, held.exceptions, exceptions),
@@ -60,6 +64,8 @@ fn take_text<C: Catalog>(
         let new : LoadState = record { policy = cfg.new; files = files.new; found = diags.new } in
         OnOk result (new ≡ after_exceptions (C.lists catalog.now) (heard_at path (Ok text)) old) }
     ensures grows { Grows files.old files.new }
+    ensures policy { HasMoreExceptions cfg.old cfg.new }
+    ensures findings { StandsInFront diags.old diags.new }
 {
     let read = read_exceptions(alloc, text.as_str(), catalog);
     match files.add_indexed(path, text) {
@@ -86,6 +92,8 @@ fn load_other<T: Tree, C: Catalog>(
     ensures no_memory { OnErr result
         (MayReadOf (T.trace tree.old) (T.trace tree.new) files.old (Some path)) }
     ensures grows { Grows files.old files.new }
+    ensures policy { HasMoreExceptions cfg.old cfg.new }
+    ensures findings { StandsInFront diags.old diags.new }
     ensures made { MadeSome (T.content tree.old) (T.content tree.new) (T.fault_count tree.old)
         (T.fault_count tree.new) (T.trace tree.old) (T.trace tree.new) }
 {
@@ -102,7 +110,7 @@ fn load_other<T: Tree, C: Catalog>(
 ///
 /// The path of the policy's file, and no other one, may be equal to that of the exceptions file, part by
 /// part. It is refused for want of memory alone; the three may have grown then. Files that are known keep
-/// their texts, whatever it answers.
+/// their texts, findings their places, and the policy all that it has but more exceptions, whatever it answers.
 pub fn load_exceptions<T: Tree, C: Catalog>(
     alloc: Global,
     cfg: &mut ValidConfig,
@@ -122,6 +130,8 @@ pub fn load_exceptions<T: Tree, C: Catalog>(
     ensures no_memory { OnErr result
         (MayReadOf (T.trace tree.old) (T.trace tree.new) files.old (Some path)) }
     ensures grows { Grows files.old files.new }
+    ensures policy { HasMoreExceptions cfg.old cfg.new }
+    ensures findings { StandsInFront diags.old diags.new }
     ensures made { MadeSome (T.content tree.old) (T.content tree.new) (T.fault_count tree.old)
         (T.fault_count tree.new) (T.trace tree.old) (T.trace tree.new) }
 {

@@ -1,6 +1,7 @@
 //! What is told of a policy's file and of its exceptions file.
 ghost use Rattle.std.specs.Prelude.{◌≡◌, [], ◌∷◌, ◌++◌, codes, map, IfOk, OnOk};
 ghost use Rattle.std.specs.Option.{option_copied};
+ghost use Rattle.policy_validate.specs.Fronts.{StandsInFront};
 ghost use Rattle.toml_shapes.specs.ShapeViews.{fault_of};
 ghost use Rattle.policy_core.specs.Exceptions as exceptions;
 ghost use Rattle.policy_core.specs.Findings as spec;
@@ -31,7 +32,8 @@ pub(crate) fn tell_itself(
     path: &str,
     found: &mut Diagnostics,
 ) -> Result<(), AllocError>
-    ensures { OnOk result (found.new ≡ found.old ++ exceptions.itself_finding path.now ∷ []) }
+    ensures ok { OnOk result (found.new ≡ found.old ++ exceptions.itself_finding path.now ∷ []) }
+    ensures front { StandsInFront found.old found.new }
 {
     let diag = itself(alloc, path)?;
     found.push(diag)
@@ -69,8 +71,9 @@ pub(crate) fn tell_unread(
     fault: ReadFault,
     found: &mut Diagnostics,
 ) -> Result<(), AllocError>
-    ensures { OnOk result (found.new
+    ensures ok { OnOk result (found.new
         ≡ found.old ++ exceptions.unread_finding path.now (heard.fault_words fault) ∷ []) }
+    ensures front { StandsInFront found.old found.new }
 {
     let diag = unread(alloc, path, fault)?;
     found.push(diag)
@@ -97,8 +100,9 @@ fn tell_faults(
     faults: &[ShapeError],
     found: &mut Diagnostics,
 ) -> Result<(), AllocError>
-    ensures { OnOk result (found.new
+    ensures ok { OnOk result (found.new
         ≡ found.old ++ map (λ fault. exceptions.shape_diagnostic file (fault_of fault)) faults.now) }
+    ensures front { StandsInFront found.old found.new }
 {
     'faults: for fault in faults {
         let diag = shape_fault(alloc, file, fault)?;
@@ -107,14 +111,16 @@ fn tell_faults(
     Ok(())
 }
 
-/// Tells of each fault of an exceptions file's shape.
+/// Tells of each fault of an exceptions file's shape. Where memory is wanted the findings so far stay, in front of
+/// those that came.
 pub fn tell_shape(
     alloc: Global,
     file: FileId,
     faults: &ShapeErrors,
     found: &mut Diagnostics,
 ) -> Result<(), AllocError>
-    ensures { OnOk result (found.new ≡ found.old ++ map (exceptions.shape_diagnostic file) faults.now) }
+    ensures ok { OnOk result (found.new ≡ found.old ++ map (exceptions.shape_diagnostic file) faults.now) }
+    ensures front { StandsInFront found.old found.new }
 {
     tell_faults(alloc, file, faults.items(), found)
 }
@@ -153,7 +159,8 @@ pub(crate) fn tell_targets(
     targets: &[Target],
     found: &mut Diagnostics,
 ) -> Result<(), AllocError>
-    ensures { OnOk result (found.new ≡ found.old ++ map (spec.target_finding file) targets.now) }
+    ensures ok { OnOk result (found.new ≡ found.old ++ map (spec.target_finding file) targets.now) }
+    ensures front { StandsInFront found.old found.new }
 {
     'targets: for one in targets {
         let diag = target(alloc, file, one)?;
@@ -186,7 +193,8 @@ pub(crate) fn tell_moved(
     keys: &[Span],
     found: &mut Diagnostics,
 ) -> Result<(), AllocError>
-    ensures { OnOk result (found.new ≡ found.old ++ map (spec.moved_key_finding (codes "graph") file) keys.now) }
+    ensures ok { OnOk result (found.new ≡ found.old ++ map (spec.moved_key_finding (codes "graph") file) keys.now) }
+    ensures front { StandsInFront found.old found.new }
 {
     'keys: for key in keys {
         let diag = moved(alloc, "graph", file, *key)?;

@@ -2,6 +2,7 @@
 ghost use Rattle.std.specs.Prelude.{◌≡◌, ◌++◌, map, unwrap_or, IfOk, OnErr, OnOk, codes};
 ghost use Rattle.std.specs.Option.{ForSome, option_copied, option_to_list, option_and_then};
 ghost use Rattle.diag_core.specs.File.{Grows, file_id_at};
+ghost use Rattle.policy_validate.specs.Fronts.{StandsInFront};
 ghost use Rattle.tree_core.specs.Hearing.{MadeSome};
 ghost use Rattle.policy_config.specs.Config.{no_config};
 ghost use Rattle.policy_validate.specs.Order.{PutsPolicyInOrder};
@@ -51,8 +52,9 @@ fn tell_absence(
     source: &PolicySource<'_>,
     found: &mut Diagnostics,
 ) -> Result<(), AllocError>
-    ensures { OnOk result (found.new
+    ensures ok { OnOk result (found.new
         ≡ found.old ++ absence_findings source.now.is_there (option_copied source.now.path)) }
+    ensures front { StandsInFront found.old found.new }
 {
     if source.is_there {
         return Ok(());
@@ -84,6 +86,7 @@ fn validated<C: Catalog>(
     ensures told { OnOk result (found.new
         ≡ found.old ++ validation_findings (C.lists catalog.now) file config) }
     ensures files { files.new ≡ files.old }
+    ensures front { StandsInFront found.old found.new }
 {
     let context = ValidationContext {
         cfg_id: file,
@@ -111,6 +114,7 @@ fn load_further<T: Tree, C: Catalog>(
     ensures no_memory { OnErr result
         (MayReadOf (T.trace tree.old) (T.trace tree.new) files.old path) }
     ensures grows { Grows files.old files.new }
+    ensures findings { StandsInFront diags.old diags.new }
     ensures made { MadeSome (T.content tree.old) (T.content tree.new) (T.fault_count tree.old)
         (T.fault_count tree.new) (T.trace tree.old) (T.trace tree.new) }
 {
@@ -127,8 +131,9 @@ fn tell_output_key(
     key: Option<Span>,
     found: &mut Diagnostics,
 ) -> Result<(), AllocError>
-    ensures { OnOk result (found.new
+    ensures ok { OnOk result (found.new
         ≡ found.old ++ map (moved_key_finding (codes "output") file) (option_to_list key)) }
+    ensures front { StandsInFront found.old found.new }
 {
     match key {
         Some(key) => {
@@ -146,8 +151,9 @@ fn tell_settings(
     root: &RootConfig,
     found: &mut Diagnostics,
 ) -> Result<(), AllocError>
-    ensures { OnOk result (found.new ≡ found.old
+    ensures ok { OnOk result (found.new ≡ found.old
         ++ target_findings file root.now ++ graph_key_findings file root.now ++ output_key_findings file root.now) }
+    ensures front { StandsInFront found.old found.new }
 {
     tell_targets(alloc, file, root.graph.targets.items(), found)?;
     tell_moved(alloc, file, root.graph_deprecated.items(), found)?;
@@ -160,7 +166,7 @@ fn tell_settings(
 /// The path of the policy's file, and no other one, may be equal to that of the exceptions file, part by
 /// part. Where the policy was read from the text of its file, each label points into its file, and so does each
 /// place that is kept. It is refused for want of memory alone; files and findings may have grown then. Files
-/// that are known keep their texts, whatever it answers.
+/// that are known keep their texts, and findings their places, whatever it answers.
 pub fn load_policy<T: Tree, C: Catalog>(
     alloc: Global,
     source: &PolicySource<'_>,
@@ -183,6 +189,7 @@ pub fn load_policy<T: Tree, C: Catalog>(
     ensures no_memory { OnErr result
         (MayReadOf (T.trace tree.old) (T.trace tree.new) files.old exceptions_path) }
     ensures grows { Grows files.old files.new }
+    ensures findings { StandsInFront found.old found.new }
     ensures made { MadeSome (T.content tree.old) (T.content tree.new) (T.fault_count tree.old)
         (T.fault_count tree.new) (T.trace tree.old) (T.trace tree.new) }
 {

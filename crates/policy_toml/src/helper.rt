@@ -1,5 +1,5 @@
 //! A table that is read key by key.
-ghost use Rattle.std.specs.Prelude.{◌≡◌, ◌++◌, option_map, is_some, IfOk, OnOk};
+ghost use Rattle.std.specs.Prelude.{◌≡◌, ◌++◌, option_map, is_some, IfOk, OnOk, OnErr};
 ghost use Rattle.policy_toml.specs.HelperState.{state_of, opened_table, without_key, without_faults};
 ghost use Rattle.policy_toml.specs.HelperState.{optional_of, after_optional, required_of};
 ghost use Rattle.policy_toml.specs.HelperState.{faults_at_end, unexpected_faults, target_at_exit};
@@ -166,14 +166,16 @@ fn missing_field(alloc: Global, name: &'static str, span: Span) -> Result<ShapeE
 }
 
 /// Appends one fault of a table for the keys that are left of it, where there are some. `span` is its place.
+/// Where memory is wanted none is appended.
 pub fn add_unexpected(
     alloc: Global,
     left: &Entries<'_>,
     span: Span,
     faults: &mut ShapeErrors,
 ) -> Result<(), AllocError>
-    ensures { let names = names_in (entries_view left.now) in
+    ensures ok { let names = names_in (entries_view left.now) in
         OnOk result (faults.new ≡ faults.old ++ unexpected_faults names span) }
+    ensures err { OnErr result (faults.new ≡ faults.old) }
 {
     let names = left.names(alloc)?;
     if !names.items().is_empty() {

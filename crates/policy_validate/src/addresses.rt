@@ -1,6 +1,7 @@
 //! Addresses whose crates are passed over.
 ghost use Rattle.std.specs.Prelude.{◌≡◌, ◌++◌, IfOk, OnOk};
 ghost use Rattle.std.specs.Result.{result_ok};
+ghost use Rattle.policy_validate.specs.Fronts.{StandsInFront};
 ghost use Rattle.graph_source.specs.Reading.{address_of};
 ghost use Rattle.policy_validate.specs.Valid.{address_judged, kept_by, findings_by_each};
 
@@ -60,6 +61,7 @@ pub(crate) fn judge_addresses(
 ) -> Result<Urls, AllocError>
     ensures kept { IfOk result (λ kept. kept ≡ kept_by (address_judged file) strings.now) }
     ensures told { OnOk result (found.new ≡ found.old ++ findings_by_each (address_judged file) strings.now) }
+    ensures front { StandsInFront found.old found.new }
 {
     let mut kept = Urls::new(alloc);
     'strings: for string in strings {

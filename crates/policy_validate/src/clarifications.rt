@@ -1,6 +1,7 @@
 //! Clarifications.
 ghost use Rattle.std.specs.Prelude.{◌≡◌, ◌++◌, IfOk, OnOk};
 ghost use Rattle.std.specs.List.{AllZip};
+ghost use Rattle.policy_validate.specs.Fronts.{StandsInFront};
 ghost use Rattle.policy_validate.specs.Order.{PutsFilesInOrder, PutsJudgedInOrder};
 ghost use Rattle.policy_validate.specs.Valid as spec;
 ghost use Rattle.policy_validate.specs.Valid.{clarification_judged, kept_by, findings_by_each};
@@ -100,6 +101,7 @@ pub(crate) fn judge_clarifications<C: Catalog>(
         (kept_by (clarification_judged (C.lists catalog.now) file) clarifications)) }
     ensures told { OnOk result (found.new
         ≡ found.old ++ findings_by_each (clarification_judged (C.lists catalog.now) file) clarifications) }
+    ensures front { StandsInFront found.old found.new }
 {
     let mut kept = ValidClarifications::new(alloc);
     'clarifications: for clarification in clarifications.into_vec() {

@@ -1,5 +1,6 @@
 //! Exceptions, with the file that they stand in.
 ghost use Rattle.std.specs.Prelude.{◌≡◌, ◌++◌, OnOk, map};
+ghost use Rattle.policy_validate.specs.Fronts.{StandsInFront};
 ghost use Rattle.policy_validate.specs.Valid.{exception_in};
 
 use diag_core::FileId;
@@ -7,13 +8,15 @@ use policy_entries::Exceptions;
 use policy_valid::{ValidException, ValidExceptions};
 use std::alloc::AllocError;
 
-/// Puts the exceptions of a file behind the others, as they stand there.
+/// Puts the exceptions of a file behind the others, as they stand there. Where memory is wanted those so far
+/// stay, in front of what was added.
 pub fn add_exceptions(
     file: FileId,
     exceptions: Exceptions,
     valid: &mut ValidExceptions,
 ) -> Result<(), AllocError>
-    ensures { OnOk result (valid.new ≡ valid.old ++ map (exception_in file) exceptions) }
+    ensures ok { OnOk result (valid.new ≡ valid.old ++ map (exception_in file) exceptions) }
+    ensures front { StandsInFront valid.old valid.new }
 {
     'exceptions: for exception in exceptions.into_vec() {
         valid.push(ValidException {

@@ -1,6 +1,7 @@
 //! What is found wrong, and where it goes.
 ghost use Rattle.std.specs.Prelude.{◌≡◌, ◌++◌, IfOk, OnOk, map, option_to_list};
 ghost use Rattle.std.specs.Result.{result_ok, result_err};
+ghost use Rattle.policy_validate.specs.Fronts.{StandsInFront};
 ghost use Rattle.policy_validate.specs.Valid as spec;
 
 use deny_text::{ListOf, Span};
@@ -38,6 +39,7 @@ pub(crate) fn push_judged<T: Drop>(
 ) -> Result<(), AllocError>
     ensures kept { OnOk result (kept.new ≡ kept.old ++ option_to_list (result_ok judged)) }
     ensures told { OnOk result (found.new ≡ found.old ++ option_to_list (result_err judged)) }
+    ensures front { StandsInFront found.old found.new }
 {
     match judged {
         Ok(item) => kept.push(item),
@@ -65,7 +67,8 @@ pub(crate) fn tell_removed(
     keys: &[Span],
     found: &mut Diagnostics,
 ) -> Result<(), AllocError>
-    ensures { OnOk result (found.new ≡ found.old ++ map (spec.removed_key file) keys.now) }
+    ensures ok { OnOk result (found.new ≡ found.old ++ map (spec.removed_key file) keys.now) }
+    ensures front { StandsInFront found.old found.new }
 {
     'keys: for key in keys {
         let diag = removed_key(alloc, file, *key)?;

@@ -1,6 +1,7 @@
 //! Policies that are validated.
 ghost use Rattle.std.specs.Prelude.{◌≡◌, ◌++◌, ℕ, List, IfOk, OnOk};
 ghost use Rattle.diag_core.specs.declared.diagnostic.Diagnostic.{Diagnostic as DiagnosticOf};
+ghost use Rattle.policy_validate.specs.Fronts.{StandsInFront};
 ghost use Rattle.policy_validate.specs.Order.{PutsPolicyInOrder};
 ghost use Rattle.policy_validate.specs.Valid.{valid_part, validation_findings};
 
@@ -28,7 +29,7 @@ pub trait UnvalidatedConfig<X> {
     ghost findings: { X → ℕ → Self → List DiagnosticOf };
 
     /// Tells what is wrong, behind the findings so far, and keeps the rest. It is refused for want of memory
-    /// alone; some findings may have come then.
+    /// alone; some findings may have come then, behind those so far.
     fn validate(
         self,
         alloc: Global,
@@ -38,6 +39,7 @@ pub trait UnvalidatedConfig<X> {
         ensures valid { IfOk result (is_valid context.now ctx.entry.cfg_id self) }
         ensures told { OnOk result (ctx.exit.1.1.0.now
             ≡ ctx.entry.diagnostics.now ++ findings context.now ctx.entry.cfg_id self) }
+        ensures front { StandsInFront ctx.entry.diagnostics.now ctx.exit.1.1.0.now }
         ensures files { ctx.exit.1.0.now ≡ ctx.entry.files.now };
 }
 
@@ -52,6 +54,7 @@ fn validate_config<C: Catalog>(
     ensures valid { IfOk result (PutsPolicyInOrder (valid_part (C.lists catalog.now) file config)) }
     ensures told { OnOk result (found.new
         ≡ found.old ++ validation_findings (C.lists catalog.now) file config) }
+    ensures front { StandsInFront found.old found.new }
 {
     let sources = config.private.ignore_sources.items();
     let ignore_sources = judge_addresses(alloc, file, sources, found)?;

@@ -6,6 +6,7 @@ use Rattle.std.specs.Cmp.Lexicographic.{slice_cmp, nat_list_cmp_total}
 use Rattle.std.specs.BTreeSet.{insert_key}
 use Rattle.std.specs.List.{AllByRecursion, flat_map, fold}
 use Rattle.std.specs.List.Sorted.{IsStrictlySortedBy}
+use Rattle.run_listing.specs.Fronts.{StandsInFront}
 use Rattle.std.specs.Str.{bytes_eq}
 use Rattle.std.proofs.lemmas.Map.Lookups.{exact_bytes}
 use Rattle.std.proofs.lemmas.Slice.Eq.{bytes_eq-Decides}
@@ -17,6 +18,17 @@ use Rattle.run_listing.specs.Listed.{all_licences}
 use Rattle.run_listing.specs.Listing.{mark_if, marks}
 use Rattle.run_listing.specs.Marks.{HasColumns, is_next, rest_if, walked}
 use Rattle.run_listing.proofs.ListLemmas.{item_first}
+
+-- what stands in front stays there
+pub front_then : {A : Type 0} (first second third : List A) → StandsInFront first second → StandsInFront second third → StandsInFront first third
+front_then first second third (more, is) (others, grown) = (more ++ others, grown ∙ ap (λ items. items ++ others) is ∙ append_assoc first more others)
+
+-- four pieces, one behind the other
+pub four_pieces : {A : Type 0} (out one two three four first second third : List A) → first ≡ out ++ one → second ≡ first ++ two → third ≡ second ++ three
+    → third ++ four ≡ out ++ (one ++ (two ++ (three ++ four)))
+four_pieces out one two three four first second third a b c =
+    ap (λ items. items ++ four) (c ∙ ap (λ items. items ++ three) (b ∙ ap (λ items. items ++ two) a))
+    ∙ append_assoc (out ++ one ++ two) three four ∙ append_assoc (out ++ one) two (three ++ four) ∙ append_assoc out one (two ++ (three ++ four))
 
 -- ---- tests
 

@@ -1,3 +1,4 @@
+pub mod Fronts
 pub mod Listed
 pub mod Listing
 pub mod Written

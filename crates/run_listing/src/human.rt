@@ -1,5 +1,6 @@
 //! A listing for a person.
 ghost use Rattle.std.specs.Prelude.{◌≡◌, ◌++◌, IfOk, None, OnOk, ⊤};
+ghost use Rattle.run_listing.specs.Fronts.{StandsInFront};
 ghost use Rattle.run_listing.specs.Listed.{names_under};
 ghost use Rattle.run_listing.specs.Listing.{crate_line, crate_words, group_line, licence_line, title_of};
 ghost use Rattle.run_listing.specs.Listing.{unlicensed_line};
@@ -12,7 +13,8 @@ use std::alloc::{AllocError, Global};
 
 /// Appends a title, and how many stand under it.
 fn push_title(out: &mut Vec<u8>, alloc: Global, title: &str, count: usize) -> Result<(), AllocError>
-    ensures { OnOk result (out.new.items ≡ out.old.items ++ title_of title.now count) }
+    ensures ok { OnOk result (out.new.items ≡ out.old.items ++ title_of title.now count) }
+    ensures front { StandsInFront out.old.items out.new.items }
 {
     push_plain(out, title)?;
     let counted = format!(in alloc; " ({count}): ")?;
@@ -26,7 +28,8 @@ fn push_group(
     title: &str,
     texts: &[Text],
 ) -> Result<(), AllocError>
-    ensures { OnOk result (out.new.items ≡ out.old.items ++ group_line title.now texts.now) }
+    ensures ok { OnOk result (out.new.items ≡ out.old.items ++ group_line title.now texts.now) }
+    ensures front { StandsInFront out.old.items out.new.items }
 {
     push_title(out, alloc, title, texts.len())?;
     push_joined(out, ", ", texts)?;
@@ -39,7 +42,8 @@ pub(crate) struct CrateLines;
 
 /// Appends the licences of a crate.
 fn push_licences(out: &mut Vec<u8>, licences: &[Text]) -> Result<(), AllocError>
-    ensures { OnOk result (out.new.items ≡ out.old.items ++ crate_words licences.now) }
+    ensures ok { OnOk result (out.new.items ≡ out.old.items ++ crate_words licences.now) }
+    ensures front { StandsInFront out.old.items out.new.items }
 {
     match licences.split_first() {
         Some(_) => push_joined(out, ", ", licences),
@@ -80,7 +84,8 @@ impl<'c> Lines<Text> for LicenceLines<'c> {
 
 /// Appends the line of these crates, which have no licence; nothing where there are none.
 fn push_unlicensed(out: &mut Vec<u8>, alloc: Global, names: &[Text]) -> Result<(), AllocError>
-    ensures { OnOk result (out.new.items ≡ out.old.items ++ unlicensed_line names.now) }
+    ensures ok { OnOk result (out.new.items ≡ out.old.items ++ unlicensed_line names.now) }
+    ensures front { StandsInFront out.old.items out.new.items }
 {
     match names.split_first() {
         Some(_) => push_group(out, alloc, "Unlicensed", names),

@@ -1,6 +1,7 @@
 //! Lines that are written to a sink, one for each item.
 ghost use Rattle.std.specs.Prelude.{◌≡◌, ◌≤◌, ℕ, All, List, [], ◌++◌, IfErr, OnErr, OnOk};
 ghost use Rattle.std.specs.List.{flat_map};
+ghost use Rattle.run_listing.specs.Fronts.{StandsInFront};
 ghost use Rattle.tree_core.specs.Faults.{Gained, GainedPrefix};
 ghost use Rattle.run_listing.specs.Written.{HasReasonSince, IsPending};
 
@@ -34,10 +35,11 @@ pub(crate) trait Lines<T> {
     /// What is asked of an item.
     ghost fits: { Self → T → Type 0 };
 
-    /// Appends the line of an item.
+    /// Appends the line of an item. Where memory is wanted what was written stays, in front of what was added.
     fn push(&self, out: &mut Vec<u8>, alloc: Global, item: &T) -> Result<(), AllocError>
         requires { fits self.now item.now }
-        ensures { OnOk result (out.new.items ≡ out.old.items ++ line self.now item.now) };
+        ensures ok { OnOk result (out.new.items ≡ out.old.items ++ line self.now item.now) }
+        ensures front { StandsInFront out.old.items out.new.items };
 }
 
 /// How many bytes are gathered before they are written.

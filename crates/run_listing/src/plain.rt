@@ -1,5 +1,6 @@
 //! Texts in lines and columns.
 ghost use Rattle.std.specs.Prelude.{◌≡◌, ◌++◌, OnOk};
+ghost use Rattle.run_listing.specs.Fronts.{StandsInFront};
 ghost use Rattle.run_listing.specs.Listing.{further, joined, plain, plain_byte};
 
 use deny_text::Text;
@@ -18,14 +19,16 @@ fn plain_byte(byte: u8) -> u8
 
 /// Appends a text as it is.
 pub(crate) fn push_text(out: &mut Vec<u8>, text: &str) -> Result<(), AllocError>
-    ensures { OnOk result (out.new.items ≡ out.old.items ++ text.now) }
+    ensures ok { OnOk result (out.new.items ≡ out.old.items ++ text.now) }
+    ensures front { StandsInFront out.old.items out.new.items }
 {
     out.extend_from_slice(text.as_bytes())
 }
 
 /// Appends a text, with spaces in the place of its tabs and line feeds.
 pub(crate) fn push_plain(out: &mut Vec<u8>, text: &str) -> Result<(), AllocError>
-    ensures { OnOk result (out.new.items ≡ out.old.items ++ plain text.now) }
+    ensures ok { OnOk result (out.new.items ≡ out.old.items ++ plain text.now) }
+    ensures front { StandsInFront out.old.items out.new.items }
 {
     let bytes = text.as_bytes();
     'places: for byte in bytes {
@@ -36,7 +39,8 @@ pub(crate) fn push_plain(out: &mut Vec<u8>, text: &str) -> Result<(), AllocError
 
 /// Appends a text behind one that stands between.
 fn push_behind(out: &mut Vec<u8>, between: &str, text: &str) -> Result<(), AllocError>
-    ensures { OnOk result (out.new.items ≡ out.old.items ++ (between.now ++ plain text.now)) }
+    ensures ok { OnOk result (out.new.items ≡ out.old.items ++ (between.now ++ plain text.now)) }
+    ensures front { StandsInFront out.old.items out.new.items }
 {
     push_text(out, between)?;
     push_plain(out, text)
@@ -48,7 +52,8 @@ pub(crate) fn push_further(
     between: &str,
     texts: &[Text],
 ) -> Result<(), AllocError>
-    ensures { OnOk result (out.new.items ≡ out.old.items ++ further between.now texts.now) }
+    ensures ok { OnOk result (out.new.items ≡ out.old.items ++ further between.now texts.now) }
+    ensures front { StandsInFront out.old.items out.new.items }
 {
     'texts: for text in texts {
         push_behind(out, between, text.as_str())?;
@@ -62,7 +67,8 @@ pub(crate) fn push_joined(
     between: &str,
     texts: &[Text],
 ) -> Result<(), AllocError>
-    ensures { OnOk result (out.new.items ≡ out.old.items ++ joined between.now texts.now) }
+    ensures ok { OnOk result (out.new.items ≡ out.old.items ++ joined between.now texts.now) }
+    ensures front { StandsInFront out.old.items out.new.items }
 {
     match texts.split_first() {
         Some((first, rest)) => {

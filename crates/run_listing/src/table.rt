@@ -1,5 +1,6 @@
 //! A listing in columns.
 ghost use Rattle.std.specs.Prelude.{◌≡◌, ◌++◌, IfOk, OnOk};
+ghost use Rattle.run_listing.specs.Fronts.{StandsInFront};
 ghost use Rattle.run_listing.specs.Listing.{crate_row, head_row, mark_if, marks};
 ghost use Rattle.run_listing.specs.Marks.{HasColumns, is_next, rest_if};
 
@@ -53,7 +54,8 @@ fn rest_if(is_used: bool, licences: &[Text]) -> &[Text]
 /// Appends the columns of a crate. Its licences stand in the order of the columns, so both are walked once.
 fn push_marks(out: &mut Vec<u8>, columns: &[Text], licences: &[Text]) -> Result<(), AllocError>
     requires { HasColumns columns.now licences.now }
-    ensures { OnOk result (out.new.items ≡ out.old.items ++ marks columns.now licences.now) }
+    ensures ok { OnOk result (out.new.items ≡ out.old.items ++ marks columns.now licences.now) }
+    ensures front { StandsInFront out.old.items out.new.items }
 {
     let mut rest = licences;
     'columns: for column in columns {

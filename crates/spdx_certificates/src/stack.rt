@@ -1,12 +1,13 @@
 //! Vectors as stacks, which contracts see from their last item.
-ghost use Rattle.std.specs.Prelude.{◌≡◌, ◌∷◌, reverse, OnOk};
+ghost use Rattle.std.specs.Prelude.{◌≡◌, ◌∷◌, reverse, OnOk, OnErr};
 ghost use Rattle.spdx_certificates.specs.Stack.{first_of, behind_first};
 
 use std::alloc::AllocError;
 
 /// Puts an item on top. One that finds no room is dropped.
 pub fn put<T: Drop>(stack: &mut Vec<T>, item: T) -> Result<(), AllocError>
-    ensures { OnOk result (reverse stack.new.items ≡ item ∷ reverse stack.old.items) }
+    ensures ok { OnOk result (reverse stack.new.items ≡ item ∷ reverse stack.old.items) }
+    ensures err { OnErr result (stack.new.items ≡ stack.old.items) }
 {
     stack.push(item)?;
     Ok(())

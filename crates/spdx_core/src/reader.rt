@@ -1,5 +1,6 @@
 //! The reader of licence expressions: one pass over the items, with a level for each open parenthesis.
-ghost use Rattle.std.specs.Prelude.{◌≡◌, OnOk, Some, None};
+ghost use Rattle.std.specs.Prelude.{◌≡◌, OnOk, OnErr, IsOk, Some, None};
+ghost use Rattle.spdx_core.specs.Fronts.{StandsInFront};
 ghost use Rattle.spdx_core.specs.Machine.{machine_of, advanced, after_part as part_after};
 ghost use Rattle.spdx_core.specs.Machine.{after_or as or_after, after_close as close_after};
 ghost use Rattle.spdx_core.specs.Machine.{after_open as open_after, no_machine, written};
@@ -55,9 +56,10 @@ fn excepted(term: ExpressionReq, name: Text, end: usize) -> ExpressionReq
     }
 }
 
-/// The last term gets an exception, and ends where that ends.
+/// The last term gets an exception, and ends where that ends. It takes no memory: the term goes back to its place.
 fn except_last(terms: &mut Vec<ExpressionReq>, name: Text, end: usize) -> Result<(), AllocError>
-    ensures { OnOk result (terms.new.items ≡ with_exception terms.old.items name end) }
+    ensures ok { OnOk result (terms.new.items ≡ with_exception terms.old.items name end) }
+    ensures fits { IsOk result }
 {
     match terms.pop() {
         None => Ok(()),
@@ -82,7 +84,9 @@ impl Reader {
 
     /// An `AND` that waits has its right side.
     fn end_part(&mut self) -> Result<(), AllocError>
-        ensures { OnOk result (machine_of self.new ≡ part_after (machine_of self.old)) }
+        ensures ok { OnOk result (machine_of self.new ≡ part_after (machine_of self.old)) }
+        ensures nodes { StandsInFront self.old.nodes.items self.new.nodes.items }
+        ensures terms { self.new.terms ≡ self.old.terms }
     {
         if self.level.and {
             self.nodes.push(ExprNode::And)?;
@@ -93,7 +97,9 @@ impl Reader {
 
     /// An `OR` that waits has its right side, and another one follows.
     fn end_conjunction(&mut self) -> Result<(), AllocError>
-        ensures { OnOk result (machine_of self.new ≡ or_after (machine_of self.old)) }
+        ensures ok { OnOk result (machine_of self.new ≡ or_after (machine_of self.old)) }
+        ensures nodes { StandsInFront self.old.nodes.items self.new.nodes.items }
+        ensures terms { self.new.terms ≡ self.old.terms }
     {
         if self.level.or {
             self.nodes.push(ExprNode::Or)?;
@@ -107,8 +113,10 @@ impl Reader {
 
     /// A `)` makes one part of its level.
     fn close(&mut self) -> Result<(), AllocError>
-        ensures { OnOk result (machine_of self.new
+        ensures ok { OnOk result (machine_of self.new
             ≡ close_after (machine_of self.old).outer (machine_of self.old)) }
+        ensures nodes { StandsInFront self.old.nodes.items self.new.nodes.items }
+        ensures terms { self.new.terms ≡ self.old.terms }
     {
         match self.outer.pop() {
             None => Ok(()),
@@ -123,7 +131,9 @@ impl Reader {
     }
 
     fn term(&mut self, named: Simple, span: Span) -> Result<(), AllocError>
-        ensures { OnOk result (machine_of self.new ≡ advanced (machine_of self.old) (ItemKind.Term named) span) }
+        ensures ok { OnOk result (machine_of self.new ≡ advanced (machine_of self.old) (ItemKind.Term named) span) }
+        ensures nodes { StandsInFront self.old.nodes.items self.new.nodes.items }
+        ensures terms { StandsInFront self.old.terms.items self.new.terms.items }
     {
         let place = self.terms.len();
         self.nodes.push(ExprNode::Term(place))?;
@@ -136,16 +146,21 @@ impl Reader {
     }
 
     fn open(&mut self) -> Result<(), AllocError>
-        ensures { OnOk result (machine_of self.new ≡ open_after (machine_of self.old)) }
+        ensures ok { OnOk result (machine_of self.new ≡ open_after (machine_of self.old)) }
+        ensures nodes { self.new.nodes ≡ self.old.nodes }
+        ensures terms { self.new.terms ≡ self.old.terms }
     {
         self.outer.push(self.level)?;
         self.level = OpenOperators::NOTHING;
         Ok(())
     }
 
-    /// Takes an item that has no fault.
+    /// Takes an item that has no fault. Where memory is wanted the nodes and terms so far stay, in front of what
+    /// was added; a `)` may have left its level.
     pub fn take(&mut self, what: ItemKind, span: Span) -> Result<(), AllocError>
-        ensures { OnOk result (machine_of self.new ≡ advanced (machine_of self.old) what span) }
+        ensures ok { OnOk result (machine_of self.new ≡ advanced (machine_of self.old) what span) }
+        ensures nodes { OnErr result (StandsInFront self.old.nodes.items self.new.nodes.items) }
+        ensures terms { OnErr result (StandsInFront self.old.terms.items self.new.terms.items) }
     {
         match what {
             ItemKind::Term(named) => self.term(named, span),
@@ -158,11 +173,12 @@ impl Reader {
         }
     }
 
-    /// The nodes are whole: an `OR` that waits has its right side.
+    /// The nodes are whole: an `OR` that waits has its right side. Where memory is wanted nothing changes.
     pub fn finish(&mut self) -> Result<(), AllocError>
         ensures nodes { OnOk result (self.new.nodes.items
             ≡ written self.old.level.or ExprNode.Or self.old.nodes.items) }
         ensures terms { OnOk result (self.new.terms ≡ self.old.terms) }
+        ensures err { OnErr result ((self.new.nodes.items ≡ self.old.nodes.items) × (self.new.terms ≡ self.old.terms)) }
     {
         if self.level.or {
             self.nodes.push(ExprNode::Or)?;

@@ -1,5 +1,5 @@
 //! A stack, seen from its top.
-ghost use Rattle.std.specs.Prelude.{◌≡◌, [], ◌∷◌, OnOk};
+ghost use Rattle.std.specs.Prelude.{◌≡◌, [], ◌∷◌, OnOk, OnErr};
 ghost use Rattle.spdx_core.specs.Stack.{top_of, Pops};
 
 use std::alloc::{AllocError, Global};
@@ -28,9 +28,11 @@ impl<T: Copy + Drop> Stack<T> {
         }
     }
 
+    /// Puts an item on top. One that finds no room is dropped.
     #[tactic(auto, using(crate::proofs::StackLemmas::pushed))]
     pub fn push(&mut self, item: T) -> Result<(), AllocError>
-        ensures { OnOk result (self.new ≡ item ∷ self.old) }
+        ensures ok { OnOk result (self.new ≡ item ∷ self.old) }
+        ensures err { OnErr result (self.new ≡ self.old) }
     {
         self.inner.push(item)?;
         Ok(())

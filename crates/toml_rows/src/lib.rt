@@ -1,7 +1,8 @@
 //! Types that are tables of keys: how a table is opened, read row by row, and ended.
 #![tactic(auto)]
 
-ghost use Rattle.std.specs.Prelude.{◌≡◌, [], ◌++◌, false, option_map, option_to_list, unwrap_or, IfOk, OnOk};
+ghost use Rattle.std.specs.Prelude.{◌≡◌, ◌⊎◌, [], ◌++◌, false, option_map, option_to_list, unwrap_or};
+ghost use Rattle.std.specs.Prelude.{IfOk, OnOk, OnErr};
 ghost use Rattle.deny_text.specs.declared.span.Span.{Span};
 ghost use Rattle.toml_subset.specs.Data as «data»;
 ghost use Rattle.toml_shapes.specs.Shaped.{ShapeReading, AnswersShape, shaped_of};
@@ -57,7 +58,8 @@ pub fn take_value<'de>(entries: &mut Entries<'de>, name: &str) -> Option<Value<'
     }
 }
 
-/// Takes a key that is no longer used, and appends its place. A value that is refused is passed over.
+/// Takes a key that is no longer used, and appends its place. A value that is refused is passed over. Where
+/// memory is wanted the key is taken, and its place was appended or not.
 pub fn deprecated<T: Deserialize<X>, X>(
     alloc: Global,
     table: &mut TableHelper<'_>,
@@ -69,6 +71,9 @@ pub fn deprecated<T: Deserialize<X>, X>(
     ensures after { OnOk result (state_of table.new ≡ without_key name.now (state_of table.old)) }
     ensures spans { let place = key_span name.now (state_of table.old).left in
         OnOk result (spans.new ≡ spans.old ++ option_to_list place) }
+    ensures taken { OnErr result (state_of table.new ≡ without_key name.now (state_of table.old)) }
+    ensures err { let place = key_span name.now (state_of table.old).left in
+        OnErr result ((spans.new ≡ spans.old) ⊎ (spans.new ≡ spans.old ++ option_to_list place)) }
 {
     match table.take(name) {
         Some((key, mut value)) => {

@@ -128,9 +128,10 @@ impl ShapeErrors {
         &self.list
     }
 
-    /// Appends the faults of another list.
+    /// Appends the faults of another list. Where memory is wanted none is appended.
     pub fn append(&mut self, mut others: ShapeErrors) -> Result<(), AllocError>
-        ensures { OnOk result (self.new ≡ self.old ++ others) }
+        ensures ok { OnOk result (self.new ≡ self.old ++ others) }
+        ensures err { OnErr result (self.new ≡ self.old) }
     {
         self.list.append(&mut others.list)
     }

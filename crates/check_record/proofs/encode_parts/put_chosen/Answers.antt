@@ -5,8 +5,8 @@ use Rattle.check_record.specs.Spelling.{chosen_text}
 use Rattle.check_record.proofs.Loops.{no_hits_left, no_places_left}
 use Rattle.check_record.proofs.encode_parts.put_chosen.Goals as goal
 
-pub returns : goal.returns
-returns c =
+pub returns-clause-ok : goal.returns-clause-ok
+returns-clause-ok c =
     let done = c.terms.out.items in
     let places = iter_rest (zip_first c.terms.place-iterator) in
     let hits = iter_rest (zip_second c.terms.place-iterator) in
@@ -14,4 +14,4 @@ returns c =
       | inl w ↦ no_places_left places hits w.1.0
       | inr w ↦ no_hits_left places hits w.1.0
     ] in
-    sym (append-nil done) ∙ (ap (λ (text : List ℕ). done ++ text) (sym none) ∙ c.terms.invariant)
+    sym (append-nil done) ∙ (ap (λ (text : List ℕ). done ++ text) (sym none) ∙ c.terms.invariant.0)

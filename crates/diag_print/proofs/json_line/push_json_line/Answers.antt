@@ -1,4 +1,4 @@
-use Rattle.std.proofs.Common.{◌≡◌, ◌++◌, ◌∙◌, [], ap, codes, string_bytes, append_assoc}
+use Rattle.std.proofs.Common.{◌≡◌, ◌++◌, ◌∙◌, [], ap, codes, string_bytes}
 use Rattle.serde_json.proofs.Texts.{print-outline}
 use Rattle.serde_json.specs.Written.{compact_text}
 use Rattle.diag_print.specs.Json.{finding_data}
@@ -7,16 +7,16 @@ use Rattle.diag_print.proofs.FlatLemmas.{OnOk-appended}
 use Rattle.diag_print.proofs.JsonLemmas.{held}
 use Rattle.diag_print.proofs.json_line.push_json_line.Goals as goal
 
-pub returns : goal.returns
-returns c =
+pub returns-clause-ok : goal.returns-clause-ok
+returns-clause-ok c =
     let wanted = finding_data c.args.files.now c.args.diag.now in
     let before = string_bytes c.args.out.now in
     let empty : c.new-writer.result.before ≡ [] = c.new-writer.ensures.before ∙ c.in_ok-with_capacity.ensures.items in
     let printed = held [] c.into_inner.result.items c.new-writer.result c.write_finding.new.out (data_tokens wanted)
     empty c.new-writer.ensures.tokens c.in_ok-write_finding.ensures c.into_inner.ensures.items in
-    let line : c.as_str.result.now ≡ compact_text wanted =
-    c.as_str.ensures.value ∙ ap (λ vec. vec.items) c.from_utf8_unchecked-line.ensures.value ∙ printed ∙ print-outline wanted in
-    let written : string_bytes c.push_str.new.self ≡ before ++ compact_text wanted =
-    c.in_ok-push_str.ensures.bytes ∙ ap (λ text. before ++ text) line in
-    OnOk-appended c.push_str-2.result (string_bytes c.push_str.new.self) (codes "\n") _ _ c.push_str-2.ensures.bytes
-    (ap (λ text. text ++ codes "\n") written ∙ append_assoc before (compact_text wanted) (codes "\n"))
+    let text : string_bytes c.from_utf8_unchecked-line.result ≡ compact_text wanted =
+    ap (λ vec. vec.items) c.from_utf8_unchecked-line.ensures.value ∙ printed ∙ print-outline wanted in
+    let line : string_bytes c.push_str.new.self ≡ compact_text wanted ++ codes "\n" =
+    c.in_ok-push_str.ensures.bytes ∙ ap (λ text. text ++ codes "\n") text in
+    OnOk-appended c.push_str-2.result before c.as_str.result.now _ _ c.push_str-2.ensures.bytes
+    (ap (λ text. before ++ text) (c.as_str.ensures.value ∙ line))

@@ -1,9 +1,10 @@
 use Rattle.std.proofs.Common.{◌≡◌, ◌++◌, map, drop}
 use Rattle.std.specs.List.{filter_map}
-use Rattle.graph_selection.specs.Choice.{exclude_spec_of, spec_read}
+use Rattle.graph_selection.specs.Choice.{StandsInFront, exclude_spec_of, spec_read}
 use Rattle.graph_selection.proofs.exclude.read_specs.Given as goal
 
--- the specs so far, and those of the texts that are left
+-- the specs so far, and those of the texts that are left; those at the start stay in front
 abbrev pub invariant-texts : goal.invariant-texts
 invariant-texts l =
-    map exclude_spec_of l.specs ++ filter_map spec_read (drop l.text-index l.texts) ≡ map exclude_spec_of l.fn.specs ++ filter_map spec_read l.texts
+    (map exclude_spec_of l.specs ++ filter_map spec_read (drop l.text-index l.texts) ≡ map exclude_spec_of l.fn.specs ++ filter_map spec_read l.texts)
+    × StandsInFront l.fn.specs l.specs

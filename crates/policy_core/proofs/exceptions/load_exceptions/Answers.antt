@@ -3,7 +3,7 @@ use Rattle.std.specs.Prelude.{is_some, OnOk}
 use Rattle.diag_core.specs.File.{file_id_at}
 use Rattle.policy_core.specs.Exceptions.{itself_finding}
 use Rattle.policy_core.proofs.AnswerLemmas.{itself_by, labels_of, on_err, places_of}
-use Rattle.policy_core.proofs.ExceptionLemmas.{grows_itself, unread_of}
+use Rattle.policy_core.proofs.ExceptionLemmas.{grows_itself, no_more_exceptions, unread_of}
 use Rattle.policy_core.proofs.exceptions.load_exceptions.Goals as goal
 
 pub returns-clause-labels : goal.returns-clause-labels
@@ -31,7 +31,7 @@ returns-then-is_some-clause-read g c =
     let there : is_some (file_id_at files c.args.path) ≡ true =
     ap (λ path. is_some (file_id_at files path)) (sym c.as_path.ensures) ∙ sym (ap is_some c.id_for_path.ensures) ∙ sym c.is_some.ensures ∙ c.if-is_some.true in
     itself_by c.tell_itself.result lists count calls c.args.path c.args.cfg.now files found further there
-    (subst (λ path. OnOk c.tell_itself.result (further ≡ found ++ itself_finding path ∷ [])) c.as_path-then-is_some.ensures c.tell_itself.ensures)
+    (subst (λ path. OnOk c.tell_itself.result (further ≡ found ++ itself_finding path ∷ [])) c.as_path-then-is_some.ensures c.tell_itself.ensures.ok)
 
 pub returns-then-is_some-clause-no_memory : goal.returns-then-is_some-clause-no_memory
 returns-then-is_some-clause-no_memory g c =
@@ -39,3 +39,6 @@ returns-then-is_some-clause-no_memory g c =
 
 pub returns-then-is_some-clause-grows : goal.returns-then-is_some-clause-grows
 returns-then-is_some-clause-grows g c = grows_itself c.args.files.now c.args.files.now refl
+
+pub returns-then-is_some-clause-policy : goal.returns-then-is_some-clause-policy
+returns-then-is_some-clause-policy g c = no_more_exceptions c.args.cfg.now

@@ -4,7 +4,7 @@ use Rattle.tree_texts.specs.Heard.{IsTextRead, read_of}
 use Rattle.policy_core.specs.Exceptions.{unread_finding}
 use Rattle.policy_core.specs.Heard.{fault_words}
 use Rattle.policy_core.proofs.AnswerLemmas.{fault_by, on_err, text_by}
-use Rattle.policy_core.proofs.ExceptionLemmas.{grows_itself, one_read_of}
+use Rattle.policy_core.proofs.ExceptionLemmas.{grows_itself, no_more_exceptions, one_read_of}
 use Rattle.policy_core.proofs.exceptions.load_other.Goals as goal
 
 pub returns-in-Ok-clause-read : goal.returns-in-Ok-clause-read
@@ -33,7 +33,7 @@ returns-in-Err-clause-read g c =
     let begun = c.faults-begun.result in
     let fault = c.in-Err.fault in
     fault_by c.tell_unread.result lists before after begun calls more c.args.path fault c.args.cfg.now c.args.files.now c.args.diags.now c.tell_unread.new.found
-    (subst (λ path. OnOk c.tell_unread.result (c.tell_unread.new.found ≡ c.args.diags.now ++ unread_finding path (fault_words fault) ∷ [])) c.as_path-in-Err.ensures c.tell_unread.ensures)
+    (subst (λ path. OnOk c.tell_unread.result (c.tell_unread.new.found ≡ c.args.diags.now ++ unread_finding path (fault_words fault) ∷ [])) c.as_path-in-Err.ensures c.tell_unread.ensures.ok)
     c.requires c.faults-begun.ensures
     (subst (λ path. IsTextRead begun after calls more path (Err fault)) c.as_path.ensures
     (subst (λ heard. IsTextRead begun after calls more c.as_path.result.now heard) c.in-Err.is c.in_ok-text.ensures.read))
@@ -55,3 +55,9 @@ returns-in_err-text-clause-grows g c = grows_itself c.args.files.now c.args.file
 
 pub returns-in-Err-clause-grows : goal.returns-in-Err-clause-grows
 returns-in-Err-clause-grows g c = grows_itself c.args.files.now c.args.files.now refl
+
+pub returns-in_err-text-clause-policy : goal.returns-in_err-text-clause-policy
+returns-in_err-text-clause-policy g c = no_more_exceptions c.args.cfg.now
+
+pub returns-in-Err-clause-policy : goal.returns-in-Err-clause-policy
+returns-in-Err-clause-policy g c = no_more_exceptions c.args.cfg.now

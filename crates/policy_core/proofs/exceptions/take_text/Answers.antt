@@ -1,7 +1,7 @@
 use Rattle.std.proofs.Common.{subst}
 use Rattle.policy_core.specs.ExceptionsText.{ReadsExceptions}
 use Rattle.policy_core.proofs.AnswerLemmas.{taken}
-use Rattle.policy_core.proofs.ExceptionLemmas.{grows_itself}
+use Rattle.policy_core.proofs.ExceptionLemmas.{grows_itself, more_exceptions, no_more_exceptions}
 use Rattle.policy_core.proofs.exceptions.take_text.Goals as goal
 
 pub returns-in-Ok-clause-taken : goal.returns-in-Ok-clause-taken
@@ -19,3 +19,10 @@ returns-in-Ok-clause-grows g c = (_, c.in-Ok.ensures.ok)
 
 pub returns-in-Err-clause-grows : goal.returns-in-Err-clause-grows
 returns-in-Err-clause-grows g c = grows_itself c.args.files.now c.add_indexed.new.self c.in-Err.ensures.err
+
+pub returns-in-Ok-clause-policy : goal.returns-in-Ok-clause-policy
+returns-in-Ok-clause-policy g c =
+    more_exceptions c.args.cfg.now c.keep_or_tell.new.exceptions c.keep_or_tell.ensures.exceptions_front.0 c.keep_or_tell.ensures.exceptions_front.1
+
+pub returns-in-Err-clause-policy : goal.returns-in-Err-clause-policy
+returns-in-Err-clause-policy g c = no_more_exceptions c.args.cfg.now

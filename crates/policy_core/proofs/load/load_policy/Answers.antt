@@ -26,11 +26,11 @@ returns-clause-read g c =
     c.licences_or_default-config.result c.in_ok-licenses.licenses licenses c.args.files.now files c.args.found.now c.tell_absence.new.found c.validated.new.found
     heard c.tell_settings.new.found
     (c.licences_or_default-config.ensures ∙ ap (λ licenses. unwrap_or licenses no_config) c.take.ensures.value)
-    c.in_ok-tell_absence.ensures c.in_ok-licenses.ensures.valid c.in_ok-licenses.ensures.told
+    c.in_ok-tell_absence.ensures.ok c.in_ok-licenses.ensures.valid c.in_ok-licenses.ensures.told
     (subst
     (λ known. LoadsExceptionsBy lists before after calls others c.args.exceptions_path (record { policy = c.in_ok-licenses.licenses; files = known; found = c.validated.new.found })
     (record { policy = licenses; files = files; found = heard })) c.in_ok-licenses.ensures.files c.in_ok-load_further.ensures.read)
-    c.in_ok-tell_settings.ensures
+    c.in_ok-tell_settings.ensures.ok
 
 pub returns-clause-labels : goal.returns-clause-labels
 returns-clause-labels g c =

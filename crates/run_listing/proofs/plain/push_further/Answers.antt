@@ -7,4 +7,4 @@ pub texts-preserved : goal.texts-preserved
 texts-preserved c =
     text_step c.args.texts.now c.texts.text-index c.text-item.result c.texts-test.true c.text-item.is
     (λ text. c.args.between.now ++ plain text) _ _ _ c.texts.invariant
-    (c.in_ok-push_behind.ensures ∙ ap (λ text. c.texts.out.items ++ (c.args.between.now ++ plain text)) c.as_str.ensures)
+    (c.in_ok-push_behind.ensures.ok ∙ ap (λ text. c.texts.out.items ++ (c.args.between.now ++ plain text)) c.as_str.ensures)

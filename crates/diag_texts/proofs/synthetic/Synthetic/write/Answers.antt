@@ -1,6 +1,7 @@
-use Rattle.std.proofs.Common.{◌≡◌, length, rules}
+use Rattle.std.proofs.Common.{◌≡◌, length, rules, subst}
 use Rattle.std.specs.String.{string_bytes}
 use Rattle.std.proofs.lemmas.Str.{IsUtf8-string_bytes}
+use Rattle.diag_texts.specs.Synthetic.{PlacedText, StandsInFront}
 use Rattle.diag_texts.proofs.BorderLemmas.{between_marked, between_plain}
 use Rattle.diag_texts.proofs.synthetic.Synthetic.write.Goals as goal
 
@@ -17,3 +18,15 @@ invariant_of-self-in-Marked c =
     c.self.inside.spans.items c.try_reserve.new.self.items c.push.new.self.items c.len-start.result c.len-end.result
     (IsUtf8-string_bytes c.self.inside.text) (IsUtf8-string_bytes c.push_str-in-Marked.new.self) c.in_ok-push_str-in-Marked.ensures.bytes
     starts ends c.in_ok-try_reserve-in-Marked.ensures.items c.in_ok-push-in-Marked.ensures.items c.self.invariant
+
+-- what stood stays in front
+
+pub returns-in_ok-push_str-in-Plain-clause-text : goal.returns-in_ok-push_str-in-Plain-clause-text
+returns-in_ok-push_str-in-Plain-clause-text c =
+    subst (λ (old : PlacedText). StandsInFront old.text (string_bytes c.push_str.new.self)) c.self.view_is
+    (c.in-Plain.text.now, c.in_ok-push_str-in-Plain.ensures.bytes)
+
+pub returns-in_ok-push-in-Marked-clause-text : goal.returns-in_ok-push-in-Marked-clause-text
+returns-in_ok-push-in-Marked-clause-text c =
+    subst (λ (old : PlacedText). StandsInFront old.text (string_bytes c.push_str-in-Marked.new.self)) c.self.view_is
+    (c.in-Marked.text.now, c.in_ok-push_str-in-Marked.ensures.bytes)

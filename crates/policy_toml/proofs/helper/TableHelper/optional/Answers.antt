@@ -25,7 +25,7 @@ returns-in-Err-Faults-clause-after g c =
     let refused = rw c.in-Err-Faults.field-0-is at c.in-Err-Faults.ensures in
     let found = read_at-taken c.args.name.now (g.T.Deserialize.reads c.args.context.now) (state_of c.args.self.now) c.in-Some.field-0-0 (value_view c.in-Some.value) c.in-Some.ensures.taken in
     after_faults c.args.name.now (read_at c.args.name.now (g.T.Deserialize.reads c.args.context.now) (state_of c.args.self.now)) (state_of c.args.self.now) (state_of c.take.new.self) c.in-Err-Faults.faults c.append.new.self
-    (ap faults_of (found ∙ ap Some refused.0)) c.take.ensures.after c.in_ok-append-in-Err-Faults.ensures
+    (ap faults_of (found ∙ ap Some refused.0)) c.take.ensures.after c.in_ok-append-in-Err-Faults.ensures.ok
 
 pub returns-clause-read : goal.returns-clause-read
 returns-clause-read g c =
