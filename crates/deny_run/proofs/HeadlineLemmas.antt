@@ -16,7 +16,7 @@ use Rattle.diag_stats.specs.ExitCode.{has_errors}
 use Rattle.run_request.specs.declared.check.Args.{Args}
 use Rattle.run_request.specs.declared.request.Request.{Request}
 use Rattle.run_request.specs.declared.request.Subcommand.{Subcommand}
-use Rattle.run_request.specs.declared.request.Subcommand.TheVariants.{Check, List as Listing, Sample}
+use Rattle.run_request.specs.declared.request.Subcommand.TheVariants.{Check, List as Listing, Sample, Record, Verify}
 use Rattle.run_request.specs.Given.{may_refuse, may_show}
 use Rattle.run_overrides.specs.Levels.{HasNoOverrides}
 use Rattle.graph_workspace.specs.declared.error.What.TheVariants.{Which}
@@ -39,7 +39,7 @@ use Rattle.run_check.proofs.AnswerLemmas.{IsFree, refused_first}
 use Rattle.run_check.proofs.HeadlineLemmas.{headline_read, headline_told}
 use Rattle.deny_run.specs.declared.outcome.Outcome.{Outcome}
 use Rattle.deny_run.specs.declared.outcome.RunEnd.{RunEnd}
-use Rattle.deny_run.specs.declared.outcome.RunEnd.TheVariants.{Checked, Listed, Sampled, Shown, Usage, Refused}
+use Rattle.deny_run.specs.declared.outcome.RunEnd.TheVariants.{Checked, Listed, Sampled, Recorded, Verified, Shown, Usage, Refused}
 use Rattle.deny_run.specs.Given.{RunArguments, check_asked}
 use Rattle.deny_run.specs.Headline.{AsksCheck, ChecksRequest, EndsInReport, Headline, HeadlineRead, IsHeardOf, TellsAgainst}
 use Rattle.deny_run.specs.Hearing.{ComesToCheck, HasBegun, HasManifest, HearsBehind, HearsDue, HearsFound, HearsLists, IsRunHearing, RunHearing, calls_behind, calls_of, check_found, found_calls, manifest_asked, manifest_in, own_calls, own_heard, own_in}
@@ -49,6 +49,7 @@ use Rattle.deny_run.specs.Report.{IsAnsweredBy, IsRefusedRun, IsRunRefusal, IsRu
 use Rattle.deny_run.specs.Run.{EndsCheck, EndsRequest, IsOutcome, exit_status, status_of}
 use Rattle.deny_run.specs.Script.{BeginsRefusal, Writes}
 use Rattle.deny_run.specs.Words.{HasRequest, IsEndOfWords, IsLost, MayRefuse, MayShow}
+use Rattle.deny_run.proofs.CommandLemmas.{record_no_check, verify_no_check}
 use Rattle.deny_run.proofs.ListLemmas.{list_no_check, sample_no_check}
 use Rattle.deny_run.proofs.AlikeLemmas.{IsAlike, IsSameContent, IsSameTrace, all_behind, content_alike, trace_alike}
 use Rattle.deny_run.proofs.BehindLemmas.{calls-is, found-is, front_calls, there_call}
@@ -340,6 +341,8 @@ module _ (given : RunArguments) (tree : TreeSeen) (counts : FaultCounts) (old ne
   checked_by_command request has (Check args) is report ends = record { request = request; is_told = refl; has = has; args = args; command = is; writes = ends }
   checked_by_command request has (Listing args) is report ends = absurd ends
   checked_by_command request has (Sample size) is report ends = absurd ends
+  checked_by_command request has Record is report ends = absurd ends
+  checked_by_command request has (Verify path) is report ends = absurd ends
 
   checked_by : (told : Option Request) (report : Report) → IsOutcome given tree counts old new told (Checked report) → IsChecked given tree counts old new told report
   checked_by None report is = absurd is.1
@@ -353,6 +356,8 @@ module _ (given : RunArguments) (tree : TreeSeen) (counts : FaultCounts) (old ne
     lawful_check (Checked report) ends = tt
     lawful_check (Listed reads) ends = ends
     lawful_check (Sampled report) ends = ends
+    lawful_check (Recorded reads) ends = ends
+    lawful_check (Verified crates) ends = ends
     lawful_check Shown ends = ends
     lawful_check Usage ends = ends
     lawful_check (Refused error) ends =
@@ -368,6 +373,8 @@ module _ (given : RunArguments) (tree : TreeSeen) (counts : FaultCounts) (old ne
         lawful_check ended (subst (λ own. EndsCheck own tree counts old new ended) (sym (same_check given request args check has is asks)) ends)
     lawful_command request has (Listing args) is ended ends = absurd (list_no_check args asks.args request.command is (checks_it request has))
     lawful_command request has (Sample size) is ended ends = absurd (sample_no_check size asks.args request.command is (checks_it request has))
+    lawful_command request has Record is ended ends = absurd (record_no_check asks.args request.command is (checks_it request has))
+    lawful_command request has (Verify path) is ended ends = absurd (verify_no_check path asks.args request.command is (checks_it request has))
 
     lawful_lost : (cause : Cause) → IsLost given counts old new cause → MayEndLawful cause
     lawful_lost no_memory lost = tt
@@ -379,6 +386,8 @@ module _ (given : RunArguments) (tree : TreeSeen) (counts : FaultCounts) (old ne
     lawful_words (Checked report) ends = tt
     lawful_words (Listed reads) ends = ends
     lawful_words (Sampled report) ends = ends
+    lawful_words (Recorded reads) ends = ends
+    lawful_words (Verified crates) ends = ends
     lawful_words Shown ends = absurd (none_shown given asks.request asks.of_words ends.0)
     lawful_words Usage ends = absurd (none_refused given asks.request asks.of_words ends.0)
     lawful_words (Refused error) ends = lawful_lost (cause_of error) ends

@@ -11,7 +11,7 @@ use Rattle.graph_workspace.specs.declared.error.What.{What}
 use Rattle.run_request.specs.declared.list.Args.{Args as ListArgs}
 use Rattle.run_request.specs.declared.request.Request.{Request}
 use Rattle.run_request.specs.declared.request.Subcommand.{Subcommand}
-use Rattle.run_request.specs.declared.request.Subcommand.TheVariants.{Check, List as Listing, Sample}
+use Rattle.run_request.specs.declared.request.Subcommand.TheVariants.{Check, List as Listing, Sample, Record, Verify}
 use Rattle.run_found.specs.declared.error.Error.{Error}
 use Rattle.run_found.specs.declared.error.Error.TheVariants.{Memory}
 use Rattle.run_found.specs.Error.{MayEndLawful, cause_of}
@@ -19,13 +19,13 @@ use Rattle.run_found.specs.Hearing.{RequestHearing, TreeSeen, seen}
 use Rattle.run_lists.specs.Found.{AnswersBy, FindsLists}
 use Rattle.run_lists.specs.Given.{ListsGiven}
 use Rattle.run_lists.specs.Heard.{given_heard}
-use Rattle.run_list.specs.declared.reads.CrateRead.{CrateRead}
+use Rattle.run_found.specs.declared.reads.CrateRead.{CrateRead}
 use Rattle.run_list.specs.Answer.{Asks, ListInput}
 use Rattle.run_list.specs.Complete.{IsHeardOf}
 use Rattle.run_list.specs.Script.{SinkSeen, WritesList, sink_seen}
 use Rattle.run_list.proofs.CompleteLemmas.{complete_told}
 use Rattle.deny_run.specs.declared.outcome.RunEnd.{RunEnd}
-use Rattle.deny_run.specs.declared.outcome.RunEnd.TheVariants.{Checked, Listed, Sampled, Shown, Usage, Refused}
+use Rattle.deny_run.specs.declared.outcome.RunEnd.TheVariants.{Checked, Listed, Sampled, Recorded, Verified, Shown, Usage, Refused}
 use Rattle.deny_run.specs.declared.outcome.Outcome.{Outcome}
 use Rattle.deny_run.specs.Given.{RunArguments, list_asked}
 use Rattle.deny_run.specs.Lawful.{AsksList, EndsInListing, HasLists, HasManifestIn, IsListComplete}
@@ -35,6 +35,7 @@ use Rattle.deny_run.specs.Own.{ListAsked, list_by, list_handed_in}
 use Rattle.deny_run.specs.Run.{EndsList, EndsRequest, IsOutcome}
 use Rattle.deny_run.specs.Words.{HasRequest, IsEndOfWords, IsLost}
 use Rattle.deny_run.proofs.AlikeLemmas.{lists_told}
+use Rattle.deny_run.proofs.CommandLemmas.{record_no_list, verify_no_list}
 use Rattle.deny_run.proofs.HeadlineLemmas.{none_refused, none_shown, same_request}
 use Rattle.deny_run.proofs.ListLemmas.{list_no_check, lists_made, same_list, sample_no_list}
 use Rattle.deny_run.proofs.ManifestLemmas.{look_lawful, looked_count, looked_made}
@@ -137,6 +138,8 @@ module _ (list : ListAsked) (tree : TreeSeen) (counts : FaultCounts) (old new : 
   listed_end_lawful (Checked report) ends = ends
   listed_end_lawful (Listed reads) ends = tt
   listed_end_lawful (Sampled report) ends = ends
+  listed_end_lawful (Recorded reads) ends = ends
+  listed_end_lawful (Verified crates) ends = ends
   listed_end_lawful Shown ends = ends
   listed_end_lawful Usage ends = ends
   listed_end_lawful (Refused error) ends = listed_cause error ends.written ends.count ends.later ends.lists
@@ -160,6 +163,8 @@ module _ (list : ListAsked) (tree : TreeSeen) (counts : FaultCounts) (old new : 
     by_command request has (Listing args) is ended ends =
         listed_end_lawful ended (subst (λ own. EndsList own tree counts old new ended) (sym (same_listing request args has is)) ends)
     by_command request has (Sample size) is ended ends = absurd (sample_no_list size words.args request.command is (lists_it request has))
+    by_command request has Record is ended ends = absurd (record_no_list words.args request.command is (lists_it request has))
+    by_command request has (Verify own) is ended ends = absurd (verify_no_list own words.args request.command is (lists_it request has))
 
     by_lost : (cause : Cause) → IsLost given counts old new cause → MayEndLawful cause
     by_lost no_memory lost = tt
@@ -171,6 +176,8 @@ module _ (list : ListAsked) (tree : TreeSeen) (counts : FaultCounts) (old new : 
     by_words (Checked report) ends = ends
     by_words (Listed reads) ends = tt
     by_words (Sampled report) ends = ends
+    by_words (Recorded reads) ends = ends
+    by_words (Verified crates) ends = ends
     by_words Shown ends = absurd (none_shown given words.request words.of_words ends.0)
     by_words Usage ends = absurd (none_refused given words.request words.of_words ends.0)
     by_words (Refused error) ends = by_lost (cause_of error) ends

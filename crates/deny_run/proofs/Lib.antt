@@ -1,5 +1,6 @@
 mod AlikeLemmas
 mod BehindLemmas
+mod CommandLemmas
 mod EndLemmas
 mod HeadlineLemmas
 mod LawfulLemmas
@@ -7,6 +8,7 @@ mod LevelLemmas
 mod ListLemmas
 mod ManifestLemmas
 mod OwnLemmas
+mod RecordLawfulLemmas
 mod ScriptLemmas
 mod StopLemmas
 mod SummaryLemmas

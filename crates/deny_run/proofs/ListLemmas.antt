@@ -13,7 +13,7 @@ use Rattle.run_found.specs.declared.error.Error.{Error}
 use Rattle.run_found.specs.Error.{cause_of, fault_line}
 use Rattle.run_found.specs.Hearing.{TreeSeen}
 use Rattle.run_check.specs.declared.report.Report.{Report}
-use Rattle.run_list.specs.declared.reads.CrateRead.{CrateRead}
+use Rattle.run_found.specs.declared.reads.CrateRead.{CrateRead}
 use Rattle.run_list.specs.Script.{SinkSeen}
 use Rattle.run_list.proofs.AnswerLemmas.{some_made_by}
 use Rattle.run_sample.specs.Sample.{IsSampleComplete, IsSampled, IsUnfailed, IsWholeSample, WritesLines}

@@ -13,6 +13,7 @@ use Rattle.run_found.specs.Error.{cause_of, fault_line}
 use Rattle.run_found.specs.Hearing.{MadeOn, RequestHearing, TreeSeen, crates_heard, seen}
 use Rattle.run_lists.specs.Given.{ListsGiven}
 use Rattle.run_lists.specs.Heard.{ListsHearing, given_heard}
+use Rattle.run_found.proofs.SearchLemmas.{gained-nil}
 use Rattle.run_check.specs.declared.report.Report.{Report}
 use Rattle.run_check.specs.Carried.{uncarried_in}
 use Rattle.run_check.specs.Given.{CheckArguments}
@@ -27,7 +28,6 @@ use Rattle.deny_run.specs.Own.{CheckAsked, check_by, handed_in}
 use Rattle.deny_run.specs.Report.{IsRefusedRun, IsRunGivenUp, IsRunReport, behind}
 use Rattle.deny_run.specs.Script.{BeginsRefusal, CutsSummary, TellsLoad, Writes, WritesFirst, load_script, script_of, summary_asked}
 use Rattle.deny_run.proofs.BehindLemmas.{front_calls, told_behind}
-use Rattle.deny_run.proofs.StopLemmas.{gained-nil}
 
 gained-append_nil : (old new : Option (List ℕ)) (text : List ℕ) → Gained old new text → Gained old new (text ++ [])
 gained-append_nil old new text gained = subst (Gained old new) (sym (append-nil text)) gained

@@ -6,7 +6,6 @@ use Rattle.tree_core.specs.Call.{CallAnswer, Call}
 use Rattle.tree_core.specs.Trace.{faults_after}
 use Rattle.tree_core.specs.Content.{Content}
 use Rattle.tree_core.specs.Script.{FaultCounts, SinkTexts, Gains}
-use Rattle.tree_core.specs.Faults.{Gained}
 use Rattle.tree_core.proofs.MadeLemmas.{made_as, made_joined, made_none}
 use Rattle.tree_texts.specs.Cause.{Cause, no_memory, failed_read, refused_write}
 use Rattle.tree_texts.specs.Cause as causes
@@ -25,14 +24,16 @@ use Rattle.run_found.specs.Error.{cause_of}
 use Rattle.run_found.specs.Found.{exceptions_due, paths_looked, paths_sought, policy_due}
 use Rattle.run_found.specs.Hearing.{MadeOn, RequestHearing, TreeSeen, count_behind, look_calls, read_calls, seen}
 use Rattle.run_found.proofs.CallLemmas.{no_looks, no_read}
+use Rattle.run_found.proofs.CarriedLemmas.{hears_nothing, nothing_heard}
 use Rattle.run_found.proofs.FoundLemmas.{bind-Err, bind-Ok}
+use Rattle.run_found.proofs.SearchLemmas.{gained-nil}
 use Rattle.run_lists.specs.Found.{AnswersBy, FindsLists}
 use Rattle.run_lists.specs.Given.{ListsAsked, ListsGiven}
 use Rattle.run_lists.specs.Heard.{ListsHearing, catalog_by, catalog_told, count_catalog, given_by, given_heard, lists_calls, lists_heard, texts_by, texts_heard, texts_told}
 use Rattle.run_check.specs.declared.report.Report.{Report}
 use Rattle.run_check.specs.Carried.{uncarried_in}
 use Rattle.run_check.specs.Found as check
-use Rattle.run_check.specs.Found.{HearsNothing, calls_by, metadata_due, unless_uncarried}
+use Rattle.run_check.specs.Found.{calls_by, metadata_due, unless_uncarried}
 use Rattle.run_check.specs.Given.{CheckArguments}
 use Rattle.deny_run.specs.Hearing.{HasManifest, HearsBehind, HearsDue, HearsFound, HearsLists, IsRunHearing, RunHearing, calls_behind, calls_of, check_found, found_calls, manifest_asked, manifest_in, own_calls, own_heard, own_in}
 use Rattle.deny_run.specs.Manifest.{AnswersLook, IsLookedWhereDue, LooksAtManifest, ManifestLook, found_by, is_manifest, look_in, manifest_calls, manifest_due, manifest_failed, manifest_found, manifest_there, no_manifest, unlooked}
@@ -44,12 +45,6 @@ use Rattle.deny_run.proofs.ManifestLemmas.{due_named, found_if, found_named, loo
 use Rattle.deny_run.proofs.OwnLemmas.{no_lists_calls, nothing_of_lists}
 
 -- ---- nothing is heard behind the look
-
-abbrev pub nothing_heard : ℕ → RequestHearing
-nothing_heard count = record { begun = count; sought = []; looks = []; policy = None; exceptions = None; metadata = None; crates = [] }
-
-hears_nothing : (count : ℕ) → HearsNothing (nothing_heard count)
-hears_nothing count = record { sought = refl; looks = refl; policy = refl; exceptions = refl; metadata = refl }
 
 hears_no_check : (count : ℕ) → HearsNoCheck (nothing_heard count)
 hears_no_check count = record { calls = hears_nothing count; crates = refl }
@@ -92,10 +87,6 @@ nothing_behind (Ok there) = refl
 nothing_behind (Err error) = refl
 
 -- ---- what is written: nothing
-
-pub gained-nil : (held : Option (List ℕ)) → Gained held held []
-gained-nil None = refl
-gained-nil (Some held) = ap Some (sym (append-nil held))
 
 gains-nil : (held : SinkTexts) → Gains held held (load_script [])
 gains-nil held = record { out = gained-nil held.out; err = gained-nil held.err }

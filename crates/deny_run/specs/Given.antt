@@ -6,11 +6,11 @@ use Rattle.spdx_catalog.specs.declared.identifier.Match.{Match}
 use Rattle.run_request.specs.declared.check.Args.{Args}
 use Rattle.run_request.specs.declared.request.Request.{Request}
 use Rattle.run_request.specs.Given.{texts}
-use Rattle.run_lists.specs.Given.{lists_asked}
+use Rattle.run_lists.specs.Given.{lists_asked, lists_given}
 use Rattle.run_check.specs.Given.{check_arguments_of}
 use Rattle.run_list.specs.Given.{list_arguments_of}
 use Rattle.run_request.specs.declared.list.Args.{Args as ListArgs}
-use Rattle.deny_run.specs.Own.{CheckAsked, ListAsked}
+use Rattle.deny_run.specs.Own.{CheckAsked, CommandAsked, ListAsked}
 
 -- the catalogue's lists, what the identifier says of each text, the words and the working folder
 pub record RunArguments : Type 0 where
@@ -31,3 +31,8 @@ check_asked lists match_of request args =
 abbrev pub list_asked : CatalogLists → (List ℕ → Match) → Request → ListArgs → ListAsked
 list_asked lists match_of request args =
     record { list = list_arguments_of lists match_of request.log_ctx args request.krate_ctx; own = lists_asked request.catalog request.store }
+
+-- what it asks of a command without options of its own
+abbrev pub command_asked : CatalogLists → (List ℕ → Match) → Request → CommandAsked
+command_asked lists match_of request =
+    record { log = request.log_ctx; context = request.krate_ctx; handed = lists_given lists match_of; own = lists_asked request.catalog request.store }

@@ -32,7 +32,7 @@ use Rattle.run_check.specs.Headline.{TellsContent, is_against}
 use Rattle.run_check.specs.Report.{Asks, CheckInput, TellsVerdicts}
 use Rattle.deny_run.specs.declared.outcome.Outcome.{Outcome}
 use Rattle.deny_run.specs.declared.outcome.RunEnd.{RunEnd}
-use Rattle.deny_run.specs.declared.outcome.RunEnd.TheVariants.{Checked, Listed, Sampled, Shown, Usage, Refused}
+use Rattle.deny_run.specs.declared.outcome.RunEnd.TheVariants.{Checked, Listed, Sampled, Recorded, Verified, Shown, Usage, Refused}
 use Rattle.deny_run.specs.Given.{RunArguments, check_asked}
 use Rattle.deny_run.specs.Hearing.{ComesToCheck, HasBegun, IsRunHearing, RunHearing, calls_of}
 use Rattle.deny_run.specs.Own.{CheckAsked}
@@ -56,6 +56,8 @@ abbrev pub EndsInReport : RunEnd → Type 0
 EndsInReport (Checked report) = ⊤
 EndsInReport (Listed reads) = ⊥
 EndsInReport (Sampled report) = ⊥
+EndsInReport (Recorded reads) = ⊥
+EndsInReport (Verified crates) = ⊥
 EndsInReport Shown = ⊥
 EndsInReport Usage = ⊥
 EndsInReport (Refused error) = MayEndLawful (cause_of error)

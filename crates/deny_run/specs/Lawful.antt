@@ -16,7 +16,7 @@ use Rattle.run_list.specs.Answer.{Asks, ListInput}
 use Rattle.run_list.specs.Complete.{IsHeardOf, TellsContent}
 use Rattle.deny_run.specs.declared.outcome.Outcome.{Outcome}
 use Rattle.deny_run.specs.declared.outcome.RunEnd.{RunEnd}
-use Rattle.deny_run.specs.declared.outcome.RunEnd.TheVariants.{Checked, Listed, Sampled, Shown, Usage, Refused}
+use Rattle.deny_run.specs.declared.outcome.RunEnd.TheVariants.{Checked, Listed, Sampled, Recorded, Verified, Shown, Usage, Refused}
 use Rattle.deny_run.specs.Given.{RunArguments, list_asked}
 use Rattle.deny_run.specs.Manifest.{is_manifest}
 use Rattle.deny_run.specs.Own.{ListAsked, list_by, list_handed_in}
@@ -46,6 +46,8 @@ abbrev pub EndsInListing : RunEnd → Type 0
 EndsInListing (Checked report) = ⊥
 EndsInListing (Listed reads) = ⊤
 EndsInListing (Sampled report) = ⊥
+EndsInListing (Recorded reads) = ⊥
+EndsInListing (Verified crates) = ⊥
 EndsInListing Shown = ⊥
 EndsInListing Usage = ⊥
 EndsInListing (Refused error) = MayEndLawful (cause_of error)

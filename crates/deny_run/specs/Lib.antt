@@ -1,3 +1,4 @@
+pub mod Commands
 pub mod Given
 pub mod Headline
 pub mod Hearing
@@ -6,6 +7,7 @@ pub mod Laws
 pub mod Listing
 pub mod Manifest
 pub mod Own
+pub mod RecordLawful
 pub mod Report
 pub mod Run
 pub mod Sample

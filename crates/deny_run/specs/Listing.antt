@@ -10,7 +10,7 @@ use Rattle.run_found.specs.Error.{fault_line}
 use Rattle.run_found.specs.Hearing.{TreeSeen, seen}
 use Rattle.run_lists.specs.Found.{FindsLists}
 use Rattle.run_lists.specs.Given.{ListsGiven}
-use Rattle.run_list.specs.declared.reads.CrateRead.{CrateRead}
+use Rattle.run_found.specs.declared.reads.CrateRead.{CrateRead}
 use Rattle.run_list.specs.Carried.{uncarried_in}
 use Rattle.run_list.specs.Script.{SinkSeen, WritesList, sink_seen}
 use Rattle.deny_run.specs.Manifest.{LooksAtManifest}

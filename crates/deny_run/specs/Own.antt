@@ -1,10 +1,13 @@
 -- An organisation's own names and texts: the step of a run that puts them in the place of those that are handed in.
 use Rattle.std.specs.Prelude.{◌≡◌, [], Option, Some, None, Result, Ok, Err}
 use Rattle.run_found.specs.declared.error.Error.{Error}
+use Rattle.diag_print.specs.declared.context.LogContext.{LogContext}
+use Rattle.run_request.specs.declared.context.KrateContext.{KrateContext}
 use Rattle.run_check.specs.Given.{CheckArguments, check_arguments_of}
 use Rattle.run_list.specs.Given.{ListArguments, list_arguments_of}
 use Rattle.run_lists.specs.Given.{ListsAsked, ListsGiven, lists_given}
 use Rattle.run_lists.specs.Heard.{ListsHearing}
+use Rattle.run_record.specs.Given.{command_arguments_of}
 
 -- ---- of a check
 
@@ -41,6 +44,19 @@ list_handed_in list = lists_given list.request.lists list.match_of
 
 abbrev pub list_by : ListArguments → ListsGiven → ListArguments
 list_by list lists = list_arguments_of lists.lists lists.match_of list.request.log list.args list.request.context
+
+-- ---- of a command without options of its own
+
+-- what is asked of the log and of the crates, the names and texts that are handed in, and where others take their place
+pub record CommandAsked : Type 0 where
+  pub log : LogContext
+  pub context : KrateContext
+  pub handed : ListsGiven
+  pub own : ListsAsked
+
+-- what a check without options is given, by some names and texts
+abbrev pub arguments_by : CommandAsked → ListsGiven → CheckArguments
+arguments_by command lists = command_arguments_of lists.lists lists.match_of command.log command.context
 
 -- ---- no call
 

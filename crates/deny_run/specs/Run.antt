@@ -11,7 +11,7 @@ use Rattle.run_request.specs.declared.check.Args.{Args}
 use Rattle.run_request.specs.declared.list.Args.{Args as ListArgs}
 use Rattle.run_request.specs.declared.request.Request.{Request}
 use Rattle.run_request.specs.declared.request.Subcommand.{Subcommand}
-use Rattle.run_request.specs.declared.request.Subcommand.TheVariants.{Check, List as Listing, Sample}
+use Rattle.run_request.specs.declared.request.Subcommand.TheVariants.{Check, List as Listing, Sample, Record, Verify}
 use Rattle.run_request.specs.Given.{may_refuse, may_show, word_faults}
 use Rattle.run_request.specs.Request.{gate_words, request_in}
 use Rattle.run_found.specs.declared.error.Error.{Error}
@@ -20,14 +20,18 @@ use Rattle.run_found.specs.Error.{cause_of}
 use Rattle.run_found.specs.Hearing.{TreeSeen}
 use Rattle.run_check.specs.Carried.{uncarried_in}
 use Rattle.run_check.specs.declared.report.Report.{Report}
-use Rattle.run_list.specs.declared.reads.CrateRead.{CrateRead}
+use Rattle.run_found.specs.declared.reads.CrateRead.{CrateRead}
 use Rattle.run_list.specs.Carried as listing
 use Rattle.deny_run.specs.declared.outcome.Outcome.{Outcome}
 use Rattle.deny_run.specs.declared.outcome.RunEnd.{RunEnd}
-use Rattle.deny_run.specs.declared.outcome.RunEnd.TheVariants.{Checked, Listed, Sampled, Shown, Usage, Refused}
-use Rattle.deny_run.specs.Given.{RunArguments, check_asked, list_asked}
+use Rattle.deny_run.specs.declared.outcome.RunEnd.TheVariants.{Checked, Listed, Sampled, Recorded, Verified, Shown, Usage, Refused}
+use Rattle.run_record.specs.declared.verdicts.VerifiedCrates.{VerifiedCrates}
+use Rattle.check_verify.specs.declared.answer.Answer.{Answer}
+use Rattle.check_verify.specs.declared.answer.Answer.TheVariants.{Yes, No}
+use Rattle.deny_run.specs.Commands.{RecordsRun, RefusesCommand, VerifiesRun}
+use Rattle.deny_run.specs.Given.{RunArguments, check_asked, command_asked, list_asked}
 use Rattle.deny_run.specs.Listing.{Lists, RefusesList, err_seen, out_seen}
-use Rattle.deny_run.specs.Own.{CheckAsked, ListAsked}
+use Rattle.deny_run.specs.Own.{CheckAsked, CommandAsked, ListAsked}
 use Rattle.deny_run.specs.Sample.{RefusesSample, ReportsSample}
 use Rattle.deny_run.specs.Script.{Writes}
 use Rattle.deny_run.specs.Words.{HasRequest, IsEndOfWords, IsUntouched}
@@ -39,6 +43,8 @@ abbrev pub EndsCheck : CheckAsked → TreeSeen → FaultCounts → SinkTexts →
 EndsCheck check tree counts old new (Checked report) = Writes check tree counts old new (Ok report)
 EndsCheck check tree counts old new (Listed reads) = ⊥
 EndsCheck check tree counts old new (Sampled report) = ⊥
+EndsCheck check tree counts old new (Recorded reads) = ⊥
+EndsCheck check tree counts old new (Verified crates) = ⊥
 EndsCheck check tree counts old new Shown = ⊥
 EndsCheck check tree counts old new Usage = ⊥
 EndsCheck check tree counts old new (Refused error) = Writes check tree counts old new (Err error)
@@ -48,6 +54,8 @@ abbrev pub EndsList : ListAsked → TreeSeen → FaultCounts → SinkTexts → S
 EndsList list tree counts old new (Checked report) = ⊥
 EndsList list tree counts old new (Listed reads) = Lists list tree (err_seen counts old new) (out_seen counts old new) (Ok reads)
 EndsList list tree counts old new (Sampled report) = ⊥
+EndsList list tree counts old new (Recorded reads) = ⊥
+EndsList list tree counts old new (Verified crates) = ⊥
 EndsList list tree counts old new Shown = ⊥
 EndsList list tree counts old new Usage = ⊥
 EndsList list tree counts old new (Refused error) = RefusesList list tree counts old new error
@@ -57,15 +65,41 @@ abbrev pub EndsSample : ℕ → CatalogLists → (List ℕ → Match) → TreeSe
 EndsSample size lists match_of tree counts old new (Checked report) = ⊥
 EndsSample size lists match_of tree counts old new (Listed reads) = ⊥
 EndsSample size lists match_of tree counts old new (Sampled report) = IsUntouched tree × ReportsSample size lists match_of counts old new report
+EndsSample size lists match_of tree counts old new (Recorded reads) = ⊥
+EndsSample size lists match_of tree counts old new (Verified crates) = ⊥
 EndsSample size lists match_of tree counts old new Shown = ⊥
 EndsSample size lists match_of tree counts old new Usage = ⊥
 EndsSample size lists match_of tree counts old new (Refused error) = IsUntouched tree × RefusesSample size lists match_of counts old new error
+
+-- the end of a run over a request for a verdict file
+abbrev pub EndsRecord : CommandAsked → TreeSeen → FaultCounts → SinkTexts → SinkTexts → RunEnd → Type 0
+EndsRecord given tree counts old new (Checked report) = ⊥
+EndsRecord given tree counts old new (Listed reads) = ⊥
+EndsRecord given tree counts old new (Sampled report) = ⊥
+EndsRecord given tree counts old new (Recorded reads) = RecordsRun given tree (err_seen counts old new) (out_seen counts old new) (Ok reads)
+EndsRecord given tree counts old new (Verified crates) = ⊥
+EndsRecord given tree counts old new Shown = ⊥
+EndsRecord given tree counts old new Usage = ⊥
+EndsRecord given tree counts old new (Refused error) = RefusesCommand (λ err. RecordsRun given tree err (out_seen counts old new) (Err error)) counts old new error
+
+-- the end of a run over a request to verify the file at a path
+abbrev pub EndsVerify : CommandAsked → List ℕ → TreeSeen → FaultCounts → SinkTexts → SinkTexts → RunEnd → Type 0
+EndsVerify given path tree counts old new (Checked report) = ⊥
+EndsVerify given path tree counts old new (Listed reads) = ⊥
+EndsVerify given path tree counts old new (Sampled report) = ⊥
+EndsVerify given path tree counts old new (Recorded reads) = ⊥
+EndsVerify given path tree counts old new (Verified crates) = VerifiesRun given path tree (err_seen counts old new) (out_seen counts old new) (Ok crates)
+EndsVerify given path tree counts old new Shown = ⊥
+EndsVerify given path tree counts old new Usage = ⊥
+EndsVerify given path tree counts old new (Refused error) = RefusesCommand (λ err. VerifiesRun given path tree err (out_seen counts old new) (Err error)) counts old new error
 
 -- the end of a run over a request, by its command
 abbrev pub EndsRequest : CatalogLists → (List ℕ → Match) → TreeSeen → FaultCounts → SinkTexts → SinkTexts → Request → Subcommand → RunEnd → Type 0
 EndsRequest lists match_of tree counts old new request (Check args) ended = EndsCheck (check_asked lists match_of request args) tree counts old new ended
 EndsRequest lists match_of tree counts old new request (Listing args) ended = EndsList (list_asked lists match_of request args) tree counts old new ended
 EndsRequest lists match_of tree counts old new request (Sample size) ended = EndsSample size lists match_of tree counts old new ended
+EndsRequest lists match_of tree counts old new request Record ended = EndsRecord (command_asked lists match_of request) tree counts old new ended
+EndsRequest lists match_of tree counts old new request (Verify path) ended = EndsVerify (command_asked lists match_of request) path tree counts old new ended
 
 -- a request of which a part is not carried is refused with the first such part, and no call is made
 abbrev pub RefusesCheckUncarried : CatalogLists → (List ℕ → Match) → TreeSeen → Request → RunEnd → Type 0
@@ -107,6 +141,8 @@ abbrev pub EndsHelp : RunEnd → Type 0
 EndsHelp (Checked report) = ⊥
 EndsHelp (Listed reads) = ⊥
 EndsHelp (Sampled report) = ⊥
+EndsHelp (Recorded reads) = ⊥
+EndsHelp (Verified crates) = ⊥
 EndsHelp Shown = Unit {0}
 EndsHelp Usage = ⊥
 EndsHelp (Refused error) = IsShownBy (cause_of error)
@@ -135,11 +171,19 @@ pub record AnswersWords (given : RunArguments) (outcome : Outcome) : Type 0 wher
 abbrev pub status_of : AllStats → ℕ
 status_of stats = if has_errors stats then 4 else 0
 
--- that of the report's counts; 0 after a listing, a sample, help and the version, 2 after a mistake in the words, 1 after a refusal
+-- 0 where a verdict file is right, else 4
+abbrev pub answer_status : Answer → ℕ
+answer_status Yes = 0
+answer_status (No reason) = 4
+
+-- that of the report's counts, and that of an answer; 0 after a listing, a sample, a verdict file, help and the version, 2 after a
+-- mistake in the words, 1 after a refusal
 abbrev pub exit_status : RunEnd → ℕ
 exit_status (Checked report) = status_of report.stats
 exit_status (Listed reads) = 0
 exit_status (Sampled report) = 0
+exit_status (Recorded reads) = 0
+exit_status (Verified crates) = answer_status crates.answer
 exit_status Shown = 0
 exit_status Usage = 2
 exit_status (Refused error) = 1
@@ -159,6 +203,15 @@ listed_end (Err error) = Refused error
 abbrev pub sampled_end : Result Report Error → RunEnd
 sampled_end (Ok report) = Sampled report
 sampled_end (Err error) = Refused error
+
+-- that of a verdict file, and that of one that was verified
+abbrev pub recorded_end : Result (List CrateRead) Error → RunEnd
+recorded_end (Ok reads) = Recorded reads
+recorded_end (Err error) = Refused error
+
+abbrev pub verified_end : Result VerifiedCrates Error → RunEnd
+verified_end (Ok crates) = Verified crates
+verified_end (Err error) = Refused error
 
 -- the outcome of an end
 abbrev pub outcome_of : Option Request → RunEnd → Outcome

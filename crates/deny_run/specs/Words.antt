@@ -10,7 +10,7 @@ use Rattle.run_found.specs.declared.error.Error.TheVariants.{Memory, WriteFault}
 use Rattle.run_found.specs.Error.{cause_of, fault_line}
 use Rattle.run_found.specs.Hearing.{MadeOn, TreeSeen}
 use Rattle.deny_run.specs.declared.outcome.RunEnd.{RunEnd}
-use Rattle.deny_run.specs.declared.outcome.RunEnd.TheVariants.{Checked, Listed, Sampled, Shown, Usage, Refused}
+use Rattle.deny_run.specs.declared.outcome.RunEnd.TheVariants.{Checked, Listed, Sampled, Recorded, Verified, Shown, Usage, Refused}
 use Rattle.deny_run.specs.Given.{RunArguments}
 
 -- the words are taken, and ask for this
@@ -75,6 +75,8 @@ abbrev pub IsEndOfWords : RunArguments → FaultCounts → SinkTexts → SinkTex
 IsEndOfWords given counts old new (Checked report) = ⊥
 IsEndOfWords given counts old new (Listed reads) = ⊥
 IsEndOfWords given counts old new (Sampled report) = ⊥
+IsEndOfWords given counts old new (Recorded reads) = ⊥
+IsEndOfWords given counts old new (Verified crates) = ⊥
 IsEndOfWords given counts old new Shown = MayShow given × ShowsText old new
 IsEndOfWords given counts old new Usage = MayRefuse given × TellsUsage counts old new
 IsEndOfWords given counts old new (Refused error) = IsLost given counts old new (cause_of error)

@@ -2,6 +2,7 @@
 #![tactic(auto)]
 
 mod check;
+mod commands;
 pub mod laws;
 mod listing;
 mod manifest;
@@ -19,7 +20,7 @@ pub use policy_load::{
     ValidConfig,
 };
 pub use run_check::report::{AllStats, CrateReport, Report, Stats, Verdict};
-pub use run_found::Error;
-pub use run_list::{CrateRead, CrateReads};
+pub use run_found::{CrateRead, CrateReads, Error};
+pub use run_record::{Answer, NoReason, VerifiedCrates};
 pub use run_request::{Request, Subcommand};
 pub use spdx_listing::StoreFault;

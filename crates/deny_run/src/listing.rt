@@ -13,8 +13,8 @@ ghost use Rattle.deny_run.specs.Words.{IsUntouched};
 
 use crate::manifest::look_at_manifest;
 use crate::own::own_lists;
-use run_found::Error;
-use run_list::{CrateReads, list_since, uncarried_in};
+use run_found::{CrateReads, Error};
+use run_list::{list_since, uncarried_in};
 use run_request::Request;
 use run_request::list::Args;
 use spdx_core::{Catalog, Identifier};

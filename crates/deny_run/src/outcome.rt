@@ -1,8 +1,8 @@
 //! What a run comes to.
 
 use run_check::Report;
-use run_found::Error;
-use run_list::CrateReads;
+use run_found::{CrateReads, Error};
+use run_record::VerifiedCrates;
 use run_request::Request;
 
 /// How a run ended.
@@ -14,6 +14,10 @@ pub enum RunEnd {
     Listed(CrateReads),
     /// The crates of the sample were checked.
     Sampled(Report),
+    /// The verdicts on the crates were written; the reads of each crate are told.
+    Recorded(CrateReads),
+    /// It was told whether the verdicts of a file are right, with the reads by which the crates' licences were settled.
+    Verified(VerifiedCrates),
     /// Help or the version was written.
     Shown,
     /// The words are none that are taken.
@@ -25,8 +29,10 @@ pub enum RunEnd {
 /// What a run comes to.
 #[derive(Drop)]
 pub struct Outcome {
-    /// The exit status of the program: 0 after a report in which nothing is an error, after a listing or
-    /// a sample, after help and after the version; 4 after one in which something is; 2 after words that are not taken; 1 after a refusal.
+    /// The exit status of the program: 0 after a report in which nothing is an error, after a verdict file that is
+    /// right, after a listing, a sample or a verdict file that was written, after help and after the version; 4 after
+    /// a report in which something is an error, and after a verdict file that is not right; 2 after words that are not
+    /// taken; 1 after a refusal.
     pub status: u8,
     /// What the words ask for, where they were taken and ask for something; in a refusal too.
     pub request: Option<Request>,

@@ -11,18 +11,20 @@ ghost use Rattle.run_found.specs.Hearing.{seen};
 ghost use Rattle.deny_run.specs.Given.{run_arguments_of};
 ghost use Rattle.deny_run.specs.Headline.{Headline, HeadlineRead};
 ghost use Rattle.deny_run.specs.Lawful.{IsListComplete};
+ghost use Rattle.deny_run.specs.RecordLawful.{IsRecordComplete, IsVerifyComplete};
 ghost use Rattle.deny_run.specs.Run as run;
 ghost use Rattle.deny_run.specs.Run.{AnswersWords, EndsRequest, IfChecked, IfRefused, IsOutcome};
 ghost use Rattle.deny_run.specs.Run.{RefusesUncarried};
 ghost use Rattle.deny_run.specs.Script.{between};
 
 use crate::check::check_request;
+use crate::commands::{record_request, verify_request};
 use crate::listing::list_request;
 use crate::outcome::{Outcome, RunEnd};
 use crate::words::{show, write_fault, write_usage};
 use run_check::Report;
-use run_found::Error;
-use run_list::CrateReads;
+use run_found::{CrateReads, Error};
+use run_record::{Answer, VerifiedCrates};
 use run_request::read::read;
 use run_request::{CliAnswer, Request, Subcommand};
 use run_sample::sample;
@@ -86,6 +88,36 @@ fn told_sample<E: Sink>(err: &mut E, answer: Result<Report, Error>) -> RunEnd
     }
 }
 
+/// The end of a request for a verdict file that is answered.
+fn told_record<E: Sink>(err: &mut E, answer: Result<CrateReads, Error>) -> RunEnd
+    ensures ended { result ≡ run.recorded_end answer }
+    ensures line { IfErr answer (λ error. LineWritten (E.written err.old) (E.written err.new)
+        (E.fault_count err.old) (E.fault_count err.new) (fault_line error)) }
+    ensures silent { OnOk answer ((E.written err.new ≡ E.written err.old)
+        × (E.fault_count err.new ≡ E.fault_count err.old)) }
+    ensures later { E.fault_count err.old ≤ E.fault_count err.new }
+{
+    match answer {
+        Ok(reads) => RunEnd::Recorded(reads),
+        Err(error) => refused(err, error),
+    }
+}
+
+/// The end of a request to verify a file that is answered.
+fn told_answer<E: Sink>(err: &mut E, answer: Result<VerifiedCrates, Error>) -> RunEnd
+    ensures ended { result ≡ run.verified_end answer }
+    ensures line { IfErr answer (λ error. LineWritten (E.written err.old) (E.written err.new)
+        (E.fault_count err.old) (E.fault_count err.new) (fault_line error)) }
+    ensures silent { OnOk answer ((E.written err.new ≡ E.written err.old)
+        × (E.fault_count err.new ≡ E.fault_count err.old)) }
+    ensures later { E.fault_count err.old ≤ E.fault_count err.new }
+{
+    match answer {
+        Ok(crates) => RunEnd::Verified(crates),
+        Err(error) => refused(err, error),
+    }
+}
+
 /// The run over a request, by its command.
 pub fn run_request<T: Tree, O: Sink, E: Sink, C: Catalog, I: Identifier>(
     alloc: Global,
@@ -133,18 +165,46 @@ pub fn run_request<T: Tree, O: Sink, E: Sink, C: Catalog, I: Identifier>(
             let answer = sample(alloc, out, catalog, identifier, *size);
             told_sample(err, answer)
         }
+        Subcommand::Record => {
+            let answer = record_request(alloc, request, tree, out, err, catalog, identifier);
+            told_record(err, answer)
+        }
+        Subcommand::Verify(path) => {
+            let answer = verify_request(
+                alloc,
+                request,
+                path.as_path(),
+                tree,
+                out,
+                err,
+                catalog,
+                identifier,
+            );
+            told_answer(err, answer)
+        }
     }
 }
 
-/// The status of an end: 0 where the check of licences has no errors, 4 where it has; 0 after a listing, a sample,
-/// help and the version,
-/// 2 after a mistake in the words, 1 after a refusal.
+/// The status of an answer: 0 where a verdict file is right, else 4.
+fn answer_status(answer: &Answer) -> u8
+    ensures { result ≡ run.answer_status answer.now }
+{
+    match answer {
+        Answer::Yes => 0,
+        Answer::No(_) => 4,
+    }
+}
+
+/// The status of an end: 0 where the check of licences has no errors, and where a verdict file is right, 4 where not;
+/// 0 after a listing, a sample, a verdict file, help and the version, 2 after a mistake in the words, 1 after a
+/// refusal.
 fn exit_status(ended: &RunEnd) -> u8
     ensures { result ≡ run.exit_status ended.now }
 {
     match ended {
         RunEnd::Checked(report) => { if report.stats.has_errors() { 4 } else { 0 } }
-        RunEnd::Listed(_) | RunEnd::Sampled(_) | RunEnd::Shown => 0,
+        RunEnd::Verified(crates) => answer_status(&crates.answer),
+        RunEnd::Listed(_) | RunEnd::Sampled(_) | RunEnd::Recorded(_) | RunEnd::Shown => 0,
         RunEnd::Usage => 2,
         RunEnd::Refused(_) => 1,
     }
@@ -220,7 +280,7 @@ fn run_words<T: Tree, O: Sink, E: Sink, C: Catalog, I: Identifier>(
 /// to `err`.
 ///
 /// The status is 0 where no finding is an error, 4 where one is, 2 where the words are not taken, and 1 after a
-/// refusal; it is 0 after help and the version.
+/// refusal; it is 0 after help and the version. Where a verdict file is verified it is 0 where that is right, else 4.
 pub fn run<T: Tree, O: Sink, E: Sink, C: Catalog, I: Identifier>(
     alloc: Global,
     words: &[String],
@@ -290,6 +350,20 @@ pub fn run<T: Tree, O: Sink, E: Sink, C: Catalog, I: Identifier>(
 
     // Lawful input with the command `list`, without a fault, is listed, but for want of memory.
     ensures list_complete { ForSome (T.content tree.old) (λ c. IsListComplete
+        (run_arguments_of (C.lists catalog.now) (I.match_of identifier.now) words.now cwd.now) c
+        (between
+        (record { tree = T.fault_count tree.old; out = O.fault_count out.old; err = E.fault_count err.old })
+        (record { tree = T.fault_count tree.new; out = O.fault_count out.new; err = E.fault_count err.new }))
+        result) }
+
+    // So with the commands `record` and `verify`, where the verdict file may be refused too.
+    ensures record_complete { ForSome (T.content tree.old) (λ c. IsRecordComplete
+        (run_arguments_of (C.lists catalog.now) (I.match_of identifier.now) words.now cwd.now) c
+        (between
+        (record { tree = T.fault_count tree.old; out = O.fault_count out.old; err = E.fault_count err.old })
+        (record { tree = T.fault_count tree.new; out = O.fault_count out.new; err = E.fault_count err.new }))
+        result) }
+    ensures verify_complete { ForSome (T.content tree.old) (λ c. IsVerifyComplete
         (run_arguments_of (C.lists catalog.now) (I.match_of identifier.now) words.now cwd.now) c
         (between
         (record { tree = T.fault_count tree.old; out = O.fault_count out.old; err = E.fault_count err.old })

@@ -10,8 +10,10 @@ use Rattle.graph_metadata.specs.declared.fault.MetaFault.{MetaFault}
 use Rattle.graph_metadata.specs.declared.fault.MetaReason.{MetaReason}
 use Rattle.graph_metadata.specs.declared.fault.MetaReason.TheVariants as reason
 use Rattle.run_found.specs.declared.error.Error.{Error}
-use Rattle.run_found.specs.declared.error.Error.TheVariants.{Memory, NotCarried, ManifestPath, ManifestRead, CatalogRead, CatalogSyntax, StoreRead, ConfigRead, ConfigSyntax, ConfigShape, ConfigInvalid, OverrideTwice, MetadataRead, MetadataSyntax, MetadataShape, NoRoots, WriteFault}
+use Rattle.run_found.specs.declared.error.Error.TheVariants.{Memory, NotCarried, ManifestPath, ManifestRead, CatalogRead, CatalogSyntax, StoreRead, ConfigRead, ConfigSyntax, ConfigShape, ConfigInvalid, OverrideTwice, MetadataRead, MetadataSyntax, MetadataShape, NoRoots, RecordRead, RecordSyntax, WriteFault}
 use Rattle.run_request.specs.declared.request.Request.{Request}
+use Rattle.run_request.specs.declared.request.Subcommand.{Subcommand}
+use Rattle.run_request.specs.declared.request.Subcommand.TheVariants.{Verify}
 use Rattle.spdx_listing.specs.declared.error.StoreFault.{StoreFault}
 use Rattle.spdx_listing.specs.declared.error.StoreFault.TheVariants as store
 use Rattle.toml_subset.specs.declared.error.SyntaxError.{SyntaxError}
@@ -105,6 +107,13 @@ resolve_help false = []
 abbrev pub shape_help : Option (List ℕ) → MetaFault → List ℕ
 shape_help file fault = at_file_if file (place_text fault.place ++ fault_words fault.fault) ++ resolve_help (is_unresolved fault)
 
+-- ---- a verdict file
+
+-- the file whose verdicts are verified
+abbrev pub record_of : Subcommand → Option (List ℕ)
+record_of (Verify file) = Some file
+record_of _ = None
+
 -- ---- counts and levels
 
 abbrev pub roots_help : ℕ → ℕ → ℕ → List ℕ
@@ -136,4 +145,6 @@ help_of request again (MetadataRead fault) = at_file_if request.krate_ctx.metada
 help_of request again MetadataSyntax = at_file_if request.krate_ctx.metadata_path (codes "is no JSON")
 help_of request again (MetadataShape fault) = shape_help request.krate_ctx.metadata_path fault
 help_of request again (NoRoots base excluded unpublished) = roots_help base excluded unpublished
+help_of request again (RecordRead fault reads) = at_file_if (record_of request.command) (read_words fault)
+help_of request again RecordSyntax = at_file_if (record_of request.command) (codes "is no verdict file")
 help_of request again (WriteFault before after) = []

@@ -5,7 +5,7 @@ ghost use Rattle.std.specs.String.{string_bytes};
 ghost use Rattle.refusal_help.specs.Help.{advice, at_file, at_file_if, fault_at, help_of, is_unresolved};
 ghost use Rattle.refusal_help.specs.Help.{line_and_column, place_text, resolve_help, roots_help, shape_help};
 ghost use Rattle.refusal_help.specs.Help.{catalog_words, line_help, store_help, store_place, syntax_help};
-ghost use Rattle.refusal_help.specs.Help.{twice_help, unknown_help};
+ghost use Rattle.refusal_help.specs.Help.{record_of, twice_help, unknown_help};
 ghost use Rattle.refusal_help.specs.Words.{read_words};
 
 use crate::again::Again;
@@ -20,7 +20,7 @@ use deny_text::{PathBuf, Text};
 use diag_core::{Location, Severity};
 use graph_metadata::{MetaFault, MetaReason};
 use run_found::Error;
-use run_request::Request;
+use run_request::{Request, Subcommand};
 use spdx_listing::StoreFault;
 use std::alloc::{AllocError, Global};
 use toml_subset::SyntaxError;
@@ -129,6 +129,30 @@ fn push_read(
 {
     let words = read_words(alloc, fault)?;
     push_file_if(text, file, words.as_str())
+}
+
+/// What is so of the file whose verdicts are verified.
+fn push_record(text: &mut String, command: &Subcommand, words: &str) -> Result<(), AllocError>
+    ensures { OnOk result (string_bytes text.new
+        ≡ string_bytes text.old ++ at_file_if (record_of command.now) words.now) }
+{
+    match command {
+        Subcommand::Verify(file) => push_file(text, file.as_path(), words),
+        _ => Ok(()),
+    }
+}
+
+fn push_record_read(
+    alloc: Global,
+    text: &mut String,
+    command: &Subcommand,
+    fault: ReadFault,
+) -> Result<(), AllocError>
+    ensures { OnOk result (string_bytes text.new
+        ≡ string_bytes text.old ++ at_file_if (record_of command.now) (read_words fault)) }
+{
+    let words = read_words(alloc, fault)?;
+    push_record(text, command, words.as_str())
 }
 
 /// A fault of the catalogue's file, at a line that counts from 1.
@@ -327,6 +351,8 @@ fn push_help(
             excluded,
             unpublished,
         } => push_roots(alloc, text, *base, *excluded, *unpublished),
+        Error::RecordRead { fault, .. } => push_record_read(alloc, text, &request.command, *fault),
+        Error::RecordSyntax => push_record(text, &request.command, "is no verdict file"),
         Error::Memory | Error::WriteFault { .. } => Ok(()),
     }
 }

@@ -30,6 +30,7 @@ use Rattle.run_found.specs.Hearing.{MadeOn, RequestHearing, TreeSeen}
 use Rattle.run_found.specs.Licences.{turns_heard}
 use Rattle.run_found.specs.Selection.{choice_in, included_in}
 use Rattle.run_found.proofs.ByteLemmas.{bytes_of_found, bytes_of_graph}
+pub use Rattle.run_found.proofs.StepLemmas.{IsFree}
 use Rattle.run_check.specs.declared.check.CheckedCrates.{CheckedCrates}
 use Rattle.run_check.specs.declared.report.Report.{Report}
 use Rattle.run_check.specs.Carried.{uncarried_in}
@@ -40,12 +41,6 @@ use Rattle.run_check.specs.Steps.{IsChecked, checked_by, report_with}
 use Rattle.run_check.proofs.GatheredLemmas.{all_looked, labels_cut, own_files, reported_by, sources_told, verdicts_reported}
 
 -- ---- refusals
-
--- want of memory and a refused write
-abbrev pub IsFree : Cause → Type 0
-IsFree no_memory = Unit {0}
-IsFree (refused_write before after) = Unit {0}
-IsFree _ = ⊥
 
 module _ (given : CheckArguments) (tree : TreeSeen) (hearing : RequestHearing) (error : Error) where
   refused_as : (cause : Cause) → IsGivenUp given tree hearing → IsFree cause → IsRefusedCheck given tree hearing error cause

@@ -1,15 +1,12 @@
 -- What a check finds, step by step: what is carried, the policy, the levels, the metadata.
-use Rattle.std.proofs.Common.{◌≡◌, ◌∙◌, refl, sym, ap, subst, ℕ, Bool, true, false, cond, List, [], ◌∷◌, ◌++◌, append-nil, Option, Some, None, Result, Ok, Err, ◌||◌}
-use Rattle.std.specs.Prelude.{find, is_none, option_map}
+use Rattle.std.proofs.Common.{◌≡◌, ◌∙◌, sym, ap, subst, ℕ, false, cond, List, [], ◌++◌, append-nil, Option, Some, None, Result, Ok, Err, ◌||◌}
 use Rattle.std.specs.List.{list_any}
 use Rattle.graph_core.specs.Metadata.{Graph}
 use Rattle.graph_selection.specs.Choice.{is_uncarried}
-use Rattle.graph_workspace.specs.declared.error.What.{What}
 use Rattle.graph_workspace.specs.declared.error.What.TheVariants as what
 use Rattle.policy_core.specs.Policy.{PolicyFound}
 use Rattle.policy_core.specs.declared.load.LoadedPolicy.{LoadedPolicy}
 use Rattle.policy_load.specs.Answer.{IsPolicyOf}
-use Rattle.policy_parts.specs.declared.graph.GraphConfig.{GraphConfig}
 use Rattle.gather_core.specs.Calls.{calls_of_all}
 use Rattle.run_context.specs.Asked.{uncarried}
 use Rattle.run_overrides.specs.Twice.{Twice, first_twice}
@@ -18,8 +15,10 @@ use Rattle.run_found.specs.declared.error.Error.TheVariants.{OverrideTwice}
 use Rattle.run_found.specs.Found.{calls_with, graph_heard, load_text, loaded_of, metadata_heard, policy_calls, policy_found}
 use Rattle.run_found.specs.Hearing.{RequestHearing, read_calls}
 use Rattle.run_found.specs.Steps.{◌>>=◌}
-use Rattle.run_found.proofs.ByteLemmas.{bytes_of_found, found_by_bytes, graph_by_bytes}
+use Rattle.run_found.proofs.ByteLemmas.{found_by_bytes, graph_by_bytes}
 use Rattle.run_found.proofs.CallLemmas.{no_read}
+use Rattle.run_found.proofs.CarriedLemmas as carried_lemmas
+use Rattle.run_found.proofs.CarriedLemmas.{all_none, path_there}
 use Rattle.run_found.proofs.FoundLemmas.{bind-Err, bind-Ok}
 use Rattle.run_check.specs.Carried.{parts_of, uncarried_in}
 use Rattle.run_check.specs.Found.{HearsAllDue, HearsDue, calls_by, calls_of, check_input_of, metadata_by, metadata_due, policy_asked, unless_twice, unless_uncarried}
@@ -99,21 +98,6 @@ input_by_Asks given hearing asked asks =
 
 -- ---- what is carried
 
--- no part of the list is so
-abbrev AreNone : List (Bool × What) → Type 0
-AreNone [] = Unit {0}
-AreNone (part ∷ parts) = (part.0 ≡ false) × AreNone parts
-
-by_test : (test : Bool) (part : Bool × What) (rest : Option (Bool × What)) → option_map (λ (one : Bool × What). one.1) (cond test (Some part) rest) ≡ None
-    → (test ≡ false) × (option_map (λ (one : Bool × What). one.1) rest ≡ None)
-by_test true part rest e = absurd (cc)
-by_test false part rest e = (refl, e)
-
-all_none : (parts : List (Bool × What)) → option_map (λ (one : Bool × What). one.1) (find (λ (one : Bool × What). one.0) parts) ≡ None → AreNone parts
-all_none [] e = tt
-all_none (part ∷ parts) e =
-    let both = by_test part.0 part (find (λ (one : Bool × What). one.0) parts) e in (both.0, all_none parts both.1)
-
 -- where all of the request is carried, and all specs of the policy, all that its crates ask for is
 pub carried_behind : (given : CheckArguments) (exclude : List (List ℕ)) → uncarried_in given ≡ None → list_any is_uncarried exclude ≡ false → uncarried given.request.context exclude ≡ None
 carried_behind given exclude carried specs =
@@ -122,18 +106,12 @@ carried_behind given exclude carried specs =
     ∙ ap (λ b. cond (b || list_any is_uncarried exclude) (Some what.ExcludeSpec) None) none.1.1.1.1.1.1.0
     ∙ ap (λ b. cond b (Some what.ExcludeSpec) None) specs
 
-path_by : (path : Option (List ℕ)) → is_none path ≡ false → (own : List ℕ) × (path ≡ Some own)
-path_by None e = absurd (cc)
-path_by (Some path) e = (path, refl)
-
 -- it names metadata
 pub path_carried : (given : CheckArguments) → uncarried_in given ≡ None → (path : List ℕ) × (given.request.context.metadata_path ≡ Some path)
 path_carried given carried =
-    path_by given.request.context.metadata_path (all_none (parts_of given.request.log given.args given.request.context) carried).0
+    path_there given.request.context.metadata_path (all_none (parts_of given.request.log given.args given.request.context) carried).0
 
 -- the specs of a policy that is found are carried
 pub specs_carried : (given : CheckArguments) (hearing : RequestHearing) (found : PolicyFound) (policy : LoadedPolicy) → policy_found given.request hearing ≡ Ok found → IsPolicyOf found policy
     → list_any is_uncarried policy.graph.exclude ≡ false
-specs_carried given hearing found policy is valid =
-    let at = bytes_of_found given.request hearing found is in
-    ap (λ (graph : GraphConfig). list_any is_uncarried graph.exclude) (valid.graph ∙ ap (λ (one : PolicyFound). one.graph) at.is.is) ∙ at.is.carried
+specs_carried given hearing found policy is valid = carried_lemmas.specs_carried given.request hearing found policy is valid

@@ -1,29 +1,26 @@
 -- The headline, from what a check answers and writes.
-use Rattle.std.proofs.Common.{◌≡◌, ◌∙◌, ◌⊎◌, ℕ, ◌≤◌, ◌-◌, false, List, [], ◌∷◌, Option, Some, All, Result, Ok, Err, inl, inr, sym, ap, subst, refl}
-use Rattle.std.specs.List.{AllByRecursion, sum_by}
+use Rattle.std.proofs.Common.{◌≡◌, ◌∙◌, ℕ, ◌-◌, false, List, [], ◌∷◌, Option, Some, All, Result, Ok, Err, sym, ap, subst}
+use Rattle.std.specs.List.{sum_by}
 use Rattle.std.proofs.lemmas.List.{append_cancel_left}
 use Rattle.std.proofs.lemmas.List.Elements.{All-from_recursion, recursion_from_All}
-use Rattle.tree_core.specs.Call as call
-use Rattle.tree_core.specs.Call.{CallKind, CallAnswer, Call}
 use Rattle.tree_core.specs.Content.{Content}
 use Rattle.tree_core.specs.Faults.{Rose}
-use Rattle.tree_core.specs.Trace.{Says, fault_behind, faults_after}
-use Rattle.tree_core.proofs.MadeLemmas.{faults_after-later}
+use Rattle.tree_core.specs.Trace.{Says}
 use Rattle.diag_core.specs.declared.severity.Severity.TheVariants as severity
 use Rattle.policy_valid.specs.View.{policy_of}
 use Rattle.check_unused.specs.Unused.{last_pack}
 use Rattle.check_core.specs.Check.{all_hits, findings_of}
 use Rattle.tree_texts.specs.Cause.{Cause, no_memory, failed_read, refused_write}
 use Rattle.tree_texts.specs.Cause as causes
-use Rattle.tree_reads.proofs.ReadLemmas.{rose_counted}
 use Rattle.diag_stats.specs.Counts.{count_in}
 use Rattle.diag_stats.specs.ExitCode.{has_errors}
 use Rattle.run_overrides.specs.Levels.{HasNoOverrides}
 use Rattle.run_overrides.proofs.LevelLemmas.{packs_kept}
 use Rattle.run_found.specs.declared.error.Error.{Error}
-use Rattle.run_found.specs.declared.error.Error.TheVariants.{Memory, NotCarried, ManifestPath, ManifestRead, CatalogRead, CatalogSyntax, StoreRead, ConfigRead, ConfigSyntax, ConfigShape, ConfigInvalid, OverrideTwice, MetadataRead, MetadataSyntax, MetadataShape, NoRoots, WriteFault}
+use Rattle.run_found.specs.declared.error.Error.TheVariants.{Memory, NotCarried, ManifestPath, ManifestRead, CatalogRead, CatalogSyntax, StoreRead, ConfigRead, ConfigSyntax, ConfigShape, ConfigInvalid, OverrideTwice, MetadataRead, MetadataSyntax, MetadataShape, NoRoots, RecordRead, RecordSyntax, WriteFault}
 use Rattle.run_found.specs.Error.{MayEndLawful, cause_of}
 use Rattle.run_found.specs.Hearing.{RequestHearing, TreeSeen}
+use Rattle.run_found.proofs.AnsweredLemmas.{IsSame, IsToldBy, all_fair, same_step, told_step}
 use Rattle.run_check.specs.declared.report.Report.{Report}
 use Rattle.run_check.specs.Found.{FoundInput, HearsAllDue, HearsDue, IsCheckHearing, all_gathered, calls_of, check_input_of, turns_in}
 use Rattle.run_check.specs.Given.{CheckArguments}
@@ -55,33 +52,20 @@ module _ (given : CheckArguments) (hearing : RequestHearing) (asked : CheckInput
   selection_apart MetadataSyntax refuses = refuses
   selection_apart (MetadataShape fault) refuses = refuses
   selection_apart (NoRoots base excluded unpublished) refuses = refuses.none asks.root
+  selection_apart (RecordRead fault reads) refuses = refuses
+  selection_apart RecordSyntax refuses = refuses
   selection_apart (WriteFault before last) refuses = refuses
 
   -- a refusal of what is found alike
-  refuses_apart : (error : Error) (found : Result FoundInput Error) → found ≡ check_input_of given hearing → Refuses given found error → ⊥
+  pub refuses_apart : (error : Error) (found : Result FoundInput Error) → found ≡ check_input_of given hearing → Refuses given found error → ⊥
   refuses_apart error found same refuses =
       selection_apart error (subst (λ own. Refuses given own error) (same ∙ input_by_Asks given hearing asked asks) refuses)
 
   -- what is due, where all is carried
-  all_due : (own : RequestHearing) (error : Error) → IsRefusal given own error → HearsAllDue given own
+  pub all_due : (own : RequestHearing) (error : Error) → IsRefusal given own error → HearsAllDue given own
   all_due own error refusal = subst (HearsDue given own) asks.carried refusal.due
 
 -- ---- the same calls
-
--- two lists of calls are the same one
-abbrev IsSame : List Call → List Call → Type 0
-IsSame X Y = X ≡ Y
-
--- the answer of the first one
-first_answer : List Call → CallAnswer
-first_answer [] = call.no_memory
-first_answer (one ∷ calls) = one.answer
-
-same_step : (asked : CallKind) (path : List ℕ) (one other : CallAnswer) (X Y : List Call)
-    → IsSame (record { asked = asked; path = path; answer = one } ∷ X) (record { asked = asked; path = path; answer = other } ∷ Y)
-    → ((one ≡ other) ⊎ (other ≡ call.no_memory)) × IsSame X Y
-unfolding first_answer
-same_step asked path one other X Y e = (inl (ap first_answer e), cc)
 
 -- by what was read, lawful input is not refused
 not_refused_read : (given : CheckArguments) (tree : TreeSeen) (hearing own : RequestHearing) (asked : CheckInput) (error : Error) → IsCheckHearing given tree hearing → HearsAllDue given hearing → Asks given hearing asked
@@ -93,55 +77,8 @@ not_refused_read given tree hearing own asked error heard due asks ran refusal =
 
 -- ---- the same content
 
--- the answer of a call is what the content has, or memory was wanting
-abbrev Fair : Content → Call → Type 0
-Fair content one = (one.answer ≡ call.no_memory) ⊎ TellsContent content one
-
--- where no count rose
-fair_one : (content : Content) (asked : CallKind) (path : List ℕ) (answer : CallAnswer) (count after : ℕ) → Says content (record { asked = asked; path = path; answer = answer })
-    → fault_behind count answer ≤ after → ¬ (Rose count after) → Fair content (record { asked = asked; path = path; answer = answer })
-fair_one content asked path (call.bytes items) count after says later quiet = inr says
-fair_one content asked path (call.entries items) count after says later quiet = inr says
-fair_one content asked path (call.told answer) count after says later quiet = inr says
-fair_one content asked path call.absent count after says later quiet = inr says
-fair_one content asked path call.wrong_kind count after says later quiet = inr says
-fair_one content asked path call.failed count after says later quiet = absurd (quiet (rose_counted count after later))
-fair_one content asked path call.no_memory count after says later quiet = inl refl
-
--- the count is the same behind an answer where it did not rise
-quiet_behind : (answer : CallAnswer) (count after : ℕ) → fault_behind count answer ≤ after → ¬ (Rose count after) → fault_behind count answer ≡ count
-quiet_behind (call.bytes items) count after later quiet = refl
-quiet_behind (call.entries items) count after later quiet = refl
-quiet_behind (call.told answer) count after later quiet = refl
-quiet_behind call.absent count after later quiet = refl
-quiet_behind call.wrong_kind count after later quiet = refl
-quiet_behind call.failed count after later quiet = absurd (quiet (rose_counted count after later))
-quiet_behind call.no_memory count after later quiet = refl
-
-all_fair : (content : Content) (calls : List Call) (count : ℕ) → AllByRecursion (Says content) calls → ¬ (Rose count (faults_after count calls)) → AllByRecursion (Fair content) calls
-all_fair content [] count says quiet = tt
-all_fair content (one ∷ calls) count says quiet =
-    let later = faults_after-later (fault_behind count one.answer) calls in
-    let same = quiet_behind one.answer count (faults_after count (one ∷ calls)) later quiet in (
-      fair_one content one.asked one.path one.answer count (faults_after count (one ∷ calls)) says.0 later quiet,
-      all_fair content calls count says.1 (subst (λ n. ¬ (Rose count (faults_after n calls))) same quiet),
-    )
-
--- what the first calls are answered is what the content has, and the second ones too where memory was not wanting
-abbrev IsToldBy : Content → List Call → List Call → Type 0
-IsToldBy content X Y = AllByRecursion (TellsContent content) X × AllByRecursion (Fair content) Y
-
-told_step : (content : Content) (asked : CallKind) (path : List ℕ) (one other : CallAnswer) (X Y : List Call)
-    → IsToldBy content (record { asked = asked; path = path; answer = one } ∷ X) (record { asked = asked; path = path; answer = other } ∷ Y)
-    → ((one ≡ other) ⊎ (other ≡ call.no_memory)) × IsToldBy content X Y
-told_step content asked path one other X Y both = (answered both.0.0 both.1.0, (both.0.1, both.1.1))
-  where
-    answered : TellsContent content (record { asked = asked; path = path; answer = one }) → Fair content (record { asked = asked; path = path; answer = other }) → (one ≡ other) ⊎ (other ≡ call.no_memory)
-    answered tells (inl lost) = inr lost
-    answered tells (inr own) = inl (tells ∙ sym own)
-
 -- over a content, lawful input is not refused without a fault
-not_refused_told : (given : CheckArguments) (content : Content) (tree : TreeSeen) (hearing own : RequestHearing) (asked : CheckInput) (error : Error) → tree.told ≡ Some content
+pub not_refused_told : (given : CheckArguments) (content : Content) (tree : TreeSeen) (hearing own : RequestHearing) (asked : CheckInput) (error : Error) → tree.told ≡ Some content
     → IsHeardOf given content tree.count_before hearing → Asks given hearing asked → ¬ (Rose tree.count_before tree.count_after) → IsCheckHearing given tree own → IsRefusal given own error → ⊥
 not_refused_told given content tree hearing own asked error told heard asks quiet ran refusal =
     let says = recursion_from_All (Says content) (calls_of given own) (ran.made.says content told) in

@@ -35,9 +35,10 @@ use Rattle.run_overrides.specs.declared.error.OverrideError.TheVariants as overr
 use Rattle.run_found.specs.declared.error.Error.{Error}
 use Rattle.run_found.specs.declared.error.Error.TheVariants.{Memory, OverrideTwice}
 use Rattle.run_found.specs.declared.policy.PolicyRefusal.{PolicyRefusal}
-use Rattle.run_found.specs.Error.{cause_of, error_of_krates, error_of_override, error_of_policy}
+use Rattle.run_found.specs.Error.{cause_of, error_of_crates, error_of_krates, error_of_override, error_of_policy}
 use Rattle.run_found.specs.Finds.{FindsBy, FindsInPart, FindsLoaded, FindsPolicy, FindsRefusal, HearsPolicy, PolicyHeard, alone, hearing_of}
 use Rattle.run_found.specs.Found.{count_exceptions, count_metadata, files_loaded, graph_heard, load_text, loaded_of, metadata_heard, or_krates_error, policy_calls, policy_found}
+use Rattle.run_found.specs.Gathering.{AreGatheredInPart, HasNoCrates, IsBehindPolicy}
 use Rattle.run_found.specs.Hearing.{IsReadWhereDue, MadeOn, RequestHearing, TreeSeen, is_heard, read_calls, seen, text_by}
 use Rattle.run_found.specs.Licences.{HaveTurns}
 use Rattle.run_found.specs.Selection.{choice_in, included_in}
@@ -45,16 +46,15 @@ use Rattle.run_found.specs.Written.{TextWritten}
 use Rattle.run_found.proofs.CallLemmas.{heard_where, text_heard_by}
 use Rattle.run_found.proofs.FoundLemmas.{count-behind}
 use Rattle.run_check.specs.declared.check.CheckedCrates.{CheckedCrates}
-use Rattle.run_check.specs.declared.refusal.CrateRefusal.{CrateRefusal}
-use Rattle.run_check.specs.declared.refusal.CrateRefusal.TheVariants as refusal
+use Rattle.run_found.specs.declared.refusal.CrateRefusal.{CrateRefusal}
+use Rattle.run_found.specs.declared.refusal.CrateRefusal.TheVariants as refusal
 use Rattle.run_check.specs.declared.report.Report.{Report}
 use Rattle.run_check.specs.Carried.{uncarried_in}
-use Rattle.run_check.specs.Error.{error_of_crates}
 use Rattle.run_check.specs.Found.{HearsAllDue, calls_of, metadata_due, policy_asked, scanner_of_given}
 use Rattle.run_check.specs.Given.{CheckArguments}
 use Rattle.run_check.specs.Report.{IsAnsweredBy, IsGivenUp, IsRefusal, Refuses, at_crates, at_metadata, at_policy}
 use Rattle.run_check.specs.Script.{WritesLoad, cause_in}
-use Rattle.run_check.specs.Steps.{AreCheckedInPart, ChecksAt, HasNoCrates, IsBehindPolicy, IsCheckGivenUp, IsChecked, IsCheckedAt, NoCratesBy, choice_left, report_with}
+use Rattle.run_check.specs.Steps.{ChecksAt, IsCheckGivenUp, IsChecked, IsCheckedAt, NoCratesBy, choice_left, report_with}
 use Rattle.run_check.proofs.AnswerLemmas.{IsFree, first_of, given_up, is_reported, refused_first, up_without}
 use Rattle.run_check.proofs.FoundLemmas.{asked-once, asked-refused, asked-twice, calls-carried, calls-unread, due-carried, input-graph, input-refused, metadata-is, metadata-refused, text-carried}
 
@@ -258,7 +258,7 @@ module _ (given : CheckArguments) (carried : uncarried_in given ≡ None) (once 
       up_without given whole (hears metadata []) refl (made_all metadata [] (made_as (sym (append-nil (read_calls (Some path) metadata))) then))
       (at_metadata (policy_due_at metadata []) refl refl)
 
-  in_part_up : (part : AreCheckedInPart given.request.context scanner policy behind files begun path) → IsGivenUp given whole (hears (Some part.answer) part.crates)
+  in_part_up : (part : AreGatheredInPart (choice_left given.request.context policy) scanner policy.licenses behind files begun path) → IsGivenUp given whole (hears (Some part.answer) part.crates)
   in_part_up part =
       let hearing = hears (Some part.answer) part.crates in
       let choice_same = same_choice given finds.found policy finds.valid in
@@ -288,7 +288,7 @@ module _ (given : CheckArguments) (carried : uncarried_in given ≡ None) (once 
 
   -- ---- no crates
 
-  no_crates : (error : KratesError) (none : HasNoCrates given.request.context policy behind begun path error) → (IsFree (cause_of (error_of_krates error)) → ⊥)
+  no_crates : (error : KratesError) (none : HasNoCrates (choice_left given.request.context policy) behind begun path error) → (IsFree (cause_of (error_of_krates error)) → ⊥)
       → TextWritten text err_old err_new err_before err_after (cause_of (error_of_krates error))
       → ((due : HearsAllDue given (hears (Some none.answer) [])) → IsRefusal given (hears (Some none.answer) []) (error_of_krates error))
       → WritesLoad given whole err_old err_new err_before err_after (Err (error_of_krates error))
@@ -300,7 +300,7 @@ module _ (given : CheckArguments) (carried : uncarried_in given ≡ None) (once 
       written
 
   -- the metadata tells of no graph
-  no_graph : (error : KratesError) (none : HasNoCrates given.request.context policy behind begun path error) → graph_in none.heard ≡ Err error
+  no_graph : (error : KratesError) (none : HasNoCrates (choice_left given.request.context policy) behind begun path error) → graph_in none.heard ≡ Err error
       → (due : HearsAllDue given (hears (Some none.answer) [])) → IsRefusal given (hears (Some none.answer) []) (error_of_krates error)
   no_graph error none refused due =
       let hearing = hears (Some none.answer) [] in
@@ -309,7 +309,7 @@ module _ (given : CheckArguments) (carried : uncarried_in given ≡ None) (once 
       (ap graph_heard (metadata_text none.answer [] none.heard none.hears) ∙ ap or_krates_error refused))
 
   -- no root is left of it
-  no_roots : (base excluded unpublished : ℕ) (none : HasNoCrates given.request.context policy behind begun path (krates.NoRoots base excluded unpublished))
+  no_roots : (base excluded unpublished : ℕ) (none : HasNoCrates (choice_left given.request.context policy) behind begun path (krates.NoRoots base excluded unpublished))
       → (due : HearsAllDue given (hears (Some none.answer) [])) → IsRefusal given (hears (Some none.answer) []) (error_of_krates (krates.NoRoots base excluded unpublished))
   no_roots base excluded unpublished none due =
       let hearing = hears (Some none.answer) [] in

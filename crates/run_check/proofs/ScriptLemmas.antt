@@ -1,5 +1,5 @@
 -- What a check writes, from what its sink gained.
-use Rattle.std.proofs.Common.{◌≡◌, ◌∙◌, inl, inr, refl, sym, ap, subst, ℕ, List, [], append-nil, Option, Some, None, Ok, Err}
+use Rattle.std.proofs.Common.{◌≡◌, ◌∙◌, inl, inr, refl, sym, ap, subst, ℕ, List, [], append-nil, Option, Some, Ok, Err}
 use Rattle.tree_core.proofs.GainedLemmas.{Gained-then}
 use Rattle.tree_core.specs.Faults.{Gained, GainedPrefix}
 use Rattle.tree_core.proofs.MadeLemmas.{made_none}
@@ -16,10 +16,12 @@ use Rattle.run_found.specs.declared.error.Error.TheVariants.{Memory, NotCarried,
 use Rattle.run_found.specs.Error.{cause_of, error_of_print}
 use Rattle.run_found.specs.Hearing.{MadeOn, RequestHearing, TreeSeen, crates_heard, seen}
 use Rattle.run_found.specs.Written.{TextWritten}
+use Rattle.run_found.proofs.CarriedLemmas.{hears_nothing, nothing_heard}
 use Rattle.run_found.proofs.FoundLemmas.{bind-Err}
+use Rattle.run_found.proofs.SearchLemmas.{gained-nil}
 use Rattle.run_check.specs.declared.report.Report.{Report}
 use Rattle.run_check.specs.Carried.{uncarried_in}
-use Rattle.run_check.specs.Found.{HearsDue, HearsNothing, IsCheckHearing, calls_by, calls_of, unless_uncarried}
+use Rattle.run_check.specs.Found.{HearsDue, IsCheckHearing, calls_by, calls_of, unless_uncarried}
 use Rattle.run_check.specs.Given.{CheckArguments}
 use Rattle.run_check.specs.Report.{AreChecking, IsGivenUp, IsReport, at_crates}
 use Rattle.run_check.specs.Script.{FrontsFindings, RefusalWritten, TellsLoad, WritesCheck, WritesLoad, findings_text, load_text_by}
@@ -94,17 +96,6 @@ module _ (given : CheckArguments) (tree : TreeSeen) (old middle : Option (List �
       record { text = writes.text; tells = freely_told (WriteFault one other) tt; written = (reason.0, reason.1, reason.2, inr (fronts new front)) }
 
 -- ---- a request of which a part is not carried
-
-gained-nil : (held : Option (List ℕ)) → Gained held held []
-gained-nil None = refl
-gained-nil (Some held) = ap Some (sym (append-nil held))
-
--- nothing was heard
-abbrev nothing_heard : ℕ → RequestHearing
-nothing_heard count = record { begun = count; sought = []; looks = []; policy = None; exceptions = None; metadata = None; crates = [] }
-
-hears_nothing : (count : ℕ) → HearsNothing (nothing_heard count)
-hears_nothing count = record { sought = refl; looks = refl; policy = refl; exceptions = refl; metadata = refl }
 
 pub uncarried_writes : (given : CheckArguments) (told : Option Content) (count : ℕ) (calls : List Call) (held : Option (List ℕ)) (faults : ℕ) (what : What) → uncarried_in given ≡ Some what
     → WritesCheck given (seen told told count count calls calls) held held faults faults (Err (NotCarried what))

@@ -1,7 +1,6 @@
 -- What a request and the files ask to check, step by step, and which calls that takes.
 use Rattle.std.specs.Prelude.{◌≡◌, ℕ, List, [], map, Option, Some, None, Result, Ok, Err}
 use Rattle.tree_core.specs.Call.{Call}
-use Rattle.graph_core.specs.Metadata.{Graph}
 use Rattle.policy_core.specs.Policy.{PolicyFound}
 use Rattle.graph_workspace.specs.declared.error.What.{What}
 use Rattle.policy_valid.specs.declared.policy.ValidConfig.{ValidConfig}
@@ -11,29 +10,20 @@ use Rattle.gather_expression.specs.Scanned.{Scanner}
 use Rattle.check_core.specs.Turns.{GatheredCrate}
 use Rattle.run_overrides.specs.Twice.{Twice, first_twice}
 use Rattle.run_found.specs.declared.error.Error.{Error}
-use Rattle.run_found.specs.declared.error.Error.TheVariants.{NotCarried, OverrideTwice}
+use Rattle.run_found.specs.declared.error.Error.TheVariants.{OverrideTwice}
 use Rattle.run_found.specs.Finds.{HearsPolicy}
 use Rattle.run_found.specs.Found.{calls_with, files_loaded, graph_heard, metadata_heard, policy_found}
+pub use Rattle.run_found.specs.Found.{FoundInput, HearsNothing, unless_uncarried}
 use Rattle.run_found.specs.Hearing.{RequestHearing, IsReadWhereDue, MadeOn, TreeSeen}
 use Rattle.run_found.specs.Licences.{scanner_of_policy, turns_heard}
 use Rattle.run_found.specs.Steps.{◌>>=◌}
 use Rattle.run_check.specs.Carried.{uncarried_in}
 use Rattle.run_check.specs.Given.{CheckArguments}
 
--- nothing, where all of it is carried
-abbrev pub unless_uncarried : Option What → Result (Unit {0}) Error
-unless_uncarried None = Ok tt
-unless_uncarried (Some what) = Err (NotCarried what)
-
 -- nothing, where no code and no level stands twice
 abbrev pub unless_twice : Option Twice → Result (Unit {0}) Error
 unless_twice None = Ok tt
 unless_twice (Some twice) = Err (OverrideTwice twice.name twice.first twice.second)
-
--- what was found: the policy, and the crates with the edges between them
-pub record FoundInput : Type 0 where
-  pub policy : PolicyFound
-  pub graph : Graph
 
 -- The policy by which crates are checked, or the first refusal: of what is not carried, of the looks, of the policy, of a code or a
 -- level that stands twice.
@@ -73,14 +63,6 @@ calls_of given hearing = calls_by given hearing (uncarried_in given)
 pub record HearsAllDue (given : CheckArguments) (hearing : RequestHearing) : Type 0 where
   pub policy : HearsPolicy given.request hearing
   pub metadata : IsReadWhereDue (metadata_due given hearing) hearing.metadata
-
--- no call was heard of
-pub record HearsNothing (hearing : RequestHearing) : Type 0 where
-  pub sought : hearing.sought ≡ []
-  pub looks : hearing.looks ≡ []
-  pub policy : hearing.policy ≡ None
-  pub exceptions : hearing.exceptions ≡ None
-  pub metadata : hearing.metadata ≡ None
 
 -- of a request of which a part is not carried nothing is heard
 abbrev pub HearsDue : CheckArguments → RequestHearing → Option What → Type 0

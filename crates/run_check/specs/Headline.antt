@@ -8,10 +8,9 @@
 -- And the same of what was read, over any tree, real folders too. Without overrides: the request's three lists of codes and
 -- levels are empty. Lawful: a request and files that nothing refuses.
 use Rattle.std.specs.Prelude.{◌≡◌, ℕ, Bool, true, false, All, Result, Ok, Err, ⊤}
-use Rattle.tree_core.specs.Call.{Call}
 use Rattle.tree_core.specs.Content.{Content}
 use Rattle.tree_core.specs.Faults.{Rose}
-use Rattle.tree_core.specs.Trace.{Says, content_answer, faults_after}
+use Rattle.tree_core.specs.Trace.{Says, faults_after}
 use Rattle.spdx_certificates.specs.declared.verdict.Verdict.{Verdict}
 use Rattle.spdx_certificates.specs.declared.verdict.Verdict.TheVariants.{Accepted, Rejected, Skipped, Unlicensed}
 use Rattle.diag_stats.specs.ExitCode.{has_errors}
@@ -19,6 +18,7 @@ use Rattle.run_overrides.specs.Levels.{HasNoOverrides}
 use Rattle.run_found.specs.declared.error.Error.{Error}
 use Rattle.run_found.specs.Error.{MayEndLawful, cause_of}
 use Rattle.run_found.specs.Hearing.{RequestHearing, TreeSeen}
+pub use Rattle.run_found.specs.Hearing.{TellsContent}
 use Rattle.run_check.specs.declared.report.Report.{Report}
 use Rattle.run_check.specs.Found.{HearsAllDue, IsCheckHearing, calls_of}
 use Rattle.run_check.specs.Given.{CheckArguments}
@@ -57,10 +57,6 @@ pub record CheckHeadlineRead (given : CheckArguments) (tree : TreeSeen) (before 
       → (Rose before after → ⊥) → EndsInReport answer
 
 -- ---- by a content
-
--- the answer of a call is what the content has at its path
-abbrev pub TellsContent : Content → Call → Type 0
-TellsContent content one = one.answer ≡ content_answer content one.asked one.path
 
 -- what is heard of the content, from a count of faults on, where no call fails and no memory is wanting
 pub record IsHeardOf (given : CheckArguments) (content : Content) (count : ℕ) (hearing : RequestHearing) : Type 0 where

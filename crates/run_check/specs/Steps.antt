@@ -1,21 +1,16 @@
 -- What the steps of a check answer, one by one.
-use Rattle.std.specs.Prelude.{◌≡◌, ◌⊎◌, ℕ, List, [], ◌∷◌, ◌++◌, map, Option, Some, None, Result, Ok, Err, All}
-use Rattle.tree_core.specs.Call.{CallAnswer, Call}
+use Rattle.std.specs.Prelude.{◌≡◌, ℕ, List, [], ◌∷◌, map, Option, Some, None, Result, Ok, Err, All}
+use Rattle.tree_core.specs.Call.{CallAnswer}
 use Rattle.tree_core.specs.Trace.{fault_behind}
 use Rattle.spdx_core.specs.Reading.{ExpressionView}
-use Rattle.graph_core.specs.Krate.{Record}
 use Rattle.graph_core.specs.Metadata.{Graph}
 use Rattle.diag_core.specs.File.{File}
 use Rattle.tree_reads.specs.Read.{AreReads}
-use Rattle.tree_texts.specs.Heard.{read_of, text_answered}
-use Rattle.tree_texts.specs.declared.fault.ReadFault.{ReadFault}
+use Rattle.tree_texts.specs.Heard.{read_of}
 use Rattle.graph_selection.specs.Choice.{Choice}
 use Rattle.graph_selection.specs.Listed.{IsListOf}
-use Rattle.graph_selection.specs.Roots.{HasRoot}
 use Rattle.graph_selection.specs.Walks.{Selected}
-use Rattle.graph_workspace.specs.Krates.{AreFrom, IsCarried, graph_in}
 use Rattle.graph_workspace.specs.declared.error.KratesError.{KratesError}
-use Rattle.graph_workspace.specs.declared.error.KratesError.TheVariants as krates
 use Rattle.gather_expression.specs.Scanned.{Scanner}
 use Rattle.policy_valid.specs.View.{policy_of}
 use Rattle.policy_valid.specs.declared.policy.ValidConfig.{ValidConfig}
@@ -35,12 +30,13 @@ use Rattle.run_request.specs.declared.context.KrateContext.{KrateContext}
 use Rattle.run_request.specs.declared.level.LintLevels.{LintLevels}
 use Rattle.run_context.specs.Asked.{choice_asked}
 use Rattle.run_overrides.specs.Levels.{packs_at}
-use Rattle.run_found.specs.Hearing.{MadeOn, TreeSeen, read_calls}
-use Rattle.run_found.specs.Licences.{HaveTurns, turns_heard}
+use Rattle.run_found.specs.declared.refusal.CrateRefusal.{CrateRefusal}
+use Rattle.run_found.specs.declared.refusal.CrateRefusal.TheVariants.{Memory, Krates}
+use Rattle.run_found.specs.Gathering as gathering
+use Rattle.run_found.specs.Hearing.{MadeOn, TreeSeen}
+use Rattle.run_found.specs.Licences.{turns_heard}
 use Rattle.run_found.specs.Selection.{left_by}
 use Rattle.run_check.specs.declared.check.CheckedCrates.{CheckedCrates}
-use Rattle.run_check.specs.declared.refusal.CrateRefusal.{CrateRefusal}
-use Rattle.run_check.specs.declared.refusal.CrateRefusal.TheVariants.{Memory, Krates}
 use Rattle.run_check.specs.declared.report.CrateReport.{CrateReport}
 use Rattle.run_check.specs.declared.report.Report.{Report}
 use Rattle.run_check.specs.Report.{license_source}
@@ -116,17 +112,9 @@ pub record IsCheckedOn (scanner : Scanner) (levels : LintLevels) (policy : Valid
 abbrev pub choice_left : KrateContext → LoadedPolicy → Choice
 choice_left context policy = choice_asked context (left_by policy.graph)
 
--- a refusal for another cause than a request that is not carried
-abbrev pub IsBehindPolicy : CrateRefusal → Type 0
-IsBehindPolicy Memory = Unit {0}
-IsBehindPolicy (Krates error) = IsCarried error
-
 -- the metadata that was heard tells of this graph, and a root of it is left
-pub record TellsGraph (context : KrateContext) (tree : TreeSeen) (begun : ℕ) (policy : LoadedPolicy) (answer : CallAnswer) (graph : Graph) : Type 0 where
-  pub heard : Result (List ℕ) ReadFault
-  pub hears : text_answered begun (fault_behind tree.count_before answer) answer ≡ Some heard
-  pub tells : graph_in heard ≡ Ok graph
-  pub rooted : HasRoot graph (choice_left context policy)
+abbrev pub TellsGraph : KrateContext → TreeSeen → ℕ → LoadedPolicy → CallAnswer → Graph → Type 0
+TellsGraph context tree begun policy answer graph = gathering.TellsGraph (choice_left context policy) tree begun answer graph
 
 -- The metadata's file was read, and then the files of its crates, and no other call was made; and the check of these crates.
 pub record IsCheckedAt (context : KrateContext) (scanner : Scanner) (levels : LintLevels) (policy : LoadedPolicy) (tree : TreeSeen) (files last : List File) (begun : ℕ) (path : List ℕ) (checked : CheckedCrates) : Type 0 where
@@ -138,35 +126,15 @@ pub record IsCheckedAt (context : KrateContext) (scanner : Scanner) (levels : Li
   pub records : AreReads (fault_behind tree.count_before answer) (reads_of_all crates)
   pub is : IsChecked scanner levels policy.licenses files last graph (choice_left context policy) crates checked
 
--- why there are no crates, by what was heard of the metadata's file, which was the one call
-pub record HasNoCrates (context : KrateContext) (policy : LoadedPolicy) (tree : TreeSeen) (begun : ℕ) (path : List ℕ) (error : KratesError) : Type 0 where
-  pub answer : CallAnswer
-  pub heard : Result (List ℕ) ReadFault
-  pub made : MadeOn tree (read_of path answer ∷ [])
-  pub hears : text_answered begun (fault_behind tree.count_before answer) answer ≡ Some heard
-  pub from : AreFrom (choice_left context policy) heard (Err error)
-
--- the metadata's file was read, and the first ones of its crates had their turns
-pub record AreCheckedInPart (context : KrateContext) (scanner : Scanner) (policy : LoadedPolicy) (tree : TreeSeen) (files : List File) (begun : ℕ) (path : List ℕ) : Type 0 where
-  pub answer : CallAnswer
-  pub crates : List CrateReads
-  pub lost : List Call
-  pub made : MadeOn tree (read_of path answer ∷ calls_of_all crates ++ lost)
-  pub graph : Graph
-  pub tells : TellsGraph context tree begun policy answer graph
-  pub checked : List Record
-  pub selected : IsListOf graph (Selected graph (choice_left context policy) (include_of policy.licenses)) checked
-  pub turns : HaveTurns scanner policy.licenses files checked crates lost
-
--- memory was wanting: no call was made, or the metadata's read, whatever was answered, or crates had their turns behind it
+-- memory was wanting before the crates were checked
 abbrev pub IsCheckGivenUp : KrateContext → Scanner → LoadedPolicy → TreeSeen → List File → ℕ → List ℕ → Type 0
 IsCheckGivenUp context scanner policy tree files begun path =
-    ((answer : Option CallAnswer) × MadeOn tree (read_calls (Some path) answer)) ⊎ AreCheckedInPart context scanner policy tree files begun path
+    gathering.IsGatheringGivenUp (choice_left context policy) scanner policy.licenses tree files begun path
 
--- want of memory, else the refusal that has its cause
+-- there are none to check: want of memory, else the refusal that has its cause
 abbrev pub NoCratesBy : KrateContext → Scanner → LoadedPolicy → TreeSeen → List File → ℕ → List ℕ → KratesError → Type 0
-NoCratesBy context scanner policy tree files begun path krates.Memory = IsCheckGivenUp context scanner policy tree files begun path
-NoCratesBy context scanner policy tree files begun path error = HasNoCrates context policy tree begun path error
+NoCratesBy context scanner policy tree files begun path error =
+    gathering.NoCratesBy (choice_left context policy) scanner policy.licenses tree files begun path error
 
 abbrev pub ChecksAt : KrateContext → Scanner → LintLevels → LoadedPolicy → TreeSeen → List File → List File → ℕ → List ℕ → Result CheckedCrates CrateRefusal → Type 0
 ChecksAt context scanner levels policy tree files last begun path (Ok checked) = IsCheckedAt context scanner levels policy tree files last begun path checked

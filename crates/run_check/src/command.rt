@@ -102,6 +102,8 @@ pub fn report_since<T: Tree, S: Sink, C: Catalog, I: Identifier>(
 ) -> Result<Report, Error>
     requires { uncarried_of log_ctx args.now context.now ≡ None }
     ensures policy { result ≢ Err (Error.ConfigRead ReadFault.Absent) }
+    ensures made { MadeSome (T.content tree.old) (T.content tree.new) (T.fault_count tree.old)
+        (T.fault_count tree.new) (T.trace tree.old) (T.trace tree.new) }
     ensures counts { IfErr result (λ error. ReadCounts
         (T.fault_count tree.old) (T.fault_count tree.old) (T.fault_count tree.new) (cause_of error)) }
     ensures written { WritesLoad
@@ -134,6 +136,8 @@ pub fn check_since<T: Tree, S: Sink, C: Catalog, I: Identifier>(
 ) -> Result<Report, Error>
     requires { uncarried_of log_ctx args.now context.now ≡ None }
     ensures policy { result ≢ Err (Error.ConfigRead ReadFault.Absent) }
+    ensures made { MadeSome (T.content tree.old) (T.content tree.new) (T.fault_count tree.old)
+        (T.fault_count tree.new) (T.trace tree.old) (T.trace tree.new) }
     ensures counts { IfErr result (λ error. ReadCounts
         (T.fault_count tree.old) (T.fault_count tree.old) (T.fault_count tree.new) (cause_of error)) }
     ensures written { WritesCheck

@@ -1,50 +1,9 @@
 //! Why nothing was reported.
 ghost use Rattle.std.specs.Prelude.{◌≡◌};
-ghost use Rattle.run_check.specs.Error.{error_of, error_of_crates};
+ghost use Rattle.run_check.specs.Error.{error_of};
 
-use graph_workspace::KratesError;
-use run_found::{Error, PolicyRefusal};
+use run_found::{CrateRefusal, Error, PolicyRefusal};
 use run_overrides::OverrideError;
-use std::alloc::AllocError;
-
-/// Why no crates were checked.
-#[derive(Drop)]
-pub(crate) enum CrateRefusal {
-    Memory,
-    Krates(KratesError),
-}
-
-impl From<AllocError> for CrateRefusal {
-    ghost use Rattle.run_check.specs.declared.refusal.CrateRefusal.TheVariants.{Memory};
-
-    ghost from_gives = { λ _ refusal. refusal ≡ Memory };
-
-    fn from(_: AllocError) -> CrateRefusal {
-        CrateRefusal::Memory
-    }
-}
-
-impl From<KratesError> for CrateRefusal {
-    ghost use Rattle.run_check.specs.declared.refusal.CrateRefusal.TheVariants.{Krates};
-
-    ghost from_gives = { λ refused refusal. refusal ≡ Krates refused };
-
-    fn from(refused: KratesError) -> CrateRefusal {
-        CrateRefusal::Krates(refused)
-    }
-}
-
-impl CrateRefusal {
-    /// What a command is refused with.
-    pub(crate) fn into_error(self) -> Error
-        ensures { result ≡ error_of_crates self }
-    {
-        match self {
-            CrateRefusal::Memory => Error::Memory,
-            CrateRefusal::Krates(refused) => Error::from(refused),
-        }
-    }
-}
 
 /// Why nothing was reported.
 #[derive(Drop)]
@@ -92,7 +51,7 @@ impl CheckRefusal {
         match self {
             CheckRefusal::Policy(refused) => Error::from(refused),
             CheckRefusal::Twice(refused) => Error::from(refused),
-            CheckRefusal::Crates(refused) => refused.into_error(),
+            CheckRefusal::Crates(refused) => Error::from(refused),
         }
     }
 }

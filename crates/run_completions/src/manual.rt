@@ -14,6 +14,8 @@ cargo\\-deny \\- checks the licences of a project\\(aqs crates against a policy
 .nf
 \\fBcargo deny\\fR [\\fIoptions\\fR] \\fBcheck\\fR [\\fIoptions\\fR] \\fBlicenses\\fR
 \\fBcargo deny\\fR [\\fIoptions\\fR] \\fBlist\\fR [\\fIoptions\\fR]
+\\fBcargo deny\\fR [\\fIoptions\\fR] \\fBrecord\\fR
+\\fBcargo deny\\fR [\\fIoptions\\fR] \\fBverify\\fR \\fIfile\\fR
 \\fBcargo deny\\fR [\\fIoptions\\fR] \\fBsample\\fR \\fInumber\\fR
 .fi
 .SH DESCRIPTION
@@ -31,6 +33,10 @@ field or the licence files.
 judges each crate by the policy, and writes what it found to standard error, and to standard output whether the licences are ok.
 .B list
 writes the licences to standard output.
+.B record
+writes the verdicts, with what shows them, to standard output, and
+.B verify
+says whether the verdicts of such a file are right.
 .B sample
 reads no file. No command uses the network, starts a program or writes a file.
 .PP
@@ -41,7 +47,7 @@ static STATUS: &str = "\
 .SH EXIT STATUS
 .TP
 .B 0
-No finding is an error, so no crate is rejected or unlicensed, or what was asked for was written; also behind help and the version.
+No finding is an error, so no crate is rejected or unlicensed, or the verdicts of a file are right, or what was asked for was written; also behind help and the version.
 .TP
 .B 1
 The run was refused. Standard error says why.
@@ -50,7 +56,9 @@ The run was refused. Standard error says why.
 The words could not be read.
 .TP
 .B 4
-A finding is an error.
+A finding is an error, or a verdict that
+.B verify
+read is not right.
 .SH FILES
 .TP
 .I deny.toml

@@ -1,10 +1,14 @@
+pub mod AnsweredLemmas
 pub mod ByteLemmas
 pub mod CallLemmas
+pub mod CarriedLemmas
 pub mod EndLemmas
 pub mod FoundLemmas
 pub mod GatheredLemmas
+pub mod HeardAlike
 pub mod LoadCalls
 pub mod LoadedLemmas
 pub mod PolicyLemmas
 pub mod SearchLemmas
+pub mod StageLemmas
 pub mod StepLemmas

@@ -142,7 +142,7 @@ calls-looked given tree sought looks =
     ∙ append-nil (own ++ [])
     ∙ append-nil own
 
-gained-nil : (held : Option (List ℕ)) → Gained held held []
+pub gained-nil : (held : Option (List ℕ)) → Gained held held []
 gained-nil None = refl
 gained-nil (Some held) = ap Some (sym (append-nil held))
 

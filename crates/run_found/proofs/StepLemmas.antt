@@ -8,6 +8,12 @@ use Rattle.policy_load.specs.declared.error.LoadError.{LoadError}
 use Rattle.policy_load.specs.declared.error.LoadError.TheVariants as load
 use Rattle.run_found.specs.Error.{cause_of, error_of_load}
 
+-- want of memory and a refused write
+abbrev pub IsFree : Cause → Type 0
+IsFree no_memory = Unit {0}
+IsFree (refused_write before after) = Unit {0}
+IsFree _ = ⊥
+
 rose_from : (first before after : ℕ) → first ≤ before → Rose before after → Rose first after
 rose_from first before after early (inl less) = inl (omega arith)
 rose_from first before after early (inr last) = inr last

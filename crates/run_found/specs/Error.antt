@@ -19,9 +19,11 @@ use Rattle.spdx_listing.specs.declared.error.StoreError.{StoreError}
 use Rattle.spdx_listing.specs.declared.error.StoreError.TheVariants as stored
 use Rattle.spdx_listing.specs.declared.error.StoreFault.TheVariants as store
 use Rattle.run_found.specs.declared.error.Error.{Error}
-use Rattle.run_found.specs.declared.error.Error.TheVariants.{Memory, NotCarried, ManifestPath, ManifestRead, CatalogRead, CatalogSyntax, StoreRead, ConfigRead, ConfigSyntax, ConfigShape, ConfigInvalid, OverrideTwice, MetadataRead, MetadataSyntax, MetadataShape, NoRoots, WriteFault}
+use Rattle.run_found.specs.declared.error.Error.TheVariants.{Memory, NotCarried, ManifestPath, ManifestRead, CatalogRead, CatalogSyntax, StoreRead, ConfigRead, ConfigSyntax, ConfigShape, ConfigInvalid, OverrideTwice, MetadataRead, MetadataSyntax, MetadataShape, NoRoots, RecordRead, RecordSyntax, WriteFault}
 use Rattle.run_found.specs.declared.policy.PolicyRefusal.{PolicyRefusal}
 use Rattle.run_found.specs.declared.policy.PolicyRefusal.TheVariants as refusal
+use Rattle.run_found.specs.declared.refusal.CrateRefusal.{CrateRefusal}
+use Rattle.run_found.specs.declared.refusal.CrateRefusal.TheVariants as crates
 
 abbrev pub error_text : Error → List ℕ
 error_text Memory = codes "out of memory"
@@ -40,12 +42,15 @@ error_text (MetadataRead fault) = codes "the metadata could not be read"
 error_text MetadataSyntax = codes "the metadata could not be parsed"
 error_text (MetadataShape fault) = codes "the metadata has not the stated shape"
 error_text (NoRoots base excluded unpublished) = codes "no root crate is left"
+error_text (RecordRead fault reads) = codes "the record could not be read"
+error_text RecordSyntax = codes "the record could not be parsed"
 error_text (WriteFault before after) = codes "writing failed"
 
 -- what is written after a refusal
 abbrev pub fault_line : Error → List ℕ
 fault_line error = codes "error: " ++ error_text error ++ codes "\n"
 
+-- A failed read of a verdict file is told by what is heard of the file: its counts are not those since the run began.
 abbrev pub cause_of : Error → Cause
 cause_of Memory = no_memory
 cause_of (ManifestRead before after) = failed_read before after
@@ -118,3 +123,8 @@ abbrev pub error_of_policy : PolicyRefusal → Error
 error_of_policy refusal.Memory = Memory
 error_of_policy (refusal.Search error) = error_of_search error
 error_of_policy (refusal.Load error) = error_of_load error
+
+-- why there are no crates to look at
+abbrev pub error_of_crates : CrateRefusal → Error
+error_of_crates crates.Memory = Memory
+error_of_crates (crates.Krates refused) = error_of_krates refused

@@ -1,6 +1,6 @@
 -- What is found on the way to the licences of crates: where the policy's files are, what comes of its load, the graph of the metadata;
 -- which calls that takes. A command puts its own steps between.
-use Rattle.std.specs.Prelude.{◌≢◌, ℕ, List, [], ◌++◌, Option, Some, None, Result, Ok, Err}
+use Rattle.std.specs.Prelude.{◌≡◌, ◌≢◌, ℕ, List, [], ◌++◌, Option, Some, None, Result, Ok, Err}
 use Rattle.std.specs.Option.{option_and_then}
 use Rattle.deny_text.specs.Path.{join_of}
 use Rattle.tree_core.specs.Call.{Call}
@@ -22,13 +22,14 @@ use Rattle.policy_text.specs.Config.{config_of_text}
 use Rattle.policy_text.specs.declared.error.ConfigError.{ConfigError}
 use Rattle.policy_text.specs.declared.text.ConfigText.{ConfigText}
 use Rattle.graph_workspace.specs.declared.error.KratesError.{KratesError}
+use Rattle.graph_workspace.specs.declared.error.What.{What}
 use Rattle.spdx_catalog.specs.Catalog.{CatalogLists}
 use Rattle.gather_core.specs.Calls.{calls_of_all}
 use Rattle.policy_load.specs.declared.loading.PolicyPaths.{PolicyPaths}
 use Rattle.policy_core.specs.Policy.{PolicyFound}
 use Rattle.policy_text.specs.Text.{config_text_of}
 use Rattle.run_found.specs.declared.error.Error.{Error}
-use Rattle.run_found.specs.declared.error.Error.TheVariants.{ConfigRead}
+use Rattle.run_found.specs.declared.error.Error.TheVariants.{ConfigRead, NotCarried}
 use Rattle.run_found.specs.Error.{error_of_krates, error_of_load}
 use Rattle.run_found.specs.Given.{RequestArguments}
 use Rattle.run_found.specs.Hearing.{RequestHearing, LooksResult, look_failed, nowhere, at, unended, count_behind, look_calls, looks_by, read_calls, text_by}
@@ -195,3 +196,23 @@ files_loaded given hearing = files_of_load (loaded_of given hearing)
 abbrev pub load_text : LogContext → Result LoadResult Error → List ℕ
 load_text log (Ok loaded) = printed_findings log loaded.files loaded.findings
 load_text log (Err error) = []
+
+-- ---- with a command's own steps
+
+-- nothing, where all of a request is carried
+abbrev pub unless_uncarried : Option What → Result (Unit {0}) Error
+unless_uncarried None = Ok tt
+unless_uncarried (Some what) = Err (NotCarried what)
+
+-- what was found: the policy, and the crates with the edges between them
+pub record FoundInput : Type 0 where
+  pub policy : PolicyFound
+  pub graph : Graph
+
+-- no call was heard of
+pub record HearsNothing (hearing : RequestHearing) : Type 0 where
+  pub sought : hearing.sought ≡ []
+  pub looks : hearing.looks ≡ []
+  pub policy : hearing.policy ≡ None
+  pub exceptions : hearing.exceptions ≡ None
+  pub metadata : hearing.metadata ≡ None

@@ -4,7 +4,7 @@ use Rattle.tree_core.specs.Call as call
 use Rattle.tree_core.specs.Call.{CallAnswer, Call}
 use Rattle.tree_core.specs.Content.{Content}
 use Rattle.tree_core.specs.Hearing.{Made}
-use Rattle.tree_core.specs.Trace.{fault_behind}
+use Rattle.tree_core.specs.Trace.{content_answer, fault_behind}
 use Rattle.graph_core.specs.Krate.{Record}
 use Rattle.tree_texts.specs.Heard.{read_of, text_answered}
 use Rattle.tree_texts.specs.declared.fault.ReadFault.{ReadFault}
@@ -118,3 +118,9 @@ is_heard (Some answer) = is_some (text_answered 0 0 answer)
 abbrev pub IsReadWhereDue : Option (List ℕ) → Option CallAnswer → Type 0
 IsReadWhereDue None answer = answer ≡ None
 IsReadWhereDue (Some path) answer = is_heard answer ≡ true
+
+-- ---- on a content
+
+-- the answer of a call is what the content has at its path
+abbrev pub TellsContent : Content → Call → Type 0
+TellsContent content one = one.answer ≡ content_answer content one.asked one.path

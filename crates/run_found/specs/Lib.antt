@@ -1,11 +1,13 @@
 pub mod Error
 pub mod Finds
 pub mod Found
+pub mod Gathering
 pub mod Given
 pub mod Hearing
 pub mod Licences
 pub mod Paths
 pub mod Policy
+pub mod Reads
 pub mod Selection
 pub mod Steps
 pub mod Written

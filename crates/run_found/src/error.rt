@@ -3,6 +3,8 @@ ghost use Rattle.std.specs.Prelude.{◌≡◌};
 ghost use Rattle.run_found.specs.Error.{fault_line};
 
 use crate::policy::PolicyRefusal;
+use crate::reads::CrateReads;
+use crate::refusal::CrateRefusal;
 use deny_text::{PathBuf, Text};
 use diag_core::Severity;
 use diag_print::PrintError;
@@ -65,6 +67,14 @@ pub enum Error {
         /// Those of the others that are published nowhere, where these are left out.
         unpublished: usize,
     },
+    /// A verdict file was not read, once the licences were settled by these reads. The numbers of a failed read are
+    /// the tree's counts of faults as that read began and behind it.
+    RecordRead {
+        fault: ReadFault,
+        reads: CrateReads,
+    },
+    /// A verdict file is the spelling of no record.
+    RecordSyntax,
     /// A sink refused a write. The numbers are its counts of faults, at the start of the call and after that.
     WriteFault {
         before: u64,
@@ -94,6 +104,8 @@ impl Error {
             Error::MetadataSyntax => "error: the metadata could not be parsed\n",
             Error::MetadataShape(_) => "error: the metadata has not the stated shape\n",
             Error::NoRoots { .. } => "error: no root crate is left\n",
+            Error::RecordRead { .. } => "error: the record could not be read\n",
+            Error::RecordSyntax => "error: the record could not be parsed\n",
             Error::WriteFault { .. } => "error: writing failed\n",
         }
     }
@@ -238,6 +250,19 @@ impl From<PolicyRefusal> for Error {
             PolicyRefusal::Memory => Error::Memory,
             PolicyRefusal::Search(refused) => Error::from(refused),
             PolicyRefusal::Load(refused) => Error::from(refused),
+        }
+    }
+}
+
+impl From<CrateRefusal> for Error {
+    ghost use Rattle.run_found.specs.Error.{error_of_crates};
+
+    ghost from_gives = { λ refused error. error ≡ error_of_crates refused };
+
+    fn from(refused: CrateRefusal) -> Error {
+        match refused {
+            CrateRefusal::Memory => Error::Memory,
+            CrateRefusal::Krates(refused) => Error::from(refused),
         }
     }
 }

@@ -3,6 +3,7 @@ ghost use Rattle.std.specs.Prelude.{◌≤◌, All, IfOk, OnErr};
 ghost use Rattle.graph_core.specs.Metadata.{Graph};
 ghost use Rattle.graph_selection.specs.Choice.{Choice};
 ghost use Rattle.graph_selection.specs.Listed.{IsChosen};
+ghost use Rattle.diag_core.specs.File.{Grows};
 ghost use Rattle.policy_core.specs.Places.{PolicyStands};
 ghost use Rattle.gather_core.specs.Premises.{IsPlacedAt};
 ghost use Rattle.check_unused.specs.Laws.{EntriesLie};
@@ -18,7 +19,7 @@ use std::alloc::{AllocError, Global};
 use tree_core::Tree;
 
 /// The licences of the crates that a policy has checked, in the order of their ids. The manifests in which their
-/// fields have places join the files.
+/// fields have places join the files, also where memory is wanted; files that are known stay.
 pub fn licences_found<'k, T: Tree, C: Catalog, I: Identifier>(
     alloc: Global,
     policy: &ValidConfig,
@@ -41,6 +42,7 @@ pub fn licences_found<'k, T: Tree, C: Catalog, I: Identifier>(
         (seen (T.content tree.old) (T.content tree.new) (T.fault_count tree.old) (T.fault_count tree.new)
         (T.trace tree.old) (T.trace tree.new))
         files.old graph choice) }
+    ensures grows { Grows files.old files.new }
     // what a check of the summary asks of the files
     ensures placed { IfOk result (λ summary. All (IsPlacedAt files.new) summary.nfos) }
     ensures entries { EntriesLie files.new policy.now }

@@ -23,9 +23,10 @@ use Rattle.run_found.specs.Hearing.{MadeOn, RequestHearing, TreeSeen}
 use Rattle.run_found.specs.Licences.{turns_heard}
 use Rattle.run_found.specs.Selection.{included_in}
 use Rattle.run_found.proofs.ByteLemmas.{bytes_of_found, bytes_of_graph}
+pub use Rattle.run_found.proofs.StepLemmas.{IsFree}
 use Rattle.run_listing.specs.declared.listed.ListedCrate.{ListedCrate}
 use Rattle.run_list.specs.declared.crates.CrateListing.{CrateListing}
-use Rattle.run_list.specs.declared.reads.CrateRead.{CrateRead}
+use Rattle.run_found.specs.declared.reads.CrateRead.{CrateRead}
 use Rattle.run_list.specs.Carried.{uncarried_in}
 use Rattle.run_list.specs.Found.{HearsAllDue, HearsDue, IsListHearing, calls_of, choice_in, list_input_of, scanner_of_given, turns_in}
 use Rattle.run_list.specs.Given.{ListArguments}
@@ -35,12 +36,6 @@ use Rattle.run_list.specs.Steps.{IsListed}
 use Rattle.run_list.proofs.GatheredLemmas.{all_are_listed, own_files, reads_answered}
 
 -- ---- refusals
-
--- want of memory and a refused write
-abbrev pub IsFree : Cause → Type 0
-IsFree no_memory = Unit {0}
-IsFree (refused_write before after) = Unit {0}
-IsFree _ = ⊥
 
 module _ (given : ListArguments) (tree : TreeSeen) (hearing : RequestHearing) (crates : List ListedCrate) (error : Error) where
   refused_as : (cause : Cause) → IsGivenUp given tree hearing → IsFree cause → IsRefusedList given tree hearing error cause

@@ -33,9 +33,10 @@ use Rattle.run_context.specs.Asked.{by_specs, choice_asked}
 use Rattle.run_found.specs.declared.error.Error.{Error}
 use Rattle.run_found.specs.declared.error.Error.TheVariants.{Memory}
 use Rattle.run_found.specs.declared.policy.PolicyRefusal.{PolicyRefusal}
-use Rattle.run_found.specs.Error.{cause_of, error_of_krates, error_of_policy}
+use Rattle.run_found.specs.Error.{cause_of, error_of_crates, error_of_krates, error_of_policy}
 use Rattle.run_found.specs.Finds.{FindsBy, FindsInPart, FindsLoaded, FindsPolicy, FindsRefusal, HearsPolicy, PolicyHeard, alone, hearing_of}
 use Rattle.run_found.specs.Found.{count_exceptions, count_metadata, files_loaded, graph_heard, load_text, loaded_of, metadata_heard, or_krates_error, policy_calls, policy_found}
+use Rattle.run_found.specs.Gathering.{AreGatheredInPart, HasNoCrates, IsBehindPolicy, IsGatheringGivenUp}
 use Rattle.run_found.specs.Hearing.{IsReadWhereDue, MadeOn, RequestHearing, TreeSeen, is_heard, read_calls, seen, text_by}
 use Rattle.run_found.specs.Licences.{HaveTurns}
 use Rattle.run_found.specs.Selection.{included_in}
@@ -44,17 +45,16 @@ use Rattle.run_found.proofs.CallLemmas.{heard_where, text_heard_by}
 use Rattle.run_found.proofs.FoundLemmas.{count-behind}
 use Rattle.run_list.specs.declared.crates.CrateListing.{CrateListing}
 use Rattle.run_listing.specs.declared.listed.ListedCrate.{ListedCrate}
-use Rattle.run_list.specs.declared.reads.CrateRead.{CrateRead}
-use Rattle.run_list.specs.declared.refusal.CrateRefusal.{CrateRefusal}
-use Rattle.run_list.specs.declared.refusal.CrateRefusal.TheVariants as refusal
+use Rattle.run_found.specs.declared.reads.CrateRead.{CrateRead}
+use Rattle.run_found.specs.declared.refusal.CrateRefusal.{CrateRefusal}
+use Rattle.run_found.specs.declared.refusal.CrateRefusal.TheVariants as refusal
 use Rattle.run_list.specs.Carried.{uncarried_in}
-use Rattle.run_list.specs.Error.{error_of_crates}
 use Rattle.run_list.specs.Found.{HearsAllDue, calls_of, choice_in, metadata_due, policy_asked, scanner_of_given}
 use Rattle.run_list.specs.Given.{ListArguments}
 use Rattle.run_list.specs.Answer.{IsAnsweredBy, IsGivenUp, IsRefusal, Refuses, at_crates, at_metadata, at_policy}
 use Rattle.run_list.specs.Listed.{at_threshold}
 use Rattle.run_list.specs.Script.{WritesLoad, cause_in}
-use Rattle.run_list.specs.Steps.{AreListedInPart, ListsAt, HasNoCrates, IsBehindPolicy, IsListGivenUp, IsListed, IsListedAt, choice_left, loaded_at}
+use Rattle.run_list.specs.Steps.{ListsAt, IsListed, IsListedAt, choice_left, loaded_at}
 use Rattle.run_list.proofs.AnswerLemmas.{IsFree, first_of, given_up, is_listed, refused_first, up_without}
 use Rattle.run_list.proofs.FoundLemmas.{asked-found, asked-refused, calls-carried, calls-unread, due-carried, input-graph, input-refused, metadata-is, metadata-refused, text-carried}
 
@@ -258,7 +258,7 @@ module _ (given : ListArguments) (carried : uncarried_in given ≡ None) (path :
       up_without given whole (hears metadata []) refl (made_all metadata [] (made_as (sym (append-nil (read_calls (Some path) metadata))) then))
       (at_metadata (policy_due_at metadata []) refl refl)
 
-  in_part_up : (part : AreListedInPart given.request.context scanner lists_by behind files begun path) → IsGivenUp given whole (hears (Some part.answer) part.crates)
+  in_part_up : (part : AreGatheredInPart (choice_left given.request.context lists_by) scanner lists_by.licenses behind files begun path) → IsGivenUp given whole (hears (Some part.answer) part.crates)
   in_part_up part =
       let hearing = hears (Some part.answer) part.crates in
       record {
@@ -271,15 +271,15 @@ module _ (given : ListArguments) (carried : uncarried_in given ≡ None) (path :
               (drawn_at part.answer part.crates part.tells.heard part.graph part.tells.hears part.tells.tells);
           policy = lists_by.licenses;
           ordered = ordered;
-          chosen = part.chosen;
-          selected = subst (λ include. IsListOf part.graph (Selected part.graph (choice_in given finds.found) include) part.chosen) same_flags_at
-              (subst (λ choice. IsListOf part.graph (Selected part.graph choice (include_of lists_by.licenses)) part.chosen) same_choice_at part.selected);
-          turns = subst (λ table. HaveTurns scanner lists_by.licenses table part.chosen part.crates part.lost) (table_at (Some part.answer) part.crates) part.turns;
+          chosen = part.checked;
+          selected = subst (λ include. IsListOf part.graph (Selected part.graph (choice_in given finds.found) include) part.checked) same_flags_at
+              (subst (λ choice. IsListOf part.graph (Selected part.graph choice (include_of lists_by.licenses)) part.checked) same_choice_at part.selected);
+          turns = subst (λ table. HaveTurns scanner lists_by.licenses table part.checked part.crates part.lost) (table_at (Some part.answer) part.crates) part.turns;
         });
       }
 
   memory_ends : (error : Error) → IsFree (cause_of error) → TextWritten text err_old err_new err_before err_after (cause_of error)
-      → IsListGivenUp given.request.context scanner lists_by behind files begun path → WritesLoad given whole [] err_old err_new err_before err_after (Err error)
+      → IsGatheringGivenUp (choice_left given.request.context lists_by) scanner lists_by.licenses behind files begun path → WritesLoad given whole [] err_old err_new err_before err_after (Err error)
   memory_ends error free written (inl read) =
       behind_writes read.0 [] [] (Err error) (given_up given whole (hears read.0 []) [] error (unread_up read.0 read.1) free) written
   memory_ends error free written (inr part) =
@@ -287,7 +287,7 @@ module _ (given : ListArguments) (carried : uncarried_in given ≡ None) (path :
 
   -- ---- no crates
 
-  no_crates : (error : KratesError) (none : HasNoCrates given.request.context lists_by behind begun path error) → (IsFree (cause_of (error_of_krates error)) → ⊥)
+  no_crates : (error : KratesError) (none : HasNoCrates (choice_left given.request.context lists_by) behind begun path error) → (IsFree (cause_of (error_of_krates error)) → ⊥)
       → TextWritten text err_old err_new err_before err_after (cause_of (error_of_krates error))
       → ((due : HearsAllDue given (hears (Some none.answer) [])) → IsRefusal given (hears (Some none.answer) []) (error_of_krates error))
       → WritesLoad given whole [] err_old err_new err_before err_after (Err (error_of_krates error))
@@ -299,7 +299,7 @@ module _ (given : ListArguments) (carried : uncarried_in given ≡ None) (path :
       written
 
   -- the metadata tells of no graph
-  no_graph : (error : KratesError) (none : HasNoCrates given.request.context lists_by behind begun path error) → graph_in none.heard ≡ Err error
+  no_graph : (error : KratesError) (none : HasNoCrates (choice_left given.request.context lists_by) behind begun path error) → graph_in none.heard ≡ Err error
       → (due : HearsAllDue given (hears (Some none.answer) [])) → IsRefusal given (hears (Some none.answer) []) (error_of_krates error)
   no_graph error none refused due =
       let hearing = hears (Some none.answer) [] in
@@ -308,7 +308,7 @@ module _ (given : ListArguments) (carried : uncarried_in given ≡ None) (path :
       (ap graph_heard (metadata_text none.answer [] none.heard none.hears) ∙ ap or_krates_error refused))
 
   -- no root is left of it
-  no_roots : (base excluded unpublished : ℕ) (none : HasNoCrates given.request.context lists_by behind begun path (krates.NoRoots base excluded unpublished))
+  no_roots : (base excluded unpublished : ℕ) (none : HasNoCrates (choice_left given.request.context lists_by) behind begun path (krates.NoRoots base excluded unpublished))
       → (due : HearsAllDue given (hears (Some none.answer) [])) → IsRefusal given (hears (Some none.answer) []) (error_of_krates (krates.NoRoots base excluded unpublished))
   no_roots base excluded unpublished none due =
       let hearing = hears (Some none.answer) [] in

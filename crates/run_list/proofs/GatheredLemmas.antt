@@ -23,7 +23,7 @@ use Rattle.run_listing.specs.Listed.{crate_name, licences_of, listed_of}
 use Rattle.run_list.specs.Found.{scanner_of_given}
 use Rattle.run_list.specs.Given.{ListArguments}
 use Rattle.run_list.specs.Listed.{IsReadOf, all_listed, licences_in}
-use Rattle.run_list.specs.Steps.{read_of_license}
+use Rattle.run_found.specs.Reads.{read_gathered}
 
 -- the licences of a crate are those of what has priority
 told_licences : (info : LicenseInfo) (notes : List (List ℕ)) → licences_of info ≡ licences_in (expression_in (answer_view info notes))
@@ -65,7 +65,7 @@ module _ (given : ListArguments) (policy : ValidConfig) where
 
   -- its reads are answered
   pub reads_answered : (files : List File) (crates : List CrateReads) (licenses : List KrateLicense) (last : List File) → AllZip (IsTurnBy last) (turns_at files crates) licenses
-      → AllZip IsReadOf crates (map read_of_license licenses)
+      → AllZip IsReadOf crates (map read_gathered licenses)
   reads_answered files [] [] last each = tt
   reads_answered files [] (license ∷ licenses) last each = absurd each
   reads_answered files (one ∷ crates) [] last each = absurd each

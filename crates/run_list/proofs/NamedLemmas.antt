@@ -18,7 +18,7 @@ use Rattle.run_found.specs.Hearing.{RequestHearing, TreeSeen, read_calls}
 use Rattle.run_found.proofs.CallLemmas.{counts_due}
 use Rattle.run_found.proofs.FoundLemmas.{count-behind}
 use Rattle.run_listing.specs.declared.listed.ListedCrate.{ListedCrate}
-use Rattle.run_list.specs.declared.reads.CrateRead.{CrateRead}
+use Rattle.run_found.specs.declared.reads.CrateRead.{CrateRead}
 use Rattle.run_list.specs.Found.{HearsAllDue, IsListHearing, metadata_due}
 use Rattle.run_list.specs.Given.{ListArguments}
 use Rattle.run_list.specs.Listed.{IsReadOf}

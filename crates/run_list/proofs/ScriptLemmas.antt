@@ -1,5 +1,5 @@
 -- What a listing writes, from what its sinks gained.
-use Rattle.std.proofs.Common.{◌≡◌, ◌∙◌, inl, inr, refl, sym, ap, subst, ℕ, List, [], append-nil, Option, Some, None, Ok, Err}
+use Rattle.std.proofs.Common.{◌≡◌, ◌∙◌, inl, inr, refl, sym, ap, subst, ℕ, List, [], append-nil, Option, Some, Ok, Err}
 use Rattle.tree_core.specs.Faults.{Gained, GainedPrefix}
 use Rattle.tree_core.proofs.MadeLemmas.{made_none}
 use Rattle.tree_core.specs.Call.{Call}
@@ -12,16 +12,18 @@ use Rattle.run_found.specs.declared.error.Error.TheVariants.{Memory, NotCarried,
 use Rattle.run_found.specs.Error.{cause_of}
 use Rattle.run_found.specs.Hearing.{MadeOn, RequestHearing, TreeSeen, crates_heard, seen}
 use Rattle.run_found.specs.Written.{TextWritten}
+use Rattle.run_found.proofs.CarriedLemmas.{hears_nothing, nothing_heard}
 use Rattle.run_found.proofs.FoundLemmas.{bind-Err}
+use Rattle.run_found.proofs.SearchLemmas.{gained-nil}
 use Rattle.run_listing.specs.declared.lines.ListError.{ListError}
 use Rattle.run_listing.specs.declared.lines.ListError.TheVariants as list
 use Rattle.run_listing.specs.declared.listed.ListedCrate.{ListedCrate}
 use Rattle.run_listing.specs.Written.{HasReasonSince}
-use Rattle.run_list.specs.declared.reads.CrateRead.{CrateRead}
+use Rattle.run_found.specs.declared.reads.CrateRead.{CrateRead}
 use Rattle.run_list.specs.Answer.{AreListing, IsGivenUp, IsListing, at_crates}
 use Rattle.run_list.specs.Carried.{uncarried_in}
 use Rattle.run_list.specs.Error.{error_of_list}
-use Rattle.run_list.specs.Found.{HearsDue, HearsNothing, IsListHearing, calls_by, calls_of, unless_uncarried}
+use Rattle.run_list.specs.Found.{HearsDue, IsListHearing, calls_by, calls_of, unless_uncarried}
 use Rattle.run_list.specs.Given.{ListArguments}
 use Rattle.run_list.specs.Listed.{listing_text}
 use Rattle.run_list.specs.Script.{FrontsListing, RefusalWritten, SinkSeen, TellsLoad, WritesList, WritesLoad, load_text_by, sink_seen}
@@ -106,17 +108,6 @@ module _ (given : ListArguments) (tree : TreeSeen) (old middle : Option (List �
   }
 
 -- ---- a request of which a part is not carried
-
-gained-nil : (held : Option (List ℕ)) → Gained held held []
-gained-nil None = refl
-gained-nil (Some held) = ap Some (sym (append-nil held))
-
--- nothing was heard
-abbrev nothing_heard : ℕ → RequestHearing
-nothing_heard count = record { begun = count; sought = []; looks = []; policy = None; exceptions = None; metadata = None; crates = [] }
-
-hears_nothing : (count : ℕ) → HearsNothing (nothing_heard count)
-hears_nothing count = record { sought = refl; looks = refl; policy = refl; exceptions = refl; metadata = refl }
 
 pub uncarried_writes : (given : ListArguments) (told : Option Content) (count : ℕ) (calls : List Call) (held : Option (List ℕ)) (faults : ℕ) (out_held : Option (List ℕ)) (out_faults : ℕ) (what : What)
     → uncarried_in given ≡ Some what

@@ -20,7 +20,7 @@ use Rattle.run_found.specs.Hearing.{MadeOn, RequestHearing, TreeSeen, crates_hea
 use Rattle.run_found.specs.Licences.{HaveTurns, ReadsItsFiles}
 use Rattle.run_found.specs.Policy.{GraphAt, PolicyAt}
 use Rattle.run_listing.specs.declared.listed.ListedCrate.{ListedCrate}
-use Rattle.run_list.specs.declared.reads.CrateRead.{CrateRead}
+use Rattle.run_found.specs.declared.reads.CrateRead.{CrateRead}
 use Rattle.run_list.specs.Carried.{uncarried_in}
 use Rattle.run_list.specs.Found.{AreSelected, FoundInput, HearsAllDue, HearsDue, HearsNothing, IsListHearing, calls_of, choice_in, list_input_of, scanner_of_given, turns_in}
 use Rattle.run_list.specs.Given.{ListArguments}

@@ -3,14 +3,13 @@
 -- Where nothing refuses the request and the files, and no count rises, a listing ends with the reads of its crates or for want of
 -- memory.
 use Rattle.std.specs.Prelude.{◌≡◌, ℕ, All, List, Result, Ok, Err, ⊤}
-use Rattle.tree_core.specs.Call.{Call}
 use Rattle.tree_core.specs.Content.{Content}
 use Rattle.tree_core.specs.Faults.{Rose}
-use Rattle.tree_core.specs.Trace.{content_answer}
 use Rattle.run_found.specs.declared.error.Error.{Error}
 use Rattle.run_found.specs.Error.{MayEndLawful, cause_of}
 use Rattle.run_found.specs.Hearing.{RequestHearing, TreeSeen}
-use Rattle.run_list.specs.declared.reads.CrateRead.{CrateRead}
+pub use Rattle.run_found.specs.Hearing.{TellsContent}
+use Rattle.run_found.specs.declared.reads.CrateRead.{CrateRead}
 use Rattle.run_list.specs.Answer.{Asks, ListInput}
 use Rattle.run_list.specs.Found.{HearsAllDue, IsListHearing, calls_of}
 use Rattle.run_list.specs.Given.{ListArguments}
@@ -31,10 +30,6 @@ abbrev pub IsCompleteRead : ListArguments → TreeSeen → SinkSeen → SinkSeen
 IsCompleteRead given tree err out answer =
     (hearing : RequestHearing) (asked : ListInput) → IsListHearing given tree hearing → HearsAllDue given hearing → Asks given hearing asked
     → AreQuiet err out → EndsListed answer
-
--- the answer of a call is what the content has at its path
-abbrev pub TellsContent : Content → Call → Type 0
-TellsContent content one = one.answer ≡ content_answer content one.asked one.path
 
 -- what is heard of the content, from a count of faults on, where no call fails and no memory is wanting
 pub record IsHeardOf (given : ListArguments) (content : Content) (count : ℕ) (hearing : RequestHearing) : Type 0 where

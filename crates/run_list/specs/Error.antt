@@ -1,18 +1,11 @@
 -- The errors of the steps of a listing.
 use Rattle.run_found.specs.declared.error.Error.{Error}
 use Rattle.run_found.specs.declared.error.Error.TheVariants as error
-use Rattle.run_found.specs.Error.{error_of_krates, error_of_policy}
+use Rattle.run_found.specs.Error.{error_of_crates, error_of_policy}
 use Rattle.run_listing.specs.declared.lines.ListError.{ListError}
 use Rattle.run_listing.specs.declared.lines.ListError.TheVariants as list
-use Rattle.run_list.specs.declared.refusal.CrateRefusal.{CrateRefusal}
-use Rattle.run_list.specs.declared.refusal.CrateRefusal.TheVariants.{Memory, Krates}
 use Rattle.run_list.specs.declared.refusal.ListRefusal.{ListRefusal}
 use Rattle.run_list.specs.declared.refusal.ListRefusal.TheVariants.{Policy, Crates}
-
--- why there are no crates to list
-abbrev pub error_of_crates : CrateRefusal → Error
-error_of_crates Memory = error.Memory
-error_of_crates (Krates refused) = error_of_krates refused
 
 -- why there is nothing to list
 abbrev pub error_of : ListRefusal → Error

@@ -13,25 +13,15 @@ use Rattle.gather_core.specs.Calls.{CrateTurn}
 use Rattle.gather_expression.specs.Scanned.{Scanner}
 use Rattle.run_context.specs.Asked.{by_specs, choice_asked}
 use Rattle.run_found.specs.declared.error.Error.{Error}
-use Rattle.run_found.specs.declared.error.Error.TheVariants.{NotCarried}
 use Rattle.run_found.specs.Finds.{HearsPolicy}
 use Rattle.run_found.specs.Found.{calls_with, files_loaded, graph_heard, metadata_heard, policy_found}
+pub use Rattle.run_found.specs.Found.{FoundInput, HearsNothing, unless_uncarried}
 use Rattle.run_found.specs.Hearing.{RequestHearing, IsReadWhereDue, MadeOn, TreeSeen}
 use Rattle.run_found.specs.Licences.{scanner_of_policy, turns_heard}
 use Rattle.run_found.specs.Selection.{included_in}
 use Rattle.run_found.specs.Steps.{◌>>=◌}
 use Rattle.run_list.specs.Carried.{uncarried_in}
 use Rattle.run_list.specs.Given.{ListArguments}
-
--- nothing, where all of it is carried
-abbrev pub unless_uncarried : Option What → Result (Unit {0}) Error
-unless_uncarried None = Ok tt
-unless_uncarried (Some what) = Err (NotCarried what)
-
--- what was found: the policy, and the crates with the edges between them
-pub record FoundInput : Type 0 where
-  pub policy : PolicyFound
-  pub graph : Graph
 
 -- The policy that leaves crates out, or the first refusal: of what is not carried, of the looks, of the policy.
 abbrev pub policy_asked : ListArguments → RequestHearing → Result PolicyFound Error
@@ -79,14 +69,6 @@ calls_of given hearing = calls_by given hearing (uncarried_in given)
 pub record HearsAllDue (given : ListArguments) (hearing : RequestHearing) : Type 0 where
   pub policy : HearsPolicy given.request hearing
   pub metadata : IsReadWhereDue (metadata_due given hearing) hearing.metadata
-
--- no call was heard of
-pub record HearsNothing (hearing : RequestHearing) : Type 0 where
-  pub sought : hearing.sought ≡ []
-  pub looks : hearing.looks ≡ []
-  pub policy : hearing.policy ≡ None
-  pub exceptions : hearing.exceptions ≡ None
-  pub metadata : hearing.metadata ≡ None
 
 -- of a request of which a part is not carried nothing is heard
 abbrev pub HearsDue : ListArguments → RequestHearing → Option What → Type 0

@@ -9,7 +9,7 @@ use Rattle.run_found.specs.Licences.{expression_in, priority_heard}
 use Rattle.run_listing.specs.declared.listed.ListedCrate.{ListedCrate}
 use Rattle.run_listing.specs.Listed.{crate_name, distinct, printed_terms}
 use Rattle.run_listing.specs.Listing.{listing_of}
-use Rattle.run_list.specs.declared.reads.CrateRead.{CrateRead}
+use Rattle.run_found.specs.declared.reads.CrateRead.{CrateRead}
 use Rattle.run_list.specs.Given.{ListArguments}
 
 -- a policy, with the threshold that a listing asks for in the place of its own

@@ -10,7 +10,7 @@ use Rattle.gather_core.specs.Calls.{HasOwnReads, reads_of_all}
 use Rattle.run_found.specs.Found.{count_metadata}
 use Rattle.run_found.specs.Hearing.{RequestHearing, TreeSeen}
 use Rattle.run_found.specs.Policy.{PolicyAt}
-use Rattle.run_list.specs.declared.reads.CrateRead.{CrateRead}
+use Rattle.run_found.specs.declared.reads.CrateRead.{CrateRead}
 use Rattle.run_list.specs.Answer.{PutsListPolicyInOrder}
 use Rattle.run_list.specs.Found.{IsListHearing, turns_in}
 use Rattle.run_list.specs.Given.{ListArguments}

@@ -3,7 +3,7 @@ use Rattle.std.specs.Prelude.{List, [], Result, Ok, Err}
 use Rattle.run_found.specs.declared.error.Error.{Error}
 use Rattle.run_listing.specs.declared.listed.ListedCrate.{ListedCrate}
 use Rattle.run_list.specs.declared.crates.CrateListing.{CrateListing}
-use Rattle.run_list.specs.declared.reads.CrateRead.{CrateRead}
+use Rattle.run_found.specs.declared.reads.CrateRead.{CrateRead}
 use Rattle.run_list.specs.declared.refusal.ListRefusal.{ListRefusal}
 use Rattle.run_list.specs.Error.{error_of}
 

@@ -10,7 +10,7 @@ use Rattle.run_found.specs.Found.{load_text, loaded_of}
 use Rattle.run_found.specs.Hearing.{RequestHearing, TreeSeen}
 use Rattle.run_found.specs.Written.{TextWritten}
 use Rattle.run_listing.specs.declared.listed.ListedCrate.{ListedCrate}
-use Rattle.run_list.specs.declared.reads.CrateRead.{CrateRead}
+use Rattle.run_found.specs.declared.reads.CrateRead.{CrateRead}
 use Rattle.run_list.specs.Answer.{IsAnsweredBy}
 use Rattle.run_list.specs.Carried.{uncarried_in}
 use Rattle.run_list.specs.Given.{ListArguments}

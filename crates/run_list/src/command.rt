@@ -18,12 +18,11 @@ ghost use Rattle.run_list.specs.Script.{WritesList, WritesLoad, sink_seen};
 
 use crate::carried::uncarried_in;
 use crate::crates::CrateListing;
-use crate::reads::CrateReads;
 use crate::refusal::{ListRefusal, unwritten};
 use crate::stages::{list_crates, loaded_at};
 use diag_core::Files;
 use diag_print::LogContext;
-use run_found::{Error, policy_found};
+use run_found::{CrateReads, Error, policy_found};
 use run_listing::write_listing;
 use run_request::KrateContext;
 use run_request::list::Args;
@@ -81,6 +80,8 @@ pub fn list_since<T: Tree, O: Sink, S: Sink, C: Catalog, I: Identifier>(
 ) -> Result<CrateReads, Error>
     requires { uncarried_of log_ctx context.now ≡ None }
     ensures policy { result ≢ Err (Error.ConfigRead ReadFault.Absent) }
+    ensures made { MadeSome (T.content tree.old) (T.content tree.new) (T.fault_count tree.old)
+        (T.fault_count tree.new) (T.trace tree.old) (T.trace tree.new) }
     ensures counts { IfErr result (λ error. ReadCounts
         (T.fault_count tree.old) (T.fault_count tree.old) (T.fault_count tree.new) (cause_of error)) }
     ensures written { WritesList

@@ -1,20 +1,18 @@
 //! The licences of all crates, as they are listed, and their reads.
-ghost use Rattle.std.specs.Prelude.{◌≡◌, ◌≤◌, All, IfOk, OnErr, map};
+ghost use Rattle.std.specs.Prelude.{◌≡◌, ◌≤◌, All, IfOk, OnErr};
 ghost use Rattle.graph_core.specs.Metadata.{AreRising, Graph};
 ghost use Rattle.graph_selection.specs.Choice.{Choice};
 ghost use Rattle.graph_selection.specs.Listed.{IsChosen};
 ghost use Rattle.policy_core.specs.Places.{PolicyStands};
 ghost use Rattle.run_found.specs.Hearing.{seen};
 ghost use Rattle.run_found.specs.Licences.{IsGatherCut, scanner_of_policy};
-ghost use Rattle.run_list.specs.Steps.{IsListedOn, listing_from, read_of_license};
+ghost use Rattle.run_list.specs.Steps.{IsListedOn, listing_from};
 
-use crate::reads::{CrateRead, CrateReads};
-use deny_text::Text;
 use diag_core::Files;
-use gather_core::{KrateLicense, KrateLicenses, Summary};
+use gather_core::Summary;
 use graph_workspace::Krates;
 use policy_valid::ValidConfig;
-use run_found::licences_found;
+use run_found::{CrateReads, licences_found, reads_of_licenses};
 use run_listing::{ListedCrates, listed_crates};
 use spdx_core::{Catalog, Identifier};
 use std::alloc::{AllocError, Global};
@@ -27,40 +25,13 @@ pub(crate) struct CrateListing {
     pub(crate) reads: CrateReads,
 }
 
-/// The reads of a crate, by its licence.
-fn read_on(alloc: Global, license: KrateLicense<'_>) -> Result<CrateRead, AllocError>
-    ensures { IfOk result (λ read. read ≡ read_of_license license.entry) }
-{
-    let KrateLicense {
-        krate,
-        lic_info: _,
-        notes: _,
-        diags: _,
-        reads,
-    } = license;
-    let id = Text::copy(alloc, krate.id.as_str())?;
-    Ok(CrateRead { id, reads })
-}
-
-/// The reads of crates, in order, by their licences.
-fn reads_on(alloc: Global, licenses: KrateLicenses<'_>) -> Result<CrateReads, AllocError>
-    ensures { IfOk result (λ reads. reads ≡ map read_of_license licenses.entry) }
-{
-    let mut reads = CrateReads::new(alloc);
-    'licenses: for license in licenses.into_vec() {
-        let read = read_on(alloc, license)?;
-        reads.push(read)?;
-    }
-    Ok(reads)
-}
-
 /// What is listed of the crates of a summary, and their reads.
 fn listing_of(alloc: Global, summary: Summary<'_>) -> Result<CrateListing, AllocError>
     ensures listing { IfOk result (λ listing. listing ≡ listing_from summary.entry.nfos) }
     ensures ordered { IfOk result (λ listing. All (λ listed. AreRising listed.licences) listing.crates) }
 {
     let crates = listed_crates(alloc, summary.nfos.items())?;
-    let reads = reads_on(alloc, summary.nfos)?;
+    let reads = reads_of_licenses(alloc, summary.nfos)?;
     Ok(CrateListing { crates, reads })
 }
 

@@ -4,10 +4,8 @@
 mod carried;
 pub mod command;
 mod crates;
-pub mod reads;
 mod refusal;
 mod stages;
 
 pub use carried::uncarried_in;
 pub use command::{cmd, list_since};
-pub use reads::{CrateRead, CrateReads};

@@ -1,50 +1,9 @@
 //! Why nothing was listed.
 ghost use Rattle.std.specs.Prelude.{◌≡◌};
-ghost use Rattle.run_list.specs.Error.{error_of, error_of_crates, error_of_list};
+ghost use Rattle.run_list.specs.Error.{error_of, error_of_list};
 
-use graph_workspace::KratesError;
-use run_found::{Error, PolicyRefusal};
+use run_found::{CrateRefusal, Error, PolicyRefusal};
 use run_listing::ListError;
-use std::alloc::AllocError;
-
-/// Why there are no crates to list.
-#[derive(Drop)]
-pub(crate) enum CrateRefusal {
-    Memory,
-    Krates(KratesError),
-}
-
-impl From<AllocError> for CrateRefusal {
-    ghost use Rattle.run_list.specs.declared.refusal.CrateRefusal.TheVariants.{Memory};
-
-    ghost from_gives = { λ _ refusal. refusal ≡ Memory };
-
-    fn from(_: AllocError) -> CrateRefusal {
-        CrateRefusal::Memory
-    }
-}
-
-impl From<KratesError> for CrateRefusal {
-    ghost use Rattle.run_list.specs.declared.refusal.CrateRefusal.TheVariants.{Krates};
-
-    ghost from_gives = { λ refused refusal. refusal ≡ Krates refused };
-
-    fn from(refused: KratesError) -> CrateRefusal {
-        CrateRefusal::Krates(refused)
-    }
-}
-
-impl CrateRefusal {
-    /// What a command is refused with.
-    pub(crate) fn into_error(self) -> Error
-        ensures { result ≡ error_of_crates self }
-    {
-        match self {
-            CrateRefusal::Memory => Error::Memory,
-            CrateRefusal::Krates(refused) => Error::from(refused),
-        }
-    }
-}
 
 /// Why there is nothing to list.
 #[derive(Drop)]
@@ -80,7 +39,7 @@ impl ListRefusal {
     {
         match self {
             ListRefusal::Policy(refused) => Error::from(refused),
-            ListRefusal::Crates(refused) => refused.into_error(),
+            ListRefusal::Crates(refused) => Error::from(refused),
         }
     }
 }

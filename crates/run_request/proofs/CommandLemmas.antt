@@ -17,13 +17,13 @@ use Rattle.run_request.specs.declared.read.CliAnswer.{CliAnswer}
 use Rattle.run_request.specs.declared.read.CliAnswer.TheVariants.{Asked, Shown, Usage}
 use Rattle.run_request.specs.declared.request.Request.{Request}
 use Rattle.run_request.specs.declared.request.Subcommand.{Subcommand}
-use Rattle.run_request.specs.declared.request.Subcommand.TheVariants.{Check, List as Listing, Sample}
+use Rattle.run_request.specs.declared.request.Subcommand.TheVariants.{Check, List as Listing, Sample, Record, Verify}
 use Rattle.run_request.specs.Args.{check_args_of, list_args_of}
 use Rattle.run_request.specs.Cli.{cli}
 use Rattle.run_request.specs.Given.{HasSize, IsCommandAsked, IsGivenFor, IsSized}
 use Rattle.run_request.specs.Number.{number_of, sample_size_of, size_of}
 use Rattle.run_request.specs.Reading.{and_then, first_read, maybe_read}
-use Rattle.run_request.specs.Request.{IsCommandOf, krate_context_of, log_context_of, path_at, request_in, sample_of, subcommand_asked}
+use Rattle.run_request.specs.Request.{IsCommandOf, krate_context_of, log_context_of, path_at, request_in, sample_of, subcommand_asked, verify_of}
 
 same_value : {T E : Type 0} {one two : T} → ◌≡◌ {A = Result T E} (Ok one) (Ok two) → one ≡ two
 same_value e = cc
@@ -33,40 +33,50 @@ same_some e = cc
 
 -- ---- a subcommand by its name
 
-by_check : (name : Text) (rows : List Row) (command : Subcommand) (read : Result CheckArgs ArgsError) → name ≡ codes "check" → check_args_of rows ≡ read
-    → and_then (λ args. Ok (Check args)) read ≡ Ok command → IsCommandOf name rows command
-by_check name rows command (Ok args) is reads e = subst (IsCommandOf name rows) (same_value e) (is, reads)
-by_check name rows command (Err error) is reads e = absurd (cc)
+by_check : (name : Text) (rows : List Row) (cwd : Text) (command : Subcommand) (read : Result CheckArgs ArgsError) → name ≡ codes "check" → check_args_of rows ≡ read
+    → and_then (λ args. Ok (Check args)) read ≡ Ok command → IsCommandOf name rows cwd command
+by_check name rows cwd command (Ok args) is reads e = subst (IsCommandOf name rows cwd) (same_value e) (is, reads)
+by_check name rows cwd command (Err error) is reads e = absurd (cc)
 
-by_list : (name : Text) (rows : List Row) (command : Subcommand) (read : Result ListArgs ArgsError) → name ≡ codes "list" → list_args_of rows ≡ read
-    → and_then (λ args. Ok (Listing args)) read ≡ Ok command → IsCommandOf name rows command
-by_list name rows command (Ok args) is reads e = subst (IsCommandOf name rows) (same_value e) (is, reads)
-by_list name rows command (Err error) is reads e = absurd (cc)
+by_list : (name : Text) (rows : List Row) (cwd : Text) (command : Subcommand) (read : Result ListArgs ArgsError) → name ≡ codes "list" → list_args_of rows ≡ read
+    → and_then (λ args. Ok (Listing args)) read ≡ Ok command → IsCommandOf name rows cwd command
+by_list name rows cwd command (Ok args) is reads e = subst (IsCommandOf name rows cwd) (same_value e) (is, reads)
+by_list name rows cwd command (Err error) is reads e = absurd (cc)
 
-by_sample : (name : Text) (rows : List Row) (command : Subcommand) (read : Result (Option SampleSize) ArgsError) → name ≡ codes "sample"
-    → first_read sample_size_of (codes "N") rows ≡ read → and_then sample_of read ≡ Ok command → IsCommandOf name rows command
-by_sample name rows command (Ok (Some size)) is reads e = subst (IsCommandOf name rows) (same_value e) (is, reads)
-by_sample name rows command (Ok None) is reads e = absurd (cc)
-by_sample name rows command (Err error) is reads e = absurd (cc)
+by_record : (name : Text) (rows : List Row) (cwd : Text) (command : Subcommand) → name ≡ codes "record" → ◌≡◌ {A = Result Subcommand ArgsError} (Ok Record) (Ok command)
+    → IsCommandOf name rows cwd command
+by_record name rows cwd command is e = subst (IsCommandOf name rows cwd) (same_value e) is
 
-by_name : (name : Text) (rows : List Row) (command : Subcommand) (is_check is_list is_sample : Bool) → bytes_eq name (codes "check") ≡ is_check
-    → bytes_eq name (codes "list") ≡ is_list → bytes_eq name (codes "sample") ≡ is_sample
-    → cond is_check (and_then (λ args. Ok (Check args)) (check_args_of rows)) (cond is_list (and_then (λ args. Ok (Listing args)) (list_args_of rows))
-    (cond is_sample (and_then sample_of (first_read sample_size_of (codes "N") rows)) (Err (BadValue (codes "COMMAND") name)))) ≡ Ok command
-    → IsCommandOf name rows command
-by_name name rows command true is_list is_sample check list sample e =
-    by_check name rows command (check_args_of rows) ((bytes_eq-Decides name (codes "check")).0 check) refl e
-by_name name rows command false true is_sample check list sample e =
-    by_list name rows command (list_args_of rows) ((bytes_eq-Decides name (codes "list")).0 list) refl e
-by_name name rows command false false true check list sample e =
-    by_sample name rows command (first_read sample_size_of (codes "N") rows) ((bytes_eq-Decides name (codes "sample")).0 sample) refl e
-by_name name rows command false false false check list sample e = absurd (cc)
+by_verify : (name : Text) (rows : List Row) (cwd : Text) (command : Subcommand) (path : Option Text) → name ≡ codes "verify" → path_at cwd (codes "FILE") rows ≡ path
+    → verify_of path ≡ Ok command → IsCommandOf name rows cwd command
+by_verify name rows cwd command (Some path) is reads e = subst (IsCommandOf name rows cwd) (same_value e) (is, reads)
+by_verify name rows cwd command None is reads e = absurd (cc)
 
-named : (below : Option (Text × List Row)) (command : Subcommand) → subcommand_asked below ≡ Ok command
-    → IsSomeAnd below (λ named. IsCommandOf named.0 named.1 command)
-named None command e = absurd (cc)
-named (Some below) command e =
-    by_name below.0 below.1 command (bytes_eq below.0 (codes "check")) (bytes_eq below.0 (codes "list")) (bytes_eq below.0 (codes "sample")) refl refl refl e
+by_sample : (name : Text) (rows : List Row) (cwd : Text) (command : Subcommand) (read : Result (Option SampleSize) ArgsError) → name ≡ codes "sample"
+    → first_read sample_size_of (codes "N") rows ≡ read → and_then sample_of read ≡ Ok command → IsCommandOf name rows cwd command
+by_sample name rows cwd command (Ok (Some size)) is reads e = subst (IsCommandOf name rows cwd) (same_value e) (is, reads)
+by_sample name rows cwd command (Ok None) is reads e = absurd (cc)
+by_sample name rows cwd command (Err error) is reads e = absurd (cc)
+
+-- one of two answers, by a test of the name
+by_test : (P : Result Subcommand ArgsError → Type 0) (test : Bool) (one other : Result Subcommand ArgsError) → (test ≡ true → P one) → P other → P (cond test one other)
+by_test P true one other here later = here refl
+by_test P false one other here later = later
+
+named : (below : Option (Text × List Row)) (cwd : Text) (command : Subcommand) → subcommand_asked below cwd ≡ Ok command
+    → IsSomeAnd below (λ named. IsCommandOf named.0 named.1 cwd command)
+named None cwd command e = absurd (cc)
+named (Some below) cwd command e =
+    let name : Text = below.0 in
+    let rows : List Row = below.1 in
+    let P : Result Subcommand ArgsError → Type 0 = λ asked. asked ≡ Ok command → IsCommandOf name rows cwd command in
+    by_test P (bytes_eq name (codes "check")) _ _ (λ is. by_check name rows cwd command (check_args_of rows) ((bytes_eq-Decides name (codes "check")).0 is) refl)
+    (by_test P (bytes_eq name (codes "list")) _ _ (λ is. by_list name rows cwd command (list_args_of rows) ((bytes_eq-Decides name (codes "list")).0 is) refl)
+    (by_test P (bytes_eq name (codes "record")) _ _ (λ is. by_record name rows cwd command ((bytes_eq-Decides name (codes "record")).0 is))
+    (by_test P (bytes_eq name (codes "verify")) _ _ (λ is. by_verify name rows cwd command (path_at cwd (codes "FILE") rows) ((bytes_eq-Decides name (codes "verify")).0 is) refl)
+    (by_test P (bytes_eq name (codes "sample")) _ _
+    (λ is. by_sample name rows cwd command (first_read sample_size_of (codes "N") rows) ((bytes_eq-Decides name (codes "sample")).0 is) refl)
+    (λ none. absurd (cc)))))) e
 
 -- ---- the command of a request
 
@@ -89,13 +99,13 @@ asks rows cwd (Ok log) (Ok command) request e =
     ap command_in (same_some e)
 
 pub asks_command : (words : List Text) (cwd : Text) (request : Request) → request_in words cwd ≡ Some request
-    → IsSomeAnd (subcommand_of cli words) (λ named. IsCommandOf named.0 named.1 request.command)
+    → IsSomeAnd (subcommand_of cli words) (λ named. IsCommandOf named.0 named.1 cwd request.command)
 asks_command words cwd request e =
     let rows = matches_of cli words in
-    named (subcommand_of cli words) request.command
-    (asks rows cwd (log_context_of rows) (subcommand_asked (subcommand_of cli words)) request e)
+    named (subcommand_of cli words) cwd request.command
+    (asks rows cwd (log_context_of rows) (subcommand_asked (subcommand_of cli words) cwd) request e)
 
-pub command_clause : {E : Type 0} (words : List Text) (cwd : Text) (r : Result CliAnswer E) → IfOk r (IsGivenFor words cwd) → IfOk r (IsCommandAsked words)
+pub command_clause : {E : Type 0} (words : List Text) (cwd : Text) (r : Result CliAnswer E) → IfOk r (IsGivenFor words cwd) → IfOk r (IsCommandAsked words cwd)
 command_clause words cwd (Ok (Asked request)) is = asks_command words cwd request is.1
 command_clause words cwd (Ok (Shown text)) is = tt
 command_clause words cwd (Ok (Usage text)) is = tt
@@ -133,17 +143,19 @@ first_fits (Some word) size e = go (sample_size_of word) (size_fits (number_of w
         let number : SampleSize → ℕ = λ one. one.0 in
         subst (λ n. n ≤ 20000) (ap number (same_some (same_value e))) fits
 
-command_sized : (name : Text) (rows : List Row) (command : Subcommand) → IsCommandOf name rows command → IsSized command
-command_sized name rows (Check args) is = tt
-command_sized name rows (Listing args) is = tt
-command_sized name rows (Sample size) is = first_fits (first_of (codes "N") rows) size is.1
+command_sized : (name : Text) (rows : List Row) (cwd : Text) (command : Subcommand) → IsCommandOf name rows cwd command → IsSized command
+command_sized name rows cwd (Check args) is = tt
+command_sized name rows cwd (Listing args) is = tt
+command_sized name rows cwd Record is = tt
+command_sized name rows cwd (Verify path) is = tt
+command_sized name rows cwd (Sample size) is = first_fits (first_of (codes "N") rows) size is.1
 
-sized_in : (below : Option (Text × List Row)) (command : Subcommand) → IsSomeAnd below (λ named. IsCommandOf named.0 named.1 command) → IsSized command
-sized_in None command is = absurd is
-sized_in (Some below) command is = command_sized below.0 below.1 command is
+sized_in : (below : Option (Text × List Row)) (cwd : Text) (command : Subcommand) → IsSomeAnd below (λ named. IsCommandOf named.0 named.1 cwd command) → IsSized command
+sized_in None cwd command is = absurd is
+sized_in (Some below) cwd command is = command_sized below.0 below.1 cwd command is
 
-pub size_clause : {E : Type 0} (words : List Text) (r : Result CliAnswer E) → IfOk r (IsCommandAsked words) → IfOk r HasSize
-size_clause words (Ok (Asked request)) is = sized_in (subcommand_of cli words) request.command is
-size_clause words (Ok (Shown text)) is = tt
-size_clause words (Ok (Usage text)) is = tt
-size_clause words (Err error) is = tt
+pub size_clause : {E : Type 0} (words : List Text) (cwd : Text) (r : Result CliAnswer E) → IfOk r (IsCommandAsked words cwd) → IfOk r HasSize
+size_clause words cwd (Ok (Asked request)) is = sized_in (subcommand_of cli words) cwd request.command is
+size_clause words cwd (Ok (Shown text)) is = tt
+size_clause words cwd (Ok (Usage text)) is = tt
+size_clause words cwd (Err error) is = tt

@@ -1,19 +1,21 @@
 -- The laws of requests.
-use Rattle.std.proofs.Common.{◌≡◌, List, [], ◌∷◌, refl, sym, ap, subst, Option, None, Some, option_map, Result, Ok, Err}
+use Rattle.std.proofs.Common.{◌≡◌, List, [], ◌∷◌, refl, sym, ap, subst, cond, Bool, true, false, Option, None, Some, option_map, Result, Ok, Err}
 use Rattle.std.specs.Prelude.{codes}
 use Rattle.std.specs.Result.{result_ok}
+use Rattle.std.specs.Str.{bytes_eq}
 use Rattle.clap.specs.Words.{Text, Row, first_of, matches_of, subcommand_of}
 use Rattle.run_request.specs.declared.error.ArgsError.{ArgsError}
 use Rattle.run_request.specs.declared.request.Request.{Request}
 use Rattle.run_request.specs.declared.request.Subcommand.{Subcommand}
+use Rattle.run_request.specs.declared.request.Subcommand.TheVariants.{Record}
 use Rattle.run_request.specs.declared.context.KrateContext.{KrateContext}
 use Rattle.diag_print.specs.declared.context.LogContext.{LogContext}
 use Rattle.deny_text.specs.Path.{join_of}
 use Rattle.run_request.specs.Cli.{cli}
 use Rattle.run_request.specs.Reading.{and_then}
-use Rattle.run_request.specs.Request.{request_of_rows, gate_words, krate_context_of, log_context_of, path_at, subcommand_asked}
+use Rattle.run_request.specs.Request.{request_of_rows, gate_words, krate_context_of, log_context_of, path_at, subcommand_asked, verify_of}
 use Rattle.run_request.specs.Given.{IsGivenFor}
-use Rattle.run_request.specs.Laws.{SecondDenyChangesNothing, FolderShowsInPaths, hidden, without_folder}
+use Rattle.run_request.specs.Laws.{SecondDenyChangesNothing, FolderShowsInPaths, command_hidden, hidden, without_folder}
 
 pub second_deny : SecondDenyChangesNothing
 second_deny program words cwd given same =
@@ -35,8 +37,9 @@ read_of rows log_ctx command cwd = record {
   command = command;
 }
 
-same_read : (rows : List Row) (log_ctx : LogContext) (command : Subcommand) (one other : Text) → without_folder (read_of rows log_ctx command one) ≡ without_folder (read_of rows log_ctx command other)
-same_read rows log_ctx command one other =
+same_read : (rows : List Row) (log_ctx : LogContext) (command further : Subcommand) (one other : Text) → command_hidden command ≡ command_hidden further
+    → without_folder (read_of rows log_ctx command one) ≡ without_folder (read_of rows log_ctx further other)
+same_read rows log_ctx command further one other same =
     let manifest = gone (first_of (codes "manifest-path") rows) (join_of one) (join_of other) in
     let catalog = gone (first_of (codes "catalog") rows) (join_of one) (join_of other) in
     let store = gone (first_of (codes "store") rows) (join_of one) (join_of other) in
@@ -48,24 +51,54 @@ same_read rows log_ctx command one other =
       catalog = catalog i;
       store = store i;
       krate_ctx = record context { manifest_path = []; metadata_path = metadata i; cwd = [] };
-      command = command;
+      command = same i;
     }
 
-by_command : (rows : List Row) (log_ctx : LogContext) (one other : Text) (command : Result Subcommand ArgsError)
-    → option_map without_folder (result_ok (and_then (λ command. Ok (read_of rows log_ctx command one)) command))
-    ≡ option_map without_folder (result_ok (and_then (λ command. Ok (read_of rows log_ctx command other)) command))
-by_command rows log_ctx one other (Ok command) = ap Some (same_read rows log_ctx command one other)
-by_command rows log_ctx one other (Err error) = refl
+-- two answers in different folders: commands that differ in a path, or refusals
+abbrev SameAsked : Result Subcommand ArgsError → Result Subcommand ArgsError → Type 0
+SameAsked (Ok command) (Ok further) = command_hidden command ≡ command_hidden further
+SameAsked (Ok command) (Err error) = ⊥
+SameAsked (Err error) (Ok command) = ⊥
+SameAsked (Err error) (Err other) = Unit {0}
 
-by_log : (rows : List Row) (below : Result Subcommand ArgsError) (one other : Text) (log_ctx : Result LogContext ArgsError)
+same_as : (asked : Result Subcommand ArgsError) → SameAsked asked asked
+same_as (Ok command) = refl
+same_as (Err error) = tt
+
+same_file : (file : Option Text) (one other : Text) → SameAsked (verify_of (option_map (join_of one) file)) (verify_of (option_map (join_of other) file))
+same_file None one other = tt
+same_file (Some file) one other = refl
+
+same_if : (test : Bool) (a b c d : Result Subcommand ArgsError) → SameAsked a b → SameAsked c d → SameAsked (cond test a c) (cond test b d)
+same_if true a b c d here later = here
+same_if false a b c d here later = later
+
+same_asked : (below : Option (Text × List Row)) (one other : Text) → SameAsked (subcommand_asked below one) (subcommand_asked below other)
+same_asked None one other = tt
+same_asked (Some below) one other =
+    same_if (bytes_eq below.0 (codes "check")) _ _ _ _ (same_as _)
+    (same_if (bytes_eq below.0 (codes "list")) _ _ _ _ (same_as _)
+    (same_if (bytes_eq below.0 (codes "record")) _ _ _ _ (same_as (Ok Record))
+    (same_if (bytes_eq below.0 (codes "verify")) _ _ _ _ (same_file (first_of (codes "FILE") below.1) one other) (same_as _))))
+
+by_command : (rows : List Row) (log_ctx : LogContext) (one other : Text) (command further : Result Subcommand ArgsError) → SameAsked command further
+    → option_map without_folder (result_ok (and_then (λ command. Ok (read_of rows log_ctx command one)) command))
+    ≡ option_map without_folder (result_ok (and_then (λ command. Ok (read_of rows log_ctx command other)) further))
+by_command rows log_ctx one other (Ok command) (Ok further) same = ap Some (same_read rows log_ctx command further one other same)
+by_command rows log_ctx one other (Ok command) (Err error) same = absurd same
+by_command rows log_ctx one other (Err error) (Ok further) same = absurd same
+by_command rows log_ctx one other (Err error) (Err further) same = refl
+
+by_log : (rows : List Row) (below further : Result Subcommand ArgsError) (one other : Text) (log_ctx : Result LogContext ArgsError) → SameAsked below further
     → option_map without_folder (result_ok (and_then (λ log_ctx. and_then (λ command. Ok (read_of rows log_ctx command one)) below) log_ctx))
-    ≡ option_map without_folder (result_ok (and_then (λ log_ctx. and_then (λ command. Ok (read_of rows log_ctx command other)) below) log_ctx))
-by_log rows below one other (Ok log_ctx) = by_command rows log_ctx one other below
-by_log rows below one other (Err error) = refl
+    ≡ option_map without_folder (result_ok (and_then (λ log_ctx. and_then (λ command. Ok (read_of rows log_ctx command other)) further) log_ctx))
+by_log rows below further one other (Ok log_ctx) same = by_command rows log_ctx one other below further same
+by_log rows below further one other (Err error) same = refl
 
 asked_same : (rows : List Row) (below : Option (Text × List Row)) (one other : Text)
     → option_map without_folder (result_ok (request_of_rows rows below one)) ≡ option_map without_folder (result_ok (request_of_rows rows below other))
-asked_same rows below one other = by_log rows (subcommand_asked below) one other (log_context_of rows)
+asked_same rows below one other =
+    by_log rows (subcommand_asked below one) (subcommand_asked below other) one other (log_context_of rows) (same_asked below one other)
 
 pub folder_shows : FolderShowsInPaths
 folder_shows words one other = asked_same (matches_of cli (gate_words words)) (subcommand_of cli (gate_words words)) one other

@@ -1,5 +1,5 @@
 -- The command line that is taken, as a value: each option with its spelling, its default and how often it may be used.
--- Each value is any text. What is required is a subcommand, and the number of `sample`.
+-- Each value is any text. What is required is a subcommand, the file of `verify`, and the number of `sample`.
 use Rattle.std.specs.Prelude.{ℕ, true, false, List, [], ◌∷◌, Some, codes}
 use Rattle.clap.specs.Words.{Text, Rule, Shape, App, new_rule, new_app}
 use Rattle.clap.specs.declared.builder.action.ArgAction.TheVariants.{Set, Append, SetTrue}
@@ -78,6 +78,10 @@ list_rules =
     ∷ with_letter 108 (default_rule (codes "layout") (codes "license"))
     ∷ []
 
+-- the verdict file that `verify` reads
+abbrev pub verify_rules : List Rule
+verify_rules = word_rule (codes "FILE") ∷ []
+
 -- how many crates `sample` is to have
 abbrev pub sample_rules : List Rule
 sample_rules = word_rule (codes "N") ∷ []
@@ -92,12 +96,18 @@ check_shape = subcommand_shape (codes "check") check_rules
 abbrev pub list_shape : Shape
 list_shape = subcommand_shape (codes "list") list_rules
 
+abbrev pub record_shape : Shape
+record_shape = subcommand_shape (codes "record") []
+
+abbrev pub verify_shape : Shape
+verify_shape = subcommand_shape (codes "verify") verify_rules
+
 abbrev pub sample_shape : Shape
 sample_shape = subcommand_shape (codes "sample") sample_rules
 
 -- the subcommands, in the order in which help lists them
 abbrev pub subcommand_shapes : List Shape
-subcommand_shapes = check_shape ∷ list_shape ∷ sample_shape ∷ []
+subcommand_shapes = check_shape ∷ list_shape ∷ record_shape ∷ verify_shape ∷ sample_shape ∷ []
 
 -- a command without subcommands
 abbrev pub alone : Shape → App

@@ -11,7 +11,7 @@ use Rattle.run_request.specs.declared.request.Request.{Request}
 use Rattle.run_request.specs.declared.read.CliAnswer.{CliAnswer}
 use Rattle.run_request.specs.declared.read.CliAnswer.TheVariants.{Asked, Shown, Usage}
 use Rattle.run_request.specs.declared.request.Subcommand.{Subcommand}
-use Rattle.run_request.specs.declared.request.Subcommand.TheVariants.{Check, List as Listing, Sample}
+use Rattle.run_request.specs.declared.request.Subcommand.TheVariants.{Check, List as Listing, Sample, Record, Verify}
 use Rattle.run_request.specs.Cli.{cli}
 use Rattle.run_request.specs.Request.{IsCommandOf, gate_words, request_in, request_of_rows}
 
@@ -54,15 +54,18 @@ abbrev pub IsGiven : List Text → Text → CliAnswer → Type 0
 IsGiven words cwd given = IsGivenFor (gate_words words) cwd given
 
 -- the command of a request is the subcommand of the command line that the words name, with the values that they give it
-abbrev pub IsCommandAsked : List Text → CliAnswer → Type 0
-IsCommandAsked words (Asked request) = IsSomeAnd (subcommand_of cli words) (λ named. IsCommandOf named.0 named.1 request.command)
-IsCommandAsked words (Shown text) = Unit {0}
-IsCommandAsked words (Usage text) = Unit {0}
+abbrev pub IsCommandAsked : List Text → Text → CliAnswer → Type 0
+IsCommandAsked words cwd (Asked request) =
+    IsSomeAnd (subcommand_of cli words) (λ named. IsCommandOf named.0 named.1 cwd request.command)
+IsCommandAsked words cwd (Shown text) = Unit {0}
+IsCommandAsked words cwd (Usage text) = Unit {0}
 
 -- a sample has at most 20,000 crates
 abbrev pub IsSized : Subcommand → Type 0
 IsSized (Check args) = Unit {0}
 IsSized (Listing args) = Unit {0}
+IsSized Record = Unit {0}
+IsSized (Verify path) = Unit {0}
 IsSized (Sample size) = size ≤ 20000
 
 abbrev pub HasSize : CliAnswer → Type 0

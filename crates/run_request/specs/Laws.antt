@@ -2,6 +2,8 @@
 use Rattle.std.specs.Prelude.{◌≡◌, ◌↔◌, List, [], ◌∷◌, Option, option_map, codes}
 use Rattle.clap.specs.Words.{Text}
 use Rattle.run_request.specs.declared.request.Request.{Request}
+use Rattle.run_request.specs.declared.request.Subcommand.{Subcommand}
+use Rattle.run_request.specs.declared.request.Subcommand.TheVariants.{Check, List as Listing, Sample, Record, Verify}
 use Rattle.run_request.specs.declared.read.CliAnswer.{CliAnswer}
 use Rattle.run_request.specs.Request.{request_of, without_deny}
 use Rattle.run_request.specs.Given.{IsGiven}
@@ -16,6 +18,14 @@ SecondDenyChangesNothing = (program : Text) (words : List Text) (cwd : Text) (gi
 abbrev pub hidden : Option Text → Option Text
 hidden path = option_map (λ _. []) path
 
+-- a command without a path
+abbrev pub command_hidden : Subcommand → Subcommand
+command_hidden (Check args) = Check args
+command_hidden (Listing args) = Listing args
+command_hidden Record = Record
+command_hidden (Verify path) = Verify []
+command_hidden (Sample size) = Sample size
+
 -- the request without the paths that stand behind the working folder
 abbrev pub without_folder : Request → Request
 without_folder request = record request {
@@ -23,6 +33,7 @@ without_folder request = record request {
   catalog = hidden request.catalog;
   store = hidden request.store;
   krate_ctx = record request.krate_ctx { manifest_path = []; metadata_path = hidden request.krate_ctx.metadata_path; cwd = [] };
+  command = command_hidden request.command;
 }
 
 -- the working folder shows in paths alone

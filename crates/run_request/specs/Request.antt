@@ -15,7 +15,7 @@ use Rattle.run_request.specs.declared.error.ArgsError.TheVariants.{BadValue}
 use Rattle.run_request.specs.declared.context.KrateContext.{KrateContext}
 use Rattle.run_request.specs.declared.request.Request.{Request}
 use Rattle.run_request.specs.declared.request.Subcommand.{Subcommand}
-use Rattle.run_request.specs.declared.request.Subcommand.TheVariants.{Check, List as Listing, Sample}
+use Rattle.run_request.specs.declared.request.Subcommand.TheVariants.{Check, List as Listing, Sample, Record, Verify}
 use Rattle.run_request.specs.declared.number.SampleSize.{SampleSize}
 use Rattle.run_request.specs.Named.{named_in}
 use Rattle.run_request.specs.Names.{filter_names, format_names, color_names}
@@ -65,24 +65,34 @@ abbrev pub sample_of : Option SampleSize → Result Subcommand ArgsError
 sample_of None = Err (BadValue (codes "N") [])
 sample_of (Some size) = Ok (Sample size.0)
 
+-- the verdict file of `verify`
+abbrev pub verify_of : Option Text → Result Subcommand ArgsError
+verify_of None = Err (BadValue (codes "FILE") [])
+verify_of (Some path) = Ok (Verify path)
+
 -- the subcommand of that name with these rows
-abbrev pub subcommand_named : Text → List Row → Result Subcommand ArgsError
-subcommand_named name rows =
+abbrev pub subcommand_named : Text → List Row → Text → Result Subcommand ArgsError
+subcommand_named name rows cwd =
     if bytes_eq name (codes "check") then and_then (λ args. Ok (Check args)) (check_args_of rows)
     else if bytes_eq name (codes "list") then and_then (λ args. Ok (Listing args)) (list_args_of rows)
+    else if bytes_eq name (codes "record") then Ok Record
+    else if bytes_eq name (codes "verify") then verify_of (path_at cwd (codes "FILE") rows)
     else if bytes_eq name (codes "sample") then and_then sample_of (first_read sample_size_of (codes "N") rows)
     else Err (BadValue (codes "COMMAND") name)
 
 -- the subcommand that the words name
-abbrev pub subcommand_asked : Option (Text × List Row) → Result Subcommand ArgsError
-subcommand_asked None = Err (BadValue (codes "COMMAND") [])
-subcommand_asked (Some named) = subcommand_named named.0 named.1
+abbrev pub subcommand_asked : Option (Text × List Row) → Text → Result Subcommand ArgsError
+subcommand_asked None cwd = Err (BadValue (codes "COMMAND") [])
+subcommand_asked (Some named) cwd = subcommand_named named.0 named.1 cwd
 
 -- the command is the one of that name, with the values that its rows give
-abbrev pub IsCommandOf : Text → List Row → Subcommand → Type 0
-IsCommandOf name rows (Check args) = (name ≡ codes "check") × (check_args_of rows ≡ Ok args)
-IsCommandOf name rows (Listing args) = (name ≡ codes "list") × (list_args_of rows ≡ Ok args)
-IsCommandOf name rows (Sample size) = (name ≡ codes "sample") × (first_read sample_size_of (codes "N") rows ≡ Ok (Some (record { 0 = size })))
+abbrev pub IsCommandOf : Text → List Row → Text → Subcommand → Type 0
+IsCommandOf name rows cwd (Check args) = (name ≡ codes "check") × (check_args_of rows ≡ Ok args)
+IsCommandOf name rows cwd (Listing args) = (name ≡ codes "list") × (list_args_of rows ≡ Ok args)
+IsCommandOf name rows cwd Record = name ≡ codes "record"
+IsCommandOf name rows cwd (Verify path) = (name ≡ codes "verify") × (path_at cwd (codes "FILE") rows ≡ Some path)
+IsCommandOf name rows cwd (Sample size) =
+    (name ≡ codes "sample") × (first_read sample_size_of (codes "N") rows ≡ Ok (Some (record { 0 = size })))
 
 -- what the rows ask for, or the first value that is outside its table, or a depth beside hidden graphs
 abbrev pub request_of_rows : List Row → Option (Text × List Row) → Text → Result Request ArgsError
@@ -95,7 +105,7 @@ request_of_rows rows below cwd =
       krate_ctx = krate_context_of rows cwd;
       command = command;
     }))
-    (subcommand_asked below))
+    (subcommand_asked below cwd))
     (log_context_of rows)
 
 -- a second word `deny` is dropped, one and no more: `cargo deny` passes it on

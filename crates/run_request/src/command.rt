@@ -20,8 +20,8 @@ The options above stand before the command: `check licenses --workspace` is refu
 
 Status:
   0  no finding is an error, or what was asked for was written
-  4  a finding is an error
-  1  the run was refused: the last line on standard error says why
+  4  a finding is an error, or a verdict that `verify` read is not right
+  1  the run was refused: a line on standard error says why
   2  the words were refused
 
 A request for another command than `sample` is not carried

@@ -7,7 +7,7 @@ pub fn second_deny_changes_nothing()
 {}
 
 /// The working folder shows in the paths of a request alone: in that of the manifest, of the catalogue, of the
-/// store, of the metadata and of the folder itself.
+/// store, of the metadata, of a verdict file and of the folder itself.
 pub fn folder_shows_in_paths()
     ensures { FolderShowsInPaths }
 {}

@@ -261,7 +261,7 @@ static MAIN: [OptionRow; 19] = [
     ),
 ];
 
-static SUBCOMMANDS: [SubcommandRow; 3] = [
+static SUBCOMMANDS: [SubcommandRow; 5] = [
     SubcommandRow {
         name: "check",
         about: "Checks a project's crates",
@@ -358,6 +358,24 @@ static SUBCOMMANDS: [SubcommandRow; 3] = [
                 "What the listing is grouped by"
             ),
         ],
+    },
+    SubcommandRow {
+        name: "record",
+        about: "Writes the verdict of each crate, with what shows it, to standard output",
+        rows: &[],
+    },
+    SubcommandRow {
+        name: "verify",
+        about: "Says whether the verdicts of a file are right",
+        rows: &[valued!(
+            Word,
+            "FILE",
+            None,
+            None,
+            "FILE",
+            OptionValues::File,
+            "The file that `record` wrote"
+        )],
     },
     SubcommandRow {
         name: "sample",

@@ -36,7 +36,7 @@ pub fn read(alloc: Global, words: &[String], cwd: &str) -> Result<CliAnswer, All
     ensures given { IfOk result (IsGiven (texts words.now) cwd.now) }
     ensures request { IfOk result (AnswersRequest (gate_words (texts words.now)) cwd.now) }
     // The command is the one that the words name, with their values.
-    ensures command { IfOk result (IsCommandAsked (gate_words (texts words.now))) }
+    ensures command { IfOk result (IsCommandAsked (gate_words (texts words.now)) cwd.now) }
     // A sample has at most 20,000 crates.
     ensures size { IfOk result HasSize }
     ensures help { IfOk result (AnswersHelp (gate_words (texts words.now))) }
@@ -49,7 +49,7 @@ pub fn read(alloc: Global, words: &[String], cwd: &str) -> Result<CliAnswer, All
 fn given_for(alloc: Global, words: &[&str], cwd: &str) -> Result<CliAnswer, AllocError>
     ensures given { IfOk result (IsGivenFor (map (λ word. word.now) words.now) cwd.now) }
     ensures request { IfOk result (AnswersRequest (map (λ word. word.now) words.now) cwd.now) }
-    ensures command { IfOk result (IsCommandAsked (map (λ word. word.now) words.now)) }
+    ensures command { IfOk result (IsCommandAsked (map (λ word. word.now) words.now) cwd.now) }
     ensures size { IfOk result HasSize }
     ensures help { IfOk result (AnswersHelp (map (λ word. word.now) words.now)) }
     ensures mistake { IfOk result (AnswersMistake (map (λ word. word.now) words.now) cwd.now) }
@@ -138,7 +138,7 @@ fn asked(
 {
     match log_context(alloc, matches) {
         Err(error) => refused(alloc, command, main_rows(), error),
-        Ok(log_ctx) => match subcommand_asked(alloc, matches) {
+        Ok(log_ctx) => match subcommand_asked(alloc, matches, cwd) {
             Err(error) => match row_below(matches) {
                 Some(row) => refused_below(alloc, row, error),
                 None => refused(alloc, command, main_rows(), error),

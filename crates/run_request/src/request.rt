@@ -2,9 +2,9 @@
 ghost use Rattle.std.specs.Prelude.{◌≡◌};
 ghost use Rattle.clap.specs.Words.{found_of, rows_of, subcommand_rows_of};
 ghost use Rattle.run_request.specs.Reading.{AnswersArgs};
-ghost use Rattle.run_request.specs.Request.{log_context_of, sample_of, subcommand_named, subcommand_asked};
+ghost use Rattle.run_request.specs.Request.{log_context_of, sample_of, subcommand_named, subcommand_asked, verify_of};
 
-use crate::context::KrateContext;
+use crate::context::{KrateContext, path_at};
 use crate::error::ArgsError;
 use crate::number::SampleSize;
 use crate::options::{SubcommandRow, subcommand_rows};
@@ -23,6 +23,10 @@ pub enum Subcommand {
     List(list::Args),
     /// A check of so many crates that are made up, from 1 to 20,000.
     Sample(u32),
+    /// The verdicts are to be written.
+    Record,
+    /// The verdicts in the file at this path, joined to the working folder, are to be verified.
+    Verify(PathBuf),
 }
 
 /// What the words of a command line ask for.
@@ -61,11 +65,12 @@ pub(crate) fn row_below(matches: &ArgMatches<'_>) -> Option<&'static SubcommandR
 pub(crate) fn subcommand_asked(
     alloc: Global,
     matches: &ArgMatches<'_>,
+    cwd: &str,
 ) -> Result<Subcommand, ArgsError>
-    ensures { AnswersArgs (subcommand_asked (subcommand_rows_of matches.now)) result }
+    ensures { AnswersArgs (subcommand_asked (subcommand_rows_of matches.now) cwd.now) result }
 {
     match matches.subcommand() {
-        Some((name, below)) => subcommand_named(alloc, name, below),
+        Some((name, below)) => subcommand_named(alloc, name, below, cwd),
         None => Err(ArgsError::bad_value(alloc, "COMMAND", "")),
     }
 }
@@ -74,8 +79,9 @@ fn subcommand_named(
     alloc: Global,
     name: &str,
     below: &ArgMatches<'_>,
+    cwd: &str,
 ) -> Result<Subcommand, ArgsError>
-    ensures { AnswersArgs (subcommand_named name.now (rows_of (found_of below.now))) result }
+    ensures { AnswersArgs (subcommand_named name.now (rows_of (found_of below.now)) cwd.now) result }
 {
     if name == "check" {
         let args = check::Args::parse(alloc, below)?;
@@ -83,11 +89,25 @@ fn subcommand_named(
     } else if name == "list" {
         let args = list::Args::parse(alloc, below)?;
         Ok(Subcommand::List(args))
+    } else if name == "record" {
+        Ok(Subcommand::Record)
+    } else if name == "verify" {
+        let path = path_at(alloc, below, "FILE", cwd)?;
+        verify_of(alloc, path)
     } else if name == "sample" {
         let size: Option<SampleSize> = read_first(alloc, below, "N")?;
         sample_of(alloc, size)
     } else {
         Err(ArgsError::bad_value(alloc, "COMMAND", name))
+    }
+}
+
+fn verify_of(alloc: Global, path: Option<PathBuf>) -> Result<Subcommand, ArgsError>
+    ensures { AnswersArgs (verify_of path) result }
+{
+    match path {
+        Some(path) => Ok(Subcommand::Verify(path)),
+        None => Err(ArgsError::bad_value(alloc, "FILE", "")),
     }
 }
 

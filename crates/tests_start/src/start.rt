@@ -6,7 +6,7 @@ use deny_text::PathBuf;
 use std::alloc::{AllocError, Global};
 use std::process::ExitCode;
 use tests_files::cases::is_among;
-use tests_files::tree::tree_of;
+use tests_files::tree::{number, tree_of};
 use tests_files::{AnswerText, Case, CaseEntry, Cases, KeyAnswer, Rows};
 use tree_core::{MemSink, MemTree};
 
@@ -42,6 +42,8 @@ fn put_ended(out: &mut AnswerText, ended_at: &Result<Outcome, StartError>) {
             RunEnd::Checked(report) => put_crates(out, report.crates.items()),
             RunEnd::Listed(_) => out.put("listed"),
             RunEnd::Sampled(_) => out.put("sampled"),
+            RunEnd::Recorded(_) => out.put("recorded"),
+            RunEnd::Verified(_) => out.put("verified"),
             RunEnd::Shown => out.put("shown"),
             RunEnd::Usage => out.put("usage"),
             RunEnd::Refused(_) => out.put("refused"),
@@ -74,20 +76,37 @@ fn run_over(
 /// What a process came to: how it ended, and what it wrote.
 #[derive(Drop)]
 struct ProcessEnd {
+    /// Whether the call of the tree could be let fail that the case names.
+    is_set: bool,
     ended_at: Result<Outcome, StartError>,
     out: MemSink,
     err: MemSink,
 }
 
+/// Lets the call of a tree fail whose number is this word, counted from 1; without a word none. Returns whether that could be
+/// done.
+fn let_fail(tree: &mut MemTree, word: &str) -> bool {
+    match number(word) {
+        Some(call) if call > 0 => tree.fail_call(call).is_ok(),
+        _ => word.is_empty(),
+    }
+}
+
 fn end_with(
     alloc: Global,
-    process: Process<'_>,
+    case: &Case<'_>,
     mut tree: MemTree,
     mut out: MemSink,
     mut err: MemSink,
 ) -> ProcessEnd {
-    let ended_at = run_over(alloc, process, &mut tree, &mut out, &mut err);
-    ProcessEnd { ended_at, out, err }
+    let is_set = let_fail(&mut tree, case.word("fail"));
+    let ended_at = run_over(alloc, process_of(case), &mut tree, &mut out, &mut err);
+    ProcessEnd {
+        is_set,
+        ended_at,
+        out,
+        err,
+    }
 }
 
 /// Whether some entries have words.
@@ -112,18 +131,38 @@ fn process_of<'c>(case: &Case<'c>) -> Process<'c> {
     }
 }
 
-/// How the process of a case ends over its tree; none where that can't be put.
-fn end_of(alloc: Global, case: &Case<'_>) -> Option<ProcessEnd> {
+/// How the process of a case ends over its tree, with so many bytes of room on standard error; none where that can't be put.
+fn end_in(alloc: Global, case: &Case<'_>, room: usize) -> Option<ProcessEnd> {
     let Ok(out) = MemSink::new(alloc, 1000, 1000) else {
         return None;
     };
-    let Ok(err) = MemSink::new(alloc, 1000, 1000) else {
+    let Ok(err) = MemSink::new(alloc, room, 1000) else {
         return None;
     };
     match tree_of(alloc, case) {
-        Ok(tree) => Some(end_with(alloc, process_of(case), tree, out, err)),
+        Ok(tree) => Some(end_with(alloc, case, tree, out, err)),
         Err(_) => None,
     }
+}
+
+/// Whether the process of a case writes the front of a text to standard error, as much as there is room for.
+fn writes_front(alloc: Global, case: &Case<'_>, room: usize, whole: &[u8]) -> bool {
+    let front = whole.get(..room).unwrap_or(whole);
+    match &end_in(alloc, case, room) {
+        Some(end) => end.err.written() == front,
+        None => false,
+    }
+}
+
+/// In how many of the rooms below a text's length the process of a case writes its front to standard error.
+fn fronts(alloc: Global, case: &Case<'_>, whole: &[u8]) -> u64 {
+    let mut fronts: u64 = 0;
+    for room in 0..whole.len() {
+        if writes_front(alloc, case, room, whole) {
+            fronts = fronts.saturating_add(1);
+        }
+    }
+    fronts
 }
 
 /// What was written.
@@ -136,14 +175,21 @@ fn first_line(sink: &MemSink) -> &str {
     written(sink).lines().next().unwrap_or("")
 }
 
-/// Puts what a key names of the end of a process.
-fn put_end(out: &mut AnswerText, key: &str, end: &ProcessEnd) -> KeyAnswer {
+/// Puts what a key names of the end of the process of a case.
+fn put_end(
+    alloc: Global,
+    case: &Case<'_>,
+    key: &str,
+    end: &ProcessEnd,
+    out: &mut AnswerText,
+) -> KeyAnswer {
     match key {
         "ended" => put_ended(out, &end.ended_at),
         "status" => put_status(out, &end.ended_at),
         "out" => out.put(written(&end.out)),
         "err" => out.put(written(&end.err)),
         "err-line" => out.put(first_line(&end.err)),
+        "rooms" => write!(out, "{}", fronts(alloc, case, end.err.written())),
         _ => return KeyAnswer::NoSuchKey,
     }
     KeyAnswer::Yes
@@ -154,13 +200,13 @@ pub struct StartCases;
 
 impl Cases for StartCases {
     fn is_given(&self, key: &str) -> bool {
-        is_among(key, &["file", "folder", "word"])
+        is_among(key, &["file", "folder", "word", "fail"])
     }
 
     fn told(&self, alloc: Global, case: &Case<'_>, key: &str, out: &mut AnswerText) -> KeyAnswer {
-        match &end_of(alloc, case) {
-            Some(end) => put_end(out, key, end),
-            None => KeyAnswer::CantBeTried,
+        match &end_in(alloc, case, 1000) {
+            Some(end) if end.is_set => put_end(alloc, case, key, end, out),
+            _ => KeyAnswer::CantBeTried,
         }
     }
 }

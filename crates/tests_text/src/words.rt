@@ -120,6 +120,8 @@ fn put_request(out: &mut AnswerText, request: &Request) {
             put_list_args(out, args);
         }
         Subcommand::Sample(size) => write!(out, " sample {size}"),
+        Subcommand::Record => out.put(" record"),
+        Subcommand::Verify(path) => write!(out, " verify {path}"),
     }
 }
 

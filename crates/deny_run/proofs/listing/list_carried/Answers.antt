@@ -6,7 +6,7 @@ use Rattle.run_found.specs.declared.error.Error.{Error}
 use Rattle.run_found.specs.declared.error.Error.TheVariants.{ConfigRead}
 use Rattle.run_found.specs.Error.{cause_of}
 use Rattle.run_found.specs.Hearing.{seen}
-use Rattle.run_list.specs.declared.reads.CrateRead.{CrateRead}
+use Rattle.run_found.specs.declared.reads.CrateRead.{CrateRead}
 use Rattle.run_lists.specs.Chosen.{lists_chosen, texts_chosen}
 use Rattle.run_lists.specs.Given.{lists_asked, lists_given}
 use Rattle.deny_run.specs.Listing.{behind, no_lists, no_manifest}

@@ -1,5 +1,5 @@
 -- The check of a request, and the line of a refusal.
-use Rattle.std.proofs.Common.{◌≡◌, refl, subst, sym, All, Result, Ok, Err, IfOk, OnOk}
+use Rattle.std.proofs.Common.{◌≡◌, refl, subst, sym, All, List, ℕ, Result, Ok, Err, IfOk, OnOk}
 use Rattle.tree_core.proofs.MadeLemmas.{made_none}
 use Rattle.tree_core.specs.Script.{FaultCounts, SinkTexts}
 use Rattle.check_core.specs.Labels.{PackLies}
@@ -13,8 +13,11 @@ use Rattle.tree_texts.specs.declared.fault.ReadFault.TheVariants.{Absent}
 use Rattle.run_sample.specs.Sample.{IsSampled}
 use Rattle.deny_run.specs.declared.outcome.RunEnd.{RunEnd}
 use Rattle.deny_run.specs.declared.outcome.RunEnd.TheVariants.{Refused}
-use Rattle.deny_run.specs.Given.{check_asked, list_asked}
-use Rattle.deny_run.specs.Run.{EndsCheck, EndsList, EndsRequest, EndsSample, IfChecked, IfRefused}
+use Rattle.deny_run.specs.Commands.{VerifiesRun}
+use Rattle.deny_run.specs.Given.{check_asked, command_asked, list_asked}
+use Rattle.deny_run.specs.Listing.{err_seen, out_seen}
+use Rattle.deny_run.specs.Run.{EndsCheck, EndsList, EndsRecord, EndsRequest, EndsSample, EndsVerify, IfChecked, IfRefused}
+use Rattle.deny_run.proofs.CommandLemmas.{ends_record, ends_verify, recorded_apart, recorded_refused, recorded_unchecked, verified_apart, verified_refused, verified_unchecked}
 use Rattle.deny_run.proofs.EndLemmas.{ends_check, labels_end, some_made_by}
 use Rattle.deny_run.proofs.ListLemmas.{ends_list, ends_sample, listed_apart, listed_refused, listed_unchecked, lists_made, sampled_apart, sampled_unchecked}
 use Rattle.deny_run.proofs.ScriptLemmas.{with_err}
@@ -144,3 +147,83 @@ returns-in-Sample-clause-labels g c =
 pub returns-in-Sample-clause-policy : goal.returns-in-Sample-clause-policy
 returns-in-Sample-clause-policy g c =
     subst (λ (ended : RunEnd). ended ≡ Refused (ConfigRead Absent) → ⊥) (sym c.told_sample.ensures.ended) (sampled_apart c.sample-answer.result (ConfigRead Absent) c.sample-answer.ensures.policy)
+
+-- ---- a verdict file
+
+pub returns-in-Record-clause-ended : goal.returns-in-Record-clause-ended
+returns-in-Record-clause-ended g c =
+    let given = command_asked (g.C.Catalog.lists c.args.catalog.now) (g.I.Identifier.match_of c.args.identifier.now) c.args.request.now in
+    let tree = seen (g.T.Tree.content c.args.tree.now) (g.T.Tree.content c.record_request-answer.new.tree) (g.T.Tree.fault_count c.args.tree.now) (g.T.Tree.fault_count c.record_request-answer.new.tree)
+    (g.T.Tree.trace c.args.tree.now) (g.T.Tree.trace c.record_request-answer.new.tree) in
+    let counts : FaultCounts = record {
+      tree_before = g.T.Tree.fault_count c.args.tree.now;
+      tree_after = g.T.Tree.fault_count c.record_request-answer.new.tree;
+      out_before = g.O.Sink.fault_count c.args.out.now;
+      out_after = g.O.Sink.fault_count c.record_request-answer.new.out;
+      err_before = g.E.Sink.fault_count c.args.err.now;
+      err_after = g.E.Sink.fault_count c.record_request-answer.new.err;
+    } in
+    let err_after = g.E.Sink.fault_count c.told_record.new.err in
+    let old : SinkTexts = record { out = g.O.Sink.written c.args.out.now; err = g.E.Sink.written c.args.err.now } in
+    let mid : SinkTexts = record { out = g.O.Sink.written c.record_request-answer.new.out; err = g.E.Sink.written c.record_request-answer.new.err } in
+    let err = g.E.Sink.written c.told_record.new.err in
+    let last : SinkTexts = record { out = g.O.Sink.written c.record_request-answer.new.out; err = err } in
+    let ends = ends_record counts err_after old mid err c.told_record.ensures.later given tree c.record_request-answer.result c.record_request-answer.ensures.runs c.told_record.ensures.line c.told_record.ensures.silent in
+    subst (λ command. EndsRequest (g.C.Catalog.lists c.args.catalog.now) (g.I.Identifier.match_of c.args.identifier.now) tree (with_err counts err_after) old last c.args.request.now command c.told_record.result) (sym c.in-Record.is)
+    (subst (EndsRecord given tree (with_err counts err_after) old last) (sym c.told_record.ensures.ended) ends)
+
+pub returns-in-Record-clause-labels : goal.returns-in-Record-clause-labels
+returns-in-Record-clause-labels g c =
+    subst (λ ended. IfChecked ended (λ (report : Report). All (PackLies report.files) report.findings)) (sym c.told_record.ensures.ended)
+    (recorded_unchecked c.record_request-answer.result (λ (report : Report). All (PackLies report.files) report.findings))
+
+pub returns-in-Record-clause-counts : goal.returns-in-Record-clause-counts
+returns-in-Record-clause-counts g c =
+    let begun = g.T.Tree.fault_count c.args.tree.now in
+    let P : Error → Type 0 = λ error. ReadCounts begun begun (g.T.Tree.fault_count c.record_request-answer.new.tree) (cause_of error) in
+    subst (λ ended. IfRefused ended P) (sym c.told_record.ensures.ended) (recorded_refused c.record_request-answer.result P c.record_request-answer.ensures.counts)
+
+pub returns-in-Record-clause-policy : goal.returns-in-Record-clause-policy
+returns-in-Record-clause-policy g c =
+    subst (λ (ended : RunEnd). ended ≡ Refused (ConfigRead Absent) → ⊥) (sym c.told_record.ensures.ended) (recorded_apart c.record_request-answer.result (ConfigRead Absent) c.record_request-answer.ensures.policy)
+
+-- ---- the answer of one
+
+pub returns-in-Verify-clause-ended : goal.returns-in-Verify-clause-ended
+returns-in-Verify-clause-ended g c =
+    let given = command_asked (g.C.Catalog.lists c.args.catalog.now) (g.I.Identifier.match_of c.args.identifier.now) c.args.request.now in
+    let tree = seen (g.T.Tree.content c.args.tree.now) (g.T.Tree.content c.verify_request-answer.new.tree) (g.T.Tree.fault_count c.args.tree.now) (g.T.Tree.fault_count c.verify_request-answer.new.tree)
+    (g.T.Tree.trace c.args.tree.now) (g.T.Tree.trace c.verify_request-answer.new.tree) in
+    let counts : FaultCounts = record {
+      tree_before = g.T.Tree.fault_count c.args.tree.now;
+      tree_after = g.T.Tree.fault_count c.verify_request-answer.new.tree;
+      out_before = g.O.Sink.fault_count c.args.out.now;
+      out_after = g.O.Sink.fault_count c.verify_request-answer.new.out;
+      err_before = g.E.Sink.fault_count c.args.err.now;
+      err_after = g.E.Sink.fault_count c.verify_request-answer.new.err;
+    } in
+    let err_after = g.E.Sink.fault_count c.told_answer.new.err in
+    let old : SinkTexts = record { out = g.O.Sink.written c.args.out.now; err = g.E.Sink.written c.args.err.now } in
+    let mid : SinkTexts = record { out = g.O.Sink.written c.verify_request-answer.new.out; err = g.E.Sink.written c.verify_request-answer.new.err } in
+    let err = g.E.Sink.written c.told_answer.new.err in
+    let last : SinkTexts = record { out = g.O.Sink.written c.verify_request-answer.new.out; err = err } in
+    let path = c.in-Verify.path in
+    let runs = subst (λ (at : List ℕ). VerifiesRun given at tree (err_seen counts old mid) (out_seen counts old mid) c.verify_request-answer.result) c.as_path.ensures c.verify_request-answer.ensures.runs in
+    let ends = ends_verify counts err_after old mid err c.told_answer.ensures.later given path tree c.verify_request-answer.result runs c.told_answer.ensures.line c.told_answer.ensures.silent in
+    subst (λ command. EndsRequest (g.C.Catalog.lists c.args.catalog.now) (g.I.Identifier.match_of c.args.identifier.now) tree (with_err counts err_after) old last c.args.request.now command c.told_answer.result) (sym c.in-Verify.is)
+    (subst (EndsVerify given path tree (with_err counts err_after) old last) (sym c.told_answer.ensures.ended) ends)
+
+pub returns-in-Verify-clause-labels : goal.returns-in-Verify-clause-labels
+returns-in-Verify-clause-labels g c =
+    subst (λ ended. IfChecked ended (λ (report : Report). All (PackLies report.files) report.findings)) (sym c.told_answer.ensures.ended)
+    (verified_unchecked c.verify_request-answer.result (λ (report : Report). All (PackLies report.files) report.findings))
+
+pub returns-in-Verify-clause-counts : goal.returns-in-Verify-clause-counts
+returns-in-Verify-clause-counts g c =
+    let begun = g.T.Tree.fault_count c.args.tree.now in
+    let P : Error → Type 0 = λ error. ReadCounts begun begun (g.T.Tree.fault_count c.verify_request-answer.new.tree) (cause_of error) in
+    subst (λ ended. IfRefused ended P) (sym c.told_answer.ensures.ended) (verified_refused c.verify_request-answer.result P c.verify_request-answer.ensures.counts)
+
+pub returns-in-Verify-clause-policy : goal.returns-in-Verify-clause-policy
+returns-in-Verify-clause-policy g c =
+    subst (λ (ended : RunEnd). ended ≡ Refused (ConfigRead Absent) → ⊥) (sym c.told_answer.ensures.ended) (verified_apart c.verify_request-answer.result (ConfigRead Absent) c.verify_request-answer.ensures.policy)

@@ -11,9 +11,10 @@ use Rattle.run_request.specs.declared.level.LintLevels.{LintLevels}
 use Rattle.run_overrides.specs.Levels.{PutAtLevels}
 use Rattle.run_found.specs.Hearing.{seen}
 use Rattle.run_found.specs.Licences.{scanner_of_policy}
+use Rattle.run_found.proofs.StageLemmas.{gather_cut}
 use Rattle.run_check.specs.Steps.{IsCheckOf, IsCheckedOn}
 use Rattle.run_check.proofs.CheckLemmas.{both_of}
-use Rattle.run_check.proofs.StageLemmas.{check_cut, checked_on}
+use Rattle.run_check.proofs.StageLemmas.{checked_on}
 use Rattle.run_check.proofs.check.settle_and_judge.Goals as goal
 
 pub returns-clause-checked : goal.returns-clause-checked
@@ -41,7 +42,7 @@ returns-clause-cut g c =
     (g.T.Tree.trace c.args.tree.now) (g.T.Tree.trace c.licences_found.new.tree) in
     on_err c.judge_and_report.result _
     (λ graph choice chosen.
-    check_cut own policy tree c.args.files.now c.licences_found.new.files graph choice c.in_ok-summary.summary.nfos (c.in_ok-summary.ensures.gathered graph choice chosen))
+    gather_cut own policy tree c.args.files.now c.licences_found.new.files graph choice c.in_ok-summary.summary.nfos (c.in_ok-summary.ensures.gathered graph choice chosen))
 
 pub returns-in_err-summary-clause-cut : goal.returns-in_err-summary-clause-cut
 returns-in_err-summary-clause-cut g c =

@@ -2,10 +2,11 @@
 use Rattle.std.proofs.Common.{Ok, Err, subst, sym, arith}
 use Rattle.std.proofs.lemmas.Result.{err_from_is_err_and}
 use Rattle.tree_core.proofs.MadeLemmas.{some-later}
-use Rattle.run_found.specs.Error.{cause_of}
+use Rattle.run_found.specs.Error.{cause_of, error_of_crates}
 use Rattle.run_found.specs.Finds.{alone}
 use Rattle.run_found.specs.Hearing.{seen}
-use Rattle.run_check.specs.Error.{error_of_crates}
+use Rattle.run_found.proofs.EndLemmas.{counts_at}
+use Rattle.run_found.proofs.StepLemmas.{counts_from}
 use Rattle.run_check.specs.Given.{check_arguments_of}
 use Rattle.run_check.specs.Found.{scanner_of_given}
 use Rattle.run_check.specs.Report.{LabelsLie}
@@ -13,7 +14,7 @@ use Rattle.run_check.specs.Script.{WritesLoad}
 use Rattle.run_check.specs.Steps.{ChecksAt}
 use Rattle.run_check.proofs.FoundLemmas.{carried_behind, path_carried, specs_carried}
 use Rattle.run_check.proofs.ReportLemmas.{crates_end, policy_ends, report_ends, twice_ends}
-use Rattle.run_check.proofs.StepLemmas.{counts_at, override_counts, since_begun}
+use Rattle.run_check.proofs.StepLemmas.{override_counts}
 use Rattle.run_check.proofs.command.report_by.Goals as goal
 
 pub returns-in_err-policy-clause-written : goal.returns-in_err-policy-clause-written
@@ -119,7 +120,7 @@ returns-in_err-checked-clause-counts g c =
     let then = some-later c.in_ok-policy.ensures.made in
     let p = err_from_is_err_and c.from_residual-in_err-checked.result c.from_residual-in_err-checked.ensures.1 in
     rw (p.1, p.2)
-    (since_begun begun middle after (cause_of (error_of_crates refused)) then
+    (counts_from begun begun middle after (cause_of (error_of_crates refused)) then
     (counts_at begun c.faults-begun.result middle after (cause_of (error_of_crates refused)) c.faults-begun.ensures c.in_err-checked.ensures.counts))
 
 -- ---- labels

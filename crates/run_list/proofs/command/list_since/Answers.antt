@@ -11,10 +11,12 @@ use Rattle.run_listing.specs.declared.lines.ListError.{ListError}
 use Rattle.run_listing.specs.declared.lines.ListError.TheVariants as list
 use Rattle.run_listing.specs.Listing.{listing_of}
 use Rattle.run_listing.specs.Written.{HasReasonSince}
-use Rattle.run_list.specs.declared.reads.CrateRead.{CrateRead}
+use Rattle.run_found.specs.declared.reads.CrateRead.{CrateRead}
 use Rattle.run_list.specs.Error.{error_of, error_of_list}
 use Rattle.run_list.specs.Given.{list_arguments_of}
+use Rattle.run_list.specs.Run.{answer_from, crates_from}
 use Rattle.run_list.specs.Script.{WritesList, sink_seen}
+use Rattle.run_list.proofs.AnswerLemmas.{some_made_by}
 use Rattle.run_list.proofs.ScriptLemmas.{listing_refused, listing_writes, refused_first_writes}
 use Rattle.run_list.proofs.StepLemmas.{list_counts}
 use Rattle.run_list.proofs.command.list_since.Goals as goal
@@ -78,3 +80,29 @@ returns-in-Ok-clause-counts g c =
     let begun = g.T.Tree.fault_count c.args.tree.now in
     let after = g.T.Tree.fault_count c.listing_by.new.tree in
     subst (λ error. ReadCounts begun begun after (cause_of error)) (sym c.unwritten.ensures) (list_counts begun begun after c.in-Err-write_listing.refused)
+
+-- calls were made, as what is told of the load says
+
+pub returns-clause-made : goal.returns-clause-made
+returns-clause-made g c =
+    let given = list_arguments_of (g.C.Catalog.lists c.args.catalog.now) (g.I.Identifier.match_of c.args.identifier.now) c.args.log_ctx c.args.args c.args.context.now in
+    let tree = seen (g.T.Tree.content c.args.tree.now) (g.T.Tree.content c.listing_by.new.tree) (g.T.Tree.fault_count c.args.tree.now) (g.T.Tree.fault_count c.listing_by.new.tree)
+    (g.T.Tree.trace c.args.tree.now) (g.T.Tree.trace c.listing_by.new.tree) in
+    let written = c.listing_by.ensures.written in
+    some_made_by given tree written.tells.hearing (crates_from c.listing_by.result) (answer_from c.listing_by.result) written.tells.answers
+
+pub returns-in-Ok-write_listing-clause-made : goal.returns-in-Ok-write_listing-clause-made
+returns-in-Ok-write_listing-clause-made g c =
+    let given = list_arguments_of (g.C.Catalog.lists c.args.catalog.now) (g.I.Identifier.match_of c.args.identifier.now) c.args.log_ctx c.args.args c.args.context.now in
+    let tree = seen (g.T.Tree.content c.args.tree.now) (g.T.Tree.content c.listing_by.new.tree) (g.T.Tree.fault_count c.args.tree.now) (g.T.Tree.fault_count c.listing_by.new.tree)
+    (g.T.Tree.trace c.args.tree.now) (g.T.Tree.trace c.listing_by.new.tree) in
+    let written = c.listing_by.ensures.written in
+    some_made_by given tree written.tells.hearing (crates_from c.listing_by.result) (answer_from c.listing_by.result) written.tells.answers
+
+pub returns-in-Ok-clause-made : goal.returns-in-Ok-clause-made
+returns-in-Ok-clause-made g c =
+    let given = list_arguments_of (g.C.Catalog.lists c.args.catalog.now) (g.I.Identifier.match_of c.args.identifier.now) c.args.log_ctx c.args.args c.args.context.now in
+    let tree = seen (g.T.Tree.content c.args.tree.now) (g.T.Tree.content c.listing_by.new.tree) (g.T.Tree.fault_count c.args.tree.now) (g.T.Tree.fault_count c.listing_by.new.tree)
+    (g.T.Tree.trace c.args.tree.now) (g.T.Tree.trace c.listing_by.new.tree) in
+    let written = c.listing_by.ensures.written in
+    some_made_by given tree written.tells.hearing (crates_from c.listing_by.result) (answer_from c.listing_by.result) written.tells.answers

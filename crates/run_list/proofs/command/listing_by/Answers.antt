@@ -8,16 +8,17 @@ use Rattle.tree_core.proofs.MadeLemmas.{some-later}
 use Rattle.policy_core.specs.Places.{PolicyStands}
 use Rattle.policy_core.specs.declared.load.LoadedPolicy.{LoadedPolicy}
 use Rattle.run_context.specs.Asked.{uncarried}
-use Rattle.run_found.specs.Error.{cause_of}
+use Rattle.run_found.specs.Error.{cause_of, error_of_crates}
 use Rattle.run_found.specs.Finds.{alone}
 use Rattle.run_found.specs.Hearing.{seen}
-use Rattle.run_list.specs.Error.{error_of_crates}
+use Rattle.run_found.proofs.CarriedLemmas.{specs_carried}
+use Rattle.run_found.proofs.EndLemmas.{counts_at}
+use Rattle.run_found.proofs.StepLemmas.{counts_from}
 use Rattle.run_list.specs.Given.{list_arguments_of}
 use Rattle.run_list.specs.Found.{scanner_of_given}
 use Rattle.run_list.specs.Steps.{ListsAt}
 use Rattle.run_list.proofs.EndLemmas.{crates_end, listing_ends, policy_ends, stands_at}
-use Rattle.run_list.proofs.FoundLemmas.{carried_behind, path_carried, specs_carried}
-use Rattle.run_list.proofs.StepLemmas.{counts_at, since_begun}
+use Rattle.run_list.proofs.FoundLemmas.{carried_behind, path_carried}
 use Rattle.run_list.proofs.command.listing_by.Goals as goal
 
 pub returns-in_err-found-clause-written : goal.returns-in_err-found-clause-written
@@ -100,7 +101,7 @@ list_crates-requires-clause-carried g c =
     let found = c.in_ok-found.found in
     let finds = c.in_ok-found.ensures.found in
     subst (λ (policy : LoadedPolicy). uncarried c.args.context.now policy.graph.exclude ≡ None) (sym c.loaded_at-policy.ensures)
-    (carried_behind given found.graph.exclude c.requires (specs_carried given (alone tree finds.heard) finds.found found finds.is finds.valid))
+    (carried_behind given found.graph.exclude c.requires (specs_carried given.request (alone tree finds.heard) finds.found found finds.is finds.valid))
 
 -- ---- the counts are those since the listing began
 
@@ -113,5 +114,5 @@ returns-in_err-listing-clause-counts g c =
     let then = some-later c.in_ok-found.ensures.made in
     let p = err_from_is_err_and c.from_residual-in_err-listing.result c.from_residual-in_err-listing.ensures.1 in
     rw (p.1, p.2)
-    (since_begun begun middle after (cause_of (error_of_crates refused)) then
+    (counts_from begun begun middle after (cause_of (error_of_crates refused)) then
     (counts_at begun c.faults-begun.result middle after (cause_of (error_of_crates refused)) c.faults-begun.ensures c.in_err-listing.ensures.counts))

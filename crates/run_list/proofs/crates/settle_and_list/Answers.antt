@@ -6,8 +6,9 @@ use Rattle.graph_selection.specs.Listed.{IsChosen}
 use Rattle.gather_files.proofs.CallLemmas.{on_err}
 use Rattle.run_found.specs.Hearing.{seen}
 use Rattle.run_found.specs.Licences.{scanner_of_policy}
+use Rattle.run_found.proofs.StageLemmas.{gather_cut}
 use Rattle.run_list.specs.Steps.{IsListedOn, listing_from}
-use Rattle.run_list.proofs.StageLemmas.{list_cut, listed_on}
+use Rattle.run_list.proofs.StageLemmas.{listed_on}
 use Rattle.run_list.proofs.crates.settle_and_list.Goals as goal
 
 pub returns-clause-listed : goal.returns-clause-listed
@@ -31,7 +32,7 @@ returns-clause-cut g c =
     (g.T.Tree.trace c.args.tree.now) (g.T.Tree.trace c.licences_found.new.tree) in
     on_err c.listing_of.result _
     (λ graph choice chosen.
-    list_cut own policy tree c.args.files.now c.licences_found.new.files graph choice c.in_ok-summary.summary.nfos (c.in_ok-summary.ensures.gathered graph choice chosen))
+    gather_cut own policy tree c.args.files.now c.licences_found.new.files graph choice c.in_ok-summary.summary.nfos (c.in_ok-summary.ensures.gathered graph choice chosen))
 
 pub returns-in_err-summary-clause-cut : goal.returns-in_err-summary-clause-cut
 returns-in_err-summary-clause-cut g c =

@@ -2,8 +2,9 @@ use Rattle.std.proofs.Common.{arith}
 use Rattle.std.proofs.lemmas.Result.{err_from_is_err_and}
 use Rattle.tree_core.proofs.MadeLemmas.{some-later}
 use Rattle.run_found.specs.Licences.{scanner_of_policy}
+use Rattle.run_found.proofs.StageLemmas.{carried_error, cut_behind, gathers_chosen, no_crates_by}
 use Rattle.run_list.specs.Steps.{choice_left}
-use Rattle.run_list.proofs.StageLemmas.{carried_error, cut_behind, gathers_chosen, listed_behind, no_crates_by}
+use Rattle.run_list.proofs.StageLemmas.{listed_behind}
 use Rattle.run_list.proofs.stages.list_crates.Goals as goal
 
 pub returns-clause-lists : goal.returns-clause-lists
@@ -33,11 +34,12 @@ returns-in_err-listing-clause-lists g c path at =
     let gathers = gathers_chosen (choice_left context policy) c.args.begun mid old between path krates (c.in_ok-krates.ensures.read path at c.requires.carried) in
     let p = err_from_is_err_and c.from_residual-in_err-listing.result c.from_residual-in_err-listing.ensures.1 in
     rw (p.1, p.2)
-    (cut_behind context (scanner_of_policy (g.C.Catalog.lists c.args.catalog.now) (g.I.Identifier.match_of c.args.identifier.now) policy.licenses) policy
+    (cut_behind (choice_left context policy)
     (g.T.Tree.content c.args.tree.now) (g.T.Tree.content c.gather_krates_since.new.tree) (g.T.Tree.content c.settle_and_list.new.tree)
     (g.T.Tree.fault_count c.args.tree.now) mid (g.T.Tree.fault_count c.settle_and_list.new.tree)
     old between (g.T.Tree.trace c.settle_and_list.new.tree) c.args.begun path
-    c.in_ok-krates.ensures.made krates gathers c.args.files.now c.in_err-listing.ensures.cut)
+    c.in_ok-krates.ensures.made krates gathers (scanner_of_policy (g.C.Catalog.lists c.args.catalog.now) (g.I.Identifier.match_of c.args.identifier.now) policy.licenses) policy.licenses
+    c.args.files.now c.in_err-listing.ensures.cut)
 
 pub returns-in_err-krates-clause-lists : goal.returns-in_err-krates-clause-lists
 returns-in_err-krates-clause-lists g c path at =
@@ -46,7 +48,7 @@ returns-in_err-krates-clause-lists g c path at =
     let error = c.in_err-krates.field-0.0 in
     let p = err_from_is_err_and c.from_residual.result c.from_residual.ensures.1 in
     rw (p.1, p.2)
-    (no_crates_by context (scanner_of_policy (g.C.Catalog.lists c.args.catalog.now) (g.I.Identifier.match_of c.args.identifier.now) policy.licenses) policy
+    (no_crates_by (choice_left context policy) (scanner_of_policy (g.C.Catalog.lists c.args.catalog.now) (g.I.Identifier.match_of c.args.identifier.now) policy.licenses) policy.licenses
     (g.T.Tree.content c.args.tree.now) (g.T.Tree.content c.gather_krates_since.new.tree) (g.T.Tree.fault_count c.args.tree.now) (g.T.Tree.fault_count c.gather_krates_since.new.tree)
     (g.T.Tree.trace c.args.tree.now) (g.T.Tree.trace c.gather_krates_since.new.tree) c.args.files.now c.args.begun path
     c.in_err-krates.ensures.made error (carried_error context policy.graph.exclude error c.requires.carried c.in_err-krates.ensures.refused)

@@ -17,5 +17,5 @@ returns-clause-mistake c = mistake_clause (map (λ word. word.now) c.args.words.
 
 pub returns-clause-size : goal.returns-clause-size
 returns-clause-size c =
-    size_clause (map (λ word. word.now) c.args.words.now) c.given_by.result
+    size_clause (map (λ word. word.now) c.args.words.now) c.args.cwd.now c.given_by.result
     (command_clause (map (λ word. word.now) c.args.words.now) c.args.cwd.now c.given_by.result c.given_by.ensures)

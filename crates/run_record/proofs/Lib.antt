@@ -1,0 +1,5 @@
+pub mod CarriedLemmas
+pub mod CompleteLemmas
+pub mod RecordLemmas
+pub mod SettledLemmas
+pub mod VerifyLemmas

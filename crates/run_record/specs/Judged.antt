@@ -1,0 +1,19 @@
+-- Reports that can be recorded.
+use Rattle.std.specs.Prelude.{List, map}
+use Rattle.std.specs.List.{AllByRecursion}
+use Rattle.graph_core.specs.Krate.{Record}
+use Rattle.graph_core.specs.Metadata.{AreRising}
+use Rattle.policy_valid.specs.Policy.{Policy}
+use Rattle.check_core.specs.Verdicts.{IsVerdict}
+use Rattle.run_check.specs.declared.report.CrateReport.{CrateReport}
+
+-- the verdict is that on a crate by a policy, and has what shows it
+pub record IsJudgedReport (report : CrateReport) : Type 0 where
+  pub policy : Policy
+  pub krate : Record
+  pub verdict : IsVerdict policy krate report.expression report.verdict
+
+-- so each is, and their ids rise
+pub record AreJudged (reports : List CrateReport) : Type 0 where
+  pub rising : AreRising (map (λ (report : CrateReport). report.id) reports)
+  pub each : AllByRecursion IsJudgedReport reports

@@ -1,0 +1,10 @@
+//! What verifying comes to.
+pub use check_verify::{Answer, NoReason};
+use run_found::CrateReads;
+
+/// Whether a record is right, and the reads by which the crates' licences were settled.
+#[derive(Drop)]
+pub struct VerifiedCrates {
+    pub answer: Answer,
+    pub reads: CrateReads,
+}
