@@ -7,7 +7,7 @@ METADATA = $(CURDIR)/crates/cargo_deny/out/metadata.json
 
 FIRST = ../../examples/first
 
-.PHONY: try build run sample test examples map wrong starve calls bench dist install
+.PHONY: try build run sample test examples map wrong starve stack calls bench dist install
 
 # A first answer in minutes, by an unproved build.
 try:
@@ -48,6 +48,11 @@ wrong:
 # built program with less and less memory (NAME=program), or with each growth failing in turn (NAME=growths)
 starve:
 	@sh tools/starve.sh $(NAME)
+
+# Runs each case of crates/tests_hostile with less and less stack, as both compilers build that program.
+stack:
+	@sh tools/build.sh tests_hostile
+	@sh tools/stack.sh
 
 # Compares docs/CALLS.md with the public calls of the sources.
 calls:

@@ -1,6 +1,7 @@
 #!/bin/sh
 # Proves and builds a program in a copy of its crates, as many side by side as there are processors and memory, and puts it to
-# crates/NAME/out/NAME. The copy has no wrong bodies; what it proves is kept for the gate on the same machine.
+# crates/NAME/out/NAME, and what Rattle's own compiler builds beside it, with the ending .by-rattle. The copy has no wrong bodies;
+# what it proves is kept for the gate on the same machine.
 # usage: tools/build.sh [NAME]
 set -eu
 name=${1:-cargo_deny}
@@ -16,4 +17,6 @@ for crate in $(cut -d: -f1 "$room/crates.txt"); do
 done
 (cd "$room" && rt ci)
 mkdir -p "$here/crates/$name/out"
-cp "$room/crates/$name/out/$name" "$here/crates/$name/out/$name"
+for built in "$name" "$name.by-rattle"; do
+    cp "$room/crates/$name/out/$built" "$here/crates/$name/out/$built"
+done

@@ -1,13 +1,13 @@
 #!/bin/sh
 # Runs while memory is wanting. Nothing but want of memory may be told: each run says what it came to.
 #
-# starve.sh NAME [FIRST] compares the rows and cases of a folder of crates/tests_rows/data, or of crates/tests_run/data (run), with
-# one allocation that fails, at twenty numbers from the first on, each about twice the one before. A run takes one to three
-# minutes.
+# starve.sh NAME [FIRST] compares the rows and cases of a folder of crates/tests_rows/data, or of crates/tests_run/data (run) or
+# crates/tests_hostile/data (hostile), with one allocation that fails, at twenty numbers from the first on, each about twice the
+# one before. A run takes one to three minutes.
 #
-# starve.sh program [PROGRAM] runs the built program over the two workspaces of examples/hostile/workspaces.txt with less
-# and less memory, in steps of 16 KiB, from enough down to where the system cannot start it. Each run answers as with enough, or
-# ends with status 1 and `error: out of memory`, behind a front of what it writes with enough.
+# starve.sh program [PROGRAM] runs the built program over the two workspaces of crates/tests_hostile/data/hostile/failures.txt
+# with less and less memory, in steps of 16 KiB, from enough down to where the system cannot start it. Each run answers as with
+# enough, or ends with status 1 and `error: out of memory`, behind a front of what it writes with enough.
 #
 # starve.sh growths [PROGRAM] lets each call of malloc, calloc, realloc and reallocarray fail in turn, over examples/first. It needs
 # rustc, for tools/growths.rs.
@@ -19,9 +19,9 @@ top=$(pwd)
 room=$(mktemp -d)
 trap 'rm -rf "$room"' EXIT
 
-# The files of a workspace, below a folder.
+# The files of a workspace of the cases, below a folder.
 workspace() {
-    cases=examples/hostile/workspaces.txt
+    cases=crates/tests_hostile/data/hostile/failures.txt
     awk -v base="base $1" '/^(base|case) / { on = $0 == base } on && /^  file / { print $2 }' "$cases" |
         while read -r path; do
             mkdir -p "$2${path%/*}"
@@ -155,10 +155,12 @@ esac
 number=${2:-1}
 crate=tests_rows
 word=$name
-if [ "$name" = run ]; then
-    crate=tests_run
+case $name in
+run | hostile)
+    crate=tests_$name
     word=
-fi
+    ;;
+esac
 cd "crates/$crate"
 set --
 for file in "data/$name"/*; do

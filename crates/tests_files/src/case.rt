@@ -1,6 +1,7 @@
 //! Files of cases. A line `case NAME` or `base NAME` begins a block, an indented line `KEY WORD` an entry of it, and each line that
 //! begins with a bar is a line of the entry's text, without the bar. A line that begins with a colon is text without a line
-//! end, one with an equals sign is bytes in hex, and one with a star is a count and a text that is repeated so often.
+//! end, one with an equals sign is bytes in hex, one with a star is a count and a text that is repeated so often, and one
+//! with an at sign is a count and a text that is numbered.
 //! Other lines are empty or begin with `#`.
 use crate::told::{Tally, UnreadLine};
 use std::alloc::{AllocError, Global};
@@ -128,6 +129,53 @@ fn put_repeated(text: &mut Vec<u8>, line: &str) -> Result<(), UnreadLine> {
     }
 }
 
+fn put_number(alloc: Global, text: &mut Vec<u8>, number: u64) -> Result<(), AllocError> {
+    let digits = format!(in alloc; "{number}")?;
+    text.extend_from_slice(digits.as_bytes())
+}
+
+/// Appends a text with a number for `#`, the next one for `^`, a line end for a bar, and a CR for `~`.
+fn put_numbered(
+    alloc: Global,
+    text: &mut Vec<u8>,
+    number: u64,
+    piece: &str,
+) -> Result<(), AllocError> {
+    for byte in piece.as_bytes() {
+        match *byte {
+            b'#' => put_number(alloc, text, number)?,
+            b'^' => put_number(alloc, text, number.saturating_add(1))?,
+            b'|' => put_byte(text, b'\n')?,
+            b'~' => put_byte(text, b'\r')?,
+            byte => put_byte(text, byte)?,
+        }
+    }
+    Ok(())
+}
+
+fn put_all_numbered(
+    alloc: Global,
+    text: &mut Vec<u8>,
+    count: u32,
+    piece: &str,
+) -> Result<(), AllocError> {
+    let mut number: u64 = 0;
+    for _ in 0..count {
+        put_numbered(alloc, text, number, piece)?;
+        number = number.saturating_add(1);
+    }
+    Ok(())
+}
+
+/// Appends a text so often as the number before it says, each numbered, from 0.
+fn put_counted(alloc: Global, text: &mut Vec<u8>, line: &str) -> Result<(), UnreadLine> {
+    let (count, piece) = line.trim().split_once(' ').unwrap_or((line, ""));
+    match count.parse::<u32>() {
+        Ok(count) => Ok(put_all_numbered(alloc, text, count, piece)?),
+        Err(_) => Err(UnreadLine::Line("a count that is no number")),
+    }
+}
+
 fn put_whole(text: &mut Vec<u8>, line: &str) -> Result<(), AllocError> {
     text.extend_from_slice(line.as_bytes())?;
     text.push(b'\n')?;
@@ -135,7 +183,7 @@ fn put_whole(text: &mut Vec<u8>, line: &str) -> Result<(), AllocError> {
 }
 
 /// Appends a line of an entry's text.
-fn put_line(text: &mut Vec<u8>, line: &str) -> Result<(), UnreadLine> {
+fn put_line(alloc: Global, text: &mut Vec<u8>, line: &str) -> Result<(), UnreadLine> {
     if let Some(whole) = line.strip_prefix('|') {
         return Ok(put_whole(text, whole)?);
     }
@@ -144,6 +192,9 @@ fn put_line(text: &mut Vec<u8>, line: &str) -> Result<(), UnreadLine> {
     }
     if let Some(bytes) = line.strip_prefix('=') {
         return put_hex(text, bytes);
+    }
+    if let Some(counted) = line.strip_prefix('@') {
+        return put_counted(alloc, text, counted);
     }
     match line.strip_prefix('*') {
         Some(repeated) => put_repeated(text, repeated),
@@ -172,7 +223,7 @@ fn put(
         return Ok(put_entry(alloc, entries, line, text)?);
     }
     match entries.last_mut() {
-        Some(entry) => put_line(&mut entry.text, text),
+        Some(entry) => put_line(alloc, &mut entry.text, text),
         None => Err(UnreadLine::Line("a line before the first key")),
     }
 }

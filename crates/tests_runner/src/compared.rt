@@ -4,7 +4,7 @@ ghost use Rattle.tree_core.specs.Faults.{counted};
 
 use crate::command::command_of;
 use crate::seen::{is_seen, put_command, put_seen};
-use crate::settings::{Ending, Setting, calls_of, ending_of, rooms_of};
+use crate::settings::{Ending, Setting, calls_of, ending_of, laters_of, lengths_of, rooms_of};
 use std::alloc::{AllocError, Global};
 use std::io;
 use tests_files::AnswerText;
@@ -27,8 +27,9 @@ struct Comparison<'f> {
 /// Whether a key says what is put in. Each other key says what is wanted.
 fn is_given(key: &str) -> bool {
     match key {
-        "file" | "words" | "cwd" | "identifier" | "fail" | "room-out" | "room-err" => true,
-        "piece-out" | "piece-err" | "faults-tree" | "faults-out" | "faults-err" => true,
+        "file" | "words" | "cwd" | "identifier" | "cut" | "fail" | "fail-too" => true,
+        "room-out" | "room-err" | "piece-out" | "piece-err" => true,
+        "faults-tree" | "faults-out" | "faults-err" => true,
         _ => is_shared(key),
     }
 }
@@ -80,12 +81,29 @@ fn seen_of(alloc: Global, setting: &Setting<'_>, ending: &Ending, key: &str) -> 
     seen
 }
 
+/// What is told of a long text: its beginning.
+fn beginning(text: &str) -> &str {
+    text.get(..4000).unwrap_or(text)
+}
+
 impl Comparison<'_> {
     fn tell(&mut self, line: u64, what: &str)
         ensures { self.new.times ≡ counted self.old.times }
     {
         self.times = self.times.saturating_add(1);
         write!(self.told, "{}:{line}: {what}\n", self.file);
+    }
+
+    /// Tells which run it is.
+    fn tell_setting(&mut self, setting: &Setting<'_>) {
+        let Setting { call, out, err, .. } = *setting;
+        write!(self.told, "  at  fail {call}, out {out}, err {err}\n");
+        if setting.later > 0 {
+            write!(self.told, "  and call {} fails\n", setting.later);
+        }
+        if !setting.case.word("cut").is_empty() {
+            write!(self.told, "  cut to {} bytes\n", setting.kept);
+        }
     }
 
     fn compare(&mut self, setting: &Setting<'_>, entry: &CaseEntry, seen: &str) {
@@ -95,9 +113,9 @@ impl Comparison<'_> {
         if seen == wanted {
             return;
         }
-        let Setting { call, out, err, .. } = *setting;
         self.tell(entry.line, setting.case.name);
-        write!(self.told, "  at  fail {call}, out {out}, err {err}\n");
+        self.tell_setting(setting);
+        let (seen, wanted) = (beginning(seen), beginning(wanted));
         write!(self.told, "  is  {seen:?}\n  not {wanted:?}\n");
     }
 
@@ -123,29 +141,75 @@ impl Comparison<'_> {
         Some(())
     }
 
+    /// Compares a run for each room of the sinks.
+    fn compare_rooms(
+        &mut self,
+        setting: &Setting<'_>,
+        outs: (usize, usize),
+        errs: (usize, usize),
+    ) -> Option<()> {
+        let Setting {
+            case,
+            call,
+            later,
+            kept,
+            ..
+        } = *setting;
+        for out in outs.0..outs.1 {
+            for err in errs.0..errs.1 {
+                self.compare_run(&Setting {
+                    case,
+                    call,
+                    later,
+                    kept,
+                    out,
+                    err,
+                })?;
+            }
+        }
+        Some(())
+    }
+
+    /// Compares the runs of a case in which a call fails: one for each call behind it that fails too, and for each length
+    /// of the file that is cut.
+    fn compare_call(&mut self, case: &Case<'_>, call: u64) -> Option<()> {
+        let outs = rooms_of(case, "room-out", "out")?;
+        let errs = rooms_of(case, "room-err", "err")?;
+        let lengths = lengths_of(self.alloc, case)?;
+        let laters = laters_of(case)?;
+        for later in laters.0..=laters.1 {
+            for kept in lengths.0..lengths.1 {
+                if later == 0 || later > call {
+                    let setting = Setting {
+                        case: *case,
+                        call,
+                        later,
+                        kept,
+                        out: 0,
+                        err: 0,
+                    };
+                    self.compare_rooms(&setting, outs, errs)?;
+                }
+            }
+        }
+        Some(())
+    }
+
     /// Compares the runs of a case, and is none where one can't be tried.
     fn compare_all(&mut self, case: &Case<'_>) -> Option<()> {
         let outs = rooms_of(case, "room-out", "out")?;
         let errs = rooms_of(case, "room-err", "err")?;
-        let mut setting = Setting {
+        let whole = Setting {
             case: *case,
             call: 0,
+            later: 0,
+            kept: usize::MAX,
             out: outs.1.saturating_sub(1),
             err: errs.1.saturating_sub(1),
         };
-        let calls = calls_of(self.alloc, &setting)?;
+        let calls = calls_of(self.alloc, &whole)?;
         for call in calls.0..=calls.1 {
-            for out in outs.0..outs.1 {
-                for err in errs.0..errs.1 {
-                    setting = Setting {
-                        case: *case,
-                        call,
-                        out,
-                        err,
-                    };
-                    self.compare_run(&setting)?;
-                }
-            }
+            self.compare_call(case, call)?;
         }
         Some(())
     }

@@ -12,8 +12,8 @@ use compared::compare_runs;
 
 /// Files of cases: of the first path and failures, of what words ask for and how they are refused, of metadata, of
 /// policies, of what is found, of what is read of each crate, of the calls of the tree, of licence families, of
-/// listings, of the sample, and of own catalogues and texts.
-const FILES: [&str; 12] = [
+/// listings, of the sample, of own catalogues and texts, and of verdict files.
+const FILES: [&str; 13] = [
     "run/gate.txt",
     "run/command.txt",
     "run/refused.txt",
@@ -26,13 +26,32 @@ const FILES: [&str; 12] = [
     "run/listed.txt",
     "run/sampled.txt",
     "run/lists.txt",
+    "run/records.txt",
 ];
 
-/// Compares the runs of the cases of the room, and returns whether nothing differs.
-pub fn compare(rt: &HostRuntime) -> bool {
+/// Files of cases of input that is bad, long or deep, and of runs in which calls fail.
+const HOSTILE: [&str; 5] = [
+    "hostile/policies.txt",
+    "hostile/metadata.txt",
+    "hostile/licences.txt",
+    "hostile/words.txt",
+    "hostile/failures.txt",
+];
+
+fn compare_files(rt: &HostRuntime, files: &[&str]) -> bool {
     let mut is_as_wanted = true;
-    for file in FILES {
+    for file in files {
         is_as_wanted = compare_runs(rt, file) & is_as_wanted;
     }
     is_as_wanted
+}
+
+/// Compares the runs of the cases of the room, and returns whether nothing differs.
+pub fn compare(rt: &HostRuntime) -> bool {
+    compare_files(rt, &FILES)
+}
+
+/// The same of input that a stranger wrote, and of failures.
+pub fn compare_hostile(rt: &HostRuntime) -> bool {
+    compare_files(rt, &HOSTILE)
 }

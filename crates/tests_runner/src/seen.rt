@@ -3,8 +3,9 @@ use crate::command::CommandEnd;
 use crate::counted::CountedSink;
 use crate::settings::Ending;
 use deny_run::{
-    Color, CrateReport, DiagPrinter, Diagnostics, Error, Format, LicenseExprSource, LogContext,
-    Report, Request, RunEnd, ShapeErrors, Stats, StoreFault, SyntaxError, Verdict,
+    Answer, Color, CrateReport, DiagPrinter, Diagnostics, Error, Format, LicenseExprSource,
+    LogContext, NoReason, Report, Request, RunEnd, ShapeErrors, Stats, StoreFault, SyntaxError,
+    Verdict,
 };
 use deny_text::Span;
 use diag_core::LevelFilter;
@@ -14,9 +15,10 @@ use std::fmt::Display;
 use tests_files::AnswerText;
 use tests_files::cases::is_among;
 use tests_files::tree::number;
+use tree_core::ReadAnswer;
 
 /// The keys of every run, and then those of a report.
-const SEEN: [&str; 18] = [
+const SEEN: [&str; 19] = [
     "status",
     "ended",
     "command",
@@ -35,6 +37,7 @@ const SEEN: [&str; 18] = [
     "policy",
     "notes",
     "stats",
+    "failed",
 ];
 
 /// The number of the file whose text is wanted, by a key as `text-1`.
@@ -122,6 +125,8 @@ fn put_error(out: &mut AnswerText, error: &Error) {
             excluded,
             unpublished,
         } => write!(out, "no roots: {base} {excluded} {unpublished}"),
+        Error::RecordRead { fault, .. } => write!(out, "record: {fault:?}"),
+        Error::RecordSyntax => out.put("record syntax"),
         Error::WriteFault { before, after } => write!(out, "write: {before} {after}"),
     }
 }
@@ -226,6 +231,19 @@ fn put_crates(out: &mut AnswerText, report: &Report, key: &str) {
     }
 }
 
+/// Puts the counts before and after each failed read of a crate, in the order of the reads.
+fn put_failed(out: &mut AnswerText, report: &Report) {
+    let mut front = "";
+    for checked in report.crates.items() {
+        for read in checked.reads.items() {
+            if let ReadAnswer::Failed { before, after } = read.answer {
+                write!(out, "{front}{before} {after}");
+                front = "; ";
+            }
+        }
+    }
+}
+
 /// Puts the policy's file, what it allows, and how many exceptions it has.
 fn put_policy(out: &mut AnswerText, report: &Report) {
     write!(out, "file {}:", report.policy.file_id);
@@ -285,6 +303,7 @@ fn found(sink: &CountedSink) -> &str {
 fn put_report(alloc: Global, out: &mut AnswerText, report: &Report, key: &str, err: &str) {
     match key {
         "ended" | "crates" | "verdicts" => put_crates(out, report, key),
+        "failed" => put_failed(out, report),
         "policy" => put_policy(out, report),
         "notes" => {
             let notes = report.stats.licenses.map_or(0, |stats| stats.notes);
@@ -319,6 +338,19 @@ pub fn put_command(out: &mut AnswerText, end: &Option<CommandEnd>) {
     }
 }
 
+/// Puts whether a verdict file is right, and else the reason, with the id of the crate.
+fn put_answer(out: &mut AnswerText, answer: &Answer) {
+    match answer {
+        Answer::Yes => out.put("verified"),
+        Answer::No(NoReason::Crates) => out.put("Crates"),
+        Answer::No(NoReason::Variant(id)) => write!(out, "Variant {id}"),
+        Answer::No(NoReason::NotAChoice(id)) => write!(out, "NotAChoice {id}"),
+        Answer::No(NoReason::NotSatisfied(id)) => write!(out, "NotSatisfied {id}"),
+        Answer::No(NoReason::HasHit(id)) => write!(out, "HasHit {id}"),
+        Answer::No(NoReason::NotBlocking(id)) => write!(out, "NotBlocking {id}"),
+    }
+}
+
 /// Puts what is seen of a run that ended without a report.
 fn put_unreported(out: &mut AnswerText, ended: &RunEnd, key: &str, err: &str) {
     if key == "load" {
@@ -334,6 +366,8 @@ fn put_unreported(out: &mut AnswerText, ended: &RunEnd, key: &str, err: &str) {
         RunEnd::Checked(_) => out.put("checked"),
         RunEnd::Listed(_) => out.put("listed"),
         RunEnd::Sampled(_) => out.put("sampled"),
+        RunEnd::Recorded(_) => out.put("recorded"),
+        RunEnd::Verified(crates) => put_answer(out, &crates.answer),
     }
 }
 

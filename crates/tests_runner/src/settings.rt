@@ -5,9 +5,9 @@ use deny_run::Outcome;
 use deny_run::run::run;
 use spdx_catalog::Table;
 use std::alloc::{AllocError, Global};
-use tests_files::Case;
 use tests_files::cases::wanted;
-use tests_files::tree::{number, range_of, tree_of};
+use tests_files::tree::{number, range_of, text_of, tree_of};
+use tests_files::{Case, CaseEntry};
 use tree_core::MemTree;
 
 /// One run of a case.
@@ -16,6 +16,10 @@ pub struct Setting<'c> {
     pub case: Case<'c>,
     /// The call of the tree that fails, counted from 1; at 0 none does but those that the case names.
     pub call: u64,
+    /// A later call that fails too; at 0 there is none.
+    pub later: u64,
+    /// How many bytes the file has that the case cuts.
+    pub kept: usize,
     /// How many bytes `out` takes in all.
     pub out: usize,
     pub err: usize,
@@ -73,15 +77,72 @@ fn fail_calls(tree: &mut MemTree, calls: &str) -> Option<()> {
     Some(())
 }
 
+fn file_among<'e>(entries: &'e [CaseEntry], path: &str) -> Option<&'e CaseEntry> {
+    for entry in entries {
+        if entry.key.as_str() == "file" && entry.word.as_str() == path {
+            return Some(entry);
+        }
+    }
+    None
+}
+
+/// The entry of the file at a path: of the case, or else of its base.
+fn file_at<'c>(case: &Case<'c>, path: &str) -> Option<&'c CaseEntry> {
+    match file_among(case.own, path) {
+        Some(entry) => Some(entry),
+        None => file_among(case.base, path),
+    }
+}
+
+/// The text of the file that the case cuts, if there is one.
+fn whole_file(alloc: Global, case: &Case<'_>) -> Option<Vec<u8>> {
+    let entry = file_at(case, case.word("cut"))?;
+    text_of(alloc, case, entry).ok()
+}
+
+/// Puts the front of the file that the case cuts in its place.
+fn cut_file(alloc: Global, tree: &mut MemTree, setting: &Setting<'_>) -> Option<()> {
+    let path = setting.case.word("cut");
+    if path.is_empty() {
+        return Some(());
+    }
+    let whole = whole_file(alloc, &setting.case)?;
+    let front = whole.get(..setting.kept).unwrap_or(&whole);
+    tree.put(path, front).ok()
+}
+
+/// Lets a call of a tree fail; at 0 none.
+fn fail_one(tree: &mut MemTree, call: u64) -> Option<()> {
+    if call == 0 {
+        return Some(());
+    }
+    tree.fail_call(call).ok()
+}
+
+/// Lets the calls of a tree fail that the setting says, or else those that the case names.
+fn fail_all(tree: &mut MemTree, setting: &Setting<'_>) -> Option<()> {
+    fail_one(tree, setting.later)?;
+    let calls = setting.case.word("fail");
+    if setting.call == 0 && calls.contains(' ') {
+        fail_calls(tree, calls)
+    } else {
+        fail_one(tree, setting.call)
+    }
+}
+
+/// Changes a tree as the setting says.
+fn set(alloc: Global, tree: &mut MemTree, setting: &Setting<'_>) -> Option<()> {
+    cut_file(alloc, tree, setting)?;
+    fail_all(tree, setting)
+}
+
+/// The tree of a run, which begins with so many faults.
 pub fn tree_with(alloc: Global, setting: &Setting<'_>, failed: u64) -> Option<CountedTree> {
     let mut tree = tree_of(alloc, &setting.case).ok()?;
-    let calls = setting.case.word("fail");
-    if setting.call > 0 {
-        tree.fail_call(setting.call).ok()?;
-    } else if calls.contains(' ') {
-        fail_calls(&mut tree, calls)?;
+    match set(alloc, &mut tree, setting) {
+        Some(()) => Some(CountedTree::new(alloc, tree, failed)),
+        None => None,
     }
-    Some(CountedTree::new(alloc, tree, failed))
 }
 
 /// The run, of which nothing is said: whoever calls this owes nothing of the run's contract.
@@ -138,6 +199,26 @@ pub fn rooms_of(case: &Case<'_>, key: &str, text: &str) -> Option<(usize, usize)
     }
     let room = number_or(case, key, 4000)? as usize;
     Some((room, room.saturating_add(1)))
+}
+
+/// The lengths of the file that the case cuts: each below its own. Without such a file there is one run.
+pub fn lengths_of(alloc: Global, case: &Case<'_>) -> Option<(usize, usize)> {
+    if case.word("cut").is_empty() {
+        return Some((0, 1));
+    }
+    let whole = whole_file(alloc, case)?;
+    Some((0, whole.len()))
+}
+
+/// The calls that fail behind the first one, from the first to the last.
+pub fn laters_of(case: &Case<'_>) -> Option<(u64, u64)> {
+    match case.word("fail-too") {
+        "" => Some((0, 0)),
+        word => match range_of(word) {
+            Some((first, last)) if first > 0 => Some((first, last)),
+            _ => None,
+        },
+    }
 }
 
 /// The calls that fail alone in a run each, from the first to the last; `each` is of all that this run makes, in which none fails.

@@ -145,13 +145,19 @@ fn end_in(alloc: Global, case: &Case<'_>, room: usize) -> Option<ProcessEnd> {
     }
 }
 
-/// Whether the process of a case writes the front of a text to standard error, as much as there is room for.
-fn writes_front(alloc: Global, case: &Case<'_>, room: usize, whole: &[u8]) -> bool {
-    let front = whole.get(..room).unwrap_or(whole);
-    match &end_in(alloc, case, room) {
+/// Whether a process wrote this to standard error.
+fn has_written(end_at: &Option<ProcessEnd>, front: &[u8]) -> bool {
+    match end_at {
         Some(end) => end.err.written() == front,
         None => false,
     }
+}
+
+/// Whether the process of a case writes the front of a text to standard error, as much as there is room for.
+fn writes_front(alloc: Global, case: &Case<'_>, room: usize, whole: &[u8]) -> bool {
+    let front = whole.get(..room).unwrap_or(whole);
+    let end_at = end_in(alloc, case, room);
+    has_written(&end_at, front)
 }
 
 /// In how many of the rooms below a text's length the process of a case writes its front to standard error.
@@ -195,6 +201,20 @@ fn put_end(
     KeyAnswer::Yes
 }
 
+/// The same, where the process could be tried.
+fn put_end_at(
+    alloc: Global,
+    case: &Case<'_>,
+    key: &str,
+    end_at: &Option<ProcessEnd>,
+    out: &mut AnswerText,
+) -> KeyAnswer {
+    match end_at {
+        Some(end) if end.is_set => put_end(alloc, case, key, end, out),
+        _ => KeyAnswer::CantBeTried,
+    }
+}
+
 /// Cases of processes.
 pub struct StartCases;
 
@@ -204,10 +224,8 @@ impl Cases for StartCases {
     }
 
     fn told(&self, alloc: Global, case: &Case<'_>, key: &str, out: &mut AnswerText) -> KeyAnswer {
-        match &end_in(alloc, case, 1000) {
-            Some(end) if end.is_set => put_end(alloc, case, key, end, out),
-            _ => KeyAnswer::CantBeTried,
-        }
+        let end_at = end_in(alloc, case, 1000);
+        put_end_at(alloc, case, key, &end_at, out)
     }
 }
 
