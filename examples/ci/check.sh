@@ -1,13 +1,16 @@
 #!/bin/sh
 # Checks the licences of a cargo project, as a step of a pipeline does, and ends with the status of the check:
 # 0 ok, 4 a finding is an error, 1 and 2 nothing was checked.
-# usage: check.sh [FOLDER]     DENY_CONFIG names another policy, CARGO_DENY another program
+# usage: check.sh [FOLDER [WORD..]]     DENY_CONFIG names another policy, CARGO_DENY another program
+# Other words than `check licenses` ask for another command, over the same metadata and policy, as `check.sh . list`.
 #
 # Features are cargo's to apply. Of the policy's table [graph] these three keys are read here, each by a line of sed, so each has to
 # stand in a line of its own: all-features, no-default-features, features. A policy that names one in another form is refused, since
 # crates behind a feature would go unchecked.
-set -u
+set -fu
 cd "${1:-.}" || exit 1
+if [ $# -gt 0 ]; then shift; fi
+if [ $# -eq 0 ]; then set -- check licenses; fi
 
 # The policy, where the check looks for it: in this folder, or the nearest above.
 policy=${DENY_CONFIG:-}
@@ -34,12 +37,13 @@ if [ "$named" -ne "$(printf '%s' "$values" | grep -c .)" ] || printf '%s' "$valu
     echo "check.sh: $policy names features in a form that is not read here; put each of all-features, no-default-features and features in a line of its own below [graph]" >&2
     exit 1
 fi
-set --
-if [ "$(graph_key all-features)" = true ]; then set -- "$@" --all-features; fi
-if [ "$(graph_key no-default-features)" = true ]; then set -- "$@" --no-default-features; fi
+options=
+if [ "$(graph_key all-features)" = true ]; then options="$options --all-features"; fi
+if [ "$(graph_key no-default-features)" = true ]; then options="$options --no-default-features"; fi
 features=$(graph_key features | tr -d '[]" ')
-if [ -n "$features" ]; then set -- "$@" --features "$features"; fi
+if [ -n "$features" ]; then options="$options --features $features"; fi
 
 # Where cargo fails it prints nothing, and the check refuses that with status 1.
-cargo metadata --format-version 1 "$@" |
-    "${CARGO_DENY:-cargo-deny}" --metadata-path /dev/stdin --config "$policy" check licenses
+# shellcheck disable=SC2086 # the options are words, and none of them has a blank
+cargo metadata --format-version 1 $options |
+    "${CARGO_DENY:-cargo-deny}" --metadata-path /dev/stdin --config "$policy" "$@"

@@ -1,16 +1,18 @@
 #!/bin/sh
 # A release that trusts the verifier alone. At build time the verdicts on all crates are recorded; at release time the record
 # is verified over the policy, the metadata and the files as they are then. `verified` says that the record is right, also of a
-# crate that was rejected or has no licence: so a record with such a crate is refused here. Cargo's ids hold the path of the
-# checkout, so both steps run under one path. A changed policy wants a new record, since entries are told by their places.
-# usage: release.sh record|verify
-# PROGRAM, RECORD and POLICY name the program, the record's file and the policy, if not these.
+# crate that was rejected or has no licence: so a record with such a crate is refused here, at both times, with status 4. Cargo's
+# ids hold the path of the checkout, so both steps run under one path. A changed policy wants a new record.
+# usage: release.sh record|verify, in the project's folder, with examples/ci/check.sh beside this script
+# RECORD names the record's file, if not verdicts.record; CARGO_DENY the program and DENY_CONFIG the policy, as for check.sh, which
+# makes the metadata with the policy's features.
 set -eu
-program=${PROGRAM:-cargo-deny}
 record=${RECORD:-verdicts.record}
-policy=${POLICY:-deny.toml}
+check=$(dirname "$0")/check.sh
+[ -e "$check" ] || check=$(dirname "$0")/../ci/check.sh
 
-# Each crate of a record whose verdict is against it; an id may have any character, so it is passed over by its length.
+# Each crate of a record whose verdict is against it; an id may have any character, so it is passed over by its length. The status is
+# 0 where there is one, 1 where there is none, and another where the record could not be searched.
 against() {
     LC_ALL=C awk '
         { text = text $0 "\n" }
@@ -27,22 +29,36 @@ against() {
                 if (verdict == "r" || verdict == "u") { print id; found = 1 }
                 at += end
             }
-            if (substr(text, at) != "end\n") { print "no end of the record"; found = 1 }
+            if (substr(text, at) != "end\n") { print "release.sh: the record has no end"; exit 2 }
             exit !found
         }' "$1"
 }
 
-cargo metadata --format-version 1 >metadata.json
+# Ends where a crate of the record is rejected or has no licence, or where that can't be told.
+refuse_against() {
+    found=0
+    against "$record" >&2 || found=$?
+    case $found in
+        0)
+            echo "release.sh: a crate is rejected or has no licence" >&2
+            exit 4
+            ;;
+        1) ;;
+        *)
+            echo "release.sh: the record could not be searched" >&2
+            exit 1
+            ;;
+    esac
+}
+
 case ${1:-} in
     record)
-        "$program" --metadata-path metadata.json --config "$policy" record >"$record"
+        sh "$check" . record >"$record"
+        refuse_against
         ;;
     verify)
-        "$program" --metadata-path metadata.json --config "$policy" verify "$record"
-        if against "$record" >&2; then
-            echo "a crate is rejected or has no licence" >&2
-            exit 4
-        fi
+        refuse_against
+        sh "$check" . verify "$record"
         ;;
     *)
         echo "usage: $0 record|verify" >&2
