@@ -7,10 +7,6 @@ use Rattle.check_record.specs.declared.items.RecordItem.{RecordItem}
 use Rattle.check_record.specs.declared.items.RecordVerdict.{RecordVerdict}
 use Rattle.check_record.specs.declared.items.RecordVerdict.TheVariants.{Skipped, Unlicensed, Accepted, Rejected}
 
--- what stood stays, in front of what was added
-abbrev pub StandsInFront : {X : Type 0} → List X → List X → Type 0
-StandsInFront {X} old new = (more : List X) × (new ≡ old ++ more)
-
 -- an entry of the allowed licences, or one of an exception's
 abbrev pub hit_text : Hit → List ℕ
 hit_text (Allowed entry) = codes "l" ++ decimal entry

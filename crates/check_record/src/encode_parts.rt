@@ -2,7 +2,7 @@
 ghost use Rattle.std.specs.Prelude.{◌≡◌, ◌++◌, decimal, OnOk};
 ghost use Rattle.std.specs.List.{flat_map};
 ghost use Rattle.check_record.specs.Spelling as spec;
-ghost use Rattle.check_record.specs.Spelling.{StandsInFront};
+ghost use Rattle.deny_text.specs.Fronts.{StandsInFront};
 
 use crate::items::{RecordItem, RecordVerdict};
 use itoa::Buffer;

@@ -1,6 +1,7 @@
 pub mod Character
 pub mod Component
 pub mod Cut
+pub mod Fronts
 pub mod Hash
 pub mod Home
 pub mod Normal

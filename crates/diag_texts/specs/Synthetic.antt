@@ -18,10 +18,6 @@ pub record PlacedText : Type 0 where
 abbrev pub nothing_kept : PlacedText
 nothing_kept = record { text = []; spans = [] }
 
--- what stood stays, in front of what was added
-abbrev pub StandsInFront : {X : Type 0} → List X → List X → Type 0
-StandsInFront {X} old new = (more : List X) × (new ≡ old ++ more)
-
 -- the place of what comes after this text
 abbrev pub place_behind : List ℕ → List ℕ → Span
 place_behind text bytes = record { start = length text; end = length text + length bytes }

@@ -5,7 +5,8 @@ ghost use Rattle.diag_texts.specs.Manifest.{listing_pieces, manifest_pieces, ope
 ghost use Rattle.diag_texts.specs.Manifest.{named_pieces, told_pieces};
 ghost use Rattle.diag_texts.specs.Pieces.{bit_of};
 ghost use Rattle.diag_texts.specs.declared.manifest.FileNote.TheVariants.{Unknown, Low, Unnamed, Bad};
-ghost use Rattle.diag_texts.specs.Synthetic.{StandsInFront, written_all};
+ghost use Rattle.deny_text.specs.Fronts.{StandsInFront};
+ghost use Rattle.diag_texts.specs.Synthetic.{written_all};
 
 use crate::synthetic::{Synthetic, TextPiece};
 use std::alloc::{AllocError, Global};

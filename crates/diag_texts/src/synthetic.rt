@@ -2,7 +2,8 @@
 ghost use Rattle.std.specs.Prelude.{◌≡◌, All, OnOk, OnErr};
 ghost use Rattle.diag_texts.specs.Pieces.{bit_of};
 ghost use Rattle.deny_text.specs.Spans.{LiesBetween};
-ghost use Rattle.diag_texts.specs.Synthetic.{PlacesAlwaysCutOut, StandsInFront, nothing_kept, with_piece};
+ghost use Rattle.deny_text.specs.Fronts.{StandsInFront};
+ghost use Rattle.diag_texts.specs.Synthetic.{PlacesAlwaysCutOut, nothing_kept, with_piece};
 
 use deny_text::{Span, Text};
 use std::alloc::{AllocError, Global};

@@ -2,7 +2,8 @@
 use Rattle.std.proofs.Common.{◌≡◌, ◌∙◌, refl, sym, ap, ℕ, suc, ◌+◌, ◌<◌, List, ◌∷◌, ◌++◌, drop, get_or, length, Option, Some, None, append_assoc, add-one, drop-cons}
 use Rattle.std.specs.List.{cons_option, filter_map}
 use Rattle.std.specs.Option.{option_to_list}
-use Rattle.graph_selection.specs.Choice.{ExcludeSpecView, StandsInFront, read_one, spec_read}
+use Rattle.deny_text.specs.Fronts.{StandsInFront}
+use Rattle.graph_selection.specs.Choice.{ExcludeSpecView, read_one, spec_read}
 
 -- what stands in front stays there
 pub front_then : {A : Type 0} (first second third : List A) → StandsInFront first second → StandsInFront second third → StandsInFront first third

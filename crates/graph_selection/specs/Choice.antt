@@ -10,10 +10,6 @@ use Rattle.graph_core.specs.Krate.{Record, Version}
 use Rattle.graph_selection.specs.declared.exclude.ExcludeSpec.{ExcludeSpec}
 use Rattle.graph_selection.specs.declared.selection.Selection.{Selection}
 
--- what stood stays, in front of what was added
-abbrev pub StandsInFront : {X : Type 0} → List X → List X → Type 0
-StandsInFront {X} old new = (more : List X) × (new ≡ old ++ more)
-
 -- crates that are left out: each of the name, or those of them that have the version
 pub record ExcludeSpecView : Type 0 where
   pub name : List ℕ

@@ -7,7 +7,8 @@ ghost use Rattle.semver.specs.Identifiers.{parts_of};
 ghost use Rattle.semver.specs.Parse.{version_parts};
 ghost use Rattle.graph_core.specs.Krate.{record_of};
 ghost use Rattle.graph_selection.specs.Choice as spec;
-ghost use Rattle.graph_selection.specs.Choice.{StandsInFront, exclude_spec_of, spec_read};
+ghost use Rattle.deny_text.specs.Fronts.{StandsInFront};
+ghost use Rattle.graph_selection.specs.Choice.{exclude_spec_of, spec_read};
 ghost use Rattle.graph_selection.specs.ExcludeOrder.{AreInSearchOrder, AreSorted, key_behind, key_of, key_order, key_with};
 ghost use Rattle.graph_selection.specs.ExcludeOrder.{version_key};
 

@@ -2,7 +2,7 @@
 ghost use Rattle.std.specs.Prelude.{◌≡◌, ◌++◌, is_some, false, Ok, Some, OnErr, OnOk};
 ghost use Rattle.std.specs.Option.{ForSome};
 ghost use Rattle.diag_core.specs.File.{Grows, file_id_at};
-ghost use Rattle.policy_validate.specs.Fronts.{StandsInFront};
+ghost use Rattle.deny_text.specs.Fronts.{StandsInFront};
 ghost use Rattle.tree_core.specs.Hearing.{MadeSome};
 ghost use Rattle.policy_core.specs.Exceptions.{HasMoreExceptions};
 ghost use Rattle.policy_core.specs.ExceptionsText.{HadMemory, answer_exceptions, diagnostics_of};

@@ -1,7 +1,7 @@
 //! What is told of a policy's file and of its exceptions file.
 ghost use Rattle.std.specs.Prelude.{◌≡◌, [], ◌∷◌, ◌++◌, codes, map, IfOk, OnOk};
 ghost use Rattle.std.specs.Option.{option_copied};
-ghost use Rattle.policy_validate.specs.Fronts.{StandsInFront};
+ghost use Rattle.deny_text.specs.Fronts.{StandsInFront};
 ghost use Rattle.toml_shapes.specs.ShapeViews.{fault_of};
 ghost use Rattle.policy_core.specs.Exceptions as exceptions;
 ghost use Rattle.policy_core.specs.Findings as spec;

@@ -2,7 +2,7 @@
 ghost use Rattle.std.specs.Prelude.{◌≡◌, ◌++◌, map, unwrap_or, IfOk, OnErr, OnOk, codes};
 ghost use Rattle.std.specs.Option.{ForSome, option_copied, option_to_list, option_and_then};
 ghost use Rattle.diag_core.specs.File.{Grows, file_id_at};
-ghost use Rattle.policy_validate.specs.Fronts.{StandsInFront};
+ghost use Rattle.deny_text.specs.Fronts.{StandsInFront};
 ghost use Rattle.tree_core.specs.Hearing.{MadeSome};
 ghost use Rattle.policy_config.specs.Config.{no_config};
 ghost use Rattle.policy_validate.specs.Order.{PutsPolicyInOrder};

@@ -1,4 +1,3 @@
-pub mod Fronts
 pub mod Laws
 pub mod Order
 pub mod Valid

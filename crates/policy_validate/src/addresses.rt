@@ -1,7 +1,7 @@
 //! Addresses whose crates are passed over.
 ghost use Rattle.std.specs.Prelude.{◌≡◌, ◌++◌, IfOk, OnOk};
 ghost use Rattle.std.specs.Result.{result_ok};
-ghost use Rattle.policy_validate.specs.Fronts.{StandsInFront};
+ghost use Rattle.deny_text.specs.Fronts.{StandsInFront};
 ghost use Rattle.graph_source.specs.Reading.{address_of};
 ghost use Rattle.policy_validate.specs.Valid.{address_judged, kept_by, findings_by_each};
 

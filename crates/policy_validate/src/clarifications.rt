@@ -1,7 +1,7 @@
 //! Clarifications.
 ghost use Rattle.std.specs.Prelude.{◌≡◌, ◌++◌, IfOk, OnOk};
 ghost use Rattle.std.specs.List.{AllZip};
-ghost use Rattle.policy_validate.specs.Fronts.{StandsInFront};
+ghost use Rattle.deny_text.specs.Fronts.{StandsInFront};
 ghost use Rattle.policy_validate.specs.Order.{PutsFilesInOrder, PutsJudgedInOrder};
 ghost use Rattle.policy_validate.specs.Valid as spec;
 ghost use Rattle.policy_validate.specs.Valid.{clarification_judged, kept_by, findings_by_each};

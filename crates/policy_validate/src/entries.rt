@@ -1,6 +1,6 @@
 //! Exceptions, with the file that they stand in.
 ghost use Rattle.std.specs.Prelude.{◌≡◌, ◌++◌, OnOk, map};
-ghost use Rattle.policy_validate.specs.Fronts.{StandsInFront};
+ghost use Rattle.deny_text.specs.Fronts.{StandsInFront};
 ghost use Rattle.policy_validate.specs.Valid.{exception_in};
 
 use diag_core::FileId;

@@ -1,7 +1,7 @@
 //! What is found wrong, and where it goes.
 ghost use Rattle.std.specs.Prelude.{◌≡◌, ◌++◌, IfOk, OnOk, map, option_to_list};
 ghost use Rattle.std.specs.Result.{result_ok, result_err};
-ghost use Rattle.policy_validate.specs.Fronts.{StandsInFront};
+ghost use Rattle.deny_text.specs.Fronts.{StandsInFront};
 ghost use Rattle.policy_validate.specs.Valid as spec;
 
 use deny_text::{ListOf, Span};

@@ -1,7 +1,7 @@
 //! Policies that are validated.
 ghost use Rattle.std.specs.Prelude.{◌≡◌, ◌++◌, ℕ, List, IfOk, OnOk};
 ghost use Rattle.diag_core.specs.declared.diagnostic.Diagnostic.{Diagnostic as DiagnosticOf};
-ghost use Rattle.policy_validate.specs.Fronts.{StandsInFront};
+ghost use Rattle.deny_text.specs.Fronts.{StandsInFront};
 ghost use Rattle.policy_validate.specs.Order.{PutsPolicyInOrder};
 ghost use Rattle.policy_validate.specs.Valid.{valid_part, validation_findings};
 

@@ -47,7 +47,7 @@ static STATUS: &str = "\
 .SH EXIT STATUS
 .TP
 .B 0
-No finding is an error, so no crate is rejected or unlicensed, or the verdicts of a file are right, or what was asked for was written; also behind help and the version.
+No finding is an error, so no crate is rejected or unlicensed, or the verdicts of a file are right, also those on rejected crates, or what was asked for was written; also behind help and the version.
 .TP
 .B 1
 The run was refused. Standard error says why.

@@ -1,4 +1,3 @@
-pub mod Fronts
 pub mod Listed
 pub mod Listing
 pub mod Written

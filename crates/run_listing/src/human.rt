@@ -1,6 +1,6 @@
 //! A listing for a person.
 ghost use Rattle.std.specs.Prelude.{◌≡◌, ◌++◌, IfOk, None, OnOk, ⊤};
-ghost use Rattle.run_listing.specs.Fronts.{StandsInFront};
+ghost use Rattle.deny_text.specs.Fronts.{StandsInFront};
 ghost use Rattle.run_listing.specs.Listed.{names_under};
 ghost use Rattle.run_listing.specs.Listing.{crate_line, crate_words, group_line, licence_line, title_of};
 ghost use Rattle.run_listing.specs.Listing.{unlicensed_line};

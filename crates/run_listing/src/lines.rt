@@ -1,7 +1,7 @@
 //! Lines that are written to a sink, one for each item.
 ghost use Rattle.std.specs.Prelude.{◌≡◌, ◌≤◌, ℕ, All, List, [], ◌++◌, IfErr, OnErr, OnOk};
 ghost use Rattle.std.specs.List.{flat_map};
-ghost use Rattle.run_listing.specs.Fronts.{StandsInFront};
+ghost use Rattle.deny_text.specs.Fronts.{StandsInFront};
 ghost use Rattle.tree_core.specs.Faults.{Gained, GainedPrefix};
 ghost use Rattle.run_listing.specs.Written.{HasReasonSince, IsPending};
 

@@ -1,6 +1,6 @@
 //! Texts in lines and columns.
 ghost use Rattle.std.specs.Prelude.{◌≡◌, ◌++◌, OnOk};
-ghost use Rattle.run_listing.specs.Fronts.{StandsInFront};
+ghost use Rattle.deny_text.specs.Fronts.{StandsInFront};
 ghost use Rattle.run_listing.specs.Listing.{further, joined, plain, plain_byte};
 
 use deny_text::Text;

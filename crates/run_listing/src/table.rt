@@ -1,6 +1,6 @@
 //! A listing in columns.
 ghost use Rattle.std.specs.Prelude.{◌≡◌, ◌++◌, IfOk, OnOk};
-ghost use Rattle.run_listing.specs.Fronts.{StandsInFront};
+ghost use Rattle.deny_text.specs.Fronts.{StandsInFront};
 ghost use Rattle.run_listing.specs.Listing.{crate_row, head_row, mark_if, marks};
 ghost use Rattle.run_listing.specs.Marks.{HasColumns, is_next, rest_if};
 

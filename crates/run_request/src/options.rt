@@ -361,12 +361,12 @@ static SUBCOMMANDS: [SubcommandRow; 5] = [
     },
     SubcommandRow {
         name: "record",
-        about: "Writes the verdict of each crate, with what shows it, to standard output",
+        about: "Writes the verdict of each crate, with what shows it, to standard output, also of rejected ones",
         rows: &[],
     },
     SubcommandRow {
         name: "verify",
-        about: "Says whether the verdicts of a file are right",
+        about: "Says whether the verdicts of a file are right, also those on rejected crates",
         rows: &[valued!(
             Word,
             "FILE",

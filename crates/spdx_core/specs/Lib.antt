@@ -2,7 +2,6 @@ pub mod Answers
 pub mod ExpressionCode
 pub mod ExpressionRows
 pub mod Expressions
-pub mod Fronts
 pub mod Grammar
 pub mod Laws
 pub mod Machine

@@ -1,6 +1,6 @@
 //! The reader of licence expressions: one pass over the items, with a level for each open parenthesis.
 ghost use Rattle.std.specs.Prelude.{◌≡◌, OnOk, OnErr, IsOk, Some, None};
-ghost use Rattle.spdx_core.specs.Fronts.{StandsInFront};
+ghost use Rattle.deny_text.specs.Fronts.{StandsInFront};
 ghost use Rattle.spdx_core.specs.Machine.{machine_of, advanced, after_part as part_after};
 ghost use Rattle.spdx_core.specs.Machine.{after_or as or_after, after_close as close_after};
 ghost use Rattle.spdx_core.specs.Machine.{after_open as open_after, no_machine, written};

@@ -1,7 +1,8 @@
 use Rattle.std.proofs.Common.{◌≡◌, ◌++◌}
 use Rattle.std.specs.Iterator.Adapters.{zip_first, zip_second}
 use Rattle.std.specs.Slice.Iter.{iter_rest}
-use Rattle.check_record.specs.Spelling.{StandsInFront, chosen_text}
+use Rattle.deny_text.specs.Fronts.{StandsInFront}
+use Rattle.check_record.specs.Spelling.{chosen_text}
 use Rattle.check_record.proofs.encode_parts.put_chosen.Given as goal
 
 -- what was written, with the places that are left, is all; what stood stays in front

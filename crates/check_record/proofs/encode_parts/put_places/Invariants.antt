@@ -1,5 +1,6 @@
 use Rattle.std.proofs.Common.{◌≡◌, ◌++◌, drop, flat_map}
-use Rattle.check_record.specs.Spelling.{StandsInFront, place_text}
+use Rattle.deny_text.specs.Fronts.{StandsInFront}
+use Rattle.check_record.specs.Spelling.{place_text}
 use Rattle.check_record.proofs.encode_parts.put_places.Given as goal
 
 abbrev pub invariant-places : goal.invariant-places

@@ -1,6 +1,7 @@
 use Rattle.std.proofs.Common.{◌≡◌, ◌++◌, map, drop}
 use Rattle.std.specs.List.{filter_map}
-use Rattle.graph_selection.specs.Choice.{StandsInFront, exclude_spec_of, spec_read}
+use Rattle.deny_text.specs.Fronts.{StandsInFront}
+use Rattle.graph_selection.specs.Choice.{exclude_spec_of, spec_read}
 use Rattle.graph_selection.proofs.exclude.read_specs.Given as goal
 
 -- the specs so far, and those of the texts that are left; those at the start stay in front

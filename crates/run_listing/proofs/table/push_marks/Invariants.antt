@@ -1,6 +1,6 @@
 -- what was appended, and the columns that are left beside the licences that are left, are the whole; what stood stays in front
 use Rattle.std.proofs.Common.{◌≡◌, ◌++◌, drop}
-use Rattle.run_listing.specs.Fronts.{StandsInFront}
+use Rattle.deny_text.specs.Fronts.{StandsInFront}
 use Rattle.run_listing.specs.Marks.{walked}
 use Rattle.run_listing.proofs.table.push_marks.Given as goal
 

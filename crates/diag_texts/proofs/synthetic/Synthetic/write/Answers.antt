@@ -1,7 +1,8 @@
 use Rattle.std.proofs.Common.{◌≡◌, length, rules, subst}
 use Rattle.std.specs.String.{string_bytes}
 use Rattle.std.proofs.lemmas.Str.{IsUtf8-string_bytes}
-use Rattle.diag_texts.specs.Synthetic.{PlacedText, StandsInFront}
+use Rattle.deny_text.specs.Fronts.{StandsInFront}
+use Rattle.diag_texts.specs.Synthetic.{PlacedText}
 use Rattle.diag_texts.proofs.BorderLemmas.{between_marked, between_plain}
 use Rattle.diag_texts.proofs.synthetic.Synthetic.write.Goals as goal
 
