@@ -1,5 +1,5 @@
 -- How a run over a request for a command without options of its own ends, from what the command answers and what is written behind that.
-use Rattle.std.proofs.Common.{◌≡◌, ◌≤◌, ◌∙◌, None, refl, sym, subst, ℕ, List, Option, Result, Ok, Err, IfErr, OnOk}
+use Rattle.std.proofs.Common.{◌≡◌, ◌≤◌, ◌∙◌, None, Some, ap, refl, sym, subst, ℕ, List, Option, Result, Ok, Err, IfErr, OnOk}
 use Rattle.tree_core.specs.Hearing.{MadeSome}
 use Rattle.tree_core.specs.Script.{FaultCounts, LineWritten, SinkTexts}
 use Rattle.tree_core.proofs.MadeLemmas.{some_joined, some_made}
@@ -7,6 +7,7 @@ use Rattle.run_request.specs.declared.check.Args.{Args as CheckArgs}
 use Rattle.run_request.specs.declared.list.Args.{Args as ListArgs}
 use Rattle.run_request.specs.declared.request.Subcommand.{Subcommand}
 use Rattle.run_request.specs.declared.request.Subcommand.TheVariants.{Check, List as Listing, Sample, Record, Verify}
+use Rattle.graph_workspace.specs.declared.error.What.{What}
 use Rattle.run_found.specs.declared.error.Error.{Error}
 use Rattle.run_found.specs.declared.error.Error.TheVariants.{NotCarried}
 use Rattle.run_found.specs.declared.reads.CrateRead.{CrateRead}
@@ -105,6 +106,19 @@ verified_apart (Err own) error apart e = let same : own ≡ error = cc in apart 
 -- a refusal is another one, whatever an answer would have been
 pub answer_apart : {A : Type 0} (error other : Error) → (error ≡ other → ⊥) → ◌≡◌ {A = Result A Error} (Err error) (Err other) → ⊥
 answer_apart error other apart e = let same : error ≡ other = cc in apart same
+
+-- ---- a part that is not carried
+
+-- the refusal of one answer is that of another
+pub refused_as : {A B : Type 0} (error other : Error) → ◌≡◌ {A = Result A Error} (Err error) (Err other) → ◌≡◌ {A = Result B Error} (Err error) (Err other)
+refused_as {A} {B} error other e =
+    let same : error ≡ other = cc in
+    let refused : Error → Result B Error = λ one. Err one in
+    ap refused same
+
+-- what is carried has no such part
+pub carried_apart : (asked : Option What) (what : What) → asked ≡ None → asked ≡ Some what → ⊥
+carried_apart asked what none some = absurd (cc)
 
 -- ---- commands are apart
 

@@ -32,7 +32,7 @@ use Rattle.run_check.specs.Found as found
 use Rattle.run_check.specs.Found.{IsCheckHearing}
 use Rattle.run_check.specs.Given.{CheckArguments}
 use Rattle.run_check.specs.Headline.{CheckHeadline, CheckHeadlineRead, TellsContent, is_against}
-use Rattle.run_check.specs.Report.{Asks, CheckInput, IsRefusal, IsReport}
+use Rattle.run_check.specs.Report.{Asks, RequestInput, IsRefusal, IsReport}
 use Rattle.run_check.specs.Script as check_script
 use Rattle.run_check.specs.Script.{RefusalWritten, WritesCheck}
 use Rattle.run_check.proofs.AnswerLemmas.{IsFree, refused_first}
@@ -202,7 +202,7 @@ module _ (given : CheckAsked) (carried : uncarried_in given.check ≡ None) wher
     Bound error = IsFree (cause_of error) → ⊥
 
     -- by what was read
-    ends_read : (tree : TreeSeen) (hearing own : RunHearing) (asked : CheckInput) (error : Error) → HasManifest given hearing → own_heard given hearing ≡ Some (Ok had) → found.HearsAllDue own_check hearing.found
+    ends_read : (tree : TreeSeen) (hearing own : RunHearing) (asked : RequestInput) (error : Error) → HasManifest given hearing → own_heard given hearing ≡ Some (Ok had) → found.HearsAllDue own_check hearing.found
         → Asks own_check hearing.found asked → IsRunHearing given tree hearing → IsRunHearing given tree own → IsRunRefusal given own error → Bound error → MayEndLawful (cause_of error)
     ends_read tree hearing own asked error has heard due asks ran_lawful ran refusal bound =
         let there = is_there_by hearing has in
@@ -216,7 +216,7 @@ module _ (given : CheckAsked) (carried : uncarried_in given.check ≡ None) wher
         head.lawful hearing.found asked (record { begun = ran_lawful.begun.found; made = made_as (sym rest) hears.made }) due asks none_rose
 
     -- and by the content
-    ends_told : (content : Content) (tree : TreeSeen) (hearing own : RunHearing) (asked : CheckInput) (error : Error) → tree.told ≡ Some content → HasManifest given hearing
+    ends_told : (content : Content) (tree : TreeSeen) (hearing own : RunHearing) (asked : RequestInput) (error : Error) → tree.told ≡ Some content → HasManifest given hearing
         → own_heard given hearing ≡ Some (Ok had) → found.HearsAllDue own_check hearing.found → Asks own_check hearing.found asked → IsHeardOf given content tree.count_before hearing
         → ¬ (Rose tree.count_before tree.count_after) → IsRunHearing given tree own → IsRunRefusal given own error → Bound error → MayEndLawful (cause_of error)
     ends_told content tree hearing own asked error told has heard due asks hears quiet ran refusal bound =
@@ -399,7 +399,7 @@ module _ (given : RunArguments) (tree : TreeSeen) (counts : FaultCounts) (old ne
 -- ---- the headline
 
 -- a lawful check is carried
-carried_of : (given : CheckAsked) (own : CheckArguments) (hearing : RunHearing) (asked : CheckInput) → ComesToCheck given hearing own → Asks own hearing.found asked → uncarried_in given.check ≡ None
+carried_of : (given : CheckAsked) (own : CheckArguments) (hearing : RunHearing) (asked : RequestInput) → ComesToCheck given hearing own → Asks own hearing.found asked → uncarried_in given.check ≡ None
 carried_of given own hearing asked comes asks = subst (λ one. uncarried_in one ≡ None) comes.is asks.carried
 
 module _ (given : RunArguments) (tree : TreeSeen) (counts : FaultCounts) (old new : SinkTexts) (outcome : Outcome)

@@ -20,7 +20,7 @@ use Rattle.run_lists.specs.Found.{AnswersBy, FindsLists}
 use Rattle.run_lists.specs.Given.{ListsGiven}
 use Rattle.run_lists.specs.Heard.{given_heard}
 use Rattle.run_found.specs.declared.reads.CrateRead.{CrateRead}
-use Rattle.run_list.specs.Answer.{Asks, ListInput}
+use Rattle.run_list.specs.Answer.{Asks, RequestInput}
 use Rattle.run_list.specs.Complete.{IsHeardOf}
 use Rattle.run_list.specs.Script.{SinkSeen, WritesList, sink_seen}
 use Rattle.run_list.proofs.CompleteLemmas.{complete_told}
@@ -46,7 +46,7 @@ use Rattle.deny_run.proofs.OwnLemmas.{found_count}
 module _ (list : ListAsked) (tree : TreeSeen) (counts : FaultCounts) (old new : SinkTexts) (content : Content) (told : tree.told ≡ Some content)
     (before_is : tree.count_before ≡ counts.tree_before) (after_is : tree.count_after ≡ counts.tree_after) (quiet : IsWithoutFault counts)
     (there : HasManifestIn content list.list.request.context.manifest_path) (had : ListsGiven) (has : HasLists (list_handed_in list.list) list.own content had)
-    (hearing : RequestHearing) (asked : ListInput) (heard : IsHeardOf (list_by list.list had) content tree.count_before hearing) (asks : Asks (list_by list.list had) hearing asked) where
+    (hearing : RequestHearing) (asked : RequestInput) (heard : IsHeardOf (list_by list.list had) content tree.count_before hearing) (asks : Asks (list_by list.list had) hearing asked) where
   abbrev path : List ℕ
   path = list.list.request.context.manifest_path
 

@@ -21,7 +21,7 @@ use Rattle.run_check.specs.Found as check
 use Rattle.run_check.specs.Found.{HearsAllDue}
 use Rattle.run_check.specs.Given.{CheckArguments}
 use Rattle.run_check.specs.Headline.{TellsContent}
-use Rattle.run_check.specs.Report.{Asks, CheckInput, GivesVerdicts, IsReport, IsReportOf, TellsVerdicts}
+use Rattle.run_check.specs.Report.{Asks, RequestInput, GivesVerdicts, IsReport, IsReportOf, TellsVerdicts}
 use Rattle.run_check.proofs.ReportAlike.{counted_alike, each_back, each_front}
 use Rattle.deny_run.specs.Headline.{IsHeardOf}
 use Rattle.deny_run.specs.Hearing.{ComesToCheck, RunHearing, calls_behind, calls_of, found_calls, manifest_asked, manifest_in, own_calls, own_heard}
@@ -45,7 +45,7 @@ module _ (given : CheckArguments) (level : LevelFilter) (found : RequestHearing)
   hears_all : HearsAllDue given found → HearsAllDue other found
   hears_all own = record { policy = hears_policy own.policy; metadata = own.metadata }
 
-  asks_as : (asked : CheckInput) → Asks given found asked → Asks other found asked
+  asks_as : (asked : RequestInput) → Asks given found asked → Asks other found asked
   asks_as asked own = record {
     carried = own.carried;
     policy = record {
@@ -72,7 +72,7 @@ module _ (given : CheckArguments) (level : LevelFilter) (found : RequestHearing)
       verdict = own.verdict;
     }
 
-    gives_as : (asked : CheckInput) → GivesVerdicts given found asked report → GivesVerdicts other found asked report
+    gives_as : (asked : RequestInput) → GivesVerdicts given found asked report → GivesVerdicts other found asked report
     gives_as asked own = record {
       policy = own.policy;
       file = own.file;

@@ -20,7 +20,7 @@ use Rattle.run_lists.specs.Found.{AnswersBy, FindsLists}
 use Rattle.run_lists.specs.Given.{ListsGiven}
 use Rattle.run_lists.specs.Heard.{given_heard}
 use Rattle.run_check.specs.Headline.{IsHeardOf}
-use Rattle.run_check.specs.Report.{Asks, CheckInput}
+use Rattle.run_check.specs.Report.{Asks, RequestInput}
 use Rattle.run_list.specs.Script.{SinkSeen, sink_seen}
 use Rattle.run_record.specs.declared.verdicts.VerifiedCrates.{VerifiedCrates}
 use Rattle.run_record.specs.Complete.{IsLawfulIn, MayEndVerify}
@@ -49,7 +49,7 @@ use Rattle.deny_run.proofs.OwnLemmas.{found_count}
 
 -- ---- what comes before a lawful command
 
-module _ (command : CommandAsked) (content : Content) (own : ListsGiven) (hearing : RequestHearing) (asked : CheckInput) (count : ℕ) (lawful : IsLawfulCommand command content count own hearing asked) where
+module _ (command : CommandAsked) (content : Content) (own : ListsGiven) (hearing : RequestHearing) (asked : RequestInput) (count : ℕ) (lawful : IsLawfulCommand command content count own hearing asked) where
   abbrev path : List ℕ
   path = command.context.manifest_path
 
@@ -137,7 +137,7 @@ module _ (command : CommandAsked) (content : Content) (own : ListsGiven) (hearin
 
 module _ (command : CommandAsked) (tree : TreeSeen) (counts : FaultCounts) (old new : SinkTexts) (content : Content) (told : tree.told ≡ Some content)
     (before_is : tree.count_before ≡ counts.tree_before) (after_is : tree.count_after ≡ counts.tree_after) (quiet : IsWithoutFault counts)
-    (own : ListsGiven) (hearing : RequestHearing) (asked : CheckInput) (lawful : IsLawfulCommand command content tree.count_before own hearing asked) where
+    (own : ListsGiven) (hearing : RequestHearing) (asked : RequestInput) (lawful : IsLawfulCommand command content tree.count_before own hearing asked) where
   still : ¬ (Rose tree.count_before tree.count_after)
   still = subst (λ n. ¬ (Rose n tree.count_after)) (sym before_is) (subst (λ n. ¬ (Rose counts.tree_before n)) (sym after_is) quiet.tree)
 
@@ -278,7 +278,7 @@ module _ (command : CommandAsked) (tree : TreeSeen) (counts : FaultCounts) (old 
 
 module _ (given : RunArguments) (tree : TreeSeen) (counts : FaultCounts) (old new : SinkTexts) (outcome : Outcome) (is : IsOutcome given tree counts old new outcome.request outcome.ended)
     (before_is : tree.count_before ≡ counts.tree_before) (after_is : tree.count_after ≡ counts.tree_after) (content : Content) (told : tree.told ≡ Some content) where
-  lawful_at : (command : CommandAsked) (own : ListsGiven) (hearing : RequestHearing) (asked : CheckInput) → IsLawfulCommand command content counts.tree_before own hearing asked
+  lawful_at : (command : CommandAsked) (own : ListsGiven) (hearing : RequestHearing) (asked : RequestInput) → IsLawfulCommand command content counts.tree_before own hearing asked
       → IsLawfulCommand command content tree.count_before own hearing asked
   lawful_at command own hearing asked lawful = subst (λ n. IsLawfulCommand command content n own hearing asked) (sym before_is) lawful
 

@@ -29,7 +29,7 @@ use Rattle.run_check.specs.declared.report.Report.{Report}
 use Rattle.run_check.specs.Found.{HearsAllDue}
 use Rattle.run_check.specs.Given.{CheckArguments}
 use Rattle.run_check.specs.Headline.{TellsContent, is_against}
-use Rattle.run_check.specs.Report.{Asks, CheckInput, TellsVerdicts}
+use Rattle.run_check.specs.Report.{Asks, RequestInput, TellsVerdicts}
 use Rattle.deny_run.specs.declared.outcome.Outcome.{Outcome}
 use Rattle.deny_run.specs.declared.outcome.RunEnd.{RunEnd}
 use Rattle.deny_run.specs.declared.outcome.RunEnd.TheVariants.{Checked, Listed, Sampled, Recorded, Verified, Shown, Usage, Refused}
@@ -70,7 +70,7 @@ TellsAgainst given outcome =
 
 -- What is lawful: the words ask for this check, what was heard comes to it, by an organisation's own names and texts where some are asked
 -- for, and asks to check this.
-pub record IsLawful (given : RunArguments) (check : CheckAsked) (hearing : RunHearing) (asked : CheckInput) : Type 0 where
+pub record IsLawful (given : RunArguments) (check : CheckAsked) (hearing : RunHearing) (asked : RequestInput) : Type 0 where
   pub words : AsksCheck given check
   pub own : CheckArguments
   pub comes : ComesToCheck check hearing own
@@ -92,7 +92,7 @@ pub record HasVerdictsRead (given : RunArguments) (tree : TreeSeen) (outcome : O
 pub record HeadlineRead (given : RunArguments) (tree : TreeSeen) (counts : FaultCounts) (outcome : Outcome) : Type 0 where
   pub verdicts : (report : Report) → outcome.ended ≡ Checked report → HasVerdictsRead given tree outcome report
   pub status : TellsAgainst given outcome
-  pub lawful : (check : CheckAsked) (hearing : RunHearing) (asked : CheckInput) → IsRunHearing check tree hearing → IsLawful given check hearing asked
+  pub lawful : (check : CheckAsked) (hearing : RunHearing) (asked : RequestInput) → IsRunHearing check tree hearing → IsLawful given check hearing asked
       → IsWithoutFault counts → EndsInReport outcome.ended
 
 -- ---- by a content
@@ -118,5 +118,5 @@ pub record HasVerdictsIn (given : RunArguments) (content : Content) (before afte
 pub record Headline (given : RunArguments) (content : Content) (counts : FaultCounts) (outcome : Outcome) : Type 0 where
   pub verdicts : (report : Report) → outcome.ended ≡ Checked report → HasVerdictsIn given content counts.tree_before counts.tree_after outcome report
   pub status : TellsAgainst given outcome
-  pub lawful : (check : CheckAsked) (hearing : RunHearing) (asked : CheckInput) → IsHeardOf check content counts.tree_before hearing → IsLawful given check hearing asked
+  pub lawful : (check : CheckAsked) (hearing : RunHearing) (asked : RequestInput) → IsHeardOf check content counts.tree_before hearing → IsLawful given check hearing asked
       → IsWithoutFault counts → EndsInReport outcome.ended

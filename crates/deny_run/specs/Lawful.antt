@@ -12,7 +12,7 @@ use Rattle.run_found.specs.Error.{MayEndLawful, cause_of}
 use Rattle.run_found.specs.Hearing.{RequestHearing}
 use Rattle.run_lists.specs.Given.{ListsAsked, ListsGiven}
 use Rattle.run_lists.specs.Heard.{ListsHearing, given_heard, lists_calls}
-use Rattle.run_list.specs.Answer.{Asks, ListInput}
+use Rattle.run_list.specs.Answer.{Asks, RequestInput}
 use Rattle.run_list.specs.Complete.{IsHeardOf, TellsContent}
 use Rattle.deny_run.specs.declared.outcome.Outcome.{Outcome}
 use Rattle.deny_run.specs.declared.outcome.RunEnd.{RunEnd}
@@ -54,6 +54,6 @@ EndsInListing (Refused error) = MayEndLawful (cause_of error)
 
 abbrev pub IsListComplete : RunArguments → Content → FaultCounts → Outcome → Type 0
 IsListComplete given content counts outcome =
-    (list : ListAsked) (had : ListsGiven) (hearing : RequestHearing) (asked : ListInput) → AsksList given list → HasManifestIn content list.list.request.context.manifest_path
+    (list : ListAsked) (had : ListsGiven) (hearing : RequestHearing) (asked : RequestInput) → AsksList given list → HasManifestIn content list.list.request.context.manifest_path
     → HasLists (list_handed_in list.list) list.own content had → IsHeardOf (list_by list.list had) content counts.tree_before hearing → Asks (list_by list.list had) hearing asked
     → IsWithoutFault counts → EndsInListing outcome.ended

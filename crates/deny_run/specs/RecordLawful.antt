@@ -11,7 +11,7 @@ use Rattle.run_found.specs.Error.{MayEndLawful, cause_of}
 use Rattle.run_found.specs.Hearing.{RequestHearing}
 use Rattle.run_lists.specs.Given.{ListsGiven}
 use Rattle.run_check.specs.Headline.{IsHeardOf}
-use Rattle.run_check.specs.Report.{Asks, CheckInput}
+use Rattle.run_check.specs.Report.{Asks, RequestInput}
 use Rattle.run_record.specs.Complete.{MayEndVerify}
 use Rattle.deny_run.specs.declared.outcome.Outcome.{Outcome}
 use Rattle.deny_run.specs.declared.outcome.RunEnd.{RunEnd}
@@ -29,7 +29,7 @@ pub record AsksCommand (given : RunArguments) (asked : Subcommand) (command : Co
   pub is : command ≡ command_asked given.lists given.match_of request
 
 -- nothing refuses it: by the content, the manifest is there, names and texts are had, and a check of the crates would have its report
-pub record IsLawfulCommand (command : CommandAsked) (content : Content) (count : ℕ) (had : ListsGiven) (hearing : RequestHearing) (asked : CheckInput) : Type 0 where
+pub record IsLawfulCommand (command : CommandAsked) (content : Content) (count : ℕ) (had : ListsGiven) (hearing : RequestHearing) (asked : RequestInput) : Type 0 where
   pub manifest : HasManifestIn content command.context.manifest_path
   pub lists : HasLists command.handed command.own content had
   pub heard : IsHeardOf (arguments_by command had) content count hearing
@@ -59,10 +59,10 @@ EndsInAnswer (Refused error) = MayEndVerify error
 
 abbrev pub IsRecordComplete : RunArguments → Content → FaultCounts → Outcome → Type 0
 IsRecordComplete given content counts outcome =
-    (command : CommandAsked) (had : ListsGiven) (hearing : RequestHearing) (asked : CheckInput) → AsksCommand given Record command
+    (command : CommandAsked) (had : ListsGiven) (hearing : RequestHearing) (asked : RequestInput) → AsksCommand given Record command
     → IsLawfulCommand command content counts.tree_before had hearing asked → IsWithoutFault counts → EndsInRecord outcome.ended
 
 abbrev pub IsVerifyComplete : RunArguments → Content → FaultCounts → Outcome → Type 0
 IsVerifyComplete given content counts outcome =
-    (command : CommandAsked) (path : List ℕ) (had : ListsGiven) (hearing : RequestHearing) (asked : CheckInput) → AsksCommand given (Verify path) command
+    (command : CommandAsked) (path : List ℕ) (had : ListsGiven) (hearing : RequestHearing) (asked : RequestInput) → AsksCommand given (Verify path) command
     → IsLawfulCommand command content counts.tree_before had hearing asked → IsWithoutFault counts → EndsInAnswer outcome.ended

@@ -112,9 +112,22 @@ RefusesListUncarried lists match_of tree request ended =
     (args : ListArgs) (what : What) → request.command ≡ Listing args → listing.uncarried_in (list_asked lists match_of request args).list ≡ Some what
     → (ended ≡ Refused (NotCarried what)) × IsUntouched tree
 
+abbrev pub RefusesRecordUncarried : TreeSeen → Request → RunEnd → Type 0
+RefusesRecordUncarried tree request ended =
+    (what : What) → request.command ≡ Record → listing.uncarried_of request.log_ctx request.krate_ctx ≡ Some what
+    → (ended ≡ Refused (NotCarried what)) × IsUntouched tree
+
+abbrev pub RefusesVerifyUncarried : TreeSeen → Request → RunEnd → Type 0
+RefusesVerifyUncarried tree request ended =
+    (path : List ℕ) (what : What) → request.command ≡ Verify path → listing.uncarried_of request.log_ctx request.krate_ctx ≡ Some what
+    → (ended ≡ Refused (NotCarried what)) × IsUntouched tree
+
 abbrev pub RefusesUncarried : CatalogLists → (List ℕ → Match) → TreeSeen → Request → RunEnd → Type 0
 RefusesUncarried lists match_of tree request ended =
-    RefusesCheckUncarried lists match_of tree request ended × RefusesListUncarried lists match_of tree request ended
+    RefusesCheckUncarried lists match_of tree request ended
+    × RefusesListUncarried lists match_of tree request ended
+    × RefusesRecordUncarried tree request ended
+    × RefusesVerifyUncarried tree request ended
 
 -- ---- words
 

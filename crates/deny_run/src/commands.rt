@@ -1,8 +1,9 @@
 //! The commands without options of their own: what comes before them, and the two commands of a verdict file.
-ghost use Rattle.std.specs.Prelude.{◌≡◌, ◌≢◌, ◌≤◌, Err, IfErr, None};
+ghost use Rattle.std.specs.Prelude.{◌≡◌, ◌≢◌, ◌≤◌, Err, IfErr, None, Some};
 ghost use Rattle.tree_core.specs.Hearing.{MadeSome};
 ghost use Rattle.tree_texts.specs.declared.fault.ReadFault.{ReadFault};
 ghost use Rattle.tree_texts.specs.Cause.{ReadCounts};
+ghost use Rattle.graph_workspace.specs.declared.error.What.{What};
 ghost use Rattle.run_found.specs.Error.{cause_of};
 ghost use Rattle.run_found.specs.Hearing.{seen};
 ghost use Rattle.run_lists.specs.Found.{found_answer};
@@ -10,6 +11,7 @@ ghost use Rattle.run_list.specs.Carried.{uncarried_of};
 ghost use Rattle.run_list.specs.Script.{sink_seen};
 ghost use Rattle.deny_run.specs.Commands.{ComesTo, RecordsRun, VerifiesRun};
 ghost use Rattle.deny_run.specs.Given.{command_asked};
+ghost use Rattle.deny_run.specs.Words.{IsUntouched};
 
 use crate::manifest::look_at_manifest;
 use crate::own::own_lists;
@@ -37,6 +39,10 @@ fn lists_of_request<'g, T: Tree, C: Catalog, I: Identifier>(
         (T.trace tree.old) (T.trace tree.new))
         (found_answer C.lists I.match_of result) }
     ensures policy { IfErr result (λ error. error ≢ Error.ConfigRead ReadFault.Absent) }
+    ensures uncarried { (what : What) → uncarried_of request.now.log_ctx request.now.krate_ctx ≡ Some what
+        → (result ≡ Err (Error.NotCarried what)) × IsUntouched
+        (seen (T.content tree.old) (T.content tree.new) (T.fault_count tree.old) (T.fault_count tree.new)
+        (T.trace tree.old) (T.trace tree.new)) }
     ensures counts { IfErr result (λ error. ReadCounts
         (T.fault_count tree.old) (T.fault_count tree.old) (T.fault_count tree.new) (cause_of error)) }
 {
@@ -95,6 +101,10 @@ pub fn record_request<T: Tree, O: Sink, E: Sink, C: Catalog, I: Identifier>(
         (sink_seen (E.written err.old) (E.written err.new) (E.fault_count err.old) (E.fault_count err.new))
         (sink_seen (O.written out.old) (O.written out.new) (O.fault_count out.old) (O.fault_count out.new))
         result }
+    ensures uncarried { (what : What) → uncarried_of request.now.log_ctx request.now.krate_ctx ≡ Some what
+        → (result ≡ Err (Error.NotCarried what)) × IsUntouched
+        (seen (T.content tree.old) (T.content tree.new) (T.fault_count tree.old) (T.fault_count tree.new)
+        (T.trace tree.old) (T.trace tree.new)) }
     ensures out_later { O.fault_count out.old ≤ O.fault_count out.new }
     ensures err_later { E.fault_count err.old ≤ E.fault_count err.new }
 {
@@ -137,6 +147,10 @@ pub fn verify_request<T: Tree, O: Sink, E: Sink, C: Catalog, I: Identifier>(
         (sink_seen (E.written err.old) (E.written err.new) (E.fault_count err.old) (E.fault_count err.new))
         (sink_seen (O.written out.old) (O.written out.new) (O.fault_count out.old) (O.fault_count out.new))
         result }
+    ensures uncarried { (what : What) → uncarried_of request.now.log_ctx request.now.krate_ctx ≡ Some what
+        → (result ≡ Err (Error.NotCarried what)) × IsUntouched
+        (seen (T.content tree.old) (T.content tree.new) (T.fault_count tree.old) (T.fault_count tree.new)
+        (T.trace tree.old) (T.trace tree.new)) }
     ensures out_later { O.fault_count out.old ≤ O.fault_count out.new }
     ensures err_later { E.fault_count err.old ≤ E.fault_count err.new }
 {

@@ -12,18 +12,18 @@ use Rattle.spdx_terms.specs.declared.mode.ParseMode.{ParseMode}
 use Rattle.spdx_terms.specs.declared.term.LicenseReq.{LicenseReq}
 use Rattle.toml_subset.specs.Written.{WrittenString}
 use Rattle.toml_shapes.specs.Shapes.{fault_alone, custom}
-use Rattle.policy_entries.specs.Licensees.{policy_mode, place_in, licensee_by, licensee_in, part_in}
+use Rattle.policy_entries.specs.Licensees.{named_mode, place_in, licensee_by, licensee_in, part_in}
 
 part_is : {mode : ParseMode} {items : List Item} {req : LicenseReq} → IsOnePart mode items req → part_of items ≡ Some req
 part_is (alone named span ok) = refl
 part_is (with_exception named name first second third ok) = refl
 
-pub licensee_read : (lists : CatalogLists) (string : WrittenString) (whole : Span) (req : LicenseReq) → IsLicensee policy_mode lists string.text req
+pub licensee_read : (lists : CatalogLists) (string : WrittenString) (whole : Span) (req : LicenseReq) → IsLicensee named_mode lists string.text req
     → licensee_in lists string whole ≡ Ok (record { 0 = record { value = req; span = whole } })
 licensee_read lists string whole req one =
-    ap (λ fault. licensee_by string whole fault (part_in lists string.text)) ((licensee_or_fault policy_mode lists string.text).1 (req, one))
+    ap (λ fault. licensee_by string whole fault (part_in lists string.text)) ((licensee_or_fault named_mode lists string.text).1 (req, one))
     ∙ ap (licensee_by string whole None) (part_is one)
 
-pub licensee_refused : (lists : CatalogLists) (string : WrittenString) (whole : Span) (fault : ParseError) → licensee_fault policy_mode lists string.text ≡ Some fault
+pub licensee_refused : (lists : CatalogLists) (string : WrittenString) (whole : Span) (fault : ParseError) → licensee_fault named_mode lists string.text ≡ Some fault
     → licensee_in lists string whole ≡ Err (fault_alone (custom (reason_text fault.reason)) (place_in string whole fault.span))
 licensee_refused lists string whole fault is = ap (λ found. licensee_by string whole found (part_in lists string.text)) is

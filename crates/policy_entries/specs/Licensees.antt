@@ -1,5 +1,5 @@
 -- Licensees that a policy names: strings that are one licence or reference, perhaps with an exception.
-use Rattle.std.specs.Prelude.{ℕ, ◌^◌, ◌+◌, ◌-◌, min, Bool, true, false, if◌then◌else◌, List, [], codes, Option, Some, None, Ok, Err}
+use Rattle.std.specs.Prelude.{ℕ, ◌^◌, ◌+◌, ◌-◌, min, if◌then◌else◌, List, [], codes, Option, Some, None, Ok, Err}
 use Rattle.spdx_catalog.specs.Catalog.{CatalogLists}
 use Rattle.deny_text.specs.declared.span.Span.{Span}
 use Rattle.spdx_terms.specs.Faults.{licensee_fault, licensee_mode}
@@ -7,8 +7,8 @@ use Rattle.spdx_terms.specs.Items.{items_of}
 use Rattle.spdx_terms.specs.Licensee.{part_of}
 use Rattle.spdx_terms.specs.Reasons.{reason_text}
 use Rattle.spdx_terms.specs.declared.error.ParseError.{ParseError}
-use Rattle.spdx_terms.specs.declared.mode.ParseMode.{ParseMode}
 use Rattle.spdx_terms.specs.declared.term.LicenseReq.{LicenseReq}
+pub use Rattle.spdx_core.specs.Printing.{named_mode}
 use Rattle.toml_subset.specs.Data.{Toml}
 use Rattle.toml_subset.specs.Written.{WrittenString}
 use Rattle.toml_shapes.specs.Shaped.{ShapeReading, shaped_then}
@@ -16,15 +16,6 @@ use Rattle.toml_shapes.specs.Shapes.{fault_alone, custom}
 use Rattle.toml_value.specs.Taken.{string_of}
 use Rattle.policy_toml.specs.Readings.{list_of}
 use Rattle.policy_entries.specs.declared.licensee.Licensee.{Licensee}
-
--- names that the catalogue calls deprecated are taken
-abbrev pub policy_mode : ParseMode
-policy_mode = record {
-  allow_deprecated = true;
-  allow_imprecise_license_names = false;
-  allow_postfix_plus_on_gpl = false;
-  allow_slash_as_or_operator = false;
-}
 
 -- a place that counts from another, cut to 64 bits: no place of a text lies there
 abbrev pub place_from : ℕ → ℕ → ℕ
@@ -46,11 +37,11 @@ licensee_by string whole None None = Err []
 
 -- the term that a text names
 abbrev pub part_in : CatalogLists → List ℕ → Option LicenseReq
-part_in lists text = part_of (items_of (licensee_mode policy_mode) lists text)
+part_in lists text = part_of (items_of (licensee_mode named_mode) lists text)
 
 -- a string at a place
 abbrev pub licensee_in : CatalogLists → WrittenString → Span → ShapeReading Licensee
-licensee_in lists string whole = licensee_by string whole (licensee_fault policy_mode lists string.text) (part_in lists string.text)
+licensee_in lists string whole = licensee_by string whole (licensee_fault named_mode lists string.text) (part_in lists string.text)
 
 abbrev pub licensee_of : CatalogLists → Toml → ShapeReading Licensee
 licensee_of lists value =

@@ -25,7 +25,7 @@ use Rattle.policy_spec.specs.Reading.{spec_of, rest_of_spec}
 use Rattle.policy_spec.specs.Spec.{Spec}
 use Rattle.policy_entries.specs.Clarifications.{written_of, clarified_at, clarification_of}
 use Rattle.policy_entries.specs.Exceptions.{allowed_at, exception_of, exceptions_of, exceptions_file_at, exceptions_file_of}
-use Rattle.policy_entries.specs.Licensees.{policy_mode, moved, place_in, licensee_by, part_in, licensee_in, licensee_of, licensees_of}
+use Rattle.policy_entries.specs.Licensees.{named_mode, moved, place_in, licensee_by, part_in, licensee_in, licensee_of, licensees_of}
 use Rattle.policy_entries.specs.WithSpec.{with_spec}
 use Rattle.policy_entries.specs.declared.exception.Exception.{Exception}
 use Rattle.policy_entries.specs.declared.licensee.Licensee.{Licensee}
@@ -70,13 +70,13 @@ module _ (text : List ℕ) (utf8 : IsUtf8 text) where
 
   module _ (fits : length text < 2 ^ 64) (lists : CatalogLists) (laws : IsCatalog lists) where
     plain_fault : (string : WrittenString) (whole : Span) (fault : ParseError) → LiesBetween text whole → string.text ≡ slice_range text whole.start whole.end
-        → licensee_fault policy_mode lists string.text ≡ Some fault → LiesBetween text (moved whole.start fault.span)
+        → licensee_fault named_mode lists string.text ≡ Some fault → LiesBetween text (moved whole.start fault.span)
     plain_fault string whole fault lies spelled is =
-        let inner = licensee_fault_lies policy_mode lists string.text fault laws (subst IsUtf8 (sym spelled) (part_is_text text whole utf8 lies)) is in
+        let inner = licensee_fault_lies named_mode lists string.text fault laws (subst IsUtf8 (sym spelled) (part_is_text text whole utf8 lies)) is in
         moved_lies text whole lies fits fault.span (subst (λ (s : List ℕ). LiesBetween s fault.span) spelled inner)
 
     fault_place : (string : WrittenString) (whole : Span) (fault : ParseError) → LiesBetween text whole → IsSpelled text whole string
-        → licensee_fault policy_mode lists string.text ≡ Some fault → LiesBetween text (place_in string whole fault.span)
+        → licensee_fault named_mode lists string.text ≡ Some fault → LiesBetween text (place_in string whole fault.span)
     fault_place string whole fault lies spelled is =
         elim string.escaped as (λ b. string.escaped ≡ b → LiesBetween text (cond b whole (moved whole.start fault.span))) [
           | true ↦ λ e. lies
@@ -84,7 +84,7 @@ module _ (text : List ℕ) (utf8 : IsUtf8 text) where
         ] refl
 
     licensee_by_stays : (string : WrittenString) (whole : Span) (fault : Option ParseError) (part : Option LicenseReq) → LiesBetween text whole
-        → IsSpelled text whole string → licensee_fault policy_mode lists string.text ≡ fault → StaysIn licensee_keeps text (licensee_by string whole fault part)
+        → IsSpelled text whole string → licensee_fault named_mode lists string.text ≡ fault → StaysIn licensee_keeps text (licensee_by string whole fault part)
     licensee_by_stays string whole (Some fault) part lies spelled is = (fault_place string whole fault lies spelled is, tt)
     licensee_by_stays string whole None (Some req) lies spelled is = lies
     licensee_by_stays string whole None None lies spelled is = tt
@@ -92,7 +92,7 @@ module _ (text : List ℕ) (utf8 : IsUtf8 text) where
     pub licensee_stays : KeepsPlacesIn text licensee_keeps (licensee_of lists)
     licensee_stays value placed =
         then_stays text (keeps_spelling value.span) licensee_keeps (λ (string : WrittenString). licensee_in lists string value.span) (string_of (codes "an SPDX licensee string") value)
-        (λ string spelled. licensee_by_stays string value.span (licensee_fault policy_mode lists string.text) (part_in lists string.text) placed.0 spelled refl)
+        (λ string spelled. licensee_by_stays string value.span (licensee_fault named_mode lists string.text) (part_in lists string.text) placed.0 spelled refl)
         (spelled_string text (codes "an SPDX licensee string") value placed)
 
     pub licensees_stay : KeepsPlacesIn text (keeps_each licensee_keeps) (licensees_of lists)

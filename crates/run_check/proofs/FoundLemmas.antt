@@ -23,7 +23,7 @@ use Rattle.run_found.proofs.FoundLemmas.{bind-Err, bind-Ok}
 use Rattle.run_check.specs.Carried.{parts_of, uncarried_in}
 use Rattle.run_check.specs.Found.{HearsAllDue, HearsDue, calls_by, calls_of, check_input_of, metadata_by, metadata_due, policy_asked, unless_twice, unless_uncarried}
 use Rattle.run_check.specs.Given.{CheckArguments}
-use Rattle.run_check.specs.Report.{Asks, CheckInput}
+use Rattle.run_check.specs.Report.{Asks, RequestInput}
 use Rattle.run_check.specs.Script.{load_text_by, load_text_heard}
 
 module _ (given : CheckArguments) (hearing : RequestHearing) (carried : uncarried_in given ≡ None) where
@@ -89,7 +89,7 @@ module _ (given : CheckArguments) (hearing : RequestHearing) where
         bind-Ok (policy_asked given hearing) _ policy _ is (ap (λ one. one >>= λ graph. Ok (record { policy = policy; graph = graph })) tells)
 
 -- lawful input is found
-pub input_by_Asks : (given : CheckArguments) (hearing : RequestHearing) (asked : CheckInput) → Asks given hearing asked
+pub input_by_Asks : (given : CheckArguments) (hearing : RequestHearing) (asked : RequestInput) → Asks given hearing asked
     → check_input_of given hearing ≡ Ok (record { policy = asked.policy; graph = asked.graph })
 input_by_Asks given hearing asked asks =
     input-graph given hearing asked.policy

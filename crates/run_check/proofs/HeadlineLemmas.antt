@@ -24,8 +24,8 @@ use Rattle.run_found.proofs.AnsweredLemmas.{IsSame, IsToldBy, all_fair, same_ste
 use Rattle.run_check.specs.declared.report.Report.{Report}
 use Rattle.run_check.specs.Found.{FoundInput, HearsAllDue, HearsDue, IsCheckHearing, all_gathered, calls_of, check_input_of, turns_in}
 use Rattle.run_check.specs.Given.{CheckArguments}
-use Rattle.run_check.specs.Headline.{CheckHeadline, CheckHeadlineRead, EndsInReport, IsHeardOf, TellsAgainst, TellsContent, is_against}
-use Rattle.run_check.specs.Report.{Asks, CheckInput, IsAnsweredBy, IsRefusal, IsRefusedCheck, IsReport, Refuses, RefusesSelection, verdicts_in}
+use Rattle.run_check.specs.Headline.{CheckHeadline, CheckHeadlineRead, EndsLawful, IsHeardOf, TellsAgainst, TellsContent, is_against}
+use Rattle.run_check.specs.Report.{Asks, RequestInput, IsAnsweredBy, IsRefusal, IsRefusedCheck, IsReport, Refuses, RefusesSelection, verdicts_in}
 use Rattle.run_check.specs.Script.{CheckWritten, RefusalWritten, WritesCheck}
 use Rattle.run_check.proofs.CountLemmas.{none_against, none_counted}
 use Rattle.run_check.proofs.FoundLemmas.{input_by_Asks}
@@ -33,7 +33,7 @@ use Rattle.run_check.proofs.HeardAlike.{found_alike}
 
 -- ---- lawful input is not refused
 
-module _ (given : CheckArguments) (hearing : RequestHearing) (asked : CheckInput) (asks : Asks given hearing asked) where
+module _ (given : CheckArguments) (hearing : RequestHearing) (asked : RequestInput) (asks : Asks given hearing asked) where
   -- it has a selection
   selection_apart : (error : Error) → RefusesSelection given (record { policy = asked.policy; graph = asked.graph }) error → ⊥
   selection_apart Memory refuses = refuses
@@ -68,7 +68,7 @@ module _ (given : CheckArguments) (hearing : RequestHearing) (asked : CheckInput
 -- ---- the same calls
 
 -- by what was read, lawful input is not refused
-not_refused_read : (given : CheckArguments) (tree : TreeSeen) (hearing own : RequestHearing) (asked : CheckInput) (error : Error) → IsCheckHearing given tree hearing → HearsAllDue given hearing → Asks given hearing asked
+not_refused_read : (given : CheckArguments) (tree : TreeSeen) (hearing own : RequestHearing) (asked : RequestInput) (error : Error) → IsCheckHearing given tree hearing → HearsAllDue given hearing → Asks given hearing asked
     → IsCheckHearing given tree own → IsRefusal given own error → ⊥
 not_refused_read given tree hearing own asked error heard due asks ran refusal =
     let same = append_cancel_left tree.calls_before (calls_of given own) (calls_of given hearing) (sym ran.made.traced ∙ heard.made.traced) in
@@ -78,7 +78,7 @@ not_refused_read given tree hearing own asked error heard due asks ran refusal =
 -- ---- the same content
 
 -- over a content, lawful input is not refused without a fault
-pub not_refused_told : (given : CheckArguments) (content : Content) (tree : TreeSeen) (hearing own : RequestHearing) (asked : CheckInput) (error : Error) → tree.told ≡ Some content
+pub not_refused_told : (given : CheckArguments) (content : Content) (tree : TreeSeen) (hearing own : RequestHearing) (asked : RequestInput) (error : Error) → tree.told ≡ Some content
     → IsHeardOf given content tree.count_before hearing → Asks given hearing asked → ¬ (Rose tree.count_before tree.count_after) → IsCheckHearing given tree own → IsRefusal given own error → ⊥
 not_refused_told given content tree hearing own asked error told heard asks quiet ran refusal =
     let says = recursion_from_All (Says content) (calls_of given own) (ran.made.says content told) in
@@ -102,7 +102,7 @@ lawful_cause given tree text old new before after hearing error (refused_write f
 -- lawful input without a fault ends in a report or in want of memory
 ends_lawful : (given : CheckArguments) (tree : TreeSeen) (text : List ℕ) (old new : Option (List ℕ)) (before after : ℕ) (hearing : RequestHearing) (answer : Result Report Error)
     → IsAnsweredBy given tree hearing answer → ((error : Error) → IsCheckHearing given tree hearing → IsRefusal given hearing error → ⊥)
-    → CheckWritten given tree text old new before after answer → ¬ (Rose before after) → EndsInReport answer
+    → CheckWritten given tree text old new before after answer → ¬ (Rose before after) → EndsLawful answer
 ends_lawful given tree text old new before after hearing (Ok report) answers fails written quiet = tt
 ends_lawful given tree text old new before after hearing (Err error) answers fails written quiet =
     lawful_cause given tree text old new before after hearing error (cause_of error) answers (fails error) written quiet

@@ -44,7 +44,7 @@ use Rattle.run_check.specs.declared.report.Report.{Report}
 use Rattle.run_check.specs.Found.{FoundInput, all_gathered, calls_of, scanner_of_given, turns_in}
 use Rattle.run_check.specs.Given.{CheckArguments}
 use Rattle.run_check.specs.Headline.{TellsContent}
-use Rattle.run_check.specs.Report.{CheckInput, IsReport, verdicts_in}
+use Rattle.run_check.specs.Report.{RequestInput, IsReport, verdicts_in}
 use Rattle.run_check.proofs.FoundLemmas.{input_by_Asks}
 use Rattle.run_check.proofs.HeardAlike.{FindsAlike, finds_alike}
 use Rattle.run_check.proofs.OrderAlike.{lists_alike, policy_alike}
@@ -204,10 +204,10 @@ module _ (given : CheckArguments) (content : Content) (one other : RequestHearin
       finds_alike BothTold both_step given first.verdicts.asks.carried one other begun first.verdicts.due second.verdicts.due
       (told, tells)
 
-  abbrev asked : CheckInput
+  abbrev asked : RequestInput
   asked = first.verdicts.asked
 
-  abbrev asks : CheckInput
+  abbrev asks : RequestInput
   asks = second.verdicts.asked
 
   input_alike : ◌≡◌ {A = Result FoundInput Error} (Ok (record { policy = asked.policy; graph = asked.graph })) (Ok (record { policy = asks.policy; graph = asks.graph }))

@@ -2,8 +2,6 @@
 use Rattle.std.specs.Prelude.{Bool, true, false, not, ◌&&◌, ◌==◌, List, [], ◌∷◌, find, length, is_none, is_some, Option, option_map}
 use Rattle.std.specs.List.{list_all, list_any}
 use Rattle.graph_selection.specs.Choice.{is_uncarried}
-use Rattle.diag_print.specs.declared.context.Format.{Format}
-use Rattle.diag_print.specs.declared.context.Format.TheVariants.{Human, Json, Sarif}
 use Rattle.diag_print.specs.declared.context.LogContext.{LogContext}
 use Rattle.run_request.specs.declared.check.Args.{Args}
 use Rattle.run_request.specs.declared.context.KrateContext.{KrateContext}
@@ -11,6 +9,7 @@ use Rattle.run_request.specs.declared.level.WhichCheck.{WhichCheck}
 use Rattle.run_request.specs.declared.level.WhichCheck.TheVariants as which
 use Rattle.graph_workspace.specs.declared.error.What.{What}
 use Rattle.graph_workspace.specs.declared.error.What.TheVariants as what
+use Rattle.run_found.specs.Carried.{is_sarif}
 use Rattle.run_check.specs.Given.{CheckArguments}
 
 abbrev pub is_licenses : WhichCheck → Bool
@@ -23,11 +22,6 @@ is_licenses which.All = false
 -- licences are named, once or more, and nothing else
 abbrev pub names_licenses : List WhichCheck → Bool
 names_licenses checks = not (length checks == 0) && list_all is_licenses checks
-
-abbrev pub is_sarif : Format → Bool
-is_sarif Human = false
-is_sarif Json = false
-is_sarif Sarif = true
 
 -- whether a part of the request is so that it is not carried, part after part
 abbrev pub parts_of : LogContext → Args → KrateContext → List (Bool × What)

@@ -7,7 +7,7 @@
 --
 -- And the same of what was read, over any tree, real folders too. Without overrides: the request's three lists of codes and
 -- levels are empty. Lawful: a request and files that nothing refuses.
-use Rattle.std.specs.Prelude.{◌≡◌, ℕ, Bool, true, false, All, Result, Ok, Err, ⊤}
+use Rattle.std.specs.Prelude.{◌≡◌, ℕ, Bool, true, false, All, Result, Ok}
 use Rattle.tree_core.specs.Content.{Content}
 use Rattle.tree_core.specs.Faults.{Rose}
 use Rattle.tree_core.specs.Trace.{Says, faults_after}
@@ -16,13 +16,13 @@ use Rattle.spdx_certificates.specs.declared.verdict.Verdict.TheVariants.{Accepte
 use Rattle.diag_stats.specs.ExitCode.{has_errors}
 use Rattle.run_overrides.specs.Levels.{HasNoOverrides}
 use Rattle.run_found.specs.declared.error.Error.{Error}
-use Rattle.run_found.specs.Error.{MayEndLawful, cause_of}
+pub use Rattle.run_found.specs.Error.{EndsLawful}
 use Rattle.run_found.specs.Hearing.{RequestHearing, TreeSeen}
 pub use Rattle.run_found.specs.Hearing.{TellsContent}
 use Rattle.run_check.specs.declared.report.Report.{Report}
 use Rattle.run_check.specs.Found.{HearsAllDue, IsCheckHearing, calls_of}
 use Rattle.run_check.specs.Given.{CheckArguments}
-use Rattle.run_check.specs.Report.{Asks, CheckInput, TellsVerdicts}
+use Rattle.run_check.specs.Report.{Asks, RequestInput, TellsVerdicts}
 
 -- whether the verdict is against the crate
 abbrev pub is_against : Verdict → Bool
@@ -30,11 +30,6 @@ is_against (Accepted choice hits) = false
 is_against (Rejected least blocks) = true
 is_against Skipped = false
 is_against Unlicensed = true
-
--- the check ended with a report, or for want of memory
-abbrev pub EndsInReport : Result Report Error → Type 0
-EndsInReport (Ok report) = ⊤
-EndsInReport (Err error) = MayEndLawful (cause_of error)
 
 -- without overrides no finding is an error only if no crate is unlicensed or rejected
 abbrev pub TellsAgainst : CheckArguments → Result Report Error → Type 0
@@ -53,8 +48,8 @@ pub record HasVerdictsRead (given : CheckArguments) (tree : TreeSeen) (report : 
 pub record CheckHeadlineRead (given : CheckArguments) (tree : TreeSeen) (before after : ℕ) (answer : Result Report Error) : Type 0 where
   pub verdicts : (report : Report) → answer ≡ Ok report → HasVerdictsRead given tree report
   pub status : TellsAgainst given answer
-  pub lawful : (hearing : RequestHearing) (asked : CheckInput) → IsCheckHearing given tree hearing → HearsAllDue given hearing → Asks given hearing asked
-      → (Rose before after → ⊥) → EndsInReport answer
+  pub lawful : (hearing : RequestHearing) (asked : RequestInput) → IsCheckHearing given tree hearing → HearsAllDue given hearing → Asks given hearing asked
+      → (Rose before after → ⊥) → EndsLawful answer
 
 -- ---- by a content
 
@@ -76,5 +71,5 @@ pub record HasVerdictsIn (given : CheckArguments) (content : Content) (before af
 pub record CheckHeadline (given : CheckArguments) (content : Content) (tree : TreeSeen) (before after : ℕ) (answer : Result Report Error) : Type 0 where
   pub verdicts : (report : Report) → answer ≡ Ok report → HasVerdictsIn given content tree.count_before tree.count_after report
   pub status : TellsAgainst given answer
-  pub lawful : (hearing : RequestHearing) (asked : CheckInput) → IsHeardOf given content tree.count_before hearing → Asks given hearing asked
-      → (Rose tree.count_before tree.count_after → ⊥) → (Rose before after → ⊥) → EndsInReport answer
+  pub lawful : (hearing : RequestHearing) (asked : RequestInput) → IsHeardOf given content tree.count_before hearing → Asks given hearing asked
+      → (Rose tree.count_before tree.count_after → ⊥) → (Rose before after → ⊥) → EndsLawful answer

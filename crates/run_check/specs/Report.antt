@@ -37,6 +37,7 @@ use Rattle.run_found.specs.Found.{count_metadata, files_loaded}
 use Rattle.run_found.specs.Hearing.{MadeOn, RequestHearing, TreeSeen, crates_heard}
 use Rattle.run_found.specs.Licences.{HaveTurns, ReadsItsFiles, expression_in, priority_heard}
 use Rattle.run_found.specs.Policy.{GraphAt, PolicyAt}
+pub use Rattle.run_found.specs.Selection.{RequestInput}
 use Rattle.run_found.specs.Selection.{AreSelected, choice_in}
 use Rattle.run_check.specs.declared.report.CrateReport.{CrateReport}
 use Rattle.run_check.specs.declared.report.Report.{Report}
@@ -46,15 +47,9 @@ use Rattle.run_check.specs.Given.{CheckArguments}
 
 -- ---- what is asked for
 
--- what is to be checked: the policy, the graph of the metadata, and the crates of it that are checked
-pub record CheckInput : Type 0 where
-  pub policy : PolicyFound
-  pub graph : Graph
-  pub crates : List Record
-
 -- All of the request is carried, and it sets no code and no level twice; the policy and the metadata are of their forms, and ask to
 -- check this.
-pub record Asks (given : CheckArguments) (hearing : RequestHearing) (asked : CheckInput) : Type 0 where
+pub record Asks (given : CheckArguments) (hearing : RequestHearing) (asked : RequestInput) : Type 0 where
   pub carried : uncarried_in given ≡ None
   pub policy : PolicyAt given.request hearing asked.policy
   pub once : first_twice given.args.lint_levels ≡ None
@@ -95,7 +90,7 @@ TellsSource own report = report.source ≡ license_source (info_in own.turn)
 
 -- The policy that was found is reported, its lists put in order. Each crate that is checked has its one report by it, in the
 -- same order, and the findings are counted.
-pub record GivesVerdicts (given : CheckArguments) (hearing : RequestHearing) (asked : CheckInput) (report : Report) : Type 0 where
+pub record GivesVerdicts (given : CheckArguments) (hearing : RequestHearing) (asked : RequestInput) (report : Report) : Type 0 where
   pub policy : PutsPolicyInOrder asked.policy.licenses report.policy
   pub file : report.policy.file_id ≡ 0
   pub crates : crates_heard hearing ≡ asked.crates
@@ -134,7 +129,7 @@ Refuses given (Ok found) error = RefusesSelection given found error
 -- reads tell what their answers let hear; and each crate's own files were read, once, and no other file for it.
 pub record TellsVerdicts (given : CheckArguments) (hearing : RequestHearing) (report : Report) : Type 0 where
   pub due : HearsAllDue given hearing
-  pub asked : CheckInput
+  pub asked : RequestInput
   pub asks : Asks given hearing asked
   pub records : AreReads (count_metadata given.request hearing) (reads_of_all hearing.crates)
   pub files : All (ReadsItsFiles (scanner_of_given given report.policy) report.policy) hearing.crates

@@ -4,9 +4,10 @@ ghost use Rattle.std.specs.List.{list_all};
 ghost use Rattle.run_check.specs.Carried as spec;
 ghost use Rattle.run_check.specs.Carried.{uncarried_of};
 
-use diag_print::{Format, LogContext};
+use diag_print::LogContext;
 use graph_selection::has_uncarried;
 use graph_workspace::What;
+use run_found::is_sarif;
 use run_request::check::Args;
 use run_request::{KrateContext, WhichCheck};
 
@@ -29,15 +30,6 @@ fn is_licenses(check: WhichCheck) -> bool
     match check {
         WhichCheck::Licenses => true,
         WhichCheck::Advisories | WhichCheck::Bans | WhichCheck::Sources | WhichCheck::All => false,
-    }
-}
-
-fn is_sarif(format: Format) -> bool
-    ensures { result ≡ spec.is_sarif format }
-{
-    match format {
-        Format::Sarif => true,
-        Format::Human | Format::Json => false,
     }
 }
 

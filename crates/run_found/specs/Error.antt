@@ -1,5 +1,5 @@
 -- The table of refusals: the words of each, and why it comes.
-use Rattle.std.specs.Prelude.{ℕ, List, ◌++◌, codes}
+use Rattle.std.specs.Prelude.{ℕ, List, ◌++◌, codes, Result, Ok, Err, ⊤}
 use Rattle.tree_texts.specs.declared.fault.ReadFault.TheVariants.{Failed}
 use Rattle.graph_workspace.specs.declared.error.KratesError.{KratesError}
 use Rattle.graph_workspace.specs.declared.error.KratesError.TheVariants as krates
@@ -71,6 +71,11 @@ FreeOr _ P = P
 abbrev pub MayEndLawful : Cause → Type 0
 MayEndLawful no_memory = Unit {0}
 MayEndLawful _ = ⊥
+
+-- there is an answer, or a refusal that may end such a run
+abbrev pub EndsLawful : {A : Type 0} → Result A Error → Type 0
+EndsLawful {A} (Ok answer) = ⊤
+EndsLawful {A} (Err error) = MayEndLawful (cause_of error)
 
 -- ---- the errors of steps
 

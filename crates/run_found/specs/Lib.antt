@@ -1,3 +1,4 @@
+pub mod Carried
 pub mod Error
 pub mod Finds
 pub mod Found

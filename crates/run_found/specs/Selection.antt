@@ -12,6 +12,12 @@ use Rattle.gather_core.specs.Gathered.{include_of}
 use Rattle.run_context.specs.Asked.{LeavesOut, choice_asked}
 use Rattle.run_found.specs.Given.{RequestArguments}
 
+-- what a request asks about: the policy, the graph of the metadata, and the crates of it that are checked or listed
+pub record RequestInput : Type 0 where
+  pub policy : PolicyFound
+  pub graph : Graph
+  pub crates : List Record
+
 -- what a policy leaves out
 abbrev pub left_by : GraphConfig → LeavesOut
 left_by graph = record { exclude = graph.exclude; exclude_dev = graph.exclude_dev; exclude_unpublished = graph.exclude_unpublished }

@@ -16,15 +16,15 @@ use Rattle.run_listing.specs.declared.listed.ListedCrate.{ListedCrate}
 use Rattle.run_found.specs.declared.reads.CrateRead.{CrateRead}
 use Rattle.run_list.specs.Found.{FoundInput, HearsAllDue, HearsDue, IsListHearing, calls_of, list_input_of}
 use Rattle.run_list.specs.Given.{ListArguments}
-use Rattle.run_list.specs.Complete.{AreQuiet, EndsListed, IsComplete, IsCompleteRead, IsHeardOf, TellsContent}
-use Rattle.run_list.specs.Answer.{Asks, ListInput, IsAnsweredBy, IsRefusal, IsRefusedList, Refuses, RefusesSelection}
+use Rattle.run_list.specs.Complete.{AreQuiet, EndsLawful, IsComplete, IsCompleteRead, IsHeardOf, TellsContent}
+use Rattle.run_list.specs.Answer.{Asks, RequestInput, IsAnsweredBy, IsRefusal, IsRefusedList, Refuses, RefusesSelection}
 use Rattle.run_list.specs.Script.{ListWritten, RefusalWritten, SinkSeen, WritesList}
 use Rattle.run_list.proofs.FoundLemmas.{input_by_Asks}
 use Rattle.run_list.proofs.HeardAlike.{found_alike}
 
 -- ---- lawful input is not refused
 
-module _ (given : ListArguments) (hearing : RequestHearing) (asked : ListInput) (asks : Asks given hearing asked) where
+module _ (given : ListArguments) (hearing : RequestHearing) (asked : RequestInput) (asks : Asks given hearing asked) where
   -- it has a selection
   selection_apart : (error : Error) → RefusesSelection given (record { policy = asked.policy; graph = asked.graph }) error → ⊥
   selection_apart Memory refuses = refuses
@@ -59,7 +59,7 @@ module _ (given : ListArguments) (hearing : RequestHearing) (asked : ListInput) 
 -- ---- the same calls
 
 -- by what was read, lawful input is not refused
-not_refused_read : (given : ListArguments) (tree : TreeSeen) (hearing own : RequestHearing) (asked : ListInput) (error : Error) → IsListHearing given tree hearing → HearsAllDue given hearing → Asks given hearing asked
+not_refused_read : (given : ListArguments) (tree : TreeSeen) (hearing own : RequestHearing) (asked : RequestInput) (error : Error) → IsListHearing given tree hearing → HearsAllDue given hearing → Asks given hearing asked
     → IsListHearing given tree own → IsRefusal given own error → ⊥
 not_refused_read given tree hearing own asked error heard due asks ran refusal =
     let same = append_cancel_left tree.calls_before (calls_of given own) (calls_of given hearing) (sym ran.made.traced ∙ heard.made.traced) in
@@ -69,7 +69,7 @@ not_refused_read given tree hearing own asked error heard due asks ran refusal =
 -- ---- the same content
 
 -- over a content, lawful input is not refused without a fault
-not_refused_told : (given : ListArguments) (content : Content) (tree : TreeSeen) (hearing own : RequestHearing) (asked : ListInput) (error : Error) → tree.told ≡ Some content
+not_refused_told : (given : ListArguments) (content : Content) (tree : TreeSeen) (hearing own : RequestHearing) (asked : RequestInput) (error : Error) → tree.told ≡ Some content
     → IsHeardOf given content tree.count_before hearing → Asks given hearing asked → ¬ (Rose tree.count_before tree.count_after) → IsListHearing given tree own → IsRefusal given own error → ⊥
 not_refused_told given content tree hearing own asked error told heard asks quiet ran refusal =
     let says = recursion_from_All (Says content) (calls_of given own) (ran.made.says content told) in
@@ -94,7 +94,7 @@ lawful_cause given tree text err out hearing error (refused_write first last) re
 -- lawful input without a fault is listed, or memory was wanting
 ends_lawful : (given : ListArguments) (tree : TreeSeen) (crates : List ListedCrate) (text : List ℕ) (err out : SinkSeen) (hearing : RequestHearing) (answer : Result (List CrateRead) Error)
     → IsAnsweredBy given tree hearing crates answer → ((error : Error) → IsListHearing given tree hearing → IsRefusal given hearing error → ⊥)
-    → ListWritten given tree crates text err out answer → AreQuiet err out → EndsListed answer
+    → ListWritten given tree crates text err out answer → AreQuiet err out → EndsLawful answer
 ends_lawful given tree crates text err out hearing (Ok reads) answers fails written quiet = tt
 ends_lawful given tree crates text err out hearing (Err error) answers fails written quiet =
     lawful_cause given tree text err out hearing error (cause_of error) answers (fails error) written quiet

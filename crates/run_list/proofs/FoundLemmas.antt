@@ -18,7 +18,7 @@ use Rattle.run_found.proofs.FoundLemmas.{bind-Err, bind-Ok}
 use Rattle.run_list.specs.Carried.{parts_of, uncarried_in}
 use Rattle.run_list.specs.Found.{HearsAllDue, HearsDue, calls_by, calls_of, list_input_of, metadata_by, metadata_due, policy_asked, unless_uncarried}
 use Rattle.run_list.specs.Given.{ListArguments}
-use Rattle.run_list.specs.Answer.{Asks, ListInput}
+use Rattle.run_list.specs.Answer.{Asks, RequestInput}
 use Rattle.run_list.specs.Script.{load_text_by, load_text_heard}
 
 module _ (given : ListArguments) (hearing : RequestHearing) (carried : uncarried_in given ≡ None) where
@@ -72,7 +72,7 @@ module _ (given : ListArguments) (hearing : RequestHearing) where
         bind-Ok (policy_asked given hearing) _ policy _ is (ap (λ one. one >>= λ graph. Ok (record { policy = policy; graph = graph })) tells)
 
 -- lawful input is found
-pub input_by_Asks : (given : ListArguments) (hearing : RequestHearing) (asked : ListInput) → Asks given hearing asked
+pub input_by_Asks : (given : ListArguments) (hearing : RequestHearing) (asked : RequestInput) → Asks given hearing asked
     → list_input_of given hearing ≡ Ok (record { policy = asked.policy; graph = asked.graph })
 input_by_Asks given hearing asked asks =
     input-graph given hearing asked.policy

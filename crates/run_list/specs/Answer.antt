@@ -19,6 +19,7 @@ use Rattle.run_found.specs.Found.{count_metadata, files_loaded}
 use Rattle.run_found.specs.Hearing.{MadeOn, RequestHearing, TreeSeen, crates_heard}
 use Rattle.run_found.specs.Licences.{HaveTurns, ReadsItsFiles}
 use Rattle.run_found.specs.Policy.{GraphAt, PolicyAt}
+pub use Rattle.run_found.specs.Selection.{RequestInput}
 use Rattle.run_listing.specs.declared.listed.ListedCrate.{ListedCrate}
 use Rattle.run_found.specs.declared.reads.CrateRead.{CrateRead}
 use Rattle.run_list.specs.Carried.{uncarried_in}
@@ -28,14 +29,8 @@ use Rattle.run_list.specs.Listed.{IsReadOf, all_listed, at_threshold}
 
 -- ---- what is asked for
 
--- what is to be listed: the policy, the graph of the metadata, and the crates of it that are listed
-pub record ListInput : Type 0 where
-  pub policy : PolicyFound
-  pub graph : Graph
-  pub crates : List Record
-
 -- All of the request is carried; the policy and the metadata are of their forms, and ask to list this.
-pub record Asks (given : ListArguments) (hearing : RequestHearing) (asked : ListInput) : Type 0 where
+pub record Asks (given : ListArguments) (hearing : RequestHearing) (asked : RequestInput) : Type 0 where
   pub carried : uncarried_in given ≡ None
   pub policy : PolicyAt given.request hearing asked.policy
   pub metadata : GraphAt given.request hearing asked.graph
@@ -53,7 +48,7 @@ PutsListPolicyInOrder given found policy = PutsPolicyInOrder (at_threshold given
 -- hear; each crate's own files were read, once, and no other file for it; and its reads are answered as they were made.
 pub record IsListing (given : ListArguments) (hearing : RequestHearing) (crates : List ListedCrate) (reads : List CrateRead) : Type 0 where
   pub due : HearsAllDue given hearing
-  pub asked : ListInput
+  pub asked : RequestInput
   pub asks : Asks given hearing asked
   pub policy : ValidConfig
   pub ordered : PutsListPolicyInOrder given asked.policy policy

@@ -1,19 +1,13 @@
 -- What of a request for a listing is not carried.
-use Rattle.std.specs.Prelude.{Bool, true, false, not, ◌==◌, List, [], ◌∷◌, find, length, is_none, Option, option_map}
+use Rattle.std.specs.Prelude.{Bool, not, ◌==◌, List, [], ◌∷◌, find, length, is_none, Option, option_map}
 use Rattle.std.specs.List.{list_any}
 use Rattle.graph_selection.specs.Choice.{is_uncarried}
-use Rattle.diag_print.specs.declared.context.Format.{Format}
-use Rattle.diag_print.specs.declared.context.Format.TheVariants.{Human, Json, Sarif}
 use Rattle.diag_print.specs.declared.context.LogContext.{LogContext}
 use Rattle.run_request.specs.declared.context.KrateContext.{KrateContext}
 use Rattle.graph_workspace.specs.declared.error.What.{What}
 use Rattle.graph_workspace.specs.declared.error.What.TheVariants as what
+use Rattle.run_found.specs.Carried.{is_sarif}
 use Rattle.run_list.specs.Given.{ListArguments}
-
-abbrev pub is_sarif : Format → Bool
-is_sarif Human = false
-is_sarif Json = false
-is_sarif Sarif = true
 
 -- whether a part of the request is so that it is not carried, part after part
 abbrev pub parts_of : LogContext → KrateContext → List (Bool × What)

@@ -1,21 +1,12 @@
 //! What of a request for a listing is not carried.
 ghost use Rattle.std.specs.Prelude.{◌≡◌};
-ghost use Rattle.run_list.specs.Carried as spec;
 ghost use Rattle.run_list.specs.Carried.{uncarried_of};
 
-use diag_print::{Format, LogContext};
+use diag_print::LogContext;
 use graph_selection::has_uncarried;
 use graph_workspace::What;
+use run_found::is_sarif;
 use run_request::KrateContext;
-
-fn is_sarif(format: Format) -> bool
-    ensures { result ≡ spec.is_sarif format }
-{
-    match format {
-        Format::Sarif => true,
-        Format::Human | Format::Json => false,
-    }
-}
 
 /// The first part of a request that is not carried.
 pub fn uncarried_in(log_ctx: LogContext, context: &KrateContext) -> Option<What>

@@ -3,7 +3,7 @@ use Rattle.std.proofs.Common.{◌≡◌, ◌∙◌, refl, sym, ap, subst, ℕ, �
 use Rattle.std.specs.List.{flat_map}
 use Rattle.tree_core.specs.Faults.{Gained, GainedPrefix}
 use Rattle.tree_core.proofs.GainedLemmas.{Gained-then}
-use Rattle.run_listing.specs.Written.{IsPending}
+use Rattle.run_listing.specs.Written.{LeavesPending}
 use Rattle.run_listing.proofs.ListLemmas.{text_more, text_cut}
 
 same_gained : (held : Option (List ℕ)) → Gained held held []
@@ -11,11 +11,11 @@ same_gained None = refl
 same_gained (Some bytes) = ap Some (sym (append-nil bytes))
 
 -- nothing was written
-pub still_pending : (held : Option (List ℕ)) (pending : List ℕ) → IsPending held held pending pending
+pub still_pending : (held : Option (List ℕ)) (pending : List ℕ) → LeavesPending held held pending pending
 still_pending held pending = record { front = []; gained = same_gained held; parts = refl }
 
 -- nothing was put behind it yet
-pub nothing_yet : (held : Option (List ℕ)) (pending : List ℕ) → IsPending held held pending (pending ++ [])
+pub nothing_yet : (held : Option (List ℕ)) (pending : List ℕ) → LeavesPending held held pending (pending ++ [])
 nothing_yet held pending = record { front = []; gained = same_gained held; parts = sym (append-nil pending) }
 
 pub unwritten : {T E : Type 0} (result : Result T E) (held : Option (List ℕ)) (text : List ℕ) → OnErr result (GainedPrefix held held text)
@@ -23,12 +23,12 @@ unwritten (Ok value) held text = tt
 unwritten (Err error) held text = record { front = []; rest = text; parts = refl; gained = same_gained held }
 
 -- all that was pending was written
-pub all_written : (old new : Option (List ℕ)) (left pending : List ℕ) → Gained old new pending → left ≡ [] → IsPending old new left pending
+pub all_written : (old new : Option (List ℕ)) (left pending : List ℕ) → Gained old new pending → left ≡ [] → LeavesPending old new left pending
 all_written old new left pending gained none = record { front = pending; gained = gained; parts = ap (λ rest. pending ++ rest) none ∙ append-nil pending }
 
-module _ (old mid new : Option (List ℕ)) (pending text : List ℕ) (before : IsPending old mid pending text) where
+module _ (old mid new : Option (List ℕ)) (pending text : List ℕ) (before : LeavesPending old mid pending text) where
   -- a text was put behind what was pending
-  pub pending_more : (left more : List ℕ) → IsPending mid new left (pending ++ more) → IsPending old new left (text ++ more)
+  pub pending_more : (left more : List ℕ) → LeavesPending mid new left (pending ++ more) → LeavesPending old new left (text ++ more)
   pending_more left more next = record {
     front = before.front ++ next.front;
     gained = Gained-then old mid new before.front next.front before.gained next.gained;
@@ -64,11 +64,11 @@ module _ (old mid new : Option (List ℕ)) (pending text : List ℕ) (before : I
   pub last_cut : (more : List ℕ) → GainedPrefix mid new (pending ++ more) → GainedPrefix old new (text ++ more)
   last_cut more cut = pending_cut more [] (text ++ more) (ap (λ behind. text ++ behind) (sym (append-nil more))) cut
 
-module _ {A : Type 0} (f : A → List ℕ) (xs : List A) (i : ℕ) (x : A) (within : i < length xs) (at : x ≡ get_or xs i x) (old mid new : Option (List ℕ)) (pending start : List ℕ) (before : IsPending old mid pending (start ++ flat_map f (take i xs))) where
+module _ {A : Type 0} (f : A → List ℕ) (xs : List A) (i : ℕ) (x : A) (within : i < length xs) (at : x ≡ get_or xs i x) (old mid new : Option (List ℕ)) (pending start : List ℕ) (before : LeavesPending old mid pending (start ++ flat_map f (take i xs))) where
   -- the texts of one item more
-  pub one_pending : (left : List ℕ) → IsPending mid new left (pending ++ f x) → IsPending old new left (start ++ flat_map f (take (i + 1) xs))
+  pub one_pending : (left : List ℕ) → LeavesPending mid new left (pending ++ f x) → LeavesPending old new left (start ++ flat_map f (take (i + 1) xs))
   one_pending left next =
-      subst (IsPending old new left)
+      subst (LeavesPending old new left)
       (append_assoc start (flat_map f (take i xs)) (f x) ∙ ap (λ text. start ++ text) (sym (text_more xs i x within at f)))
       (pending_more old mid new pending (start ++ flat_map f (take i xs)) before left (f x) next)
 

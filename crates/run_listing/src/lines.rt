@@ -3,7 +3,7 @@ ghost use Rattle.std.specs.Prelude.{◌≡◌, ◌≤◌, ℕ, All, List, [], �
 ghost use Rattle.std.specs.List.{flat_map};
 ghost use Rattle.deny_text.specs.Fronts.{StandsInFront};
 ghost use Rattle.tree_core.specs.Faults.{Gained, GainedPrefix};
-ghost use Rattle.run_listing.specs.Written.{HasReasonSince, IsPending};
+ghost use Rattle.run_listing.specs.Written.{HasReasonSince, LeavesPending};
 
 use std::alloc::{AllocError, Global};
 use tree_core::{Sink, SinkFailed, write_all};
@@ -70,7 +70,7 @@ fn flush<S: Sink>(pending: &mut Vec<u8>, sink: &mut S, begun: u64) -> Result<(),
 /// The same, once much is pending.
 fn flush_much<S: Sink>(pending: &mut Vec<u8>, sink: &mut S, begun: u64) -> Result<(), ListError>
     requires { begun ≤ S.fault_count sink.old }
-    ensures ok { OnOk result (IsPending (S.written sink.old) (S.written sink.new)
+    ensures ok { OnOk result (LeavesPending (S.written sink.old) (S.written sink.new)
         pending.new.items pending.old.items) }
     ensures err { OnErr result
         (GainedPrefix (S.written sink.old) (S.written sink.new) pending.old.items) }
@@ -94,7 +94,7 @@ fn add_one<S: Sink, T, L: Lines<T>>(
 ) -> Result<(), ListError>
     requires fits { L.fits lines.now item.now }
     requires begun { begun ≤ S.fault_count sink.old }
-    ensures ok { OnOk result (IsPending (S.written sink.old) (S.written sink.new) pending.new.items
+    ensures ok { OnOk result (LeavesPending (S.written sink.old) (S.written sink.new) pending.new.items
         (pending.old.items ++ L.line lines.now item.now)) }
     ensures err { OnErr result (GainedPrefix (S.written sink.old) (S.written sink.new)
         (pending.old.items ++ L.line lines.now item.now)) }
@@ -116,7 +116,7 @@ fn add_all<S: Sink, T, L: Lines<T>>(
 ) -> Result<(), ListError>
     requires fits { All (L.fits lines.now) items.now }
     requires begun { begun ≤ S.fault_count sink.old }
-    ensures ok { OnOk result (IsPending (S.written sink.old) (S.written sink.new) pending.new.items
+    ensures ok { OnOk result (LeavesPending (S.written sink.old) (S.written sink.new) pending.new.items
         (pending.old.items ++ flat_map (L.line lines.now) items.now)) }
     ensures err { OnErr result (GainedPrefix (S.written sink.old) (S.written sink.new)
         (pending.old.items ++ flat_map (L.line lines.now) items.now)) }

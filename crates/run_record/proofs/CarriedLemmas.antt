@@ -1,8 +1,6 @@
 -- What is not carried of a command without options of its own is the same, whether a check without options or a listing asks.
 use Rattle.std.proofs.Common.{◌≡◌, refl, ap, Bool, true, false, not, ◌==◌, List, [], ◌∷◌, find, length, is_none, Option, Some, option_map, Result, Err, sym, ◌∙◌}
 use Rattle.std.specs.List.{list_any}
-use Rattle.diag_print.specs.declared.context.Format.{Format}
-use Rattle.diag_print.specs.declared.context.Format.TheVariants.{Human, Json, Sarif}
 use Rattle.diag_print.specs.declared.context.LogContext.{LogContext}
 use Rattle.graph_selection.specs.Choice.{is_uncarried}
 use Rattle.graph_workspace.specs.declared.error.What.{What}
@@ -10,6 +8,7 @@ use Rattle.graph_workspace.specs.declared.error.What.TheVariants as what
 use Rattle.run_request.specs.declared.context.KrateContext.{KrateContext}
 use Rattle.run_found.specs.declared.error.Error.{Error}
 use Rattle.run_found.specs.declared.error.Error.TheVariants.{NotCarried}
+use Rattle.run_found.specs.Carried.{is_sarif}
 use Rattle.run_check.specs.Carried as check
 use Rattle.run_list.specs.Carried as listing
 use Rattle.run_record.specs.Given.{plain_args}
@@ -27,19 +26,9 @@ same_parts false false true specs = refl
 same_parts false false false true = refl
 same_parts false false false false = refl
 
-same_sarif : (format : Format) → check.is_sarif format ≡ listing.is_sarif format
-same_sarif Human = refl
-same_sarif Json = refl
-same_sarif Sarif = refl
-
 pub plain_uncarried : (log : LogContext) (context : KrateContext) → check.uncarried_of log plain_args context ≡ listing.uncarried_of log context
 plain_uncarried log context =
-    let path = is_none context.metadata_path in
-    let target = not (length context.targets == 0) in
-    let specs = list_any is_uncarried context.exclude in
-    ap (λ format. first_of ((path, what.MetadataPath) ∷ (false, what.Which) ∷ (format, what.Format) ∷ (target, what.Target) ∷ (false, what.Graph) ∷ (false, what.Audit) ∷ (specs, what.ExcludeSpec) ∷ []))
-    (same_sarif log.format)
-    ∙ same_parts path (listing.is_sarif log.format) target specs
+    same_parts (is_none context.metadata_path) (is_sarif log.format) (not (length context.targets == 0)) (list_any is_uncarried context.exclude)
 
 -- ---- one such part
 

@@ -16,14 +16,14 @@ use Rattle.run_found.specs.Written.{TextWritten}
 use Rattle.run_check.specs.Found.{HearsAllDue, IsCheckHearing, calls_of, check_input_of}
 use Rattle.run_check.specs.Given.{CheckArguments}
 use Rattle.run_check.specs.Headline.{IsHeardOf}
-use Rattle.run_check.specs.Report.{Asks, CheckInput, IsRefusal, IsRefusedCheck}
+use Rattle.run_check.specs.Report.{Asks, RequestInput, IsRefusal, IsRefusedCheck}
 use Rattle.run_check.proofs.HeadlineLemmas.{all_due, not_refused_told, refuses_apart}
 use Rattle.run_check.proofs.HeardAlike.{found_alike}
 use Rattle.run_list.specs.Script.{SinkSeen}
 use Rattle.run_record.specs.declared.error.VerifyError.{VerifyError}
 use Rattle.run_record.specs.declared.error.VerifyError.TheVariants as verify
 use Rattle.run_record.specs.declared.verdicts.VerifiedCrates.{VerifiedCrates}
-use Rattle.run_record.specs.Complete.{EndsRecorded, EndsVerified, IsHeardThen, MayEndVerify, RecordsLawful, RecordsLawfulRead, VerifiesLawful, VerifiesLawfulRead}
+use Rattle.run_record.specs.Complete.{EndsLawful, EndsVerified, IsHeardThen, MayEndVerify, RecordsLawful, RecordsLawfulRead, VerifiesLawful, VerifiesLawfulRead}
 use Rattle.run_record.specs.Error.{error_of_verify, verify_cause}
 use Rattle.run_record.specs.Recorded.{IsRecordRefusal, Records, WritesLoadOn}
 use Rattle.run_record.specs.Verified.{IsFirstRefusal, IsVerifyRefusal, VerifiesCommand, VerifiesFirst}
@@ -52,14 +52,14 @@ followed_step behind asked path one other X Y e = (inl (ap first_answer e), rest
 abbrev NoRefusal : CheckArguments → TreeSeen → Type 0
 NoRefusal given tree = (own : RequestHearing) (error : Error) → IsCheckHearing given tree own → IsRefusal given own error → ⊥
 
-no_refusal_read : (given : CheckArguments) (tree : TreeSeen) (hearing : RequestHearing) (behind : List Call) (asked : CheckInput) → IsHeardThen given tree hearing behind → HearsAllDue given hearing
+no_refusal_read : (given : CheckArguments) (tree : TreeSeen) (hearing : RequestHearing) (behind : List Call) (asked : RequestInput) → IsHeardThen given tree hearing behind → HearsAllDue given hearing
     → Asks given hearing asked → NoRefusal given tree
 no_refusal_read given tree hearing behind asked heard due asks own error ran refusal =
     let same = append_cancel_left tree.calls_before (calls_of given own) (calls_of given hearing ++ behind) (sym ran.made.traced ∙ heard.made.traced) in
     refuses_apart given hearing asked asks error (check_input_of given own)
     (found_alike (IsFollowed behind) (followed_step behind) given asks.carried own hearing (ran.begun ∙ sym heard.begun) (all_due given hearing asked asks own error refusal) due same) refusal.refused
 
-no_refusal_told : (given : CheckArguments) (content : Content) (tree : TreeSeen) (hearing : RequestHearing) (asked : CheckInput) → tree.told ≡ Some content → IsHeardOf given content tree.count_before hearing
+no_refusal_told : (given : CheckArguments) (content : Content) (tree : TreeSeen) (hearing : RequestHearing) (asked : RequestInput) → tree.told ≡ Some content → IsHeardOf given content tree.count_before hearing
     → Asks given hearing asked → (Rose tree.count_before tree.count_after → ⊥) → NoRefusal given tree
 no_refusal_told given content tree hearing asked told heard asks still own error ran refusal =
     not_refused_told given content tree hearing own asked error told heard asks still ran refusal
@@ -91,7 +91,7 @@ module _ (given : CheckArguments) (tree : TreeSeen) (out err : SinkSeen) (apart 
   recorded_cause error (refused_write first last) is (inl refused) = subst MayEndLawful is (load_cause error refused.0)
   recorded_cause error (refused_write first last) is (inr cut) = absurd (out_quiet cut.refused.rose)
 
-  recorded_end : (answer : Result (List CrateRead) Error) → Records given tree out err answer → EndsRecorded answer
+  recorded_end : (answer : Result (List CrateRead) Error) → Records given tree out err answer → EndsLawful answer
   recorded_end (Ok reads) records = tt
   recorded_end (Err error) refused = recorded_cause error (cause_of error) refl refused
 

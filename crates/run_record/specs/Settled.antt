@@ -25,7 +25,7 @@ use Rattle.run_found.specs.Hearing.{MadeOn, RequestHearing, TreeSeen, crates_hea
 use Rattle.run_found.specs.Licences.{ReadsItsFiles, expression_in, priority_heard, turns_heard}
 use Rattle.run_check.specs.Found.{HearsAllDue, calls_of, scanner_of_given, turns_in}
 use Rattle.run_check.specs.Given.{CheckArguments}
-use Rattle.run_check.specs.Report.{Asks, CheckInput}
+use Rattle.run_check.specs.Report.{Asks, RequestInput}
 use Rattle.run_check.specs.Script.{load_text_heard}
 use Rattle.run_check.specs.Steps.{TellsGraph, choice_left}
 use Rattle.run_found.specs.declared.reads.CrateRead.{CrateRead}
@@ -43,7 +43,7 @@ pub record IsSettled (given : CheckArguments) (tree : TreeSeen) (hearing : Reque
   pub begun : hearing.begun ≡ tree.count_before
   pub made : MadeOn tree (calls_of given hearing ++ behind)
   pub due : HearsAllDue given hearing
-  pub asked : CheckInput
+  pub asked : RequestInput
   pub asks : Asks given hearing asked
   pub ordered : PutsPolicyInOrder asked.policy.licenses policy
   pub crates : crates_heard hearing ≡ asked.crates

@@ -23,7 +23,7 @@ use Rattle.run_found.specs.Error.{MayEndLawful, cause_of}
 use Rattle.run_found.specs.Hearing.{TreeSeen, seen}
 use Rattle.run_check.specs.declared.report.Report.{Report}
 use Rattle.run_check.specs.Given.{CheckArguments, check_arguments_of}
-use Rattle.run_check.specs.Headline.{CheckHeadline, EndsInReport, IsHeardOf}
+use Rattle.run_check.specs.Headline.{CheckHeadline, EndsLawful, IsHeardOf}
 use Rattle.run_check.specs.Named.{FailedReadsRise, ReportsCertificates, ReportsFindings, ReportsOwnReads, ReportsPolicy, ReportsUnneeded, reads_in}
 use Rattle.run_check.specs.Script as check
 use Rattle.run_sample.specs.Files.{sample_content}
@@ -139,7 +139,7 @@ lawful_sample causes.told may = may
 lawful_sample (failed_read first last) may = may
 lawful_sample (refused_write first last) may = tt
 
-ends_by : (answer : Result Report Error) → EndsInReport answer → EndsSampled answer
+ends_by : (answer : Result Report Error) → EndsLawful answer → EndsSampled answer
 ends_by (Ok report) ends = tt
 ends_by (Err error) ends = lawful_sample (cause_of error) ends
 

@@ -13,6 +13,7 @@ mod runs;
 mod workspace;
 
 use crate::runs::put_run;
+use spdx_core::LicenseStore;
 use std::alloc::AllocError;
 use std::env;
 use std::process::ExitCode;
@@ -34,20 +35,35 @@ fn wants_files(words: &[String]) -> bool {
     }
 }
 
-/// The lines of the runs that the words ask for.
-fn lines(rt: &HostRuntime, words: &[String]) -> Result<String, AllocError> {
+/// Puts the lines of the runs that the words ask for.
+fn put_lines(
+    rt: &HostRuntime,
+    words: &[String],
+    store: &LicenseStore,
+    out: &mut AnswerText,
+) -> Result<(), AllocError> {
     let seed = number_at(words, 0, 1);
     let count = number_at(words, 1, 5);
-    let mut out = AnswerText::new(rt.alloc());
     for step in 0..count {
         put_run(
             rt.alloc(),
             seed.wrapping_add(step),
             wants_files(words),
-            &mut out,
+            store,
+            out,
         )?;
     }
-    out.into_text()
+    Ok(())
+}
+
+/// The lines of the runs that the words ask for.
+fn lines(rt: &HostRuntime, words: &[String]) -> Result<String, AllocError> {
+    let store = LicenseStore::from_cache(rt.alloc())?;
+    let mut out = AnswerText::new(rt.alloc());
+    match put_lines(rt, words, &store, &mut out) {
+        Ok(()) => out.into_text(),
+        Err(error) => Err(error),
+    }
 }
 
 fn told(rt: &HostRuntime) -> Result<String, AllocError> {

@@ -81,12 +81,47 @@ fn run_over(
     run(alloc, words, "/w", tree, out, err, &Table, store)
 }
 
-fn put_outcome(text: &mut AnswerText, seed: u64, outcome: &Outcome, out: &MemSink, err: &MemSink) {
-    let status = outcome.status;
+/// What a run came to, and what it wrote.
+#[derive(Drop)]
+struct RunEnded {
+    outcome: Outcome,
+    out: MemSink,
+    err: MemSink,
+}
+
+fn ended_with(
+    alloc: Global,
+    words: &[String],
+    store: &LicenseStore,
+    mut tree: MemTree,
+    mut out: MemSink,
+    mut err: MemSink,
+) -> RunEnded {
+    let outcome = run_over(alloc, words, &mut tree, &mut out, &mut err, store);
+    RunEnded { outcome, out, err }
+}
+
+/// The run over a workspace.
+fn ended_over(
+    alloc: Global,
+    words: &[String],
+    store: &LicenseStore,
+    made: &Workspace,
+) -> Result<RunEnded, AllocError> {
+    let out = MemSink::new(alloc, 65536, 4096)?;
+    let err = MemSink::new(alloc, 65536, 4096)?;
+    match tree_of(alloc, made) {
+        Ok(tree) => Ok(ended_with(alloc, words, store, tree, out, err)),
+        Err(error) => Err(error),
+    }
+}
+
+fn put_outcome(text: &mut AnswerText, seed: u64, ended: &RunEnded) {
+    let status = ended.outcome.status;
     write!(text, "{seed}: {status} ");
-    put_ended(text, &outcome.ended);
-    let out = hash(out.written());
-    let err = hash(err.written());
+    put_ended(text, &ended.outcome.ended);
+    let out = hash(ended.out.written());
+    let err = hash(ended.err.written());
     write!(text, " {out:08x} {err:08x}\n");
 }
 
@@ -101,30 +136,31 @@ fn put_workspace(text: &mut AnswerText, made: &Workspace) {
     write!(text, "words {words}\nfails {fails}\n");
 }
 
+/// Puts the line of the run over a workspace, which the number made.
+fn put_run_over(
+    alloc: Global,
+    seed: u64,
+    made: &Workspace,
+    store: &LicenseStore,
+    text: &mut AnswerText,
+) -> Result<(), AllocError> {
+    let words = words_of(alloc, made.words)?;
+    let ended = ended_over(alloc, words.as_slice(), store, made)?;
+    put_outcome(text, seed, &ended);
+    Ok(())
+}
+
 /// Runs the gate over the workspace of a number, and puts its line.
 pub(crate) fn put_run(
     alloc: Global,
     seed: u64,
     wants_files: bool,
+    store: &LicenseStore,
     text: &mut AnswerText,
 ) -> Result<(), AllocError> {
     let made = workspace_of(alloc, seed)?;
-    let words = words_of(alloc, made.words)?;
-    let store = LicenseStore::from_cache(alloc)?;
-    let mut tree = tree_of(alloc, &made)?;
-    let mut out = MemSink::new(alloc, 65536, 4096)?;
-    let mut err = MemSink::new(alloc, 65536, 4096)?;
     if wants_files {
         put_workspace(text, &made);
     }
-    let outcome = run_over(
-        alloc,
-        words.as_slice(),
-        &mut tree,
-        &mut out,
-        &mut err,
-        &store,
-    );
-    put_outcome(text, seed, &outcome, &out, &err);
-    Ok(())
+    put_run_over(alloc, seed, &made, store, text)
 }

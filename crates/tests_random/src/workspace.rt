@@ -68,9 +68,43 @@ fn manifest_text(alloc: Global, index: usize, made: &MadeCrate) -> Result<String
     out.into_text()
 }
 
-fn file(alloc: Global, path: String, text: &str) -> Result<MadeFile, AllocError> {
+/// Puts a file behind others.
+fn push_file(files: &mut Vec<MadeFile>, path: String, text: String) -> Result<(), AllocError> {
+    files.push(MadeFile { path, text })?;
+    Ok(())
+}
+
+/// The same, of a path as it is written.
+fn push_file_at(
+    alloc: Global,
+    files: &mut Vec<MadeFile>,
+    path: &str,
+    text: String,
+) -> Result<(), AllocError> {
+    let path = String::from_str(alloc, path)?;
+    push_file(files, path, text)
+}
+
+fn push_manifest(
+    alloc: Global,
+    files: &mut Vec<MadeFile>,
+    index: usize,
+    made: &MadeCrate,
+) -> Result<(), AllocError> {
+    let text = manifest_text(alloc, index, made)?;
+    let path = format!(in alloc; "/w/c{index}/Cargo.toml")?;
+    push_file(files, path, text)
+}
+
+fn push_licence(
+    alloc: Global,
+    files: &mut Vec<MadeFile>,
+    index: usize,
+    text: &str,
+) -> Result<(), AllocError> {
     let text = String::from_str(alloc, text)?;
-    Ok(MadeFile { path, text })
+    let path = format!(in alloc; "/w/c{index}/LICENSE")?;
+    push_file(files, path, text)
 }
 
 /// The files of a crate: mostly a manifest, and now and then a licence text.
@@ -82,14 +116,26 @@ fn push_files(
     numbers: &mut Numbers,
 ) -> Result<(), AllocError> {
     if !numbers.is_one_of(4) {
-        let path = format!(in alloc; "/w/c{index}/Cargo.toml")?;
-        let text = manifest_text(alloc, index, made)?;
-        files.push(MadeFile { path, text })?;
+        push_manifest(alloc, files, index, made)?;
     }
     if numbers.is_one_of(3) {
-        let path = format!(in alloc; "/w/c{index}/LICENSE")?;
-        let made = file(alloc, path, numbers.pick(&TEXTS))?;
-        files.push(made)?;
+        push_licence(alloc, files, index, numbers.pick(&TEXTS))?;
+    }
+    Ok(())
+}
+
+/// All files: of the metadata, of the policy, of the workspace's root, and of each crate.
+fn push_all(
+    alloc: Global,
+    files: &mut Vec<MadeFile>,
+    crates: &[MadeCrate],
+    numbers: &mut Numbers,
+) -> Result<(), AllocError> {
+    push_file_at(alloc, files, "/w/m.json", metadata(alloc, crates, numbers)?)?;
+    push_file_at(alloc, files, "/w/p.toml", policy(alloc, numbers)?)?;
+    push_file_at(alloc, files, "/w/Cargo.toml", String::new(alloc))?;
+    for (index, made) in crates.iter().enumerate() {
+        push_files(alloc, files, index, made, numbers)?;
     }
     Ok(())
 }
@@ -100,19 +146,10 @@ fn files_of(
     numbers: &mut Numbers,
 ) -> Result<Vec<MadeFile>, AllocError> {
     let mut files = Vec::new(alloc);
-    let path = String::from_str(alloc, "/w/m.json")?;
-    let text = metadata(alloc, crates, numbers)?;
-    files.push(MadeFile { path, text })?;
-    let path = String::from_str(alloc, "/w/p.toml")?;
-    let text = policy(alloc, numbers)?;
-    files.push(MadeFile { path, text })?;
-    let root = String::from_str(alloc, "/w/Cargo.toml")?;
-    let root = file(alloc, root, "")?;
-    files.push(root)?;
-    for (index, made) in crates.iter().enumerate() {
-        push_files(alloc, &mut files, index, made, numbers)?;
+    match push_all(alloc, &mut files, crates, numbers) {
+        Ok(()) => Ok(files),
+        Err(error) => Err(error),
     }
-    Ok(files)
 }
 
 /// The workspace of a number.

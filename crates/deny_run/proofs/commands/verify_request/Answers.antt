@@ -2,13 +2,15 @@
 use Rattle.std.proofs.Common.{refl, subst, ℕ, Ok, Err, IfErr}
 use Rattle.tree_core.proofs.MadeLemmas.{some_joined}
 use Rattle.tree_texts.specs.Cause.{ReadCounts}
+use Rattle.run_found.specs.declared.error.Error.TheVariants.{NotCarried}
 use Rattle.run_found.specs.Error.{cause_of}
 use Rattle.run_found.specs.Hearing.{seen}
+use Rattle.run_list.specs.Carried.{uncarried_of}
 use Rattle.run_lists.specs.Chosen.{lists_chosen, texts_chosen}
 use Rattle.run_lists.specs.Given.{lists_given}
 use Rattle.deny_run.specs.Commands.{came, stopped}
 use Rattle.deny_run.specs.Given.{command_asked}
-use Rattle.deny_run.proofs.CommandLemmas.{answer_apart, comes_carried, comes_made, comes_still}
+use Rattle.deny_run.proofs.CommandLemmas.{answer_apart, carried_apart, comes_carried, comes_made, comes_still, refused_as}
 use Rattle.deny_run.proofs.commands.verify_request.Goals as goal
 
 pub returns-in-Err-clause-runs : goal.returns-in-Err-clause-runs
@@ -23,7 +25,20 @@ returns-in-Err-clause-made g c =
 pub returns-in-Err-clause-policy : goal.returns-in-Err-clause-policy
 returns-in-Err-clause-policy g c = answer_apart c.in-Err.error _ c.in-Err.ensures.policy
 
+pub returns-in-Err-clause-uncarried : goal.returns-in-Err-clause-uncarried
+returns-in-Err-clause-uncarried g c what is =
+    let refusal = c.in-Err.ensures.uncarried what is in
+    (refused_as c.in-Err.error (NotCarried what) refusal.0, refusal.1)
+
 -- ---- it runs
+
+pub returns-in-Ok-clause-uncarried : goal.returns-in-Ok-clause-uncarried
+returns-in-Ok-clause-uncarried g c what is =
+    let way = seen (g.T.Tree.content c.args.tree.now) (g.T.Tree.content c.lists_of_request.new.tree) (g.T.Tree.fault_count c.args.tree.now) (g.T.Tree.fault_count c.lists_of_request.new.tree)
+    (g.T.Tree.trace c.args.tree.now) (g.T.Tree.trace c.lists_of_request.new.tree) in
+    let had = lists_given (lists_chosen g.C.Catalog.lists c.in-Ok.found.catalog) (texts_chosen g.I.Identifier.match_of c.in-Ok.found.identifier) in
+    let asked = command_asked (g.C.Catalog.lists c.args.catalog.now) (g.I.Identifier.match_of c.args.identifier.now) c.args.request.now in
+    absurd (carried_apart (uncarried_of c.args.request.now.log_ctx c.args.request.now.krate_ctx) what (comes_carried asked way had c.in-Ok.ensures.comes) is)
 
 pub returns-in-Ok-clause-runs : goal.returns-in-Ok-clause-runs
 returns-in-Ok-clause-runs g c =
