@@ -18,14 +18,14 @@ pub record Link : Type 0 where
   pub kinds : Kinds
 
 -- a crate with the edges that lead out of it, in order
-pub record Node : Type 0 where
+pub record CrateNode : Type 0 where
   pub krate : Record
   pub edges : List Link
 
 -- The nodes in rising byte order of ids, the ids of the members in the order of the text, the root folder, and the id of
 -- the root crate, where there is one.
 pub record Graph : Type 0 where
-  pub nodes : List Node
+  pub nodes : List CrateNode
   pub members : List (List ℕ)
   pub workspace_root : List ℕ
   pub root : Option (List ℕ)
@@ -38,7 +38,7 @@ abbrev pub link_of : List Krate → Edge → Link
 link_of crates edge = record { to = crate_id_at crates edge.to; kinds = edge.kinds }
 
 -- crates with the lists of their edges; a crate for which there is no list has none
-abbrev pub nodes_of : List Krate → List Krate → List (List Edge) → List Node
+abbrev pub nodes_of : List Krate → List Krate → List (List Edge) → List CrateNode
 nodes_of all [] lists = []
 nodes_of all (krate ∷ crates) [] = record { krate = record_of krate; edges = [] } ∷ nodes_of all crates []
 nodes_of all (krate ∷ crates) (edges ∷ lists) =

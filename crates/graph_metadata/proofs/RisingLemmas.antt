@@ -7,7 +7,7 @@ use Rattle.serde_json.specs.Data.{Data}
 use Rattle.serde_json.specs.Read.{read}
 use Rattle.graph_core.specs.declared.edge.Edge.{Edge}
 use Rattle.graph_core.specs.Krate.{Record, ids_in}
-use Rattle.graph_core.specs.Metadata.{Graph, Node, AreRising, ids_of}
+use Rattle.graph_core.specs.Metadata.{Graph, CrateNode, AreRising, ids_of}
 use Rattle.graph_metadata.specs.Records.{MetadataRows, edges_of_node, graph_of, link_to, graph_node_at, metadata_of, rows_in, spot_of, told_graph}
 use Rattle.graph_metadata.specs.Shape.{IdPlaces}
 use Rattle.graph_metadata.specs.Sound.{HasIdAt}
@@ -17,7 +17,7 @@ use Rattle.graph_metadata.proofs.SoundLemmas.{sound}
 
 module _ (firsts : IdPlaces) (crates : List Record) (lists : List (List Edge)) where
   -- a crate that stands at its place has a node with its id
-  id-first : (krate : Option Record) (node : Option ℕ) (id : List ℕ) → option_map (λ one. one.id) krate ≡ Some id → (rest : List Node)
+  id-first : (krate : Option Record) (node : Option ℕ) (id : List ℕ) → option_map (λ one. one.id) krate ≡ Some id → (rest : List CrateNode)
       → map (λ one. one.krate.id) (cons_option (option_map (λ one. record { krate = one; edges = map (link_to crates) (edges_of_node lists node) }) krate) rest)
       ≡ id ∷ map (λ one. one.krate.id) rest
   id-first None node id e rest = absurd (none_some id e)

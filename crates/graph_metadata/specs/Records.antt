@@ -11,7 +11,7 @@ use Rattle.graph_metadata.specs.declared.fault.MetaError.{MetaError}
 use Rattle.graph_metadata.specs.declared.fault.MetaError.TheVariants.{Syntax, Shape, Memory}
 use Rattle.graph_metadata.specs.Floats.{unless_float}
 use Rattle.graph_core.specs.Krate.{Record}
-use Rattle.graph_core.specs.Metadata.{Graph, Node, Link}
+use Rattle.graph_core.specs.Metadata.{Graph, CrateNode, Link}
 use Rattle.graph_metadata.specs.Nodes.{RootTold, ResolveTold, NodesTold, root_row, resolve_row, nodes_read, all_deps, all_edges}
 use Rattle.graph_metadata.specs.Packages.{packages_in}
 use Rattle.graph_metadata.specs.Shape.{IdPlaces}
@@ -48,7 +48,7 @@ abbrev pub edges_of_node : List (List Edge) → Option ℕ → List Edge
 edges_of_node lists None = []
 edges_of_node lists (Some node) = unwrap_or (slice_get lists node) []
 
-abbrev pub graph_node_at : List Record → List (List Edge) → Spot → Option Node
+abbrev pub graph_node_at : List Record → List (List Edge) → Spot → Option CrateNode
 graph_node_at crates lists spot =
     option_map (λ krate. record { krate = krate; edges = map (link_to crates) (edges_of_node lists spot.node) })
     (slice_get crates spot.place)

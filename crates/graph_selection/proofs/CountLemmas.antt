@@ -5,7 +5,7 @@ use Rattle.std.proofs.lemmas.Bool.{cases_Bool}
 use Rattle.std.proofs.lemmas.List.Sums.{length-filter}
 use Rattle.std.proofs.lemmas.Option.{slice_get-map, slice_get_within}
 use Rattle.std.proofs.lemmas.List.{length-map}
-use Rattle.graph_core.specs.Metadata.{Graph, Node, AreRising, ids_of, id_of_node}
+use Rattle.graph_core.specs.Metadata.{Graph, CrateNode, AreRising, ids_of, id_of_node}
 use Rattle.graph_selection.specs.declared.selection.BuildError.{BuildError}
 use Rattle.graph_selection.specs.declared.selection.BuildError.TheVariants.{NoRoots}
 use Rattle.graph_selection.specs.declared.standing.Standing.{Standing}
@@ -93,12 +93,12 @@ some-other test (x ∷ xs) some = some-one test x xs (test x) refl some (some-ot
 
 module _ (graph : Graph) (choice : Choice) (rising : AreRising (ids_of graph)) where
   -- the standing of a node's crate stands at the node's place
-  standing-at : (place : ℕ) (node : Node) → slice_get graph.nodes place ≡ Some node
+  standing-at : (place : ℕ) (node : CrateNode) → slice_get graph.nodes place ≡ Some node
       → slice_get (standings_in graph choice) place ≡ Some (standing_of graph choice node.krate)
   standing-at place node at =
       slice_get-map (standing_of graph choice) (crates_of graph) place
       ∙ ap (option_map (standing_of graph choice))
-      (slice_get-map (λ (n : Node). n.krate) graph.nodes place ∙ ap (option_map (λ (n : Node). n.krate)) at)
+      (slice_get-map (λ (n : CrateNode). n.krate) graph.nodes place ∙ ap (option_map (λ (n : CrateNode). n.krate)) at)
 
   no-root : list_any is_root_standing (standings_in graph choice) ≡ false → HasRoot graph choice → ⊥
   no-root none root =
@@ -110,7 +110,7 @@ module _ (graph : Graph) (choice : Choice) (rising : AreRising (ids_of graph)) w
       → HasRoot graph choice
   root-of place standing at is =
       let within : place < length graph.nodes =
-      subst (λ m. place < m) (length-map (crates_of graph) (standing_of graph choice) ∙ length-map graph.nodes (λ (n : Node). n.krate))
+      subst (λ m. place < m) (length-map (crates_of graph) (standing_of graph choice) ∙ length-map graph.nodes (λ (n : CrateNode). n.krate))
       (slice_get_within (standings_in graph choice) place standing at) in
       let there = within-some graph.nodes place within in
       let same : standing ≡ standing_of graph choice there.0.krate =

@@ -10,7 +10,7 @@ use Rattle.std.proofs.lemmas.Option.{slice_get_within, unwrap_or-slice_get, get_
 use Rattle.graph_core.specs.declared.krate.Krate.{Krate}
 use Rattle.graph_core.specs.declared.edge.Kinds.{Kinds}
 use Rattle.graph_core.specs.Krate.{Record, record_of, ids_in}
-use Rattle.graph_core.specs.Metadata.{Graph, Node, AreRising, ids_of, id_of_node}
+use Rattle.graph_core.specs.Metadata.{Graph, CrateNode, AreRising, ids_of, id_of_node}
 use Rattle.graph_selection.specs.Roots.{crates_of}
 use Rattle.graph_selection.specs.Listed.{IsListOf, ListedCrate, crates_in, listed_crates}
 use Rattle.graph_selection.specs.Places.{AreMarksOf, is_marked, marked_items, kinds_at, kinds_kept}
@@ -91,7 +91,7 @@ ids-crates f (x ∷ xs) = ap (λ rest. (f x).id ∷ rest) (ids-crates f xs)
 module _ (graph : Graph) (rising : AreRising (ids_of graph)) (Has : List ℕ → Type 0) (marks : List Bool)
     (are : AreMarksOf graph Has marks) where
   ids-are : ids_in (crates_of graph) ≡ ids_of graph
-  ids-are = ids-crates (λ (node : Node). node.krate) graph.nodes
+  ids-are = ids-crates (λ (node : CrateNode). node.krate) graph.nodes
 
   ids-kept : ids_in (marked_items (crates_of graph) marks) ≡ marked_items (ids_of graph) marks
   ids-kept = kept-map (λ (krate : Record). krate.id) (crates_of graph) marks ∙ ap (λ ids. marked_items ids marks) ids-are
@@ -102,7 +102,7 @@ module _ (graph : Graph) (rising : AreRising (ids_of graph)) (Has : List ℕ →
   whole-at : (id : List ℕ) → Has id → Contains (ids_in (marked_items (crates_of graph) marks)) id
   whole-at id has =
       let found = are.whole id has in
-      let there = within-some (ids_of graph) found.0 (subst (λ m. found.0 < m) (sym (length-map graph.nodes (λ (node : Node). node.krate.id))) found.1) in
+      let there = within-some (ids_of graph) found.0 (subst (λ m. found.0 < m) (sym (length-map graph.nodes (λ (node : CrateNode). node.krate.id))) found.1) in
       let same : there.0 ≡ id = sym (id-is found.0 there.0 there.1) ∙ found.3 in
       subst (λ ids. Contains ids id) (sym ids-kept)
       (subst (Contains (marked_items (ids_of graph) marks)) same (kept-contains (ids_of graph) marks found.0 there.0 there.1 found.2))

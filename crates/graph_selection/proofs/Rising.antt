@@ -7,7 +7,7 @@ use Rattle.std.specs.Cmp.Lexicographic.{slice_cmp, nat_list_cmp_total}
 use Rattle.std.proofs.lemmas.List.{length-map}
 use Rattle.std.proofs.lemmas.List.Elements.{All-from_recursion}
 use Rattle.std.proofs.lemmas.Option.{slice_get-map, slice_get-get_or, slice_get_within, unwrap_or-slice_get}
-use Rattle.graph_core.specs.Metadata.{Graph, Node, AreRising, ids_of, id_of_node}
+use Rattle.graph_core.specs.Metadata.{Graph, CrateNode, AreRising, ids_of, id_of_node}
 
 pub some_same : {A : Type 0} (x y : A) → Some x ≡ Some y → x ≡ y
 some_same x y e = ap (λ o. unwrap_or o x) e
@@ -37,10 +37,10 @@ module _ (graph : Graph) (rising : AreRising (ids_of graph)) where
   length-ids : length (ids_of graph) ≡ length graph.nodes
   length-ids = length-map graph.nodes (λ node. node.krate.id)
 
-  pub id-at : (place : ℕ) (node : Node) → slice_get graph.nodes place ≡ Some node → id_of_node graph place ≡ node.krate.id
+  pub id-at : (place : ℕ) (node : CrateNode) → slice_get graph.nodes place ≡ Some node → id_of_node graph place ≡ node.krate.id
   id-at place node at =
-      ap (λ o. unwrap_or o []) (slice_get-map (λ (n : Node). n.krate.id) graph.nodes place
-      ∙ ap (option_map (λ (n : Node). n.krate.id)) at)
+      ap (λ o. unwrap_or o []) (slice_get-map (λ (n : CrateNode). n.krate.id) graph.nodes place
+      ∙ ap (option_map (λ (n : CrateNode). n.krate.id)) at)
 
   -- no two places have one id
   pub one-place : (i j : ℕ) → i < length graph.nodes → j < length graph.nodes → id_of_node graph i ≡ id_of_node graph j → i ≡ j
@@ -48,13 +48,13 @@ module _ (graph : Graph) (rising : AreRising (ids_of graph)) where
       place-of-id (ids_of graph) rising i j (subst (λ n. i < n) (sym length-ids) below) (subst (λ n. j < n) (sym length-ids) within)
       (sym (unwrap_or-slice_get (ids_of graph) i []) ∙ (same ∙ unwrap_or-slice_get (ids_of graph) j []))
 
-  pub place-of-node : (node : Node) → Contains graph.nodes node
+  pub place-of-node : (node : CrateNode) → Contains graph.nodes node
       → (place : ℕ) × (place < length graph.nodes) × (slice_get graph.nodes place ≡ Some node)
   place-of-node node (place, below, at) =
       (place, below, slice_get-get_or graph.nodes place node below ∙ ap Some at)
 
   -- the node at a place is the one with its id
-  pub one-node : (place : ℕ) (node other : Node) → slice_get graph.nodes place ≡ Some node → Contains graph.nodes other
+  pub one-node : (place : ℕ) (node other : CrateNode) → slice_get graph.nodes place ≡ Some node → Contains graph.nodes other
       → other.krate.id ≡ node.krate.id → other ≡ node
   one-node place node other at stands same =
       let found = place-of-node other stands in

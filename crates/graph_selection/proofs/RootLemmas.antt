@@ -4,7 +4,7 @@ use Rattle.std.proofs.lemmas.List.{length-map, length-replicate}
 use Rattle.std.proofs.lemmas.List.Elements.{All-nil}
 use Rattle.std.proofs.lemmas.Option.{slice_get_within}
 use Rattle.graph_core.specs.declared.edge.DepKind.{DepKind}
-use Rattle.graph_core.specs.Metadata.{Graph, Node, AreRising, ids_of, id_of_node}
+use Rattle.graph_core.specs.Metadata.{Graph, CrateNode, AreRising, ids_of, id_of_node}
 use Rattle.graph_selection.specs.declared.standing.Standing.{Standing}
 use Rattle.graph_selection.specs.Choice.{Choice}
 use Rattle.graph_selection.specs.Roots.{IsRoot, crates_of, is_root}
@@ -124,7 +124,7 @@ module _ (graph : Graph) (choice : Choice) (named : Option DepKind) (rising : Ar
   started = put_roots 0 (standings_in graph choice) (nothing_seen (length graph.nodes))
 
   count-standings : length (standings_in graph choice) ≡ length graph.nodes
-  count-standings = length-map (crates_of graph) (standing_of graph choice) ∙ length-map graph.nodes (λ (node : Node). node.krate)
+  count-standings = length-map (crates_of graph) (standing_of graph choice) ∙ length-map graph.nodes (λ (node : CrateNode). node.krate)
 
   empty-counted : length (nothing_seen (length graph.nodes)).marks ≡ length graph.nodes
   empty-counted = length-replicate (length graph.nodes) false

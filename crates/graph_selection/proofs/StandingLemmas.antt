@@ -12,7 +12,7 @@ use Rattle.std.proofs.lemmas.Option.{get_or_from_slice_get, slice_get-get_or, sl
 use Rattle.std.proofs.lemmas.Slice.Eq.{bytes_eq-Decides}
 use Rattle.graph_core.specs.declared.krate.Krate.{Krate}
 use Rattle.graph_core.specs.Krate.{Record, has_text, record_of}
-use Rattle.graph_core.specs.Metadata.{Graph, Node, ArePlaces, AreRising, ids_of, id_of_node}
+use Rattle.graph_core.specs.Metadata.{Graph, CrateNode, ArePlaces, AreRising, ids_of, id_of_node}
 use Rattle.graph_selection.specs.Choice.{Choice}
 use Rattle.graph_selection.specs.Roots.{crates_of, is_base, is_base_of, is_member}
 use Rattle.graph_selection.specs.Places.{is_marked, marked_at, marks_at, nobody, standing_of, standing_with, standings_in}
@@ -61,7 +61,7 @@ same-marks (x ∷ xs) (y ∷ ys) e h =
     ∙ ap (λ rest. y ∷ rest) (same-marks xs ys (omega arith) (λ k below. h (suc k) (omega arith)))
 
 module _ (graph : Graph) (rising : AreRising (ids_of graph)) where
-  pub said-at : {A : Type 0} (f : Record → A) (place : ℕ) (node : Node) (d : A) → slice_get graph.nodes place ≡ Some node
+  pub said-at : {A : Type 0} (f : Record → A) (place : ℕ) (node : CrateNode) (d : A) → slice_get graph.nodes place ≡ Some node
       → slice_index_or (map f (crates_of graph)) place d ≡ f node.krate
   said-at f place node d at =
       get_or_from_slice_get (map f (crates_of graph)) place (f node.krate) d
@@ -100,7 +100,7 @@ module _ (graph : Graph) (rising : AreRising (ids_of graph)) where
         marked-length places (replicate (length graph.nodes) false) ∙ length-replicate (length graph.nodes) false
 
     count-crates : {A : Type 0} (f : Record → A) → length (map f (crates_of graph)) ≡ length graph.nodes
-    count-crates f = length-map (crates_of graph) f ∙ length-map graph.nodes (λ (node : Node). node.krate)
+    count-crates f = length-map (crates_of graph) f ∙ length-map graph.nodes (λ (node : CrateNode). node.krate)
 
     pub marks-say : (f : Record → Bool) → ((krate : Record) → has_text (map (id_of_node graph) places) krate.id ≡ f krate)
         → marks_at (length graph.nodes) places ≡ map f (crates_of graph)
@@ -157,10 +157,10 @@ module _ (graph : Graph) (rising : AreRising (ids_of graph)) where
       (i : ℕ) (krate : Krate) (below : i < length krates) (at : krate ≡ slice_index_or krates i krate) where
     in-graph : i < length graph.nodes
     in-graph =
-        subst (λ n. i < n) (length-map graph.nodes (λ (node : Node). node.krate))
+        subst (λ n. i < n) (length-map graph.nodes (λ (node : CrateNode). node.krate))
         (subst (λ found. i < length found) told (subst (λ n. i < n) (sym (length-map krates record_of)) below))
 
-    there : (node : Node) × (slice_get graph.nodes i ≡ Some node)
+    there : (node : CrateNode) × (slice_get graph.nodes i ≡ Some node)
     there = node-at graph rising i in-graph
 
     same-krate : record_of krate ≡ there.0.krate
@@ -171,7 +171,7 @@ module _ (graph : Graph) (rising : AreRising (ids_of graph)) where
         ∙ (ap (λ found. slice_get found i) told ∙ crate-at graph rising i there.0 there.1))
 
     count-standings : length (standings_in graph choice) ≡ length graph.nodes
-    count-standings = length-map (crates_of graph) (standing_of graph choice) ∙ length-map graph.nodes (λ (node : Node). node.krate)
+    count-standings = length-map (crates_of graph) (standing_of graph choice) ∙ length-map graph.nodes (λ (node : CrateNode). node.krate)
 
     pub standings-more : (members bases : List Bool)
         → members ≡ map (λ (k : Record). is_member graph k.id) (crates_of graph)

@@ -5,7 +5,7 @@ use Rattle.std.proofs.lemmas.List.Elements.{All-contains, Contains-push, recursi
 use Rattle.graph_core.specs.declared.edge.DepKind.{DepKind}
 use Rattle.graph_core.specs.declared.edge.Edge.{Edge}
 use Rattle.graph_core.specs.declared.edge.Kinds.{Kinds}
-use Rattle.graph_core.specs.Metadata.{Graph, Node, AreRising, LeadWithin, ids_of, edges_at, link_in}
+use Rattle.graph_core.specs.Metadata.{Graph, CrateNode, AreRising, LeadWithin, ids_of, edges_at, link_in}
 use Rattle.graph_selection.specs.declared.standing.Standing.{Standing}
 use Rattle.graph_selection.specs.Choice.{Choice}
 use Rattle.graph_selection.specs.Roots.{crates_of}
@@ -20,7 +20,7 @@ module _ (graph : Graph) (choice : Choice) (named : Option DepKind) (rising : Ar
   pub count-standings : length standings ≡ length graph.nodes
   count-standings =
       ap length told
-      ∙ (length-map (crates_of graph) (standing_of graph choice) ∙ length-map graph.nodes (λ (node : Node). node.krate))
+      ∙ (length-map (crates_of graph) (standing_of graph choice) ∙ length-map graph.nodes (λ (node : CrateNode). node.krate))
 
   module _ (seen : FrontierView) (rest : List ℕ) (place : ℕ) (waits : seen.waiting ≡ rest ++ place ∷ [])
       (before : IsUnderWay graph choice named seen) where

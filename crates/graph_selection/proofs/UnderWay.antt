@@ -9,7 +9,7 @@ use Rattle.std.proofs.lemmas.Option.{get_or_from_slice_get}
 use Rattle.graph_core.specs.declared.edge.DepKind.{DepKind}
 use Rattle.graph_core.specs.declared.edge.Edge.{Edge}
 use Rattle.graph_core.specs.declared.edge.Kinds.{Kinds}
-use Rattle.graph_core.specs.Metadata.{Graph, Link, Node, AreRising, LeadWithin, ids_of, id_of_node, edges_at, link_in}
+use Rattle.graph_core.specs.Metadata.{Graph, Link, CrateNode, AreRising, LeadWithin, ids_of, id_of_node, edges_at, link_in}
 use Rattle.graph_selection.specs.declared.standing.Standing.{Standing}
 use Rattle.graph_selection.specs.Choice.{Choice, is_excluded}
 use Rattle.graph_selection.specs.Roots.{IsExcluded, IsRoot, is_member}
@@ -47,7 +47,7 @@ module _ (graph : Graph) (choice : Choice) (named : Option DepKind) (rising : Ar
 
   -- ---- one place is followed
 
-  module _ (place : ℕ) (node : Node) (at : slice_get graph.nodes place ≡ Some node)
+  module _ (place : ℕ) (node : CrateNode) (at : slice_get graph.nodes place ≡ Some node)
       (edges : List Edge) (within : LeadWithin (length graph.nodes) edges) (told : map (link_in graph) edges ≡ edges_at graph place)
       (rest : List ℕ) (marks : List Bool)
       (before : IsUnderWay graph choice named (record { marks = marks; waiting = rest ++ place ∷ [] })) where
@@ -161,7 +161,7 @@ module _ (graph : Graph) (choice : Choice) (named : Option DepKind) (rising : Ar
         let same_node : may.edge.node ≡ node =
         one-node graph rising place node may.edge.node at may.edge.stands (may.edge.begins ∙ (begins ∙ same_id)) in
         let listed : Contains (map (link_in graph) edges) (link_of_step step) =
-        subst (λ links. Contains links (link_of_step step)) (ap (λ (m : Node). m.edges) same_node ∙ sym (told ∙ edges-is graph rising place node at)) may.edge.listed in
+        subst (λ links. Contains links (link_of_step step)) (ap (λ (m : CrateNode). m.edges) same_node ∙ sym (told ∙ edges-is graph rising place node at)) may.edge.listed in
         end-of step may begins listed.0 (subst (λ m. listed.0 < m) (length-map edges (link_in graph)) listed.1) listed.2
 
     pending-end : (q : ℕ) → is_marked end.marks q ≡ true → Contains end.waiting q ⊎ IsDone graph choice named end.marks q

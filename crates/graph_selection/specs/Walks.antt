@@ -3,7 +3,7 @@ use Rattle.std.specs.Prelude.{◌≡◌, ◌≢◌, ℕ, List, [], ◌∷◌, fa
 use Rattle.graph_core.specs.declared.edge.DepKind.{DepKind}
 use Rattle.graph_core.specs.declared.edge.DepKind.TheVariants.{Normal, Dev, Build}
 use Rattle.graph_core.specs.declared.edge.Kinds.{Kinds}
-use Rattle.graph_core.specs.Metadata.{Graph, Link, Node}
+use Rattle.graph_core.specs.Metadata.{Graph, Link, CrateNode}
 use Rattle.graph_selection.specs.declared.selection.Include.{Include}
 use Rattle.graph_selection.specs.Choice.{Choice}
 use Rattle.graph_selection.specs.Roots.{is_member, IsRoot, IsExcluded}
@@ -19,7 +19,7 @@ link_of_step step = record { to = step.to; kinds = step.kinds }
 
 -- an edge of the graph: it stands among those of the node that it begins at
 pub record IsEdge (graph : Graph) (step : Step) : Type 0 where
-  pub node : Node
+  pub node : CrateNode
   pub stands : Contains graph.nodes node
   pub begins : node.krate.id ≡ step.from
   pub listed : Contains node.edges (link_of_step step)

@@ -2,7 +2,7 @@
 use Rattle.std.proofs.Common.{◌≡◌, ℕ, false, List, [], ◌∷◌, Some, None, Ok, Err, codes, pos, refl}
 use Rattle.spdx_catalog.specs.Catalog.{CatalogLists}
 use Rattle.deny_text.specs.declared.span.Span.{Span}
-use Rattle.toml_subset.specs.Data.{Content, Entries, Toml, string, integer, table, array, no_item, item, no_entry, entry}
+use Rattle.toml_subset.specs.Data.{TomlContent, Entries, Toml, string, integer, table, array, no_item, item, no_entry, entry}
 use Rattle.toml_subset.specs.Reading.{read_text}
 use Rattle.toml_shapes.specs.Shapes.{fault_alone, wanted}
 use Rattle.toml_shapes.specs.Shaped.{shaped_map}
@@ -20,10 +20,10 @@ numbers = record { policy = 0; exceptions = 1 }
 abbrev at : ℕ → ℕ → Span
 at from to = record { start = from; end = to }
 
-abbrev text : List ℕ → Content
+abbrev text : List ℕ → TomlContent
 text bytes = string (record { text = bytes; escaped = false })
 
-abbrev row : List ℕ → Span → Span → Content → Entries → Entries
+abbrev row : List ℕ → Span → Span → TomlContent → Entries → Entries
 row name key span content more = entry (record { name = record { text = name; escaped = false }; span = key }) span content more
 
 abbrev root : Entries → Toml

@@ -1,7 +1,7 @@
 -- Parts of a policy, worked out by hand from the table of keys. A key stands at 1..2, a value at the place of its row.
 use Rattle.std.proofs.Common.{◌≡◌, ℕ, ◌^◌, true, false, List, [], ◌∷◌, Some, None, Ok, Err, codes, pos, negsuc, refl}
 use Rattle.deny_text.specs.declared.span.Span.{Span}
-use Rattle.toml_subset.specs.Data.{Content, Entries, Toml, string, integer, boolean, table, array, no_item, item, no_entry, entry}
+use Rattle.toml_subset.specs.Data.{TomlContent, Entries, Toml, string, integer, boolean, table, array, no_item, item, no_entry, entry}
 use Rattle.toml_shapes.specs.Shapes.{fault_alone, missing, wanted, unexpected_keys, unexpected_value, out_of_range}
 use Rattle.policy_parts.specs.Names.{scope_of, agreement_of, lint_of}
 use Rattle.policy_parts.specs.Tables.{private_of, output_of, graph_config_of}
@@ -13,13 +13,13 @@ use Rattle.policy_parts.specs.declared.names.Scope.TheVariants as scope
 abbrev at : ℕ → ℕ → Span
 at from to = record { start = from; end = to }
 
-abbrev text : List ℕ → Content
+abbrev text : List ℕ → TomlContent
 text bytes = string (record { text = bytes; escaped = false })
 
-abbrev value : Content → Toml
+abbrev value : TomlContent → Toml
 value content = record { content = content; span = at 3 9 }
 
-abbrev row : List ℕ → Span → Content → Entries → Entries
+abbrev row : List ℕ → Span → TomlContent → Entries → Entries
 row name span content more = entry (record { name = record { text = name; escaped = false }; span = at 1 2 }) span content more
 
 -- a table at 3..9

@@ -5,7 +5,7 @@ use Rattle.deny_text.specs.declared.span.Span.{Span}
 use Rattle.deny_text.specs.declared.span.Spanned.{Spanned}
 use Rattle.deny_text.specs.Spans.{LiesBetween}
 use Rattle.toml_laws.specs.Placed.{IsContentPlaced}
-use Rattle.toml_subset.specs.Data.{Content, string, integer, decimal, boolean, array, table}
+use Rattle.toml_subset.specs.Data.{TomlContent, string, integer, decimal, boolean, array, table}
 use Rattle.toml_value.specs.Lookup.{value_at}
 use Rattle.policy_toml.specs.Readings.{text_of, boolean_of, u32_of, list_of, spanned_of}
 use Rattle.toml_rows.specs.Rows.{key, given, needed, shaped_by}
@@ -74,7 +74,7 @@ module _ (text : List ℕ) where
       (texts_tell (codes "features"), tt) entries span lies placed here)
       (needed_stays text keeps_its_span (codes "triple") (spanned_of text_of) spanned_text_stays entries span lies placed)
 
-  target_content : (span : Span) (content : Content) → LiesBetween text span → IsContentPlaced text span content
+  target_content : (span : Span) (content : TomlContent) → LiesBetween text span → IsContentPlaced text span content
       → StaysIn target_keeps text (target_of (record { content = content; span = span }))
   target_content span (string w) lies placed = lies
   target_content span (integer z) lies placed = (lies, tt)

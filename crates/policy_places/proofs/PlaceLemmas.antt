@@ -11,7 +11,7 @@ use Rattle.toml_shapes.specs.Kinds.{kind_word}
 use Rattle.toml_shapes.specs.Shaped.{ShapeReading, shaped_map, shaped_then, faults_in, shaped_of}
 use Rattle.toml_shapes.specs.Shapes.{Fault}
 use Rattle.toml_shapes.specs.declared.shape.ValueKind.TheVariants as kind
-use Rattle.toml_subset.specs.Data.{Content, Items, Entries, Toml, string, integer, decimal, boolean, array, table, no_item, item, no_entry, entry}
+use Rattle.toml_subset.specs.Data.{TomlContent, Items, Entries, Toml, string, integer, decimal, boolean, array, table, no_item, item, no_entry, entry}
 use Rattle.toml_subset.specs.Written.{WrittenString}
 use Rattle.toml_value.specs.Lookup.{value_at}
 use Rattle.toml_value.specs.Removal.{entries_without, names_in}
@@ -102,7 +102,7 @@ module _ (text : List ℕ) where
   abbrev keeps_placed : List ℕ → List Toml → Type 0
   keeps_placed text values = AllByRecursion (IsPlaced text) values
 
-  array_by : (span : Span) (content : Content) → LiesBetween text span → IsContentPlaced text span content
+  array_by : (span : Span) (content : TomlContent) → LiesBetween text span → IsContentPlaced text span content
       → StaysIn keeps_placed text (array_of (record { content = content; span = span }))
   array_by span (string w) lies placed = (lies, tt)
   array_by span (integer z) lies placed = (lies, tt)
@@ -169,7 +169,7 @@ module _ (text : List ℕ) where
   abbrev pub KeepsInTable : {A : Type 0} → Keeping A → (Entries → Span → ShapeReading A) → Type 0
   KeepsInTable keeps reads = (entries : Entries) (span : Span) → LiesBetween text span → AreEntriesPlaced text entries → StaysIn keeps text (reads entries span)
 
-  table_by : {A : Type 0} (keeps : Keeping A) (reads : Entries → Span → ShapeReading A) → KeepsInTable keeps reads → (span : Span) (content : Content)
+  table_by : {A : Type 0} (keeps : Keeping A) (reads : Entries → Span → ShapeReading A) → KeepsInTable keeps reads → (span : Span) (content : TomlContent)
       → LiesBetween text span → IsContentPlaced text span content → StaysIn keeps text (in_table reads (record { content = content; span = span }))
   table_by keeps reads law span (string w) lies placed = (lies, tt)
   table_by keeps reads law span (integer z) lies placed = (lies, tt)

@@ -11,7 +11,7 @@ use Rattle.semver.specs.Parse.{Held, req_of}
 use Rattle.semver.specs.declared.error.Error.{Error}
 use Rattle.deny_text.specs.Spans.{LiesBetween}
 use Rattle.toml_laws.specs.Placed.{IsSpelled, IsPlaced, IsContentPlaced, AreEntriesPlaced}
-use Rattle.toml_subset.specs.Data.{Content, Entries, Toml, string, integer, decimal, boolean, array, table}
+use Rattle.toml_subset.specs.Data.{TomlContent, Entries, Toml, string, integer, decimal, boolean, array, table}
 use Rattle.toml_subset.specs.Written.{WrittenString}
 use Rattle.toml_value.specs.Lookup.{value_at}
 use Rattle.toml_value.specs.Taken.{string_of}
@@ -29,7 +29,7 @@ use Rattle.policy_places.proofs.Borders.{part_is_text, part_length, inner_border
 abbrev pub keeps_spelling : Span → List ℕ → WrittenString → Type 0
 keeps_spelling span text written = IsSpelled text span written
 
-string_by : (text expected : List ℕ) (span : Span) (content : Content) → LiesBetween text span → IsContentPlaced text span content
+string_by : (text expected : List ℕ) (span : Span) (content : TomlContent) → LiesBetween text span → IsContentPlaced text span content
     → StaysIn (keeps_spelling span) text (string_of expected (record { content = content; span = span }))
 string_by text expected span (string w) lies placed = placed
 string_by text expected span (integer z) lies placed = (lies, tt)
@@ -160,7 +160,7 @@ module _ (text : List ℕ) (utf8 : IsUtf8 text) where
       named_stays span (value_at (codes "name") entries) (value_at (codes "version") entries) lies (found_placed text (codes "name") entries placed)
       (found_placed text (codes "version") entries placed)
 
-  spec_content : (span : Span) (content : Content) → LiesBetween text span → IsContentPlaced text span content
+  spec_content : (span : Span) (content : TomlContent) → LiesBetween text span → IsContentPlaced text span content
       → StaysIn spec_keeps text (spec_of (record { content = content; span = span }))
   spec_content span (string w) lies placed = string_spec_stays (codes "a string or table") (record { content = string w; span = span }) (lies, placed)
   spec_content span (integer z) lies placed = (lies, tt)
@@ -180,7 +180,7 @@ module _ (text : List ℕ) where
   left_placed true entries placed = without_placed text (codes "crate") entries placed
   left_placed false entries placed = without_placed text (codes "version") _ (without_placed text (codes "name") entries placed)
 
-  left_content : (span : Span) (content : Content) → LiesBetween text span → IsContentPlaced text span content
+  left_content : (span : Span) (content : TomlContent) → LiesBetween text span → IsContentPlaced text span content
       → IsPlaced text (rest_of_spec (record { content = content; span = span }))
   left_content span (string w) lies placed = (lies, tt)
   left_content span (integer z) lies placed = (lies, tt)

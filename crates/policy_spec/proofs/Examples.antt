@@ -4,7 +4,7 @@ use Rattle.std.specs.declared.cmp.Ordering.TheVariants.{Less, Equal, Greater}
 use Rattle.deny_text.specs.declared.span.Span.{Span}
 use Rattle.semver.specs.Parse.{Held, digits_from, req_from, scan, strip_spaces}
 use Rattle.semver.specs.declared.Op.TheVariants as op
-use Rattle.toml_subset.specs.Data.{Content, Entries, Toml, string, integer, table, array, no_item, boolean, no_entry, entry}
+use Rattle.toml_subset.specs.Data.{TomlContent, Entries, Toml, string, integer, table, array, no_item, boolean, no_entry, entry}
 use Rattle.toml_subset.specs.Written.{WrittenString}
 use Rattle.toml_shapes.specs.Shaped.{ShapeReading}
 use Rattle.toml_shapes.specs.Shapes.{fault_alone, missing, wanted}
@@ -74,13 +74,13 @@ escapes = refl
 
 -- ---- values
 
-abbrev value : Content → Span → Toml
+abbrev value : TomlContent → Span → Toml
 value content span = record { content = content; span = span }
 
-abbrev key : List ℕ → Content → Span → Entries → Entries
+abbrev key : List ℕ → TomlContent → Span → Entries → Entries
 key name content span more = entry (record { name = plain name; span = at 0 0 }) span content more
 
-abbrev text : List ℕ → Content
+abbrev text : List ℕ → TomlContent
 text written = string (plain written)
 
 a_string : (spec_of (value (text (codes "b")) (at 1 2)) ≡ Ok (spec (codes "b") (at 1 2) None))

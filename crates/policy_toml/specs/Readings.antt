@@ -7,7 +7,7 @@ use Rattle.std.specs.Str.{bytes_eq}
 use denote.Ref.{Bor}
 use Rattle.deny_text.specs.declared.span.Span.{Span}
 use Rattle.deny_text.specs.declared.span.Spanned.{Spanned}
-use Rattle.toml_subset.specs.Data.{Content, Toml, integer, decimal, boolean}
+use Rattle.toml_subset.specs.Data.{TomlContent, Toml, integer, decimal, boolean}
 use Rattle.toml_shapes.specs.Kinds.{kind_word}
 use Rattle.toml_shapes.specs.Shaped.{ShapeReading, shaped_map, shaped_then, faults_in, shaped_of}
 use Rattle.toml_shapes.specs.Shapes.{fault_alone, out_of_range, unexpected_value}
@@ -17,16 +17,16 @@ use Rattle.policy_toml.specs.declared.hundredths.Hundredths.{Hundredths}
 
 -- what a value holds, where it is of the kind
 
-abbrev pub as_boolean : Content → Option Bool
+abbrev pub as_boolean : TomlContent → Option Bool
 as_boolean (boolean b) = Some b
 as_boolean _ = None
 
-abbrev pub as_integer : Content → Option ℤ
+abbrev pub as_integer : TomlContent → Option ℤ
 as_integer (integer z) = Some z
 as_integer _ = None
 
 -- whole hundredths: an integer counts a hundred times, cut to 64 bits
-abbrev pub as_hundredths : Content → Option ℤ
+abbrev pub as_hundredths : TomlContent → Option ℤ
 as_hundredths (integer z) = Some (saturate_signed w64 (z *ℤ pos 100))
 as_hundredths (decimal z) = Some z
 as_hundredths _ = None

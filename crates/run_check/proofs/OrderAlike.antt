@@ -13,7 +13,7 @@ use Rattle.deny_text.specs.Path.{path_order_total}
 use Rattle.spdx_terms.specs.Licensee.{printed_order_total}
 use Rattle.gather_files.proofs.PackLemmas.{by_test}
 use Rattle.graph_core.specs.Krate.{Record, ids_in}
-use Rattle.graph_core.specs.Metadata.{AreRising, Graph, Node, ids_of}
+use Rattle.graph_core.specs.Metadata.{AreRising, Graph, CrateNode, ids_of}
 use Rattle.graph_selection.specs.Listed.{IsListOf}
 use Rattle.graph_selection.specs.Roots.{crates_of}
 use Rattle.policy_entries.specs.declared.licensee.Licensee.{Licensee}
@@ -175,28 +175,28 @@ ids_alike (x ∷ xs) (y ∷ ys) up down to from =
 
 -- ---- crates of a graph
 
-abbrev AmongNodes : Record → List Node → Type 0
+abbrev AmongNodes : Record → List CrateNode → Type 0
 AmongNodes krate [] = ⊥
 AmongNodes krate (node ∷ nodes) = (node.krate ≡ krate) ⊎ AmongNodes krate nodes
 
-among_nodes : (nodes : List Node) (krate : Record) → Among krate (map (λ (node : Node). node.krate) nodes) → AmongNodes krate nodes
+among_nodes : (nodes : List CrateNode) (krate : Record) → Among krate (map (λ (node : CrateNode). node.krate) nodes) → AmongNodes krate nodes
 among_nodes [] krate is = is
 among_nodes (node ∷ nodes) krate (inl e) = inl e
 among_nodes (node ∷ nodes) krate (inr more) = inr (among_nodes nodes krate more)
 
-id_among : (nodes : List Node) (krate : Record) → AmongNodes krate nodes → Among krate.id (map (λ (node : Node). node.krate.id) nodes)
+id_among : (nodes : List CrateNode) (krate : Record) → AmongNodes krate nodes → Among krate.id (map (λ (node : CrateNode). node.krate.id) nodes)
 id_among [] krate is = is
 id_among (node ∷ nodes) krate (inl e) = inl (ap (λ (own : Record). own.id) e)
 id_among (node ∷ nodes) krate (inr more) = inr (id_among nodes krate more)
 
-one_crate : (nodes : List Node) → AreRising (map (λ (node : Node). node.krate.id) nodes) → (one other : Record) → AmongNodes one nodes → AmongNodes other nodes → one.id ≡ other.id → one ≡ other
+one_crate : (nodes : List CrateNode) → AreRising (map (λ (node : CrateNode). node.krate.id) nodes) → (one other : Record) → AmongNodes one nodes → AmongNodes other nodes → one.id ≡ other.id → one ≡ other
 unfolding IsStrictlySortedBy
 one_crate [] rising one other first second same = absurd first
 one_crate (node ∷ nodes) rising one other (inl e) (inl f) same = sym e ∙ f
 one_crate (node ∷ nodes) rising one other (inl e) (inr more) same =
-    absurd (not_itself node.krate.id other.id (has_among (λ z. by_bytes node.krate.id z ≡ Less) (map (λ (own : Node). own.krate.id) nodes) other.id rising.0 (id_among nodes other more)) (ap (λ (own : Record). own.id) e ∙ same))
+    absurd (not_itself node.krate.id other.id (has_among (λ z. by_bytes node.krate.id z ≡ Less) (map (λ (own : CrateNode). own.krate.id) nodes) other.id rising.0 (id_among nodes other more)) (ap (λ (own : Record). own.id) e ∙ same))
 one_crate (node ∷ nodes) rising one other (inr more) (inl f) same =
-    absurd (not_itself node.krate.id one.id (has_among (λ z. by_bytes node.krate.id z ≡ Less) (map (λ (own : Node). own.krate.id) nodes) one.id rising.0 (id_among nodes one more)) (ap (λ (own : Record). own.id) f ∙ sym same))
+    absurd (not_itself node.krate.id one.id (has_among (λ z. by_bytes node.krate.id z ≡ Less) (map (λ (own : CrateNode). own.krate.id) nodes) one.id rising.0 (id_among nodes one more)) (ap (λ (own : Record). own.id) f ∙ sym same))
 one_crate (node ∷ nodes) rising one other (inr more) (inr others) same = one_crate nodes rising.1 one other more others same
 
 module _ (graph : Graph) (rising : AreRising (ids_of graph)) where

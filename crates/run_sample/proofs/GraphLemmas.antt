@@ -11,7 +11,7 @@ use Rattle.std.specs.declared.cmp.Ordering.TheVariants.{Less, Equal, Greater}
 use Rattle.std.proofs.lemmas.List.Elements.{Contains-append_left, Contains-append_right, Contains-push}
 use Rattle.std.proofs.lemmas.Slice.Eq.{bytes_eq-Decides}
 use Rattle.deny_text.specs.Path.{parent_of}
-use Rattle.graph_core.specs.Metadata.{Graph, Node}
+use Rattle.graph_core.specs.Metadata.{Graph, CrateNode}
 use Rattle.graph_metadata.specs.Records.{edges_of_node, graph_node_at, graph_of, link_to, metadata_of, rows_in, spot_of, spots_of, told_graph}
 use Rattle.graph_selection.specs.Choice.{Choice}
 use Rattle.graph_selection.specs.Roots.{HasRoot, crates_of}
@@ -77,7 +77,7 @@ module _ (m : ℕ) (small : suc m ≤ 2 ^ 32) where
   first_there : Among (finmap.entries (sample_rows (suc m)).root.known) (sample_name 0, 0)
   first_there = among_found (sample_name 0) 0 (finmap.entries (sample_rows (suc m)).root.known) (sym (finmap.get-entries (sample_rows (suc m)).root.known (sample_name 0)) ∙ first_known)
 
-  abbrev first_node : Node
+  abbrev first_node : CrateNode
   first_node = record {
     krate = package_record 0;
     edges = map (link_to (sample_rows (suc m)).crates) (edges_of_node (sample_rows (suc m)).edges (finmap.get (sample_rows (suc m)).nodes.firsts (sample_name 0)));
@@ -86,7 +86,7 @@ module _ (m : ℕ) (small : suc m ≤ 2 ^ 32) where
   crate_there : Contains (crates_of rows_here) (package_record 0)
   crate_there =
       contains (crates_of rows_here) (package_record 0)
-      (among_map (λ (node : Node). node.krate) rows_here.nodes first_node
+      (among_map (λ (node : CrateNode). node.krate) rows_here.nodes first_node
       (among_kept (graph_node_at (sample_rows (suc m)).crates (sample_rows (suc m)).edges) (spots_of (sample_rows (suc m)).root.known (sample_rows (suc m)).nodes.firsts)
       (spot_of (sample_rows (suc m)).nodes.firsts (sample_name 0, 0)) first_node refl
       (among_map (spot_of (sample_rows (suc m)).nodes.firsts) (finmap.entries (sample_rows (suc m)).root.known) (sample_name 0, 0) first_there)))

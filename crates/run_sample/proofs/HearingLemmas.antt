@@ -23,7 +23,7 @@ use Rattle.graph_selection.specs.Choice.{is_uncarried}
 use Rattle.graph_selection.specs.Roots.{HasRoot}
 use Rattle.graph_workspace.specs.Krates.{sparse_dir}
 use Rattle.toml_subset.specs.Answer.{TomlReading}
-use Rattle.toml_subset.specs.Data.{Content as TomlContent, Entries, Toml, no_entry, table}
+use Rattle.toml_subset.specs.Data.{TomlContent, Entries, Toml, no_entry, table}
 use Rattle.toml_subset.specs.Reading.{read_text}
 use Rattle.policy_config.specs.Root.{root_in, root_of}
 use Rattle.policy_config.specs.declared.root.RootConfig.{RootConfig}

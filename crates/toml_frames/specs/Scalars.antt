@@ -3,12 +3,12 @@ use Rattle.std.specs.Prelude.{ℕ}
 use Rattle.deny_text.specs.declared.span.Span.{Span}
 use Rattle.toml_subset.specs.Classes.{content_by}
 use Rattle.toml_subset.specs.Data as «data»
-use Rattle.toml_subset.specs.Data.{Content}
+use Rattle.toml_subset.specs.Data.{TomlContent}
 use Rattle.toml_subset.specs.Reading.{ValueFound}
 use Rattle.toml_frames.specs.declared.scalar.Scalar.{Scalar}
 use Rattle.toml_frames.specs.declared.scalar.Scalar.TheVariants.{String, Number, Boolean}
 
-abbrev pub scalar_content : Scalar → Content
+abbrev pub scalar_content : Scalar → TomlContent
 scalar_content (String s) = data.string s
 scalar_content (Number n) = content_by n
 scalar_content (Boolean b) = data.boolean b

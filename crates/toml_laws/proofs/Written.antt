@@ -8,7 +8,7 @@ use Rattle.std.specs.Str.{IsCharBoundary, IsUtf8}
 use Rattle.deny_text.specs.declared.span.Span.{Span}
 use Rattle.toml_subset.specs.Bytes.{open_bracket, close_bracket, open_brace, close_brace, is_bare, is_run, begins_run}
 use Rattle.toml_subset.specs.Data as «data»
-use Rattle.toml_subset.specs.Data.{Content, Items}
+use Rattle.toml_subset.specs.Data.{TomlContent, Items}
 use Rattle.toml_subset.specs.Keys.{IsKey, AreKeys}
 use Rattle.toml_subset.specs.Numbers.{Class, integer, decimal}
 use Rattle.toml_subset.specs.Places.{from_to, stands, run_end, run_at, after_blanks, after_space}
@@ -109,7 +109,7 @@ module _ (text : List ℕ) (utf8 : IsUtf8 text) where
   -- a value and its content, and behind which place it ends
 
   mutual
-    pub value_placed : (i : ℕ) (span : Span) (raw : Raw) (next : ℕ) (content : Content) → IsValue text i span raw next → meant raw ≡ Some content
+    pub value_placed : (i : ℕ) (span : Span) (raw : Raw) (next : ℕ) (content : TomlContent) → IsValue text i span raw next → meant raw ≡ Some content
         → LiesBetween text span × IsContentPlaced text span content
     value_placed i span (raw_text w) next content is e =
         let key : Key = record { name = w; span = span } in (

@@ -2,7 +2,7 @@
 use Rattle.std.specs.Prelude.{◌≡◌, ℕ, false, List, slice_range, ⊤}
 use Rattle.deny_text.specs.Spans.{LiesBetween}
 use Rattle.deny_text.specs.declared.span.Span.{Span}
-use Rattle.toml_subset.specs.Data.{Content, Items, Entries, Toml, string, integer, decimal, boolean, array, table, no_item, item, no_entry, entry}
+use Rattle.toml_subset.specs.Data.{TomlContent, Items, Entries, Toml, string, integer, decimal, boolean, array, table, no_item, item, no_entry, entry}
 use Rattle.toml_subset.specs.Written.{WrittenString}
 use Rattle.toml_subset.specs.declared.string.Key.{Key}
 
@@ -15,7 +15,7 @@ IsKeyPlaced text key = LiesBetween text key.span × IsSpelled text key.span key.
 
 -- all that stands in a value of a span: items, keys and the values of entries, down to the last
 abbrev mutual
-  pub IsContentPlaced : List ℕ → Span → Content → Type 0
+  pub IsContentPlaced : List ℕ → Span → TomlContent → Type 0
   IsContentPlaced text span (string written) = IsSpelled text span written
   IsContentPlaced text span (integer number) = ⊤
   IsContentPlaced text span (decimal number) = ⊤

@@ -1,7 +1,7 @@
 -- The classes of number runs as the program answers them.
 use Rattle.std.specs.Prelude.{ℕ, Result, Ok, Err}
 use Rattle.toml_subset.specs.Data as «data»
-use Rattle.toml_subset.specs.Data.{Content}
+use Rattle.toml_subset.specs.Data.{TomlContent}
 use Rattle.toml_subset.specs.Numbers.{Class, unsupported, number_form, number_range, integer, decimal}
 use Rattle.toml_subset.specs.Places.{from_to}
 use Rattle.toml_subset.specs.Reading.{ValueFound}
@@ -18,7 +18,7 @@ class_answer (integer z) = Ok (Integer z)
 class_answer (decimal z) = Ok (Decimal z)
 
 -- what a number stands for
-abbrev pub content_by : Number → Content
+abbrev pub content_by : Number → TomlContent
 content_by (Integer z) = data.integer z
 content_by (Decimal z) = data.decimal z
 

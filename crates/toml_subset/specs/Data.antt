@@ -6,33 +6,33 @@ use Rattle.toml_subset.specs.Written.{WrittenString}
 use Rattle.toml_subset.specs.declared.string.Key.{Key}
 
 mutual
-  pub data Content : Type 0 where
-    string : WrittenString → Content
-    integer : ℤ → Content
+  pub data TomlContent : Type 0 where
+    string : WrittenString → TomlContent
+    integer : ℤ → TomlContent
     -- whole hundredths
-    decimal : ℤ → Content
-    boolean : Bool → Content
-    array : Items → Content
-    table : Entries → Content
+    decimal : ℤ → TomlContent
+    boolean : Bool → TomlContent
+    array : Items → TomlContent
+    table : Entries → TomlContent
 
   -- the items of an array, each with its span
   pub data Items : Type 0 where
     no_item : Items
-    item : Span → Content → Items → Items
+    item : Span → TomlContent → Items → Items
 
   -- the entries of a table, each with its key and its value's span
   pub data Entries : Type 0 where
     no_entry : Entries
-    entry : Key → Span → Content → Entries → Entries
+    entry : Key → Span → TomlContent → Entries → Entries
 
 -- a value with its place
 pub record Toml : Type 0 where
-  pub content : Content
+  pub content : TomlContent
   pub span : Span
 
 -- how many tables and arrays stand between a value's outside and the deepest value in it, itself counted
 abbrev mutual
-  pub depth_of : Content → ℕ
+  pub depth_of : TomlContent → ℕ
   depth_of (string w) = 0
   depth_of (integer z) = 0
   depth_of (decimal z) = 0

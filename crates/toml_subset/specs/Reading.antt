@@ -4,7 +4,7 @@ use Rattle.deny_text.specs.declared.span.Span.{Span}
 use Rattle.toml_subset.specs.Answer.{TomlReading, fault_at, stuck, then_read, unless}
 use Rattle.toml_subset.specs.Bytes.{quote, apostrophe, hash, comma, line_feed, carriage_return, open_bracket, close_bracket, open_brace, close_brace, is_run}
 use Rattle.toml_subset.specs.Data as «data»
-use Rattle.toml_subset.specs.Data.{Content, Items, Toml, depth_limit}
+use Rattle.toml_subset.specs.Data.{TomlContent, Items, Toml, depth_limit}
 use Rattle.toml_subset.specs.Faults.{begins_number}
 use Rattle.toml_subset.specs.Lines.{Document, no_lines}
 use Rattle.toml_subset.specs.Numbers.{Class, unsupported, number_form, number_range, integer, decimal, class_of}
@@ -19,7 +19,7 @@ use Rattle.toml_subset.specs.declared.string.Key.{Key}
 
 -- a value, its span first, and the place behind it
 abbrev pub ValueFound : Type 0
-ValueFound = Span × Content × ℕ
+ValueFound = Span × TomlContent × ℕ
 
 -- a number run by its class
 abbrev pub number_read : List ℕ → ℕ → Class → TomlReading ValueFound

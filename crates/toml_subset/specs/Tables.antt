@@ -4,7 +4,7 @@ use Rattle.std.specs.Prelude.{Bool, true, false, if◌then◌else◌, List, [], 
 use Rattle.std.specs.Str.{bytes_eq}
 use Rattle.deny_text.specs.declared.span.Span.{Span}
 use Rattle.toml_subset.specs.Data as «data»
-use Rattle.toml_subset.specs.Data.{Content, Items, Entries}
+use Rattle.toml_subset.specs.Data.{TomlContent, Items, Entries}
 use Rattle.toml_subset.specs.Raw.{Raw, RawItems, RawEntries, raw_text, raw_integer, raw_decimal, raw_boolean, raw_array, raw_table, raw_none, raw_item, raw_empty, raw_entry}
 use Rattle.toml_subset.specs.declared.string.Key.{Key}
 
@@ -17,7 +17,7 @@ pub data Mark : Type 0 where
 mutual
   -- A value as it was written is closed, an inline table too: nothing extends it.
   pub data Node : Type 0 where
-    closed : Span → Content → Node
+    closed : Span → TomlContent → Node
     growing : Span → Mark → Branches → Node
     tables : Span → Bodies → Node
 
@@ -38,7 +38,7 @@ span_of (tables span bodies) = span
 
 -- the tree without its marks
 abbrev mutual
-  pub content_of : Node → Content
+  pub content_of : Node → TomlContent
   content_of (closed span content) = content
   content_of (growing span mark branches) = data.table (entries_of branches)
   content_of (tables span bodies) = data.array (items_of bodies)
@@ -143,7 +143,7 @@ within (key ∷ more) edit = changed (through_any (within more edit)) key
 
 -- What a value as written stands for. The keys of an inline table keep the same rules as those of a body.
 abbrev mutual
-  pub meant : Raw → Option Content
+  pub meant : Raw → Option TomlContent
   meant (raw_text w) = Some (data.string w)
   meant (raw_integer z) = Some (data.integer z)
   meant (raw_decimal z) = Some (data.decimal z)

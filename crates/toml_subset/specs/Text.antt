@@ -2,7 +2,7 @@
 -- the limit. The root is the whole text.
 use Rattle.std.specs.Prelude.{◌≡◌, ℕ, ◌+◌, ◌≤◌, List, Some, length}
 use Rattle.deny_text.specs.declared.span.Span.{Span}
-use Rattle.toml_subset.specs.Data.{Content, Toml, table, depth_of, entries_depth, depth_limit}
+use Rattle.toml_subset.specs.Data.{TomlContent, Toml, table, depth_of, entries_depth, depth_limit}
 use Rattle.toml_subset.specs.Lines.{Statement, Document, AreLines, after_lines, no_lines}
 use Rattle.toml_subset.specs.Places.{from_to}
 use Rattle.toml_subset.specs.Raw.{Raw, IsValue}
@@ -18,7 +18,7 @@ pub record IsText (text : List ℕ) (value : Toml) : Type 0 where
 
 -- A value stands at a place, up to a further one: it keeps the table rules, and with so many tables and arrays around it,
 -- no value in it stands deeper than the limit.
-pub record StandsAs (above : ℕ) (text : List ℕ) (i : ℕ) (span : Span) (content : Content) (next : ℕ) : Type 0 where
+pub record StandsAs (above : ℕ) (text : List ℕ) (i : ℕ) (span : Span) (content : TomlContent) (next : ℕ) : Type 0 where
   pub raw : Raw
   pub is : IsValue text i span raw next
   pub means : meant raw ≡ Some content

@@ -1,7 +1,7 @@
 //! Laws of the definition, as contracts of functions that do nothing.
 ghost use Rattle.std.specs.Prelude.{◌≡◌, ◌<◌, ◌≤◌, ℕ, List, Some, None, Ok, Err, length, false, slice_range};
 ghost use Rattle.deny_text.specs.declared.span.Span.{Span};
-ghost use Rattle.toml_subset.specs.Data.{Content, Toml, depth_limit};
+ghost use Rattle.toml_subset.specs.Data.{TomlContent, Toml, depth_limit};
 ghost use Rattle.toml_subset.specs.declared.error.SyntaxError.{SyntaxError};
 ghost use Rattle.deny_text.specs.Spans.{LiesIn};
 ghost use Rattle.toml_subset.specs.Reading.{enough, read_value, value_at, read_text};
@@ -21,9 +21,9 @@ pub fn reading_answers_where_a_value_stands()
 
 /// Reading a value answers exactly where one stands that keeps the table rules and is not too deep.
 pub fn reading_a_value_answers_where_one_stands()
-    ensures answers { (above : ℕ) (text : List ℕ) (i : ℕ) (span : Span) (content : Content) (next : ℕ)
+    ensures answers { (above : ℕ) (text : List ℕ) (i : ℕ) (span : Span) (content : TomlContent) (next : ℕ)
         → StandsAs above text i span content next → value_at text above i ≡ Ok (span, content, next) }
-    ensures stands { (above : ℕ) (text : List ℕ) (i : ℕ) (span : Span) (content : Content) (next : ℕ)
+    ensures stands { (above : ℕ) (text : List ℕ) (i : ℕ) (span : Span) (content : TomlContent) (next : ℕ)
         → above ≤ depth_limit → value_at text above i ≡ Ok (span, content, next)
         → StandsAs above text i span content next }
 {}

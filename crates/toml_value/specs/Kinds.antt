@@ -1,10 +1,10 @@
 -- The kind of a value.
 use Rattle.toml_subset.specs.Data as «data»
-use Rattle.toml_subset.specs.Data.{Content}
+use Rattle.toml_subset.specs.Data.{TomlContent}
 use Rattle.toml_shapes.specs.declared.shape.ValueKind.{ValueKind}
 use Rattle.toml_shapes.specs.declared.shape.ValueKind.TheVariants.{String, Integer, Decimal, Boolean, Array, Table}
 
-abbrev pub kind_of : Content → ValueKind
+abbrev pub kind_of : TomlContent → ValueKind
 kind_of (data.string w) = String
 kind_of (data.integer z) = Integer
 kind_of (data.decimal z) = Decimal

@@ -2,12 +2,12 @@
 use Rattle.std.specs.Prelude.{ℕ, zero, suc, ◌^◌, Bool, true, false, ◌&&◌, ◌==◌, nat_lt, if◌then◌else◌, List, [], ◌∷◌, Option, Some, None, option_and_then}
 use Rattle.std.specs.List.{slice_split}
 use Rattle.std.specs.Str.{bytes_eq}
-use Rattle.toml_subset.specs.Data.{Content, Items, Entries, Toml, string, integer, decimal, boolean, array, table, no_item, item, no_entry, entry}
+use Rattle.toml_subset.specs.Data.{TomlContent, Items, Entries, Toml, string, integer, decimal, boolean, array, table, no_item, item, no_entry, entry}
 use Rattle.toml_subset.specs.Numbers.{is_whole, are_digits, count}
 use Rattle.toml_subset.specs.declared.string.Key.{Key}
 
 -- the text of a string
-abbrev pub as_text : Content → Option (List ℕ)
+abbrev pub as_text : TomlContent → Option (List ℕ)
 as_text (string w) = Some w.text
 as_text (integer z) = None
 as_text (decimal z) = None
@@ -16,7 +16,7 @@ as_text (array items) = None
 as_text (table entries) = None
 
 -- whether it is a table with a key
-abbrev pub has_entries : Content → Bool
+abbrev pub has_entries : TomlContent → Bool
 has_entries (string w) = false
 has_entries (integer z) = false
 has_entries (decimal z) = false
@@ -43,7 +43,7 @@ index_of_digits s =
     if are_digits s && is_whole s && nat_lt (count 10 s) (2 ^ 64) then Some (count 10 s) else None
 
 -- what one part of a path leads to: a key of a table, or a place of an array
-abbrev pub step_to : List ℕ → Content → Option Toml
+abbrev pub step_to : List ℕ → TomlContent → Option Toml
 step_to part (string w) = None
 step_to part (integer z) = None
 step_to part (decimal z) = None

@@ -1,6 +1,6 @@
 -- What is taken out of a value, what is left of it then, and that a value of another kind was wanted.
 use Rattle.std.specs.Prelude.{ℕ, Bool, false, if◌then◌else◌, List, [], ◌∷◌, Option, Some, None, Ok, Err}
-use Rattle.toml_subset.specs.Data.{Content, Items, Entries, Toml, string, boolean, array, table, no_item, item}
+use Rattle.toml_subset.specs.Data.{TomlContent, Items, Entries, Toml, string, boolean, array, table, no_item, item}
 use Rattle.toml_subset.specs.Written.{WrittenString}
 use Rattle.toml_shapes.specs.Kinds.{kind_word}
 use Rattle.toml_shapes.specs.Shaped.{ShapeReading}
@@ -9,15 +9,15 @@ use Rattle.toml_value.specs.Kinds.{kind_of}
 
 -- what a value holds, where it is of the kind
 
-abbrev pub as_string : Content → Option WrittenString
+abbrev pub as_string : TomlContent → Option WrittenString
 as_string (string w) = Some w
 as_string _ = None
 
-abbrev pub as_array : Content → Option Items
+abbrev pub as_array : TomlContent → Option Items
 as_array (array items) = Some items
 as_array _ = None
 
-abbrev pub as_table : Content → Option Entries
+abbrev pub as_table : TomlContent → Option Entries
 as_table (table entries) = Some entries
 as_table _ = None
 

@@ -1,7 +1,7 @@
 -- Values without their places, to compare with what other readers of TOML answer.
 use Rattle.std.proofs.Common.{◌≡◌, ℕ, Bool, true, false, List, ℤ, Option, Some, None, Ok, Err, true≢false, refl, sym}
 use Rattle.toml_subset.specs.Data as «data»
-use Rattle.toml_subset.specs.Data.{Content, Items, Entries, Toml}
+use Rattle.toml_subset.specs.Data.{TomlContent, Items, Entries, Toml}
 use Rattle.toml_subset.specs.Text.{IsText}
 use Rattle.toml_subset.specs.Answer.{TomlReading, fault_at}
 use Rattle.toml_subset.specs.Reading.{read_text}
@@ -27,7 +27,7 @@ mutual
     field : List ℕ → Shape → Fields → Fields
 
 abbrev mutual
-  pub shape_of : Content → Shape
+  pub shape_of : TomlContent → Shape
   shape_of (data.string w) = text w.text
   shape_of (data.integer z) = integer z
   shape_of (data.decimal z) = hundredths z

@@ -1,7 +1,7 @@
 -- Values with their places, counted by hand from the rules on spans.
 use Rattle.std.proofs.Common.{ℕ, List, pos, true, false, refl, codes}
 use Rattle.toml_subset.specs.Data as «data»
-use Rattle.toml_subset.specs.Data.{Content, Items, Entries, Toml}
+use Rattle.toml_subset.specs.Data.{TomlContent, Items, Entries, Toml}
 use Rattle.toml_subset.specs.Places.{from_to}
 use Rattle.toml_subset.specs.Text.{IsText}
 use Rattle.toml_subset.specs.Written.{WrittenString}

@@ -5,7 +5,7 @@ use Rattle.deny_text.specs.declared.span.Span.{Span}
 use Rattle.toml_subset.specs.Answer.{TomlReading, stuck, then_read}
 use Rattle.toml_subset.specs.Bytes.{quote, apostrophe, is_run, begins_run}
 use Rattle.toml_subset.specs.Data as «data»
-use Rattle.toml_subset.specs.Data.{Content, depth_of}
+use Rattle.toml_subset.specs.Data.{TomlContent, depth_of}
 use Rattle.toml_subset.specs.Faults.{begins_number}
 use Rattle.toml_subset.specs.Numbers.{Class, unsupported, number_form, number_range, integer, decimal, class_of, is_special}
 use Rattle.toml_subset.specs.Places.{front_is, from_to, stands, run_end, run_at}
@@ -186,7 +186,7 @@ boolean_read text i false span next is =
     ∙ if_false (stands text i 116) (word_read true text i) (false_from text i) (stands_other (λ b. eqb b 116) 102 refl text i front)
     ∙ if_true (stands text i 102) (word_read false text i) (Err (stuck text i)) front ∙ word_is_read false text i span next is
 
-pub number_is_read : (text : List ℕ) (i : ℕ) (class : Class) (content : Content) (span : Span) (next : ℕ) → IsNumber text i class span next
+pub number_is_read : (text : List ℕ) (i : ℕ) (class : Class) (content : TomlContent) (span : Span) (next : ℕ) → IsNumber text i class span next
     → number_read text i class ≡ Ok (from_to i (run_end is_run text i), content, run_end is_run text i) → read_scalar text i ≡ Ok (span, content, next)
 number_is_read text i class content span next is found =
     if_true (begins_number text i) (number_from text i) (string_from text i) (or_left _ _ is.begins) ∙ ap (number_read text i) is.is ∙ found

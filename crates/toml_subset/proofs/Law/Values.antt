@@ -7,7 +7,7 @@ use Rattle.deny_text.specs.declared.span.Span.{Span}
 use Rattle.toml_subset.specs.Answer.{TomlReading, fault_at, stuck, then_read, unless}
 use Rattle.toml_subset.specs.Bytes.{quote, apostrophe, hash, comma, open_bracket, close_bracket, open_brace, close_brace, begins_run, may_stand}
 use Rattle.toml_subset.specs.Data as «data»
-use Rattle.toml_subset.specs.Data.{Content, Items, depth_of, items_depth, depth_limit}
+use Rattle.toml_subset.specs.Data.{TomlContent, Items, depth_of, items_depth, depth_limit}
 use Rattle.toml_subset.specs.Numbers.{integer, decimal}
 use Rattle.toml_subset.specs.Places.{front_is, from_to, passes_at, stands, run_end, after_blanks, after_blanks_and_comment, after_lines_of, after_space}
 use Rattle.toml_subset.specs.Raw.{Raw, RawItems, RawEntries, raw_text, raw_integer, raw_decimal, raw_boolean, raw_array, raw_table, raw_none, raw_item, raw_empty, raw_entry, IsValue, AreItems, AreItemsBehind, AreEntries, AreEntriesBehind}
@@ -355,7 +355,7 @@ module _ (n : ℕ) (text : List ℕ) (above : ℕ) (rest : Branches → ℕ → 
       ∙ rest_read branches (after_blanks text (j + 1)) keys span raw more next new are.1 mean low inside (omega arith)
 
 mutual
-  pub value_read : (n : ℕ) (text : List ℕ) (above i : ℕ) (span : Span) (raw : Raw) (next : ℕ) (content : Content) → IsValue text i span raw next → meant raw ≡ Some content
+  pub value_read : (n : ℕ) (text : List ℕ) (above i : ℕ) (span : Span) (raw : Raw) (next : ℕ) (content : TomlContent) → IsValue text i span raw next → meant raw ≡ Some content
       → above + depth_of content ≤ depth_limit → next ≤ length text → 2 * next ≤ 2 * i + n → read_value n text above i ≡ Ok (span, content, next)
   value_read zero text above i span raw next content is mean low inside room = let goes = value_goes text i span raw next is in absurd (omega arith)
   value_read (suc n) text above i span (raw_text w) next content is mean low inside room =
@@ -365,25 +365,25 @@ mutual
       scalar_first items entries text above i
       (⊎_elim (λ q. stands_other (λ b. eqb b open_bracket) quote refl text i q) (λ q. stands_other (λ b. eqb b open_bracket) apostrophe refl text i q) front)
       (⊎_elim (λ q. stands_other (λ b. eqb b open_brace) quote refl text i q) (λ q. stands_other (λ b. eqb b open_brace) apostrophe refl text i q) front)
-      ∙ text_read text i is.0 w span next is.1 inside ∙ ap (λ (x : Content). Ok (span, x, next)) (is_some (data.string w) content mean)
+      ∙ text_read text i is.0 w span next is.1 inside ∙ ap (λ (x : TomlContent). Ok (span, x, next)) (is_some (data.string w) content mean)
   value_read (suc n) text above i span (raw_integer z) next content is mean low inside room =
       scalar_first (read_items n text (above + 1)) (read_entries n text (above + 1) unbranched) text above i
       (passes_other begins_run open_bracket refl text i is.begins) (passes_other begins_run open_brace refl text i is.begins)
-      ∙ number_is_read text i (integer z) (data.integer z) span next is refl ∙ ap (λ (x : Content). Ok (span, x, next)) (is_some (data.integer z) content mean)
+      ∙ number_is_read text i (integer z) (data.integer z) span next is refl ∙ ap (λ (x : TomlContent). Ok (span, x, next)) (is_some (data.integer z) content mean)
   value_read (suc n) text above i span (raw_decimal z) next content is mean low inside room =
       scalar_first (read_items n text (above + 1)) (read_entries n text (above + 1) unbranched) text above i
       (passes_other begins_run open_bracket refl text i is.begins) (passes_other begins_run open_brace refl text i is.begins)
-      ∙ number_is_read text i (decimal z) (data.decimal z) span next is refl ∙ ap (λ (x : Content). Ok (span, x, next)) (is_some (data.decimal z) content mean)
+      ∙ number_is_read text i (decimal z) (data.decimal z) span next is refl ∙ ap (λ (x : TomlContent). Ok (span, x, next)) (is_some (data.decimal z) content mean)
   value_read (suc n) text above i span (raw_boolean true) next content is mean low inside room =
       let front = word_front true text i is.is in
       scalar_first (read_items n text (above + 1)) (read_entries n text (above + 1) unbranched) text above i
       (stands_other (λ b. eqb b open_bracket) 116 refl text i front) (stands_other (λ b. eqb b open_brace) 116 refl text i front)
-      ∙ boolean_read text i true span next is ∙ ap (λ (x : Content). Ok (span, x, next)) (is_some (data.boolean true) content mean)
+      ∙ boolean_read text i true span next is ∙ ap (λ (x : TomlContent). Ok (span, x, next)) (is_some (data.boolean true) content mean)
   value_read (suc n) text above i span (raw_boolean false) next content is mean low inside room =
       let front = word_front false text i is.is in
       scalar_first (read_items n text (above + 1)) (read_entries n text (above + 1) unbranched) text above i
       (stands_other (λ b. eqb b open_bracket) 102 refl text i front) (stands_other (λ b. eqb b open_brace) 102 refl text i front)
-      ∙ boolean_read text i false span next is ∙ ap (λ (x : Content). Ok (span, x, next)) (is_some (data.boolean false) content mean)
+      ∙ boolean_read text i false span next is ∙ ap (λ (x : TomlContent). Ok (span, x, next)) (is_some (data.boolean false) content mean)
   value_read (suc n) text above i span (raw_array items) next content is mean low inside room =
       let content_is = map_some data.array (items_meant items) content mean in
       let deep = ap depth_of content_is.2 in
@@ -395,7 +395,7 @@ mutual
       (cond (stands text i open_bracket) (then_read (array_read i) (at (i + 1))) (then_read (table_read i) (table_from entries text i))) differs
       ∙ if_true (stands text i open_bracket) (then_read (array_read i) (at (i + 1))) (then_read (table_read i) (table_from entries text i)) is.0
       ∙ ap (then_read (array_read i)) (items_read n text (above + 1) (i + 1) items next content_is.0 is.1 content_is.1 (omega arith) inside (omega arith))
-      ∙ ap (λ (x : Span). Ok (x, data.array content_is.0, next)) (sym is.2) ∙ ap (λ (x : Content). Ok (span, x, next)) content_is.2
+      ∙ ap (λ (x : Span). Ok (x, data.array content_is.0, next)) (sym is.2) ∙ ap (λ (x : TomlContent). Ok (span, x, next)) content_is.2
   value_read (suc n) text above i span (raw_table raw_empty) next content is mean low inside room =
       let deep = ap depth_of (is_some _ content mean) in
       let items = read_items n text (above + 1) in
@@ -409,7 +409,7 @@ mutual
       (stands_other (λ b. eqb b open_bracket) open_brace refl text i is.0)
       ∙ ap (then_read (table_read i)) (if_true (stands text j close_brace) (Ok (unbranched, j + 1)) (entries j) is.1.0)
       ∙ ap (λ (k : ℕ). Ok (from_to i k, data.table (entries_of unbranched), k)) (sym is.1.1)
-      ∙ ap (λ (x : Span). Ok (x, data.table (entries_of unbranched), next)) (sym is.2) ∙ ap (λ (x : Content). Ok (span, x, next)) (is_some _ content mean)
+      ∙ ap (λ (x : Span). Ok (x, data.table (entries_of unbranched), next)) (sym is.2) ∙ ap (λ (x : TomlContent). Ok (span, x, next)) (is_some _ content mean)
   value_read (suc n) text above i span (raw_table (raw_entry keys at value more)) next content is mean low inside room =
       let content_is = map_some (λ branches. data.table (entries_of branches)) (entries_meant (raw_entry keys at value more) unbranched) content mean in
       let deep = ap depth_of content_is.2 in
@@ -426,7 +426,7 @@ mutual
       if_false (stands text j close_brace) (Ok (unbranched, j + 1)) (entries j) (keys_other close_brace refl refl refl text j keys is.1.1.0 is.1.1.1)
       ∙ entries_read n text (above + 1) unbranched j keys at value more next content_is.0 is.1 content_is.1 (omega arith) inside (omega arith)
       )
-      ∙ ap (λ (x : Span). Ok (x, data.table (entries_of content_is.0), next)) (sym is.2) ∙ ap (λ (x : Content). Ok (span, x, next)) content_is.2
+      ∙ ap (λ (x : Span). Ok (x, data.table (entries_of content_is.0), next)) (sym is.2) ∙ ap (λ (x : TomlContent). Ok (span, x, next)) content_is.2
 
   pub items_read : (n : ℕ) (text : List ℕ) (above i : ℕ) (items : RawItems) (next : ℕ) (content : Items) → AreItems text (after_space text i) items next
       → items_meant items ≡ Some content → above + items_depth content ≤ depth_limit → next ≤ length text → 2 * next + 1 ≤ 2 * i + n

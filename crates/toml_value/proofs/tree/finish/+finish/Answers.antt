@@ -2,7 +2,7 @@ use Rattle.std.proofs.Common.{◌≡◌, map, sym, ap, ◌∙◌}
 use Rattle.std.proofs.lemmas.Result.{IfOk-weaker}
 use Rattle.std.specs.Vec.Iter.{into_iter_items}
 use Rattle.toml_subset.specs.Data as «data»
-use Rattle.toml_subset.specs.Data.{Content, Items, Entries}
+use Rattle.toml_subset.specs.Data.{TomlContent, Items, Entries}
 use Rattle.toml_subset.specs.Tables.{entries_of}
 use Rattle.toml_value.specs.BranchViews.{node_view, branches_view, body_view, body_items, finished}
 use Rattle.toml_value.specs.FinishViews.{followed, left_of, item_of, array_with}
@@ -35,7 +35,7 @@ into_items-bodies-preserved t c =
     let items = values_view c.bodies.items in
     let body = c.in-Some.body in
     let item : value_view c.new.result ≡ item_of (body.span, branches_view body.table) =
-    c.new.ensures ∙ ap (λ (x : Content). record { content = x; span = body.span }) (content_view-Table c.in_ok-entries.entries ∙ ap data.table c.in_ok-entries.ensures) in
+    c.new.ensures ∙ ap (λ (x : TomlContent). record { content = x; span = body.span }) (content_view-Table c.in_ok-entries.entries ∙ ap data.table c.in_ok-entries.ensures) in
     c.bodies.invariant ∙ ap (λ bs. items_followed items (body_items (map (λ b. body_view b) bs))) c.in-Some.ensures.steps.0
     ∙ items_step items (values_view c.push.new.self) body (into_iter_items c.next.new.self) (c.in_ok-push.ensures.ok ∙ ap (with_item items) item)
 
