@@ -1,9 +1,9 @@
 //! What is told behind a run.
 ghost use Rattle.std.specs.Prelude.{◌≡◌, ◌≤◌};
-ghost use Rattle.tree_core.specs.Hearing.{MadeSome};
 ghost use Rattle.refusal_help.specs.Told.{told_between};
 ghost use Rattle.deny_gate.specs.Behind as behind;
 ghost use Rattle.deny_gate.specs.Behind.{TellsBehind, TellsEnd};
+ghost use Rattle.run_found.specs.Hearing.{seen_between, HasMade};
 
 use deny_run::{Outcome, RunEnd};
 use refusal_help::tell_help;
@@ -30,8 +30,7 @@ fn tell_end<T: Tree, E: Sink>(
         (told_between (T.trace tree.old) (T.trace tree.new) (E.written err.old) (E.written err.new)
         (E.fault_count err.old) (E.fault_count err.new))
         ended.now }
-    ensures made { MadeSome (T.content tree.old) (T.content tree.new) (T.fault_count tree.old)
-        (T.fault_count tree.new) (T.trace tree.old) (T.trace tree.new) }
+    ensures made { HasMade (seen_between T.content T.fault_count T.trace tree.old tree.new) }
 {
     if let RunEnd::Refused(error) = ended {
         tell_help(alloc, tree, err, request, error);
@@ -50,8 +49,7 @@ pub(crate) fn tell_behind<T: Tree, E: Sink>(
         (told_between (T.trace tree.old) (T.trace tree.new) (E.written err.old) (E.written err.new)
         (E.fault_count err.old) (E.fault_count err.new))
         outcome.now.ended }
-    ensures made { MadeSome (T.content tree.old) (T.content tree.new) (T.fault_count tree.old)
-        (T.fault_count tree.new) (T.trace tree.old) (T.trace tree.new) }
+    ensures made { HasMade (seen_between T.content T.fault_count T.trace tree.old tree.new) }
 {
     if !is_whole {
         return;

@@ -5,13 +5,12 @@ ghost use Rattle.std.specs.Prelude.{◌≡◌, ◌≤◌, IfOk, IfErr, OnOk, OnE
 ghost use Rattle.std.specs.Path.{path_buf_bytes};
 ghost use Rattle.std.specs.Process.{exit_status};
 ghost use Rattle.spdx_catalog.specs.BuiltIn.{built_in};
-ghost use Rattle.tree_core.specs.Hearing.{MadeSome};
 ghost use Rattle.tree_core.specs.Script.{LineWritten};
 ghost use Rattle.run_request.specs.Given.{texts};
-ghost use Rattle.run_found.specs.Hearing.{seen};
 ghost use Rattle.deny_run.specs.Run as run;
-ghost use Rattle.deny_run.specs.Script.{between};
 ghost use Rattle.deny_gate.specs.Start.{IsRun, RunsAndTells, RunsOverSome, ending_of, moment, start_line};
+ghost use Rattle.run_found.specs.Hearing.{seen_between, HasMade};
+ghost use Rattle.deny_run.specs.Script.{counts_between, sink_texts};
 
 mod behind;
 mod named;
@@ -126,16 +125,12 @@ fn run_started<T: Tree, O: Sink, E: Sink>(
     err: &mut E,
 ) -> Outcome
     requires { start.now.store ≡ built_in }
-    ensures made { MadeSome (T.content tree.old) (T.content tree.new) (T.fault_count tree.old)
-        (T.fault_count tree.new) (T.trace tree.old) (T.trace tree.new) }
+    ensures made { HasMade (seen_between T.content T.fault_count T.trace tree.old tree.new) }
     ensures ran { IsRun (texts start.now.words.items) (path_buf_bytes start.now.folder)
-        (seen (T.content tree.old) (T.content tree.new) (T.fault_count tree.old) (T.fault_count tree.new)
-        (T.trace tree.old) (T.trace tree.new))
-        (between
-        (record { tree = T.fault_count tree.old; out = O.fault_count out.old; err = E.fault_count err.old })
-        (record { tree = T.fault_count tree.new; out = O.fault_count out.new; err = E.fault_count err.new }))
-        (record { out = O.written out.old; err = E.written err.old })
-        (record { out = O.written out.new; err = E.written err.new })
+        (seen_between T.content T.fault_count T.trace tree.old tree.new)
+        (counts_between T.fault_count O.fault_count E.fault_count tree.old out.old err.old tree.new out.new err.new)
+        (sink_texts O.written E.written out.old err.old)
+        (sink_texts O.written E.written out.new err.new)
         result }
 {
     run(
@@ -159,15 +154,14 @@ fn run_told<T: Tree, O: Sink, E: Sink>(
     err: &mut E,
 ) -> Outcome
     requires { start.now.store ≡ built_in }
-    ensures made { MadeSome (T.content tree.old) (T.content tree.new) (T.fault_count tree.old)
-        (T.fault_count tree.new) (T.trace tree.old) (T.trace tree.new) }
+    ensures made { HasMade (seen_between T.content T.fault_count T.trace tree.old tree.new) }
     ensures ran { RunsAndTells (texts start.now.words.items) (path_buf_bytes start.now.folder)
         (moment (T.content tree.old) (T.trace tree.old)
         (record { tree = T.fault_count tree.old; out = O.fault_count out.old; err = E.fault_count err.old })
-        (record { out = O.written out.old; err = E.written err.old }))
+        (sink_texts O.written E.written out.old err.old))
         (moment (T.content tree.new) (T.trace tree.new)
         (record { tree = T.fault_count tree.new; out = O.fault_count out.new; err = E.fault_count err.new })
-        (record { out = O.written out.new; err = E.written err.new }))
+        (sink_texts O.written E.written out.new err.new))
         result }
     ensures status { result.status ≡ run.exit_status result.ended }
 {
@@ -203,8 +197,7 @@ pub fn gate_over<V: Env + AllocGlobal, T: Tree, O: Sink, E: Sink>(
     out: &mut O,
     err: &mut E,
 ) -> Result<Outcome, StartError>
-    ensures made { MadeSome (T.content tree.old) (T.content tree.new) (T.fault_count tree.old)
-        (T.fault_count tree.new) (T.trace tree.old) (T.trace tree.new) }
+    ensures made { HasMade (seen_between T.content T.fault_count T.trace tree.old tree.new) }
 
     // Where the gate could not begin, its line stands on `err` and `out` is as it was.
     ensures line { IfErr result (λ error. LineWritten (E.written err.old) (E.written err.new)
@@ -216,10 +209,10 @@ pub fn gate_over<V: Env + AllocGlobal, T: Tree, O: Sink, E: Sink>(
     ensures ran { IfOk result (RunsOverSome
         (moment (T.content tree.old) (T.trace tree.old)
         (record { tree = T.fault_count tree.old; out = O.fault_count out.old; err = E.fault_count err.old })
-        (record { out = O.written out.old; err = E.written err.old }))
+        (sink_texts O.written E.written out.old err.old))
         (moment (T.content tree.new) (T.trace tree.new)
         (record { tree = T.fault_count tree.new; out = O.fault_count out.new; err = E.fault_count err.new })
-        (record { out = O.written out.new; err = E.written err.new }))) }
+        (sink_texts O.written E.written out.new err.new))) }
 {
     let start = started(env, err)?;
     Ok(run_told(env.alloc(), &start, tree, out, err))

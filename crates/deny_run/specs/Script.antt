@@ -1,5 +1,5 @@
 -- What a run writes to its two sinks.
-use Rattle.std.specs.Prelude.{◌≡◌, ◌⊎◌, ℕ, List, [], ◌∷◌, ◌++◌, Result, Ok, Err}
+use Rattle.std.specs.Prelude.{◌≡◌, ◌⊎◌, ℕ, List, [], ◌∷◌, ◌++◌, Option, Result, Ok, Err}
 use Rattle.tree_core.specs.Script.{OutputSink, to_out, to_err, Script, FaultCounts, SinkTexts, Gains, IsCut, IsLineOrFront}
 use Rattle.tree_texts.specs.Cause.{Cause, no_memory, refused_write}
 use Rattle.diag_stats.specs.Summary.{IsCutShort, summary_of}
@@ -32,6 +32,16 @@ between before after = record {
   err_before = before.err;
   err_after = after.err;
 }
+
+-- the same of a tree and two sinks, by the counts of each
+abbrev pub counts_between : {T O E : Type 0} → (T → ℕ) → (O → ℕ) → (E → ℕ) → T → O → E → T → O → E → FaultCounts
+counts_between {T} {O} {E} in_tree on_out on_err tree out err tree_after out_after err_after =
+    between (record { tree = in_tree tree; out = on_out out; err = on_err err })
+    (record { tree = in_tree tree_after; out = on_out out_after; err = on_err err_after })
+
+-- what was written to two sinks
+abbrev pub sink_texts : {O E : Type 0} → (O → Option (List ℕ)) → (E → Option (List ℕ)) → O → E → SinkTexts
+sink_texts {O} {E} on_out on_err out err = record { out = on_out out; err = on_err err }
 
 -- a fault line behind what was written, or a front of the line
 pub record HasLine (counts : FaultCounts) (error : Error) (begun script : Script) : Type 0 where

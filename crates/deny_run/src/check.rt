@@ -4,12 +4,12 @@ ghost use Rattle.tree_texts.specs.declared.fault.ReadFault.{ReadFault};
 ghost use Rattle.tree_texts.specs.Cause.{ReadCounts};
 ghost use Rattle.graph_workspace.specs.declared.error.What.{What};
 ghost use Rattle.run_found.specs.Error.{cause_of};
-ghost use Rattle.run_found.specs.Hearing.{seen};
 ghost use Rattle.run_check.specs.Carried.{uncarried_of};
 ghost use Rattle.run_check.specs.Report.{LabelsLie};
 ghost use Rattle.deny_run.specs.Given.{check_asked};
-ghost use Rattle.deny_run.specs.Script.{WritesFirst, between};
+ghost use Rattle.deny_run.specs.Script.{WritesFirst, counts_between, sink_texts};
 ghost use Rattle.deny_run.specs.Words.{IsUntouched};
+ghost use Rattle.run_found.specs.Hearing.{seen_between};
 
 use crate::manifest::look_at_manifest;
 use crate::own::own_lists;
@@ -40,18 +40,14 @@ pub fn check_request<T: Tree, O: Sink, E: Sink, C: Catalog, I: Identifier>(
         (T.fault_count tree.old) (T.fault_count tree.old) (T.fault_count tree.new) (cause_of error)) }
     ensures written { WritesFirst
         (check_asked (C.lists catalog.now) (I.match_of identifier.now) request.now args.now)
-        (seen (T.content tree.old) (T.content tree.new) (T.fault_count tree.old) (T.fault_count tree.new)
-        (T.trace tree.old) (T.trace tree.new))
-        (between
-        (record { tree = T.fault_count tree.old; out = O.fault_count out.old; err = E.fault_count err.old })
-        (record { tree = T.fault_count tree.new; out = O.fault_count out.new; err = E.fault_count err.new }))
-        (record { out = O.written out.old; err = E.written err.old })
-        (record { out = O.written out.new; err = E.written err.new })
+        (seen_between T.content T.fault_count T.trace tree.old tree.new)
+        (counts_between T.fault_count O.fault_count E.fault_count tree.old out.old err.old tree.new out.new err.new)
+        (sink_texts O.written E.written out.old err.old)
+        (sink_texts O.written E.written out.new err.new)
         result }
     ensures uncarried { (what : What) → uncarried_of request.now.log_ctx args.now request.now.krate_ctx ≡ Some what
         → (result ≡ Err (Error.NotCarried what)) × IsUntouched
-        (seen (T.content tree.old) (T.content tree.new) (T.fault_count tree.old) (T.fault_count tree.new)
-        (T.trace tree.old) (T.trace tree.new)) }
+        (seen_between T.content T.fault_count T.trace tree.old tree.new) }
     ensures labels { LabelsLie result }
     ensures out_later { O.fault_count out.old ≤ O.fault_count out.new }
     ensures err_later { E.fault_count err.old ≤ E.fault_count err.new }
@@ -79,13 +75,10 @@ fn check_carried<T: Tree, O: Sink, E: Sink, C: Catalog, I: Identifier>(
         (T.fault_count tree.old) (T.fault_count tree.old) (T.fault_count tree.new) (cause_of error)) }
     ensures written { WritesFirst
         (check_asked (C.lists catalog.now) (I.match_of identifier.now) request.now args.now)
-        (seen (T.content tree.old) (T.content tree.new) (T.fault_count tree.old) (T.fault_count tree.new)
-        (T.trace tree.old) (T.trace tree.new))
-        (between
-        (record { tree = T.fault_count tree.old; out = O.fault_count out.old; err = E.fault_count err.old })
-        (record { tree = T.fault_count tree.new; out = O.fault_count out.new; err = E.fault_count err.new }))
-        (record { out = O.written out.old; err = E.written err.old })
-        (record { out = O.written out.new; err = E.written err.new })
+        (seen_between T.content T.fault_count T.trace tree.old tree.new)
+        (counts_between T.fault_count O.fault_count E.fault_count tree.old out.old err.old tree.new out.new err.new)
+        (sink_texts O.written E.written out.old err.old)
+        (sink_texts O.written E.written out.new err.new)
         result }
     ensures labels { LabelsLie result }
     ensures out_later { O.fault_count out.old ≤ O.fault_count out.new }

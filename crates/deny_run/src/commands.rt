@@ -1,17 +1,16 @@
 //! The commands without options of their own: what comes before them, and the two commands of a verdict file.
 ghost use Rattle.std.specs.Prelude.{◌≡◌, ◌≢◌, ◌≤◌, Err, IfErr, None, Some};
-ghost use Rattle.tree_core.specs.Hearing.{MadeSome};
 ghost use Rattle.tree_texts.specs.declared.fault.ReadFault.{ReadFault};
 ghost use Rattle.tree_texts.specs.Cause.{ReadCounts};
 ghost use Rattle.graph_workspace.specs.declared.error.What.{What};
 ghost use Rattle.run_found.specs.Error.{cause_of};
-ghost use Rattle.run_found.specs.Hearing.{seen};
 ghost use Rattle.run_lists.specs.Found.{found_answer};
 ghost use Rattle.run_list.specs.Carried.{uncarried_of};
-ghost use Rattle.run_list.specs.Script.{sink_seen};
 ghost use Rattle.deny_run.specs.Commands.{ComesTo, RecordsRun, VerifiesRun};
 ghost use Rattle.deny_run.specs.Given.{command_asked};
 ghost use Rattle.deny_run.specs.Words.{IsUntouched};
+ghost use Rattle.run_found.specs.Hearing.{seen_between, HasMade};
+ghost use Rattle.run_list.specs.Script.{sink_between};
 
 use crate::manifest::look_at_manifest;
 use crate::own::own_lists;
@@ -35,14 +34,12 @@ fn lists_of_request<'g, T: Tree, C: Catalog, I: Identifier>(
 ) -> Result<ListsFound<'g, C, I>, Error>
     ensures comes { ComesTo
         (command_asked (C.lists catalog.now) (I.match_of identifier.now) request.now)
-        (seen (T.content tree.old) (T.content tree.new) (T.fault_count tree.old) (T.fault_count tree.new)
-        (T.trace tree.old) (T.trace tree.new))
+        (seen_between T.content T.fault_count T.trace tree.old tree.new)
         (found_answer C.lists I.match_of result) }
     ensures policy { IfErr result (λ error. error ≢ Error.ConfigRead ReadFault.Absent) }
     ensures uncarried { (what : What) → uncarried_of request.now.log_ctx request.now.krate_ctx ≡ Some what
         → (result ≡ Err (Error.NotCarried what)) × IsUntouched
-        (seen (T.content tree.old) (T.content tree.new) (T.fault_count tree.old) (T.fault_count tree.new)
-        (T.trace tree.old) (T.trace tree.new)) }
+        (seen_between T.content T.fault_count T.trace tree.old tree.new) }
     ensures counts { IfErr result (λ error. ReadCounts
         (T.fault_count tree.old) (T.fault_count tree.old) (T.fault_count tree.new) (cause_of error)) }
 {
@@ -63,8 +60,7 @@ fn lists_carried<'g, T: Tree, C: Catalog, I: Identifier>(
     requires { uncarried_of request.now.log_ctx request.now.krate_ctx ≡ None }
     ensures comes { ComesTo
         (command_asked (C.lists catalog.now) (I.match_of identifier.now) request.now)
-        (seen (T.content tree.old) (T.content tree.new) (T.fault_count tree.old) (T.fault_count tree.new)
-        (T.trace tree.old) (T.trace tree.new))
+        (seen_between T.content T.fault_count T.trace tree.old tree.new)
         (found_answer C.lists I.match_of result) }
     ensures policy { IfErr result (λ error. error ≢ Error.ConfigRead ReadFault.Absent) }
     ensures counts { IfErr result (λ error. ReadCounts
@@ -90,21 +86,18 @@ pub fn record_request<T: Tree, O: Sink, E: Sink, C: Catalog, I: Identifier>(
     identifier: &I,
 ) -> Result<CrateReads, Error>
     ensures policy { result ≢ Err (Error.ConfigRead ReadFault.Absent) }
-    ensures made { MadeSome (T.content tree.old) (T.content tree.new) (T.fault_count tree.old)
-        (T.fault_count tree.new) (T.trace tree.old) (T.trace tree.new) }
+    ensures made { HasMade (seen_between T.content T.fault_count T.trace tree.old tree.new) }
     ensures counts { IfErr result (λ error. ReadCounts
         (T.fault_count tree.old) (T.fault_count tree.old) (T.fault_count tree.new) (cause_of error)) }
     ensures runs { RecordsRun
         (command_asked (C.lists catalog.now) (I.match_of identifier.now) request.now)
-        (seen (T.content tree.old) (T.content tree.new) (T.fault_count tree.old) (T.fault_count tree.new)
-        (T.trace tree.old) (T.trace tree.new))
-        (sink_seen (E.written err.old) (E.written err.new) (E.fault_count err.old) (E.fault_count err.new))
-        (sink_seen (O.written out.old) (O.written out.new) (O.fault_count out.old) (O.fault_count out.new))
+        (seen_between T.content T.fault_count T.trace tree.old tree.new)
+        (sink_between E.written E.fault_count err.old err.new)
+        (sink_between O.written O.fault_count out.old out.new)
         result }
     ensures uncarried { (what : What) → uncarried_of request.now.log_ctx request.now.krate_ctx ≡ Some what
         → (result ≡ Err (Error.NotCarried what)) × IsUntouched
-        (seen (T.content tree.old) (T.content tree.new) (T.fault_count tree.old) (T.fault_count tree.new)
-        (T.trace tree.old) (T.trace tree.new)) }
+        (seen_between T.content T.fault_count T.trace tree.old tree.new) }
     ensures out_later { O.fault_count out.old ≤ O.fault_count out.new }
     ensures err_later { E.fault_count err.old ≤ E.fault_count err.new }
 {
@@ -136,21 +129,18 @@ pub fn verify_request<T: Tree, O: Sink, E: Sink, C: Catalog, I: Identifier>(
     identifier: &I,
 ) -> Result<VerifiedCrates, Error>
     ensures policy { result ≢ Err (Error.ConfigRead ReadFault.Absent) }
-    ensures made { MadeSome (T.content tree.old) (T.content tree.new) (T.fault_count tree.old)
-        (T.fault_count tree.new) (T.trace tree.old) (T.trace tree.new) }
+    ensures made { HasMade (seen_between T.content T.fault_count T.trace tree.old tree.new) }
     ensures counts { IfErr result (λ error. ReadCounts
         (T.fault_count tree.old) (T.fault_count tree.old) (T.fault_count tree.new) (cause_of error)) }
     ensures runs { VerifiesRun
         (command_asked (C.lists catalog.now) (I.match_of identifier.now) request.now) path.now
-        (seen (T.content tree.old) (T.content tree.new) (T.fault_count tree.old) (T.fault_count tree.new)
-        (T.trace tree.old) (T.trace tree.new))
-        (sink_seen (E.written err.old) (E.written err.new) (E.fault_count err.old) (E.fault_count err.new))
-        (sink_seen (O.written out.old) (O.written out.new) (O.fault_count out.old) (O.fault_count out.new))
+        (seen_between T.content T.fault_count T.trace tree.old tree.new)
+        (sink_between E.written E.fault_count err.old err.new)
+        (sink_between O.written O.fault_count out.old out.new)
         result }
     ensures uncarried { (what : What) → uncarried_of request.now.log_ctx request.now.krate_ctx ≡ Some what
         → (result ≡ Err (Error.NotCarried what)) × IsUntouched
-        (seen (T.content tree.old) (T.content tree.new) (T.fault_count tree.old) (T.fault_count tree.new)
-        (T.trace tree.old) (T.trace tree.new)) }
+        (seen_between T.content T.fault_count T.trace tree.old tree.new) }
     ensures out_later { O.fault_count out.old ≤ O.fault_count out.new }
     ensures err_later { E.fault_count err.old ≤ E.fault_count err.new }
 {

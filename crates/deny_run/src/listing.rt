@@ -4,12 +4,12 @@ ghost use Rattle.tree_texts.specs.declared.fault.ReadFault.{ReadFault};
 ghost use Rattle.tree_texts.specs.Cause.{ReadCounts};
 ghost use Rattle.graph_workspace.specs.declared.error.What.{What};
 ghost use Rattle.run_found.specs.Error.{cause_of};
-ghost use Rattle.run_found.specs.Hearing.{seen};
 ghost use Rattle.run_list.specs.Carried.{uncarried_of};
-ghost use Rattle.run_list.specs.Script.{sink_seen};
 ghost use Rattle.deny_run.specs.Given.{list_asked};
 ghost use Rattle.deny_run.specs.Listing.{Lists};
 ghost use Rattle.deny_run.specs.Words.{IsUntouched};
+ghost use Rattle.run_found.specs.Hearing.{seen_between};
+ghost use Rattle.run_list.specs.Script.{sink_between};
 
 use crate::manifest::look_at_manifest;
 use crate::own::own_lists;
@@ -39,15 +39,13 @@ pub fn list_request<T: Tree, O: Sink, E: Sink, C: Catalog, I: Identifier>(
         (T.fault_count tree.old) (T.fault_count tree.old) (T.fault_count tree.new) (cause_of error)) }
     ensures listed { Lists
         (list_asked (C.lists catalog.now) (I.match_of identifier.now) request.now args)
-        (seen (T.content tree.old) (T.content tree.new) (T.fault_count tree.old) (T.fault_count tree.new)
-        (T.trace tree.old) (T.trace tree.new))
-        (sink_seen (E.written err.old) (E.written err.new) (E.fault_count err.old) (E.fault_count err.new))
-        (sink_seen (O.written out.old) (O.written out.new) (O.fault_count out.old) (O.fault_count out.new))
+        (seen_between T.content T.fault_count T.trace tree.old tree.new)
+        (sink_between E.written E.fault_count err.old err.new)
+        (sink_between O.written O.fault_count out.old out.new)
         result }
     ensures uncarried { (what : What) → uncarried_of request.now.log_ctx request.now.krate_ctx ≡ Some what
         → (result ≡ Err (Error.NotCarried what)) × IsUntouched
-        (seen (T.content tree.old) (T.content tree.new) (T.fault_count tree.old) (T.fault_count tree.new)
-        (T.trace tree.old) (T.trace tree.new)) }
+        (seen_between T.content T.fault_count T.trace tree.old tree.new) }
     ensures out_later { O.fault_count out.old ≤ O.fault_count out.new }
     ensures err_later { E.fault_count err.old ≤ E.fault_count err.new }
 {
@@ -74,10 +72,9 @@ fn list_carried<T: Tree, O: Sink, E: Sink, C: Catalog, I: Identifier>(
         (T.fault_count tree.old) (T.fault_count tree.old) (T.fault_count tree.new) (cause_of error)) }
     ensures listed { Lists
         (list_asked (C.lists catalog.now) (I.match_of identifier.now) request.now args)
-        (seen (T.content tree.old) (T.content tree.new) (T.fault_count tree.old) (T.fault_count tree.new)
-        (T.trace tree.old) (T.trace tree.new))
-        (sink_seen (E.written err.old) (E.written err.new) (E.fault_count err.old) (E.fault_count err.new))
-        (sink_seen (O.written out.old) (O.written out.new) (O.fault_count out.old) (O.fault_count out.new))
+        (seen_between T.content T.fault_count T.trace tree.old tree.new)
+        (sink_between E.written E.fault_count err.old err.new)
+        (sink_between O.written O.fault_count out.old out.new)
         result }
     ensures out_later { O.fault_count out.old ≤ O.fault_count out.new }
     ensures err_later { E.fault_count err.old ≤ E.fault_count err.new }

@@ -3,9 +3,9 @@ ghost use Rattle.std.specs.Prelude.{◌≡◌, ◌≤◌, ◌⊎◌, IfErr};
 ghost use Rattle.tree_texts.specs.Cause.{ReadCounts};
 ghost use Rattle.run_found.specs.declared.error.Error.TheVariants.{Memory, ManifestPath};
 ghost use Rattle.run_found.specs.Error.{cause_of};
-ghost use Rattle.run_found.specs.Hearing.{seen};
 ghost use Rattle.deny_run.specs.Manifest as spec;
 ghost use Rattle.deny_run.specs.Manifest.{LooksAtManifest};
+ghost use Rattle.run_found.specs.Hearing.{seen_between};
 
 use deny_text::PathBuf;
 use deny_text::path::file_name;
@@ -40,8 +40,7 @@ pub(crate) fn look_at_manifest<T: Tree>(
     path: &str,
 ) -> Result<(), Error>
     ensures looked { LooksAtManifest path.now
-        (seen (T.content tree.old) (T.content tree.new) (T.fault_count tree.old) (T.fault_count tree.new)
-        (T.trace tree.old) (T.trace tree.new)) result }
+        (seen_between T.content T.fault_count T.trace tree.old tree.new) result }
     ensures counts { IfErr result (λ error. ReadCounts
         (T.fault_count tree.old) (T.fault_count tree.old) (T.fault_count tree.new) (cause_of error)) }
 {

@@ -2,9 +2,9 @@
 ghost use Rattle.std.specs.Prelude.{IfErr};
 ghost use Rattle.tree_texts.specs.Cause.{ReadCounts};
 ghost use Rattle.run_found.specs.Error.{cause_of};
-ghost use Rattle.run_found.specs.Hearing.{seen};
 ghost use Rattle.run_lists.specs.Found.{FindsLists, found_answer};
 ghost use Rattle.run_lists.specs.Given.{lists_asked, lists_given};
+ghost use Rattle.run_found.specs.Hearing.{seen_between};
 
 use run_found::Error;
 use run_lists::{ListsFound, lists_found};
@@ -24,8 +24,7 @@ pub(crate) fn own_lists<'g, T: Tree, C: Catalog, I: Identifier>(
 ) -> Result<ListsFound<'g, C, I>, Error>
     ensures found { FindsLists (lists_given (C.lists catalog.now) (I.match_of identifier.now))
         (lists_asked request.now.catalog request.now.store)
-        (seen (T.content tree.old) (T.content tree.new) (T.fault_count tree.old) (T.fault_count tree.new)
-        (T.trace tree.old) (T.trace tree.new))
+        (seen_between T.content T.fault_count T.trace tree.old tree.new)
         (found_answer C.lists I.match_of result) }
     ensures counts { IfErr result (λ error. ReadCounts (T.fault_count tree.old)
         (T.fault_count tree.old) (T.fault_count tree.new) (cause_of error)) }

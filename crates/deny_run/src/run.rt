@@ -1,13 +1,11 @@
 //! The run: from words and files to a report, a summary and a status.
 ghost use Rattle.std.specs.Prelude.{◌≡◌, ◌≢◌, ◌≤◌, All, IfErr, IfSome, OnOk};
 ghost use Rattle.std.specs.Option.{ForSome};
-ghost use Rattle.tree_core.specs.Hearing.{MadeSome};
 ghost use Rattle.tree_core.specs.Script.{LineWritten};
 ghost use Rattle.tree_texts.specs.declared.fault.ReadFault.{ReadFault};
 ghost use Rattle.tree_texts.specs.Cause.{ReadCounts};
 ghost use Rattle.check_core.specs.Labels.{PackLies};
 ghost use Rattle.run_found.specs.Error.{cause_of, fault_line};
-ghost use Rattle.run_found.specs.Hearing.{seen};
 ghost use Rattle.deny_run.specs.Given.{run_arguments_of};
 ghost use Rattle.deny_run.specs.Headline.{Headline, HeadlineRead};
 ghost use Rattle.deny_run.specs.Lawful.{IsListComplete};
@@ -15,7 +13,8 @@ ghost use Rattle.deny_run.specs.RecordLawful.{IsRecordComplete, IsVerifyComplete
 ghost use Rattle.deny_run.specs.Run as run;
 ghost use Rattle.deny_run.specs.Run.{AnswersWords, EndsRequest, IfChecked, IfRefused, IsOutcome};
 ghost use Rattle.deny_run.specs.Run.{RefusesUncarried};
-ghost use Rattle.deny_run.specs.Script.{between};
+ghost use Rattle.deny_run.specs.Script.{counts_between, sink_texts};
+ghost use Rattle.run_found.specs.Hearing.{seen_between, HasMade};
 
 use crate::check::check_request;
 use crate::commands::{record_request, verify_request};
@@ -131,21 +130,16 @@ pub fn run_request<T: Tree, O: Sink, E: Sink, C: Catalog, I: Identifier>(
     // What was heard asks for is answered, whatever the tree tells of its content, and nothing else was read: each
     // refusal is the first one, by its cause; and so much is written.
     ensures ended { EndsRequest (C.lists catalog.now) (I.match_of identifier.now)
-        (seen (T.content tree.old) (T.content tree.new) (T.fault_count tree.old) (T.fault_count tree.new)
-        (T.trace tree.old) (T.trace tree.new))
-        (between
-        (record { tree = T.fault_count tree.old; out = O.fault_count out.old; err = E.fault_count err.old })
-        (record { tree = T.fault_count tree.new; out = O.fault_count out.new; err = E.fault_count err.new }))
-        (record { out = O.written out.old; err = E.written err.old })
-        (record { out = O.written out.new; err = E.written err.new })
+        (seen_between T.content T.fault_count T.trace tree.old tree.new)
+        (counts_between T.fault_count O.fault_count E.fault_count tree.old out.old err.old tree.new out.new err.new)
+        (sink_texts O.written E.written out.old err.old)
+        (sink_texts O.written E.written out.new err.new)
         request.now request.now.command result }
     ensures uncarried { RefusesUncarried (C.lists catalog.now) (I.match_of identifier.now)
-        (seen (T.content tree.old) (T.content tree.new) (T.fault_count tree.old) (T.fault_count tree.new)
-        (T.trace tree.old) (T.trace tree.new))
+        (seen_between T.content T.fault_count T.trace tree.old tree.new)
         request.now result }
     ensures policy { result ≢ RunEnd.Refused (Error.ConfigRead ReadFault.Absent) }
-    ensures made { MadeSome (T.content tree.old) (T.content tree.new) (T.fault_count tree.old)
-        (T.fault_count tree.new) (T.trace tree.old) (T.trace tree.new) }
+    ensures made { HasMade (seen_between T.content T.fault_count T.trace tree.old tree.new) }
     ensures counts { IfRefused result (λ error. ReadCounts
         (T.fault_count tree.old) (T.fault_count tree.old) (T.fault_count tree.new) (cause_of error)) }
     ensures labels { IfChecked result (λ report. All (PackLies report.files) report.findings) }
@@ -233,23 +227,18 @@ fn run_words<T: Tree, O: Sink, E: Sink, C: Catalog, I: Identifier>(
 ) -> Outcome
     ensures outcome { IsOutcome
         (run_arguments_of (C.lists catalog.now) (I.match_of identifier.now) words.now cwd.now)
-        (seen (T.content tree.old) (T.content tree.new) (T.fault_count tree.old) (T.fault_count tree.new)
-        (T.trace tree.old) (T.trace tree.new))
-        (between
-        (record { tree = T.fault_count tree.old; out = O.fault_count out.old; err = E.fault_count err.old })
-        (record { tree = T.fault_count tree.new; out = O.fault_count out.new; err = E.fault_count err.new }))
-        (record { out = O.written out.old; err = E.written err.old })
-        (record { out = O.written out.new; err = E.written err.new })
+        (seen_between T.content T.fault_count T.trace tree.old tree.new)
+        (counts_between T.fault_count O.fault_count E.fault_count tree.old out.old err.old tree.new out.new err.new)
+        (sink_texts O.written E.written out.old err.old)
+        (sink_texts O.written E.written out.new err.new)
         result.request result.ended }
     ensures words { AnswersWords
         (run_arguments_of (C.lists catalog.now) (I.match_of identifier.now) words.now cwd.now) result }
     ensures uncarried { IfSome result.request (λ request. RefusesUncarried (C.lists catalog.now) (I.match_of identifier.now)
-        (seen (T.content tree.old) (T.content tree.new) (T.fault_count tree.old) (T.fault_count tree.new)
-        (T.trace tree.old) (T.trace tree.new))
+        (seen_between T.content T.fault_count T.trace tree.old tree.new)
         request result.ended) }
     ensures policy { result.ended ≢ RunEnd.Refused (Error.ConfigRead ReadFault.Absent) }
-    ensures made { MadeSome (T.content tree.old) (T.content tree.new) (T.fault_count tree.old)
-        (T.fault_count tree.new) (T.trace tree.old) (T.trace tree.new) }
+    ensures made { HasMade (seen_between T.content T.fault_count T.trace tree.old tree.new) }
     ensures counts { IfRefused result.ended (λ error. ReadCounts
         (T.fault_count tree.old) (T.fault_count tree.old) (T.fault_count tree.new) (cause_of error)) }
     ensures labels { IfChecked result.ended (λ report. All (PackLies report.files) report.findings) }
@@ -296,13 +285,10 @@ pub fn run<T: Tree, O: Sink, E: Sink, C: Catalog, I: Identifier>(
     // shown, mistakes are told, and no call is made.
     ensures outcome { IsOutcome
         (run_arguments_of (C.lists catalog.now) (I.match_of identifier.now) words.now cwd.now)
-        (seen (T.content tree.old) (T.content tree.new) (T.fault_count tree.old) (T.fault_count tree.new)
-        (T.trace tree.old) (T.trace tree.new))
-        (between
-        (record { tree = T.fault_count tree.old; out = O.fault_count out.old; err = E.fault_count err.old })
-        (record { tree = T.fault_count tree.new; out = O.fault_count out.new; err = E.fault_count err.new }))
-        (record { out = O.written out.old; err = E.written err.old })
-        (record { out = O.written out.new; err = E.written err.new })
+        (seen_between T.content T.fault_count T.trace tree.old tree.new)
+        (counts_between T.fault_count O.fault_count E.fault_count tree.old out.old err.old tree.new out.new err.new)
+        (sink_texts O.written E.written out.old err.old)
+        (sink_texts O.written E.written out.new err.new)
         result.request result.ended }
 
     // Words that have a request have it told, and help and mistakes are answered so, but for want of memory and a
@@ -312,14 +298,12 @@ pub fn run<T: Tree, O: Sink, E: Sink, C: Catalog, I: Identifier>(
 
     // Where a part of the request is not carried, that is the refusal, and no call is made.
     ensures uncarried { IfSome result.request (λ request. RefusesUncarried (C.lists catalog.now) (I.match_of identifier.now)
-        (seen (T.content tree.old) (T.content tree.new) (T.fault_count tree.old) (T.fault_count tree.new)
-        (T.trace tree.old) (T.trace tree.new))
+        (seen_between T.content T.fault_count T.trace tree.old tree.new)
         request result.ended) }
     ensures policy { result.ended ≢ RunEnd.Refused (Error.ConfigRead ReadFault.Absent) }
 
     // Calls were made on the tree, and nothing else came of it; a failed read has a cause.
-    ensures made { MadeSome (T.content tree.old) (T.content tree.new) (T.fault_count tree.old)
-        (T.fault_count tree.new) (T.trace tree.old) (T.trace tree.new) }
+    ensures made { HasMade (seen_between T.content T.fault_count T.trace tree.old tree.new) }
     ensures counts { IfRefused result.ended (λ error. ReadCounts
         (T.fault_count tree.old) (T.fault_count tree.old) (T.fault_count tree.new) (cause_of error)) }
     ensures out_later { O.fault_count out.old ≤ O.fault_count out.new }
@@ -335,39 +319,28 @@ pub fn run<T: Tree, O: Sink, E: Sink, C: Catalog, I: Identifier>(
     // tells it.
     ensures headline_read { HeadlineRead
         (run_arguments_of (C.lists catalog.now) (I.match_of identifier.now) words.now cwd.now)
-        (seen (T.content tree.old) (T.content tree.new) (T.fault_count tree.old) (T.fault_count tree.new)
-        (T.trace tree.old) (T.trace tree.new))
-        (between
-        (record { tree = T.fault_count tree.old; out = O.fault_count out.old; err = E.fault_count err.old })
-        (record { tree = T.fault_count tree.new; out = O.fault_count out.new; err = E.fault_count err.new }))
+        (seen_between T.content T.fault_count T.trace tree.old tree.new)
+        (counts_between T.fault_count O.fault_count E.fault_count tree.old out.old err.old tree.new out.new err.new)
         result }
     ensures headline { ForSome (T.content tree.old) (λ c. Headline
         (run_arguments_of (C.lists catalog.now) (I.match_of identifier.now) words.now cwd.now) c
-        (between
-        (record { tree = T.fault_count tree.old; out = O.fault_count out.old; err = E.fault_count err.old })
-        (record { tree = T.fault_count tree.new; out = O.fault_count out.new; err = E.fault_count err.new }))
+        (counts_between T.fault_count O.fault_count E.fault_count tree.old out.old err.old tree.new out.new err.new)
         result) }
 
     // Lawful input with the command `list`, without a fault, is listed, but for want of memory.
     ensures list_complete { ForSome (T.content tree.old) (λ c. IsListComplete
         (run_arguments_of (C.lists catalog.now) (I.match_of identifier.now) words.now cwd.now) c
-        (between
-        (record { tree = T.fault_count tree.old; out = O.fault_count out.old; err = E.fault_count err.old })
-        (record { tree = T.fault_count tree.new; out = O.fault_count out.new; err = E.fault_count err.new }))
+        (counts_between T.fault_count O.fault_count E.fault_count tree.old out.old err.old tree.new out.new err.new)
         result) }
 
     // So with the commands `record` and `verify`, where the verdict file may be refused too.
     ensures record_complete { ForSome (T.content tree.old) (λ c. IsRecordComplete
         (run_arguments_of (C.lists catalog.now) (I.match_of identifier.now) words.now cwd.now) c
-        (between
-        (record { tree = T.fault_count tree.old; out = O.fault_count out.old; err = E.fault_count err.old })
-        (record { tree = T.fault_count tree.new; out = O.fault_count out.new; err = E.fault_count err.new }))
+        (counts_between T.fault_count O.fault_count E.fault_count tree.old out.old err.old tree.new out.new err.new)
         result) }
     ensures verify_complete { ForSome (T.content tree.old) (λ c. IsVerifyComplete
         (run_arguments_of (C.lists catalog.now) (I.match_of identifier.now) words.now cwd.now) c
-        (between
-        (record { tree = T.fault_count tree.old; out = O.fault_count out.old; err = E.fault_count err.old })
-        (record { tree = T.fault_count tree.new; out = O.fault_count out.new; err = E.fault_count err.new }))
+        (counts_between T.fault_count O.fault_count E.fault_count tree.old out.old err.old tree.new out.new err.new)
         result) }
 {
     run_words(alloc, words, cwd, tree, out, err, catalog, identifier)

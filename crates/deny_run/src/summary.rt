@@ -3,7 +3,7 @@ ghost use Rattle.std.specs.Prelude.{◌≡◌, ◌≤◌, IfErr, OnOk};
 ghost use Rattle.tree_core.specs.Script.{Gains};
 ghost use Rattle.diag_stats.specs.Summary.{sink_counts, summary_of, target_of};
 ghost use Rattle.run_found.specs.Error.{cause_of};
-ghost use Rattle.deny_run.specs.Script.{CutsSummary, by_target};
+ghost use Rattle.deny_run.specs.Script.{CutsSummary, by_target, sink_texts};
 
 use diag_print::{Format, LogContext, PrintError};
 use diag_stats::print_stats;
@@ -35,13 +35,13 @@ pub(crate) fn write_summary<O: Sink, E: Sink>(
 ) -> Result<(), Error>
     requires { begun ≤ E.fault_count err.old }
     ensures ok { OnOk result (Gains
-        (record { out = O.written out.old; err = E.written err.old })
-        (record { out = O.written out.new; err = E.written err.new })
+        (sink_texts O.written E.written out.old err.old)
+        (sink_texts O.written E.written out.new err.new)
         (summary_of log_ctx.format log_ctx.log_level show_stats report.now.stats)) }
     ensures err { IfErr result (λ error. CutsSummary
         (sink_counts (O.fault_count out.old) (O.fault_count out.new) begun (E.fault_count err.new))
-        (record { out = O.written out.old; err = E.written err.old })
-        (record { out = O.written out.new; err = E.written err.new })
+        (sink_texts O.written E.written out.old err.old)
+        (sink_texts O.written E.written out.new err.new)
         (summary_of log_ctx.format log_ctx.log_level show_stats report.now.stats) (cause_of error)) }
     ensures out_later { O.fault_count out.old ≤ O.fault_count out.new }
     ensures err_later { E.fault_count err.old ≤ E.fault_count err.new }

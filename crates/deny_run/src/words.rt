@@ -4,6 +4,7 @@ ghost use Rattle.tree_core.specs.Script.{LineWritten};
 ghost use Rattle.diag_stats.specs.Summary.{sink_counts};
 ghost use Rattle.run_found.specs.Error.{fault_line};
 ghost use Rattle.deny_run.specs.Words.{EndsShown};
+ghost use Rattle.deny_run.specs.Script.{sink_texts};
 
 use crate::outcome::RunEnd;
 use run_found::Error;
@@ -31,8 +32,8 @@ pub(crate) fn write_usage<E: Sink>(err: &mut E, text: &str)
 pub(crate) fn show<O: Sink, E: Sink>(out: &mut O, err: &mut E, text: &str) -> RunEnd
     ensures shown { EndsShown
         (sink_counts (O.fault_count out.old) (O.fault_count out.new) (E.fault_count err.old) (E.fault_count err.new))
-        (record { out = O.written out.old; err = E.written err.old })
-        (record { out = O.written out.new; err = E.written err.new })
+        (sink_texts O.written E.written out.old err.old)
+        (sink_texts O.written E.written out.new err.new)
         result }
     ensures out_later { O.fault_count out.old ≤ O.fault_count out.new }
     ensures err_later { E.fault_count err.old ≤ E.fault_count err.new }

@@ -1,8 +1,8 @@
 //! What is heard of the policy once more, behind a run that refused it.
 ghost use Rattle.std.specs.Prelude.{◌≡◌, None};
 ghost use Rattle.std.specs.Option.{ForSome};
-ghost use Rattle.tree_core.specs.Hearing.{MadeSome};
 ghost use Rattle.refusal_help.specs.Again.{IsAgain, IsAskedWhereDue, IsReadAgain};
+ghost use Rattle.run_found.specs.Hearing.{seen_between, HasMade};
 
 use deny_text::{PathBuf, Text};
 use run_context::config_path_since;
@@ -35,8 +35,7 @@ impl Again {
 /// The text of a regular file. A pipe is not read twice: a second read could wait for ever.
 fn text_again<T: Tree>(alloc: Global, tree: &mut T, path: &str) -> Option<Text>
     ensures read { ForSome result (IsReadAgain (T.trace tree.old) (T.trace tree.new) path.now) }
-    ensures made { MadeSome (T.content tree.old) (T.content tree.new) (T.fault_count tree.old)
-        (T.fault_count tree.new) (T.trace tree.old) (T.trace tree.new) }
+    ensures made { HasMade (seen_between T.content T.fault_count T.trace tree.old tree.new) }
 {
     let Ok(true) = tree.is_file(alloc, path) else {
         return None;
@@ -51,8 +50,7 @@ fn text_again<T: Tree>(alloc: Global, tree: &mut T, path: &str) -> Option<Text>
 /// The same where it is asked for.
 fn text_where<T: Tree>(alloc: Global, tree: &mut T, path: &str, is_asked: bool) -> Option<Text>
     ensures read { ForSome result (IsReadAgain (T.trace tree.old) (T.trace tree.new) path.now) }
-    ensures made { MadeSome (T.content tree.old) (T.content tree.new) (T.fault_count tree.old)
-        (T.fault_count tree.new) (T.trace tree.old) (T.trace tree.new) }
+    ensures made { HasMade (seen_between T.content T.fault_count T.trace tree.old tree.new) }
 {
     if is_asked {
         text_again(alloc, tree, path)
@@ -69,8 +67,7 @@ fn policy_again<T: Tree>(
     with_text: bool,
 ) -> Again
     ensures again { IsAgain context.now (T.trace tree.old) (T.trace tree.new) result }
-    ensures made { MadeSome (T.content tree.old) (T.content tree.new) (T.fault_count tree.old)
-        (T.fault_count tree.new) (T.trace tree.old) (T.trace tree.new) }
+    ensures made { HasMade (seen_between T.content T.fault_count T.trace tree.old tree.new) }
 {
     let begun = tree.faults();
     let Ok(Some(policy)) = config_path_since(context, alloc, tree, begun) else {
@@ -93,8 +90,7 @@ pub(crate) fn heard_again<T: Tree>(
 ) -> Again
     ensures again { IsAgain context.now (T.trace tree.old) (T.trace tree.new) result }
     ensures due { IsAskedWhereDue error.now (T.trace tree.old) (T.trace tree.new) }
-    ensures made { MadeSome (T.content tree.old) (T.content tree.new) (T.fault_count tree.old)
-        (T.fault_count tree.new) (T.trace tree.old) (T.trace tree.new) }
+    ensures made { HasMade (seen_between T.content T.fault_count T.trace tree.old tree.new) }
 {
     match error {
         Error::ConfigRead(_) => policy_again(alloc, tree, context, false),

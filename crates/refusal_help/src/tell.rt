@@ -1,8 +1,8 @@
 //! What is told behind a refusal.
 ghost use Rattle.std.specs.Prelude.{◌≤◌};
-ghost use Rattle.tree_core.specs.Hearing.{MadeSome};
 ghost use Rattle.refusal_help.specs.Help.{help_of};
 ghost use Rattle.refusal_help.specs.Told.{LinesWritten, TellsHelp, told_between};
+ghost use Rattle.run_found.specs.Hearing.{seen_between, HasMade};
 
 use crate::again::{Again, heard_again};
 use crate::help::help_of;
@@ -35,8 +35,7 @@ pub fn tell_help<T: Tree, E: Sink>(
     ensures told { TellsHelp request.now error.now
         (told_between (T.trace tree.old) (T.trace tree.new) (E.written err.old) (E.written err.new)
         (E.fault_count err.old) (E.fault_count err.new)) }
-    ensures made { MadeSome (T.content tree.old) (T.content tree.new) (T.fault_count tree.old)
-        (T.fault_count tree.new) (T.trace tree.old) (T.trace tree.new) }
+    ensures made { HasMade (seen_between T.content T.fault_count T.trace tree.old tree.new) }
     ensures later { E.fault_count err.old ≤ E.fault_count err.new }
 {
     let again = heard_again(alloc, tree, &request.krate_ctx, error);

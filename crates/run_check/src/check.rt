@@ -11,9 +11,9 @@ ghost use Rattle.check_core.specs.Labels.{PackLies, VerdictPoints};
 ghost use Rattle.check_core.specs.Summary.{gathered_of_licenses};
 ghost use Rattle.run_request.specs.declared.level.LintLevels.{LintLevels};
 ghost use Rattle.run_overrides.specs.Levels.{PutAtLevels};
-ghost use Rattle.run_found.specs.Hearing.{seen};
 ghost use Rattle.run_found.specs.Licences.{IsGatherCut, scanner_of_policy};
 ghost use Rattle.run_check.specs.Steps.{IsCheckOf, IsCheckedOn, reports_of, report_of};
+ghost use Rattle.run_found.specs.Hearing.{seen_between};
 
 use crate::report::CrateReport;
 use check_core::{CheckCtx, Verdicts, judge_all};
@@ -141,13 +141,11 @@ pub(crate) fn settle_and_judge<T: Tree, C: Catalog, I: Identifier>(
     ensures checked { IfOk result (λ checked. (graph : Graph) (choice : Choice) (levels : LintLevels)
         → IsChosen graph choice krates.now → PutAtLevels levels overrides
         → IsCheckedOn (scanner_of_policy (C.lists catalog.now) (I.match_of identifier.now) policy) levels policy
-        (seen (T.content tree.old) (T.content tree.new) (T.fault_count tree.old) (T.fault_count tree.new)
-        (T.trace tree.old) (T.trace tree.new))
+        (seen_between T.content T.fault_count T.trace tree.old tree.new)
         files.old files.new graph choice checked) }
     ensures cut { OnErr result ((graph : Graph) (choice : Choice) → IsChosen graph choice krates.now
         → IsGatherCut (scanner_of_policy (C.lists catalog.now) (I.match_of identifier.now) policy) policy
-        (seen (T.content tree.old) (T.content tree.new) (T.fault_count tree.old) (T.fault_count tree.new)
-        (T.trace tree.old) (T.trace tree.new))
+        (seen_between T.content T.fault_count T.trace tree.old tree.new)
         files.old graph choice) }
     ensures labels { IfOk result (λ checked. All (PackLies files.new) checked.findings) }
     ensures later { T.fault_count tree.old ≤ T.fault_count tree.new }

@@ -1,12 +1,10 @@
 //! The command `check`.
 ghost use Rattle.std.specs.Prelude.{◌≡◌, ◌≢◌, ◌≤◌, None, Some, Err, IfErr, IfOk};
 ghost use Rattle.std.specs.Option.{ForSome};
-ghost use Rattle.tree_core.specs.Hearing.{MadeSome};
 ghost use Rattle.graph_workspace.specs.declared.error.What.{What};
 ghost use Rattle.tree_texts.specs.declared.fault.ReadFault.{ReadFault};
 ghost use Rattle.tree_texts.specs.Cause.{ReadCounts};
 ghost use Rattle.run_found.specs.Error.{cause_of};
-ghost use Rattle.run_found.specs.Hearing.{seen};
 ghost use Rattle.run_check.specs.Carried.{uncarried_of};
 ghost use Rattle.run_check.specs.Given.{check_arguments_of};
 ghost use Rattle.run_check.specs.Headline.{CheckHeadline, CheckHeadlineRead};
@@ -16,6 +14,7 @@ ghost use Rattle.run_check.specs.Report.{IsCheckAnswer, LabelsLie};
 ghost use Rattle.run_check.specs.Run.{answer_from};
 ghost use Rattle.run_check.specs.Script.{WritesCheck, WritesLoad};
 ghost use Rattle.run_check.specs.Steps.{report_with};
+ghost use Rattle.run_found.specs.Hearing.{seen_between, HasMade};
 
 use crate::carried::uncarried_in;
 use crate::check::CheckedCrates;
@@ -71,8 +70,7 @@ fn report_by<T: Tree, S: Sink, C: Catalog, I: Identifier>(
         (T.fault_count tree.old) (T.fault_count tree.old) (T.fault_count tree.new) (cause_of error)) }
     ensures written { WritesLoad
         (check_arguments_of (C.lists catalog.now) (I.match_of identifier.now) log_ctx args.now context.now)
-        (seen (T.content tree.old) (T.content tree.new) (T.fault_count tree.old) (T.fault_count tree.new)
-        (T.trace tree.old) (T.trace tree.new))
+        (seen_between T.content T.fault_count T.trace tree.old tree.new)
         (S.written sink.old) (S.written sink.new) (S.fault_count sink.old) (S.fault_count sink.new)
         (answer_from result) }
     ensures labels { LabelsLie (answer_from result) }
@@ -102,14 +100,12 @@ pub fn report_since<T: Tree, S: Sink, C: Catalog, I: Identifier>(
 ) -> Result<Report, Error>
     requires { uncarried_of log_ctx args.now context.now ≡ None }
     ensures policy { result ≢ Err (Error.ConfigRead ReadFault.Absent) }
-    ensures made { MadeSome (T.content tree.old) (T.content tree.new) (T.fault_count tree.old)
-        (T.fault_count tree.new) (T.trace tree.old) (T.trace tree.new) }
+    ensures made { HasMade (seen_between T.content T.fault_count T.trace tree.old tree.new) }
     ensures counts { IfErr result (λ error. ReadCounts
         (T.fault_count tree.old) (T.fault_count tree.old) (T.fault_count tree.new) (cause_of error)) }
     ensures written { WritesLoad
         (check_arguments_of (C.lists catalog.now) (I.match_of identifier.now) log_ctx args.now context.now)
-        (seen (T.content tree.old) (T.content tree.new) (T.fault_count tree.old) (T.fault_count tree.new)
-        (T.trace tree.old) (T.trace tree.new))
+        (seen_between T.content T.fault_count T.trace tree.old tree.new)
         (S.written sink.old) (S.written sink.new) (S.fault_count sink.old) (S.fault_count sink.new) result }
     ensures labels { LabelsLie result }
     ensures later { S.fault_count sink.old ≤ S.fault_count sink.new }
@@ -136,14 +132,12 @@ pub fn check_since<T: Tree, S: Sink, C: Catalog, I: Identifier>(
 ) -> Result<Report, Error>
     requires { uncarried_of log_ctx args.now context.now ≡ None }
     ensures policy { result ≢ Err (Error.ConfigRead ReadFault.Absent) }
-    ensures made { MadeSome (T.content tree.old) (T.content tree.new) (T.fault_count tree.old)
-        (T.fault_count tree.new) (T.trace tree.old) (T.trace tree.new) }
+    ensures made { HasMade (seen_between T.content T.fault_count T.trace tree.old tree.new) }
     ensures counts { IfErr result (λ error. ReadCounts
         (T.fault_count tree.old) (T.fault_count tree.old) (T.fault_count tree.new) (cause_of error)) }
     ensures written { WritesCheck
         (check_arguments_of (C.lists catalog.now) (I.match_of identifier.now) log_ctx args.now context.now)
-        (seen (T.content tree.old) (T.content tree.new) (T.fault_count tree.old) (T.fault_count tree.new)
-        (T.trace tree.old) (T.trace tree.new))
+        (seen_between T.content T.fault_count T.trace tree.old tree.new)
         (S.written sink.old) (S.written sink.new) (S.fault_count sink.old) (S.fault_count sink.new) result }
     ensures labels { LabelsLie result }
     ensures later { S.fault_count sink.old ≤ S.fault_count sink.new }
@@ -183,8 +177,7 @@ pub fn cmd<T: Tree, S: Sink, C: Catalog, I: Identifier>(
     // refusal is the first one, by its cause.
     ensures answer { IsCheckAnswer
         (check_arguments_of (C.lists catalog.now) (I.match_of identifier.now) log_ctx args krate_ctx)
-        (seen (T.content tree.old) (T.content tree.new) (T.fault_count tree.old) (T.fault_count tree.new)
-        (T.trace tree.old) (T.trace tree.new)) result }
+        (seen_between T.content T.fault_count T.trace tree.old tree.new) result }
     ensures policy { result ≢ Err (Error.ConfigRead ReadFault.Absent) }
 
     // Where a part of the request is not carried, no call is made, and nothing is written.
@@ -193,16 +186,14 @@ pub fn cmd<T: Tree, S: Sink, C: Catalog, I: Identifier>(
         × (T.fault_count tree.new ≡ T.fault_count tree.old) × (S.written sink.new ≡ S.written sink.old) }
 
     // Calls were made on the tree, and nothing else came of it; a failed read has a cause.
-    ensures made { MadeSome (T.content tree.old) (T.content tree.new) (T.fault_count tree.old)
-        (T.fault_count tree.new) (T.trace tree.old) (T.trace tree.new) }
+    ensures made { HasMade (seen_between T.content T.fault_count T.trace tree.old tree.new) }
     ensures counts { IfErr result (λ error. ReadCounts
         (T.fault_count tree.old) (T.fault_count tree.old) (T.fault_count tree.new) (cause_of error)) }
 
     // What was written, and when a write was refused.
     ensures written { WritesCheck
         (check_arguments_of (C.lists catalog.now) (I.match_of identifier.now) log_ctx args krate_ctx)
-        (seen (T.content tree.old) (T.content tree.new) (T.fault_count tree.old) (T.fault_count tree.new)
-        (T.trace tree.old) (T.trace tree.new))
+        (seen_between T.content T.fault_count T.trace tree.old tree.new)
         (S.written sink.old) (S.written sink.new) (S.fault_count sink.old) (S.fault_count sink.new) result }
     ensures later { S.fault_count sink.old ≤ S.fault_count sink.new }
 
@@ -212,39 +203,31 @@ pub fn cmd<T: Tree, S: Sink, C: Catalog, I: Identifier>(
     // The headline, by what was read, and by the content where the tree tells it.
     ensures headline_read { CheckHeadlineRead
         (check_arguments_of (C.lists catalog.now) (I.match_of identifier.now) log_ctx args krate_ctx)
-        (seen (T.content tree.old) (T.content tree.new) (T.fault_count tree.old) (T.fault_count tree.new)
-        (T.trace tree.old) (T.trace tree.new))
+        (seen_between T.content T.fault_count T.trace tree.old tree.new)
         (S.fault_count sink.old) (S.fault_count sink.new) result }
     ensures headline { ForSome (T.content tree.old) (λ content. CheckHeadline
         (check_arguments_of (C.lists catalog.now) (I.match_of identifier.now) log_ctx args krate_ctx) content
-        (seen (T.content tree.old) (T.content tree.new) (T.fault_count tree.old) (T.fault_count tree.new)
-        (T.trace tree.old) (T.trace tree.new))
+        (seen_between T.content T.fault_count T.trace tree.old tree.new)
         (S.fault_count sink.old) (S.fault_count sink.new) result) }
 
     // By name, parts of what is answered.
     ensures own_reads { IfOk result (ReportsOwnReads
         (check_arguments_of (C.lists catalog.now) (I.match_of identifier.now) log_ctx args krate_ctx)
-        (seen (T.content tree.old) (T.content tree.new) (T.fault_count tree.old) (T.fault_count tree.new)
-        (T.trace tree.old) (T.trace tree.new))) }
+        (seen_between T.content T.fault_count T.trace tree.old tree.new)) }
     ensures rises { IfOk result (FailedReadsRise
-        (seen (T.content tree.old) (T.content tree.new) (T.fault_count tree.old) (T.fault_count tree.new)
-        (T.trace tree.old) (T.trace tree.new))) }
+        (seen_between T.content T.fault_count T.trace tree.old tree.new)) }
     ensures reported_policy { IfOk result (ReportsPolicy
         (check_arguments_of (C.lists catalog.now) (I.match_of identifier.now) log_ctx args krate_ctx)
-        (seen (T.content tree.old) (T.content tree.new) (T.fault_count tree.old) (T.fault_count tree.new)
-        (T.trace tree.old) (T.trace tree.new))) }
+        (seen_between T.content T.fault_count T.trace tree.old tree.new)) }
     ensures reported_findings { IfOk result (ReportsFindings
         (check_arguments_of (C.lists catalog.now) (I.match_of identifier.now) log_ctx args krate_ctx)
-        (seen (T.content tree.old) (T.content tree.new) (T.fault_count tree.old) (T.fault_count tree.new)
-        (T.trace tree.old) (T.trace tree.new))) }
+        (seen_between T.content T.fault_count T.trace tree.old tree.new)) }
     ensures hits { IfOk result (ReportsUnneeded
         (check_arguments_of (C.lists catalog.now) (I.match_of identifier.now) log_ctx args krate_ctx)
-        (seen (T.content tree.old) (T.content tree.new) (T.fault_count tree.old) (T.fault_count tree.new)
-        (T.trace tree.old) (T.trace tree.new))) }
+        (seen_between T.content T.fault_count T.trace tree.old tree.new)) }
     ensures certificates { IfOk result (ReportsCertificates
         (check_arguments_of (C.lists catalog.now) (I.match_of identifier.now) log_ctx args krate_ctx)
-        (seen (T.content tree.old) (T.content tree.new) (T.fault_count tree.old) (T.fault_count tree.new)
-        (T.trace tree.old) (T.trace tree.new))) }
+        (seen_between T.content T.fault_count T.trace tree.old tree.new)) }
 {
     match uncarried_in(log_ctx, &args, &krate_ctx) {
         Some(what) => Err(Error::NotCarried(what)),

@@ -8,9 +8,9 @@ ghost use Rattle.run_context.specs.Asked.{uncarried};
 ghost use Rattle.run_overrides.specs.Levels.{PutAtLevels};
 ghost use Rattle.run_found.specs.Error.{cause_of, error_of_crates};
 ghost use Rattle.run_found.specs.Gathering.{IsBehindPolicy};
-ghost use Rattle.run_found.specs.Hearing.{seen};
 ghost use Rattle.run_found.specs.Licences.{scanner_of_policy};
 ghost use Rattle.run_check.specs.Steps.{ChecksAt};
+ghost use Rattle.run_found.specs.Hearing.{seen_between};
 
 use crate::check::{CheckedCrates, settle_and_judge};
 use diag_core::{DiagnosticOverrides, Files};
@@ -42,8 +42,7 @@ pub(crate) fn check_crates<T: Tree, C: Catalog, I: Identifier>(
     ensures checks { (path : List ℕ) (levels : LintLevels) → context.now.metadata_path ≡ Some path
         → PutAtLevels levels overrides → ChecksAt context.now
         (scanner_of_policy (C.lists catalog.now) (I.match_of identifier.now) policy.licenses) levels policy
-        (seen (T.content tree.old) (T.content tree.new) (T.fault_count tree.old) (T.fault_count tree.new)
-        (T.trace tree.old) (T.trace tree.new))
+        (seen_between T.content T.fault_count T.trace tree.old tree.new)
         files.old files.new begun path result }
     ensures labels { IfOk result (λ checked. All (PackLies files.new) checked.findings) }
     ensures cause { IfErr result IsBehindPolicy }

@@ -3,7 +3,7 @@ use Rattle.std.specs.Prelude.{◌≡◌, ℕ, Bool, true, false, List, [], ◌�
 use Rattle.tree_core.specs.Call as call
 use Rattle.tree_core.specs.Call.{CallAnswer, Call}
 use Rattle.tree_core.specs.Content.{Content}
-use Rattle.tree_core.specs.Hearing.{Made}
+use Rattle.tree_core.specs.Hearing.{Made, MadeSome}
 use Rattle.tree_core.specs.Trace.{content_answer, fault_behind}
 use Rattle.graph_core.specs.Krate.{Record}
 use Rattle.tree_texts.specs.Heard.{read_of, text_answered}
@@ -36,6 +36,14 @@ pub record TreeSeen : Type 0 where
 abbrev pub seen : Option Content → Option Content → ℕ → ℕ → List Call → List Call → TreeSeen
 seen told tells before after old new =
     record { told = told; tells = tells; count_before = before; count_after = after; calls_before = old; calls_after = new }
+
+-- the same from one state of a tree to another one, by what it tells of its content, its count of faults and its calls
+abbrev pub seen_between : {A : Type 0} → (A → Option Content) → (A → ℕ) → (A → List Call) → A → A → TreeSeen
+seen_between {A} content count calls old new = seen (content old) (content new) (count old) (count new) (calls old) (calls new)
+
+-- calls were made on it, and nothing else came of it
+abbrev pub HasMade : TreeSeen → Type 0
+HasMade tree = MadeSome tree.told tree.tells tree.count_before tree.count_after tree.calls_before tree.calls_after
 
 -- these calls were made on it, and no other
 abbrev pub MadeOn : TreeSeen → List Call → Type 0

@@ -7,8 +7,8 @@ ghost use Rattle.diag_core.specs.File.{Grows};
 ghost use Rattle.policy_core.specs.Places.{PolicyStands};
 ghost use Rattle.gather_core.specs.Premises.{IsPlacedAt};
 ghost use Rattle.check_unused.specs.Laws.{EntriesLie};
-ghost use Rattle.run_found.specs.Hearing.{seen};
 ghost use Rattle.run_found.specs.Licences.{IsGatherCut, IsGatheredOn, scanner_of_policy};
+ghost use Rattle.run_found.specs.Hearing.{seen_between};
 
 use diag_core::Files;
 use gather_core::{Gatherer, Summary};
@@ -34,13 +34,11 @@ pub fn licences_found<'k, T: Tree, C: Catalog, I: Identifier>(
     ensures gathered { IfOk result (λ summary. (graph : Graph) (choice : Choice)
         → IsChosen graph choice krates.entry.now
         → IsGatheredOn (scanner_of_policy (C.lists catalog.now) (I.match_of identifier.now) policy.now) policy.now
-        (seen (T.content tree.old) (T.content tree.new) (T.fault_count tree.old) (T.fault_count tree.new)
-        (T.trace tree.old) (T.trace tree.new))
+        (seen_between T.content T.fault_count T.trace tree.old tree.new)
         files.old files.new graph choice summary.nfos) }
     ensures cut { OnErr result ((graph : Graph) (choice : Choice) → IsChosen graph choice krates.entry.now
         → IsGatherCut (scanner_of_policy (C.lists catalog.now) (I.match_of identifier.now) policy.now) policy.now
-        (seen (T.content tree.old) (T.content tree.new) (T.fault_count tree.old) (T.fault_count tree.new)
-        (T.trace tree.old) (T.trace tree.new))
+        (seen_between T.content T.fault_count T.trace tree.old tree.new)
         files.old graph choice) }
     ensures grows { Grows files.old files.new }
     // what a check of the summary asks of the files

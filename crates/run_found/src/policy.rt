@@ -1,6 +1,5 @@
 //! The policy of a request.
 ghost use Rattle.std.specs.Prelude.{◌≡◌, ◌≢◌, ◌≤◌, [], IfErr, IfOk};
-ghost use Rattle.tree_core.specs.Hearing.{MadeSome};
 ghost use Rattle.tree_texts.specs.Cause.{ReadCounts};
 ghost use Rattle.tree_texts.specs.Search.{search_cause};
 ghost use Rattle.tree_texts.specs.declared.fault.ReadFault.{ReadFault};
@@ -10,8 +9,8 @@ ghost use Rattle.run_found.specs.declared.error.Error.{Error};
 ghost use Rattle.run_found.specs.Error.{cause_of, error_of_policy};
 ghost use Rattle.run_found.specs.Finds.{FindsPolicy};
 ghost use Rattle.run_found.specs.Given.{request_arguments_of};
-ghost use Rattle.run_found.specs.Hearing.{seen};
 ghost use Rattle.run_found.specs.Paths.{ArePathsAt, PathsUntil};
+ghost use Rattle.run_found.specs.Hearing.{seen_between, HasMade};
 
 use diag_core::Files;
 use diag_print::LogContext;
@@ -71,8 +70,7 @@ fn policy_paths<T: Tree>(
     requires { begun ≤ T.fault_count tree.old }
     ensures paths { IfOk result (ArePathsAt context.now (T.trace tree.old) (T.trace tree.new)) }
     ensures given_up { IfErr result (PathsUntil context.now (T.trace tree.old) (T.trace tree.new)) }
-    ensures made { MadeSome (T.content tree.old) (T.content tree.new) (T.fault_count tree.old)
-        (T.fault_count tree.new) (T.trace tree.old) (T.trace tree.new) }
+    ensures made { HasMade (seen_between T.content T.fault_count T.trace tree.old tree.new) }
     ensures counts { IfErr result (λ error.
         ReadCounts begun (T.fault_count tree.old) (T.fault_count tree.new) (search_cause error)) }
 {
@@ -97,15 +95,13 @@ pub fn policy_found<T: Tree, S: Sink, C: Catalog>(
     // come to; and what is told of the load was written.
     ensures found { FindsPolicy
         (request_arguments_of (C.lists catalog.now) log_ctx context.now)
-        (seen (T.content tree.old) (T.content tree.new) (T.fault_count tree.old) (T.fault_count tree.new)
-        (T.trace tree.old) (T.trace tree.new))
+        (seen_between T.content T.fault_count T.trace tree.old tree.new)
         (S.written sink.old) (S.written sink.new) (S.fault_count sink.old) (S.fault_count sink.new)
         files.new result }
     // Each place that the policy keeps lies in its file.
     ensures places { IfOk result (λ loaded. PolicyStands files.new loaded.licenses) }
     ensures there { IfErr result (λ refusal. error_of_policy refusal ≢ Error.ConfigRead ReadFault.Absent) }
-    ensures made { MadeSome (T.content tree.old) (T.content tree.new) (T.fault_count tree.old)
-        (T.fault_count tree.new) (T.trace tree.old) (T.trace tree.new) }
+    ensures made { HasMade (seen_between T.content T.fault_count T.trace tree.old tree.new) }
     ensures counts { IfErr result (λ refusal. ReadCounts (T.fault_count tree.old)
         (T.fault_count tree.old) (T.fault_count tree.new) (cause_of (error_of_policy refusal))) }
     ensures writes { IfErr result (λ refusal. WriteCounts

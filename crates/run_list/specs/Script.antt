@@ -26,6 +26,10 @@ pub record SinkSeen : Type 0 where
 abbrev pub sink_seen : Option (List ℕ) → Option (List ℕ) → ℕ → ℕ → SinkSeen
 sink_seen old new before after = record { old = old; new = new; before = before; after = after }
 
+-- the same from one state of a sink to another one, by what was written to it and its count of faults
+abbrev pub sink_between : {A : Type 0} → (A → Option (List ℕ)) → (A → ℕ) → A → A → SinkSeen
+sink_between {A} written count old new = sink_seen (written old) (written new) (count old) (count new)
+
 -- ---- what is told of the load
 
 -- nothing of a request of which a part is not carried

@@ -2,19 +2,18 @@
 ghost use Rattle.std.specs.Prelude.{◌≡◌, ◌≢◌, ◌≤◌, All, None, Some, Err, IfErr, IfOk};
 ghost use Rattle.std.specs.Option.{ForSome};
 ghost use Rattle.graph_core.specs.Metadata.{AreRising};
-ghost use Rattle.tree_core.specs.Hearing.{MadeSome};
 ghost use Rattle.graph_workspace.specs.declared.error.What.{What};
 ghost use Rattle.tree_texts.specs.declared.fault.ReadFault.{ReadFault};
 ghost use Rattle.tree_texts.specs.Cause.{ReadCounts};
 ghost use Rattle.run_found.specs.Error.{cause_of};
-ghost use Rattle.run_found.specs.Hearing.{seen};
 ghost use Rattle.run_list.specs.Answer.{IsListAnswer};
 ghost use Rattle.run_list.specs.Carried.{uncarried_of};
 ghost use Rattle.run_list.specs.Complete.{IsComplete, IsCompleteRead};
 ghost use Rattle.run_list.specs.Given.{list_arguments_of};
 ghost use Rattle.run_list.specs.Named.{AnswersOwnReads, FailedReadsRise};
 ghost use Rattle.run_list.specs.Run.{answer_from, crates_from};
-ghost use Rattle.run_list.specs.Script.{WritesList, WritesLoad, sink_seen};
+ghost use Rattle.run_list.specs.Script.{WritesList, WritesLoad, sink_between};
+ghost use Rattle.run_found.specs.Hearing.{seen_between, HasMade};
 
 use crate::carried::uncarried_in;
 use crate::crates::CrateListing;
@@ -47,8 +46,7 @@ fn listing_by<T: Tree, S: Sink, C: Catalog, I: Identifier>(
         (T.fault_count tree.old) (T.fault_count tree.old) (T.fault_count tree.new) (cause_of error)) }
     ensures written { WritesLoad
         (list_arguments_of (C.lists catalog.now) (I.match_of identifier.now) log_ctx args context.now)
-        (seen (T.content tree.old) (T.content tree.new) (T.fault_count tree.old) (T.fault_count tree.new)
-        (T.trace tree.old) (T.trace tree.new))
+        (seen_between T.content T.fault_count T.trace tree.old tree.new)
         (crates_from result)
         (S.written sink.old) (S.written sink.new) (S.fault_count sink.old) (S.fault_count sink.new)
         (answer_from result) }
@@ -80,16 +78,14 @@ pub fn list_since<T: Tree, O: Sink, S: Sink, C: Catalog, I: Identifier>(
 ) -> Result<CrateReads, Error>
     requires { uncarried_of log_ctx context.now ≡ None }
     ensures policy { result ≢ Err (Error.ConfigRead ReadFault.Absent) }
-    ensures made { MadeSome (T.content tree.old) (T.content tree.new) (T.fault_count tree.old)
-        (T.fault_count tree.new) (T.trace tree.old) (T.trace tree.new) }
+    ensures made { HasMade (seen_between T.content T.fault_count T.trace tree.old tree.new) }
     ensures counts { IfErr result (λ error. ReadCounts
         (T.fault_count tree.old) (T.fault_count tree.old) (T.fault_count tree.new) (cause_of error)) }
     ensures written { WritesList
         (list_arguments_of (C.lists catalog.now) (I.match_of identifier.now) log_ctx args context.now)
-        (seen (T.content tree.old) (T.content tree.new) (T.fault_count tree.old) (T.fault_count tree.new)
-        (T.trace tree.old) (T.trace tree.new))
-        (sink_seen (S.written sink.old) (S.written sink.new) (S.fault_count sink.old) (S.fault_count sink.new))
-        (sink_seen (O.written out.old) (O.written out.new) (O.fault_count out.old) (O.fault_count out.new))
+        (seen_between T.content T.fault_count T.trace tree.old tree.new)
+        (sink_between S.written S.fault_count sink.old sink.new)
+        (sink_between O.written O.fault_count out.old out.new)
         result }
     ensures later { S.fault_count sink.old ≤ S.fault_count sink.new }
     ensures out_later { O.fault_count out.old ≤ O.fault_count out.new }
@@ -131,8 +127,7 @@ pub fn cmd<T: Tree, O: Sink, S: Sink, C: Catalog, I: Identifier>(
     // refusal is the first one, by its cause.
     ensures answer { IsListAnswer
         (list_arguments_of (C.lists catalog.now) (I.match_of identifier.now) log_ctx args krate_ctx)
-        (seen (T.content tree.old) (T.content tree.new) (T.fault_count tree.old) (T.fault_count tree.new)
-        (T.trace tree.old) (T.trace tree.new)) result }
+        (seen_between T.content T.fault_count T.trace tree.old tree.new) result }
     ensures policy { result ≢ Err (Error.ConfigRead ReadFault.Absent) }
 
     // Where a part of the request is not carried, no call is made, and nothing is written.
@@ -142,18 +137,16 @@ pub fn cmd<T: Tree, O: Sink, S: Sink, C: Catalog, I: Identifier>(
         × (O.written out.new ≡ O.written out.old) }
 
     // Calls were made on the tree, and nothing else came of it; a failed read has a cause.
-    ensures made { MadeSome (T.content tree.old) (T.content tree.new) (T.fault_count tree.old)
-        (T.fault_count tree.new) (T.trace tree.old) (T.trace tree.new) }
+    ensures made { HasMade (seen_between T.content T.fault_count T.trace tree.old tree.new) }
     ensures counts { IfErr result (λ error. ReadCounts
         (T.fault_count tree.old) (T.fault_count tree.old) (T.fault_count tree.new) (cause_of error)) }
 
     // What was written to each sink, and when a write was refused.
     ensures written { WritesList
         (list_arguments_of (C.lists catalog.now) (I.match_of identifier.now) log_ctx args krate_ctx)
-        (seen (T.content tree.old) (T.content tree.new) (T.fault_count tree.old) (T.fault_count tree.new)
-        (T.trace tree.old) (T.trace tree.new))
-        (sink_seen (S.written sink.old) (S.written sink.new) (S.fault_count sink.old) (S.fault_count sink.new))
-        (sink_seen (O.written out.old) (O.written out.new) (O.fault_count out.old) (O.fault_count out.new))
+        (seen_between T.content T.fault_count T.trace tree.old tree.new)
+        (sink_between S.written S.fault_count sink.old sink.new)
+        (sink_between O.written O.fault_count out.old out.new)
         result }
     ensures later { S.fault_count sink.old ≤ S.fault_count sink.new }
     ensures out_later { O.fault_count out.old ≤ O.fault_count out.new }
@@ -161,27 +154,23 @@ pub fn cmd<T: Tree, O: Sink, S: Sink, C: Catalog, I: Identifier>(
     // Lawful input without a fault is listed: by what was read, and by the content where the tree tells it.
     ensures complete_read { IsCompleteRead
         (list_arguments_of (C.lists catalog.now) (I.match_of identifier.now) log_ctx args krate_ctx)
-        (seen (T.content tree.old) (T.content tree.new) (T.fault_count tree.old) (T.fault_count tree.new)
-        (T.trace tree.old) (T.trace tree.new))
-        (sink_seen (S.written sink.old) (S.written sink.new) (S.fault_count sink.old) (S.fault_count sink.new))
-        (sink_seen (O.written out.old) (O.written out.new) (O.fault_count out.old) (O.fault_count out.new))
+        (seen_between T.content T.fault_count T.trace tree.old tree.new)
+        (sink_between S.written S.fault_count sink.old sink.new)
+        (sink_between O.written O.fault_count out.old out.new)
         result }
     ensures complete { ForSome (T.content tree.old) (λ content. IsComplete
         (list_arguments_of (C.lists catalog.now) (I.match_of identifier.now) log_ctx args krate_ctx) content
-        (seen (T.content tree.old) (T.content tree.new) (T.fault_count tree.old) (T.fault_count tree.new)
-        (T.trace tree.old) (T.trace tree.new))
-        (sink_seen (S.written sink.old) (S.written sink.new) (S.fault_count sink.old) (S.fault_count sink.new))
-        (sink_seen (O.written out.old) (O.written out.new) (O.fault_count out.old) (O.fault_count out.new))
+        (seen_between T.content T.fault_count T.trace tree.old tree.new)
+        (sink_between S.written S.fault_count sink.old sink.new)
+        (sink_between O.written O.fault_count out.old out.new)
         result) }
 
     // By name, what is answered of reads.
     ensures own_reads { IfOk result (AnswersOwnReads
         (list_arguments_of (C.lists catalog.now) (I.match_of identifier.now) log_ctx args krate_ctx)
-        (seen (T.content tree.old) (T.content tree.new) (T.fault_count tree.old) (T.fault_count tree.new)
-        (T.trace tree.old) (T.trace tree.new))) }
+        (seen_between T.content T.fault_count T.trace tree.old tree.new)) }
     ensures rises { IfOk result (FailedReadsRise
-        (seen (T.content tree.old) (T.content tree.new) (T.fault_count tree.old) (T.fault_count tree.new)
-        (T.trace tree.old) (T.trace tree.new))) }
+        (seen_between T.content T.fault_count T.trace tree.old tree.new)) }
 {
     match uncarried_in(log_ctx, &krate_ctx) {
         Some(what) => Err(Error::NotCarried(what)),

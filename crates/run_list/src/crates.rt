@@ -4,9 +4,9 @@ ghost use Rattle.graph_core.specs.Metadata.{AreRising, Graph};
 ghost use Rattle.graph_selection.specs.Choice.{Choice};
 ghost use Rattle.graph_selection.specs.Listed.{IsChosen};
 ghost use Rattle.policy_core.specs.Places.{PolicyStands};
-ghost use Rattle.run_found.specs.Hearing.{seen};
 ghost use Rattle.run_found.specs.Licences.{IsGatherCut, scanner_of_policy};
 ghost use Rattle.run_list.specs.Steps.{IsListedOn, listing_from};
+ghost use Rattle.run_found.specs.Hearing.{seen_between};
 
 use diag_core::Files;
 use gather_core::Summary;
@@ -50,13 +50,11 @@ pub(crate) fn settle_and_list<T: Tree, C: Catalog, I: Identifier>(
     // of each graph and choice that the crates are of
     ensures listed { IfOk result (λ listing. (graph : Graph) (choice : Choice) → IsChosen graph choice krates.now
         → IsListedOn (scanner_of_policy (C.lists catalog.now) (I.match_of identifier.now) policy.now) policy.now
-        (seen (T.content tree.old) (T.content tree.new) (T.fault_count tree.old) (T.fault_count tree.new)
-        (T.trace tree.old) (T.trace tree.new))
+        (seen_between T.content T.fault_count T.trace tree.old tree.new)
         files.old files.new graph choice listing) }
     ensures cut { OnErr result ((graph : Graph) (choice : Choice) → IsChosen graph choice krates.now
         → IsGatherCut (scanner_of_policy (C.lists catalog.now) (I.match_of identifier.now) policy.now) policy.now
-        (seen (T.content tree.old) (T.content tree.new) (T.fault_count tree.old) (T.fault_count tree.new)
-        (T.trace tree.old) (T.trace tree.new))
+        (seen_between T.content T.fault_count T.trace tree.old tree.new)
         files.old graph choice) }
     ensures ordered { IfOk result (λ listing. All (λ listed. AreRising listed.licences) listing.crates) }
     ensures later { T.fault_count tree.old ≤ T.fault_count tree.new }

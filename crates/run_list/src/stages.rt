@@ -6,9 +6,9 @@ ghost use Rattle.policy_core.specs.Places.{PolicyStands};
 ghost use Rattle.run_context.specs.Asked.{uncarried};
 ghost use Rattle.run_found.specs.Error.{cause_of, error_of_crates};
 ghost use Rattle.run_found.specs.Gathering.{IsBehindPolicy};
-ghost use Rattle.run_found.specs.Hearing.{seen};
 ghost use Rattle.run_found.specs.Licences.{scanner_of_policy};
 ghost use Rattle.run_list.specs.Steps.{ListsAt, loaded_at};
+ghost use Rattle.run_found.specs.Hearing.{seen_between};
 
 use crate::crates::{CrateListing, settle_and_list};
 use diag_core::Files;
@@ -47,8 +47,7 @@ pub(crate) fn list_crates<T: Tree, C: Catalog, I: Identifier>(
     requires carried { uncarried context.now policy.now.graph.exclude ≡ None }
     ensures lists { (path : List ℕ) → context.now.metadata_path ≡ Some path → ListsAt context.now
         (scanner_of_policy (C.lists catalog.now) (I.match_of identifier.now) policy.now.licenses) policy.now
-        (seen (T.content tree.old) (T.content tree.new) (T.fault_count tree.old) (T.fault_count tree.new)
-        (T.trace tree.old) (T.trace tree.new))
+        (seen_between T.content T.fault_count T.trace tree.old tree.new)
         files.old files.new begun path result }
     ensures ordered { IfOk result (λ listing. All (λ listed. AreRising listed.licences) listing.crates) }
     ensures cause { IfErr result IsBehindPolicy }

@@ -1,15 +1,14 @@
 //! The catalogue and the licence texts that a request asks for.
 ghost use Rattle.std.specs.Prelude.{◌≡◌, Some, IfErr};
 ghost use Rattle.std.specs.Option.{option_copied};
-ghost use Rattle.tree_core.specs.Hearing.{MadeSome};
 ghost use Rattle.tree_texts.specs.Cause.{ReadCounts};
 ghost use Rattle.run_found.specs.Error.{cause_of};
-ghost use Rattle.run_found.specs.Hearing.{seen};
 ghost use Rattle.run_lists.specs.Found.{AnswersHeard, FindsLists, HasCatalog, HasTexts};
 ghost use Rattle.run_lists.specs.Found.{found_answer, listing_answer, lists_answer, texts_answer};
 ghost use Rattle.run_lists.specs.Given.{lists_asked, lists_given};
 ghost use Rattle.run_lists.specs.Heard.{catalog_in};
 ghost use Rattle.spdx_catalog.specs.Catalog.{CatalogLists};
+ghost use Rattle.run_found.specs.Hearing.{seen_between, HasMade};
 
 use crate::lists::Lists;
 use crate::texts::Texts;
@@ -44,8 +43,7 @@ fn catalog_at<T: Tree>(alloc: Global, tree: &mut T, path: &str) -> Result<Listin
     ensures read { (given : CatalogLists) → HasCatalog given (Some path.now)
         (T.fault_count tree.old) (T.fault_count tree.new) (T.trace tree.old) (T.trace tree.new)
         (listing_answer result) }
-    ensures made { MadeSome (T.content tree.old) (T.content tree.new) (T.fault_count tree.old)
-        (T.fault_count tree.new) (T.trace tree.old) (T.trace tree.new) }
+    ensures made { HasMade (seen_between T.content T.fault_count T.trace tree.old tree.new) }
     ensures counts { IfErr result (λ error. ReadCounts (T.fault_count tree.old)
         (T.fault_count tree.old) (T.fault_count tree.new) (cause_of error)) }
 {
@@ -72,8 +70,7 @@ fn lists_at<'c, T: Tree, C: Catalog>(
     ensures read { HasCatalog (C.lists catalog.now) (option_copied path.entry)
         (T.fault_count tree.old) (T.fault_count tree.new) (T.trace tree.old) (T.trace tree.new)
         (lists_answer C.lists result) }
-    ensures made { MadeSome (T.content tree.old) (T.content tree.new) (T.fault_count tree.old)
-        (T.fault_count tree.new) (T.trace tree.old) (T.trace tree.new) }
+    ensures made { HasMade (seen_between T.content T.fault_count T.trace tree.old tree.new) }
     ensures counts { IfErr result (λ error. ReadCounts (T.fault_count tree.old)
         (T.fault_count tree.old) (T.fault_count tree.new) (cause_of error)) }
 {
@@ -97,8 +94,7 @@ fn texts_at<'i, T: Tree, I: Identifier>(
     ensures read { HasTexts (I.match_of identifier.now) (option_copied path.entry)
         (T.fault_count tree.old) (T.fault_count tree.new) (T.trace tree.old) (T.trace tree.new)
         (texts_answer I.match_of result) }
-    ensures made { MadeSome (T.content tree.old) (T.content tree.new) (T.fault_count tree.old)
-        (T.fault_count tree.new) (T.trace tree.old) (T.trace tree.new) }
+    ensures made { HasMade (seen_between T.content T.fault_count T.trace tree.old tree.new) }
     ensures counts { IfErr result (λ error. ReadCounts (T.fault_count tree.old)
         (T.fault_count tree.old) (T.fault_count tree.new) (cause_of error)) }
 {
@@ -128,11 +124,9 @@ pub fn lists_found<'g, T: Tree, C: Catalog, I: Identifier>(
     // cause.
     ensures found { FindsLists (lists_given (C.lists catalog.now) (I.match_of identifier.now))
         (lists_asked (option_copied catalog_path.entry) (option_copied store_path.entry))
-        (seen (T.content tree.old) (T.content tree.new) (T.fault_count tree.old) (T.fault_count tree.new)
-        (T.trace tree.old) (T.trace tree.new))
+        (seen_between T.content T.fault_count T.trace tree.old tree.new)
         (found_answer C.lists I.match_of result) }
-    ensures made { MadeSome (T.content tree.old) (T.content tree.new) (T.fault_count tree.old)
-        (T.fault_count tree.new) (T.trace tree.old) (T.trace tree.new) }
+    ensures made { HasMade (seen_between T.content T.fault_count T.trace tree.old tree.new) }
     ensures counts { IfErr result (λ error. ReadCounts (T.fault_count tree.old)
         (T.fault_count tree.old) (T.fault_count tree.new) (cause_of error)) }
 {

@@ -2,7 +2,6 @@
 ghost use Rattle.std.specs.Prelude.{◌≡◌, ◌≢◌, ◌≤◌, Err, IfErr, IfOk, IfSome, None, Some, map};
 ghost use Rattle.std.specs.List.{AllByRecursion};
 ghost use Rattle.std.specs.Option.{ForSome};
-ghost use Rattle.tree_core.specs.Hearing.{MadeSome};
 ghost use Rattle.spdx_core.specs.Expressions.{IsExpression};
 ghost use Rattle.graph_workspace.specs.declared.error.What.{What};
 ghost use Rattle.tree_texts.specs.declared.fault.ReadFault.{ReadFault};
@@ -10,7 +9,6 @@ ghost use Rattle.tree_texts.specs.Cause.{ReadCounts};
 ghost use Rattle.check_record.specs.Items.{IsRecord, IsRecordItem};
 ghost use Rattle.check_record.specs.Spelling.{spelled_of};
 ghost use Rattle.run_found.specs.Error.{cause_of};
-ghost use Rattle.run_found.specs.Hearing.{seen};
 ghost use Rattle.run_check.specs.Carried as check;
 ghost use Rattle.run_check.specs.Given.{check_arguments_of};
 ghost use Rattle.run_list.specs.Carried.{uncarried_of};
@@ -18,7 +16,8 @@ ghost use Rattle.run_record.specs.Complete.{RecordsLawful, RecordsLawfulRead};
 ghost use Rattle.run_record.specs.Given.{command_arguments_of};
 ghost use Rattle.run_record.specs.Judged.{AreJudged, IsJudgedReport};
 ghost use Rattle.run_record.specs.Recorded.{Records, RecordsOn, item_in};
-ghost use Rattle.run_list.specs.Script.{sink_seen};
+ghost use Rattle.run_found.specs.Hearing.{seen_between, HasMade};
+ghost use Rattle.run_list.specs.Script.{sink_between};
 
 use crate::plain::plain_args;
 use crate::reads::reads_of_reports;
@@ -85,7 +84,7 @@ fn file_of(alloc: Global, reports: &[CrateReport]) -> Result<Bytes, AllocError>
 fn record_report<O: Sink>(alloc: Global, out: &mut O, report: Report) -> Result<CrateReads, Error>
     requires { AreJudged report.crates }
     ensures records { RecordsOn report
-        (sink_seen (O.written out.old) (O.written out.new) (O.fault_count out.old) (O.fault_count out.new)) result }
+        (sink_between O.written O.fault_count out.old out.new) result }
     ensures later { O.fault_count out.old ≤ O.fault_count out.new }
 {
     let Report { crates, .. } = report;
@@ -110,10 +109,9 @@ fn record_with<T: Tree, O: Sink, S: Sink, C: Catalog, I: Identifier>(
     requires { check.uncarried_of log_ctx args.now context.now ≡ None }
     ensures records { Records
         (check_arguments_of (C.lists catalog.now) (I.match_of identifier.now) log_ctx args.now context.now)
-        (seen (T.content tree.old) (T.content tree.new) (T.fault_count tree.old) (T.fault_count tree.new)
-        (T.trace tree.old) (T.trace tree.new))
-        (sink_seen (O.written out.old) (O.written out.new) (O.fault_count out.old) (O.fault_count out.new))
-        (sink_seen (S.written err.old) (S.written err.new) (S.fault_count err.old) (S.fault_count err.new))
+        (seen_between T.content T.fault_count T.trace tree.old tree.new)
+        (sink_between O.written O.fault_count out.old out.new)
+        (sink_between S.written S.fault_count err.old err.new)
         result }
     ensures policy { result ≢ Err (Error.ConfigRead ReadFault.Absent) }
     ensures counts { IfErr result (λ error. ReadCounts
@@ -144,14 +142,12 @@ pub fn record_since<T: Tree, O: Sink, S: Sink, C: Catalog, I: Identifier>(
     requires { uncarried_of log_ctx context.now ≡ None }
     ensures records { Records
         (command_arguments_of (C.lists catalog.now) (I.match_of identifier.now) log_ctx context.now)
-        (seen (T.content tree.old) (T.content tree.new) (T.fault_count tree.old) (T.fault_count tree.new)
-        (T.trace tree.old) (T.trace tree.new))
-        (sink_seen (O.written out.old) (O.written out.new) (O.fault_count out.old) (O.fault_count out.new))
-        (sink_seen (S.written err.old) (S.written err.new) (S.fault_count err.old) (S.fault_count err.new))
+        (seen_between T.content T.fault_count T.trace tree.old tree.new)
+        (sink_between O.written O.fault_count out.old out.new)
+        (sink_between S.written S.fault_count err.old err.new)
         result }
     ensures policy { result ≢ Err (Error.ConfigRead ReadFault.Absent) }
-    ensures made { MadeSome (T.content tree.old) (T.content tree.new) (T.fault_count tree.old)
-        (T.fault_count tree.new) (T.trace tree.old) (T.trace tree.new) }
+    ensures made { HasMade (seen_between T.content T.fault_count T.trace tree.old tree.new) }
     ensures counts { IfErr result (λ error. ReadCounts
         (T.fault_count tree.old) (T.fault_count tree.old) (T.fault_count tree.new) (cause_of error)) }
     ensures out { O.fault_count out.old ≤ O.fault_count out.new }
@@ -182,10 +178,9 @@ pub fn cmd<T: Tree, O: Sink, S: Sink, C: Catalog, I: Identifier>(
     // refusal is that check's, by its cause, or that of the write.
     ensures records { Records
         (command_arguments_of (C.lists catalog.now) (I.match_of identifier.now) log_ctx krate_ctx)
-        (seen (T.content tree.old) (T.content tree.new) (T.fault_count tree.old) (T.fault_count tree.new)
-        (T.trace tree.old) (T.trace tree.new))
-        (sink_seen (O.written out.old) (O.written out.new) (O.fault_count out.old) (O.fault_count out.new))
-        (sink_seen (S.written err.old) (S.written err.new) (S.fault_count err.old) (S.fault_count err.new))
+        (seen_between T.content T.fault_count T.trace tree.old tree.new)
+        (sink_between O.written O.fault_count out.old out.new)
+        (sink_between S.written S.fault_count err.old err.new)
         result }
     ensures policy { result ≢ Err (Error.ConfigRead ReadFault.Absent) }
 
@@ -196,8 +191,7 @@ pub fn cmd<T: Tree, O: Sink, S: Sink, C: Catalog, I: Identifier>(
         × (O.written out.new ≡ O.written out.old) }
 
     // Calls were made on the tree, and nothing else came of it; a failed read has a cause.
-    ensures made { MadeSome (T.content tree.old) (T.content tree.new) (T.fault_count tree.old)
-        (T.fault_count tree.new) (T.trace tree.old) (T.trace tree.new) }
+    ensures made { HasMade (seen_between T.content T.fault_count T.trace tree.old tree.new) }
     ensures counts { IfErr result (λ error. ReadCounts
         (T.fault_count tree.old) (T.fault_count tree.old) (T.fault_count tree.new) (cause_of error)) }
     ensures out { O.fault_count out.old ≤ O.fault_count out.new }
@@ -206,17 +200,15 @@ pub fn cmd<T: Tree, O: Sink, S: Sink, C: Catalog, I: Identifier>(
     // Lawful input without a fault is recorded: by what was read, and by the content where the tree tells it.
     ensures complete_read { RecordsLawfulRead
         (command_arguments_of (C.lists catalog.now) (I.match_of identifier.now) log_ctx krate_ctx)
-        (seen (T.content tree.old) (T.content tree.new) (T.fault_count tree.old) (T.fault_count tree.new)
-        (T.trace tree.old) (T.trace tree.new))
-        (sink_seen (O.written out.old) (O.written out.new) (O.fault_count out.old) (O.fault_count out.new))
-        (sink_seen (S.written err.old) (S.written err.new) (S.fault_count err.old) (S.fault_count err.new))
+        (seen_between T.content T.fault_count T.trace tree.old tree.new)
+        (sink_between O.written O.fault_count out.old out.new)
+        (sink_between S.written S.fault_count err.old err.new)
         result }
     ensures complete { ForSome (T.content tree.old) (λ content. RecordsLawful
         (command_arguments_of (C.lists catalog.now) (I.match_of identifier.now) log_ctx krate_ctx) content
-        (seen (T.content tree.old) (T.content tree.new) (T.fault_count tree.old) (T.fault_count tree.new)
-        (T.trace tree.old) (T.trace tree.new))
-        (sink_seen (O.written out.old) (O.written out.new) (O.fault_count out.old) (O.fault_count out.new))
-        (sink_seen (S.written err.old) (S.written err.new) (S.fault_count err.old) (S.fault_count err.new))
+        (seen_between T.content T.fault_count T.trace tree.old tree.new)
+        (sink_between O.written O.fault_count out.old out.new)
+        (sink_between S.written S.fault_count err.old err.new)
         result) }
 {
     match uncarried_in(log_ctx, &krate_ctx) {

@@ -1,7 +1,6 @@
 //! The command `verify`.
 ghost use Rattle.std.specs.Prelude.{◌≡◌, ◌≢◌, ◌≤◌, ◌<◌, Err, List, ℕ, IfErr, IfOk, None, Some};
 ghost use Rattle.std.specs.Option.{ForSome};
-ghost use Rattle.tree_core.specs.Hearing.{MadeSome};
 ghost use Rattle.graph_core.specs.Metadata.{Graph};
 ghost use Rattle.graph_selection.specs.Choice.{Choice};
 ghost use Rattle.graph_selection.specs.Listed.{IsChosen};
@@ -12,16 +11,16 @@ ghost use Rattle.policy_core.specs.Places.{PolicyStands};
 ghost use Rattle.check_verify.specs.Verified.{IsVerified};
 ghost use Rattle.run_context.specs.Asked.{uncarried};
 ghost use Rattle.run_found.specs.Error.{cause_of};
-ghost use Rattle.run_found.specs.Hearing.{seen};
 ghost use Rattle.run_found.specs.Licences.{scanner_of_policy};
 ghost use Rattle.run_list.specs.Carried.{uncarried_of};
-ghost use Rattle.run_list.specs.Script.{sink_seen};
 ghost use Rattle.run_record.specs.Complete.{VerifiesLawful, VerifiesLawfulRead};
 ghost use Rattle.run_record.specs.Error.{error_of_refusal, error_of_verify};
 ghost use Rattle.run_record.specs.Given.{command_arguments_of};
 ghost use Rattle.run_record.specs.Verified.{VerifiesCommand, VerifiesFirst, VerifiesOrNot, answer_text};
 ghost use Rattle.run_record.specs.Steps.{AnswersText, IsBehindCrates, IsRead, IsUnread, IsVerifyBehindPolicy};
 ghost use Rattle.run_record.specs.Steps.{ReadsBehind, VerifiesAt};
+ghost use Rattle.run_found.specs.Hearing.{seen_between, HasMade};
+ghost use Rattle.run_list.specs.Script.{sink_between};
 
 use crate::error::VerifyError;
 use crate::refusal::VerifyRefusal;
@@ -103,8 +102,7 @@ fn verify_file<T: Tree>(
     tree: &mut T,
 ) -> Result<VerifiedCrates, VerifyRefusal>
     ensures reads { IsRead policy.now summary.entry.nfos path.now
-        (seen (T.content tree.old) (T.content tree.new) (T.fault_count tree.old) (T.fault_count tree.new)
-        (T.trace tree.old) (T.trace tree.new)) result }
+        (seen_between T.content T.fault_count T.trace tree.old tree.new) result }
     ensures cause { IfErr result IsBehindCrates }
     ensures later { T.fault_count tree.old ≤ T.fault_count tree.new }
 {
@@ -130,8 +128,7 @@ fn settle_and_verify<T: Tree, C: Catalog, I: Identifier>(
     // of each graph and choice that the crates are of
     ensures reads { (graph : Graph) (choice : Choice) → IsChosen graph choice krates.now
         → ReadsBehind (scanner_of_policy (C.lists catalog.now) (I.match_of identifier.now) policy.now) policy.now
-        (seen (T.content tree.old) (T.content tree.new) (T.fault_count tree.old) (T.fault_count tree.new)
-        (T.trace tree.old) (T.trace tree.new))
+        (seen_between T.content T.fault_count T.trace tree.old tree.new)
         files.old path.now graph choice result }
     ensures cause { IfErr result IsBehindCrates }
     ensures later { T.fault_count tree.old ≤ T.fault_count tree.new }
@@ -158,8 +155,7 @@ fn verify_crates<T: Tree, C: Catalog, I: Identifier>(
     requires carried { uncarried context.now policy.now.graph.exclude ≡ None }
     ensures verifies { (metadata : List ℕ) → context.now.metadata_path ≡ Some metadata → VerifiesAt context.now
         (scanner_of_policy (C.lists catalog.now) (I.match_of identifier.now) policy.now.licenses) policy.now
-        (seen (T.content tree.old) (T.content tree.new) (T.fault_count tree.old) (T.fault_count tree.new)
-        (T.trace tree.old) (T.trace tree.new))
+        (seen_between T.content T.fault_count T.trace tree.old tree.new)
         files.old begun metadata path.now result }
     ensures cause { IfErr result IsVerifyBehindPolicy }
     ensures counts { IfErr result (λ refusal. ReadCounts begun
@@ -199,9 +195,8 @@ fn verified_by<T: Tree, S: Sink, C: Catalog, I: Identifier>(
     requires { uncarried_of log_ctx context.now ≡ None }
     ensures verifies { VerifiesFirst
         (command_arguments_of (C.lists catalog.now) (I.match_of identifier.now) log_ctx context.now) path.now
-        (seen (T.content tree.old) (T.content tree.new) (T.fault_count tree.old) (T.fault_count tree.new)
-        (T.trace tree.old) (T.trace tree.new))
-        (sink_seen (S.written err.old) (S.written err.new) (S.fault_count err.old) (S.fault_count err.new))
+        (seen_between T.content T.fault_count T.trace tree.old tree.new)
+        (sink_between S.written S.fault_count err.old err.new)
         result }
     ensures policy { IfErr result (λ error. error_of_verify error ≢ Error.ConfigRead ReadFault.Absent) }
     ensures counts { IfErr result (λ error. ReadCounts
@@ -251,13 +246,11 @@ fn verified_since<T: Tree, O: Sink, S: Sink, C: Catalog, I: Identifier>(
     requires { uncarried_of log_ctx context.now ≡ None }
     ensures verifies { VerifiesOrNot
         (command_arguments_of (C.lists catalog.now) (I.match_of identifier.now) log_ctx context.now) path.now
-        (seen (T.content tree.old) (T.content tree.new) (T.fault_count tree.old) (T.fault_count tree.new)
-        (T.trace tree.old) (T.trace tree.new))
-        (sink_seen (O.written out.old) (O.written out.new) (O.fault_count out.old) (O.fault_count out.new))
-        (sink_seen (S.written err.old) (S.written err.new) (S.fault_count err.old) (S.fault_count err.new))
+        (seen_between T.content T.fault_count T.trace tree.old tree.new)
+        (sink_between O.written O.fault_count out.old out.new)
+        (sink_between S.written S.fault_count err.old err.new)
         result }
-    ensures made { MadeSome (T.content tree.old) (T.content tree.new) (T.fault_count tree.old)
-        (T.fault_count tree.new) (T.trace tree.old) (T.trace tree.new) }
+    ensures made { HasMade (seen_between T.content T.fault_count T.trace tree.old tree.new) }
     ensures policy { IfErr result (λ error. error_of_verify error ≢ Error.ConfigRead ReadFault.Absent) }
     ensures counts { IfErr result (λ error. ReadCounts
         (T.fault_count tree.old) (T.fault_count tree.old) (T.fault_count tree.new) (cause_of (error_of_verify error))) }
@@ -289,14 +282,12 @@ pub fn verify_since<T: Tree, O: Sink, S: Sink, C: Catalog, I: Identifier>(
     requires { uncarried_of log_ctx context.now ≡ None }
     ensures verifies { VerifiesCommand
         (command_arguments_of (C.lists catalog.now) (I.match_of identifier.now) log_ctx context.now) path.now
-        (seen (T.content tree.old) (T.content tree.new) (T.fault_count tree.old) (T.fault_count tree.new)
-        (T.trace tree.old) (T.trace tree.new))
-        (sink_seen (O.written out.old) (O.written out.new) (O.fault_count out.old) (O.fault_count out.new))
-        (sink_seen (S.written err.old) (S.written err.new) (S.fault_count err.old) (S.fault_count err.new))
+        (seen_between T.content T.fault_count T.trace tree.old tree.new)
+        (sink_between O.written O.fault_count out.old out.new)
+        (sink_between S.written S.fault_count err.old err.new)
         result }
     ensures policy { result ≢ Err (Error.ConfigRead ReadFault.Absent) }
-    ensures made { MadeSome (T.content tree.old) (T.content tree.new) (T.fault_count tree.old)
-        (T.fault_count tree.new) (T.trace tree.old) (T.trace tree.new) }
+    ensures made { HasMade (seen_between T.content T.fault_count T.trace tree.old tree.new) }
     ensures counts { IfErr result (λ error. ReadCounts
         (T.fault_count tree.old) (T.fault_count tree.old) (T.fault_count tree.new) (cause_of error)) }
     ensures out { O.fault_count out.old ≤ O.fault_count out.new }
@@ -330,10 +321,9 @@ pub fn cmd<T: Tree, O: Sink, S: Sink, C: Catalog, I: Identifier>(
     // write.
     ensures verifies { VerifiesCommand
         (command_arguments_of (C.lists catalog.now) (I.match_of identifier.now) log_ctx krate_ctx) path.now
-        (seen (T.content tree.old) (T.content tree.new) (T.fault_count tree.old) (T.fault_count tree.new)
-        (T.trace tree.old) (T.trace tree.new))
-        (sink_seen (O.written out.old) (O.written out.new) (O.fault_count out.old) (O.fault_count out.new))
-        (sink_seen (S.written err.old) (S.written err.new) (S.fault_count err.old) (S.fault_count err.new))
+        (seen_between T.content T.fault_count T.trace tree.old tree.new)
+        (sink_between O.written O.fault_count out.old out.new)
+        (sink_between S.written S.fault_count err.old err.new)
         result }
     ensures policy { result ≢ Err (Error.ConfigRead ReadFault.Absent) }
 
@@ -344,8 +334,7 @@ pub fn cmd<T: Tree, O: Sink, S: Sink, C: Catalog, I: Identifier>(
         × (O.written out.new ≡ O.written out.old) }
 
     // Calls were made on the tree, and nothing else came of it; a failed read has a cause.
-    ensures made { MadeSome (T.content tree.old) (T.content tree.new) (T.fault_count tree.old)
-        (T.fault_count tree.new) (T.trace tree.old) (T.trace tree.new) }
+    ensures made { HasMade (seen_between T.content T.fault_count T.trace tree.old tree.new) }
     ensures counts { IfErr result (λ error. ReadCounts
         (T.fault_count tree.old) (T.fault_count tree.old) (T.fault_count tree.new) (cause_of error)) }
     ensures out { O.fault_count out.old ≤ O.fault_count out.new }
@@ -354,17 +343,15 @@ pub fn cmd<T: Tree, O: Sink, S: Sink, C: Catalog, I: Identifier>(
     // Lawful input without a fault is answered: by what was read, and by the content where the tree tells it.
     ensures complete_read { VerifiesLawfulRead
         (command_arguments_of (C.lists catalog.now) (I.match_of identifier.now) log_ctx krate_ctx)
-        (seen (T.content tree.old) (T.content tree.new) (T.fault_count tree.old) (T.fault_count tree.new)
-        (T.trace tree.old) (T.trace tree.new))
-        (sink_seen (O.written out.old) (O.written out.new) (O.fault_count out.old) (O.fault_count out.new))
-        (sink_seen (S.written err.old) (S.written err.new) (S.fault_count err.old) (S.fault_count err.new))
+        (seen_between T.content T.fault_count T.trace tree.old tree.new)
+        (sink_between O.written O.fault_count out.old out.new)
+        (sink_between S.written S.fault_count err.old err.new)
         result }
     ensures complete { ForSome (T.content tree.old) (λ content. VerifiesLawful
         (command_arguments_of (C.lists catalog.now) (I.match_of identifier.now) log_ctx krate_ctx) content
-        (seen (T.content tree.old) (T.content tree.new) (T.fault_count tree.old) (T.fault_count tree.new)
-        (T.trace tree.old) (T.trace tree.new))
-        (sink_seen (O.written out.old) (O.written out.new) (O.fault_count out.old) (O.fault_count out.new))
-        (sink_seen (S.written err.old) (S.written err.new) (S.fault_count err.old) (S.fault_count err.new))
+        (seen_between T.content T.fault_count T.trace tree.old tree.new)
+        (sink_between O.written O.fault_count out.old out.new)
+        (sink_between S.written S.fault_count err.old err.new)
         result) }
 {
     match uncarried_in(log_ctx, &krate_ctx) {

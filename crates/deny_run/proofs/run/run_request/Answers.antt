@@ -1,6 +1,6 @@
 -- The check of a request, and the line of a refusal.
 use Rattle.std.proofs.Common.{◌≡◌, refl, subst, sym, All, List, ℕ, Result, Ok, Err, IfOk, OnOk}
-use Rattle.tree_core.proofs.MadeLemmas.{made_none}
+use Rattle.tree_core.proofs.MadeLemmas.{made_none, some_none}
 use Rattle.tree_core.specs.Script.{FaultCounts, SinkTexts}
 use Rattle.check_core.specs.Labels.{PackLies}
 use Rattle.run_found.specs.Hearing.{seen}
@@ -227,3 +227,6 @@ returns-in-Verify-clause-counts g c =
 pub returns-in-Verify-clause-policy : goal.returns-in-Verify-clause-policy
 returns-in-Verify-clause-policy g c =
     subst (λ (ended : RunEnd). ended ≡ Refused (ConfigRead Absent) → ⊥) (sym c.told_answer.ensures.ended) (verified_apart c.verify_request-answer.result (ConfigRead Absent) c.verify_request-answer.ensures.policy)
+
+pub returns-in-Sample-clause-made : goal.returns-in-Sample-clause-made
+returns-in-Sample-clause-made g c = some_none (g.T.Tree.content c.args.tree.now) (g.T.Tree.fault_count c.args.tree.now) (g.T.Tree.trace c.args.tree.now)

@@ -5,6 +5,7 @@ use Rattle.run_record.specs.Given.{command_arguments_of}
 use Rattle.run_record.proofs.CarriedLemmas.{plain_uncarried, same_uncarried}
 use Rattle.run_record.proofs.CompleteLemmas.{records_read, records_told}
 use Rattle.run_record.proofs.RecordLemmas.{uncarried_loads}
+use Rattle.tree_core.proofs.MadeLemmas.{some_none}
 use Rattle.run_record.proofs.recording.cmd.Goals as goal
 
 -- ---- a part is not carried
@@ -34,3 +35,6 @@ returns-clause-complete_read g c = records_read _ _ _ _ _ c.record_since.ensures
 
 pub returns-clause-complete : goal.returns-clause-complete
 returns-clause-complete g c content told = records_told _ _ _ _ _ c.record_since.ensures.records content told
+
+pub returns-in-Some-clause-made : goal.returns-in-Some-clause-made
+returns-in-Some-clause-made g c = some_none (g.T.Tree.content c.args.tree.now) (g.T.Tree.fault_count c.args.tree.now) (g.T.Tree.trace c.args.tree.now)

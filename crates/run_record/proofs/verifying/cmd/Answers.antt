@@ -6,6 +6,7 @@ use Rattle.run_record.specs.Given.{command_arguments_of}
 use Rattle.run_record.proofs.CarriedLemmas.{plain_uncarried, same_uncarried}
 use Rattle.run_record.proofs.CompleteLemmas.{verifies_read, verifies_told}
 use Rattle.run_record.proofs.RecordLemmas.{uncarried_loads}
+use Rattle.tree_core.proofs.MadeLemmas.{some_none}
 use Rattle.run_record.proofs.verifying.cmd.Goals as goal
 
 -- ---- a part is not carried
@@ -39,3 +40,6 @@ returns-clause-complete_read g c = verifies_read _ c.args.path.now _ _ _ _ c.ver
 
 pub returns-clause-complete : goal.returns-clause-complete
 returns-clause-complete g c content told = verifies_told _ c.args.path.now _ _ _ _ c.verify_since.ensures.verifies content told
+
+pub returns-in-Some-clause-made : goal.returns-in-Some-clause-made
+returns-in-Some-clause-made g c = some_none (g.T.Tree.content c.args.tree.now) (g.T.Tree.fault_count c.args.tree.now) (g.T.Tree.trace c.args.tree.now)
