@@ -1,5 +1,5 @@
 -- How a gate begins and ends.
-use Rattle.std.specs.Prelude.{◌≡◌, ℕ, List, Option, Result, Ok, Err, codes}
+use Rattle.std.specs.Prelude.{◌≡◌, ◌≤◌, ℕ, List, Option, Result, Ok, Err, codes}
 use Rattle.std.specs.Option.{ForSome}
 use Rattle.tree_core.specs.Call.{Call}
 use Rattle.tree_core.specs.Content.{Content}
@@ -7,7 +7,7 @@ use Rattle.tree_core.specs.Script.{FaultCounts, SinkTexts}
 use Rattle.spdx_catalog.specs.BuiltIn.{built_in}
 use Rattle.spdx_catalog.specs.Store.{match_of}
 use Rattle.spdx_catalog.specs.Table.{table_lists}
-use Rattle.run_found.specs.Hearing.{TreeSeen, seen}
+use Rattle.run_found.specs.Hearing.{HasMade, TreeSeen, seen}
 use Rattle.deny_run.specs.declared.outcome.Outcome.{Outcome}
 use Rattle.deny_run.specs.Given.{RunArguments}
 use Rattle.deny_run.specs.Headline.{Headline, HeadlineRead}
@@ -53,12 +53,22 @@ tree_between before after = seen before.content after.content before.faults.tree
 abbrev pub told_behind : Moment → Moment → ToldBetween
 told_behind before after = told_between before.calls after.calls before.texts.err after.texts.err before.faults.err after.faults.err
 
+-- the second of two moments is the later one: calls were made on the tree, and nothing else came of it, and no count of a sink fell
+pub record IsLater (before after : Moment) : Type 0 where
+  pub made : HasMade (tree_between before after)
+  pub out : before.faults.out ≤ after.faults.out
+  pub err : before.faults.err ≤ after.faults.err
+
 -- The run ended at some moment, and behind that its help was told, on standard error alone.
 pub record RunsAndTells (words : List (List ℕ)) (folder : List ℕ) (before after : Moment) (outcome : Outcome) : Type 0 where
   pub ended : Moment
+  pub later : IsLater before ended
   pub ran : IsRun words folder (tree_between before ended) (between before.faults ended.faults) before.texts ended.texts outcome
   pub told : TellsBehind (is_whole before.faults.err ended.faults.err) outcome.request (told_behind ended after) outcome.ended
+  pub made : HasMade (tree_between ended after)
   pub out : after.texts.out ≡ ended.texts.out
+  pub out_count : after.faults.out ≡ ended.faults.out
+  pub err_count : ended.faults.err ≤ after.faults.err
 
 -- the outcome is that of a run over some words and some folder, and its help was told behind it
 pub record RunsOverSome (before after : Moment) (outcome : Outcome) : Type 0 where

@@ -31,6 +31,7 @@ fn tell_end<T: Tree, E: Sink>(
         (E.fault_count err.old) (E.fault_count err.new))
         ended.now }
     ensures made { HasMade (seen_between T.content T.fault_count T.trace tree.old tree.new) }
+    ensures later { E.fault_count err.old ≤ E.fault_count err.new }
 {
     if let RunEnd::Refused(error) = ended {
         tell_help(alloc, tree, err, request, error);
@@ -50,6 +51,7 @@ pub(crate) fn tell_behind<T: Tree, E: Sink>(
         (E.fault_count err.old) (E.fault_count err.new))
         outcome.now.ended }
     ensures made { HasMade (seen_between T.content T.fault_count T.trace tree.old tree.new) }
+    ensures later { E.fault_count err.old ≤ E.fault_count err.new }
 {
     if !is_whole {
         return;

@@ -132,6 +132,8 @@ fn run_started<T: Tree, O: Sink, E: Sink>(
         (sink_texts O.written E.written out.old err.old)
         (sink_texts O.written E.written out.new err.new)
         result }
+    ensures out_later { O.fault_count out.old ≤ O.fault_count out.new }
+    ensures err_later { E.fault_count err.old ≤ E.fault_count err.new }
 {
     run(
         alloc,

@@ -1,2 +1,3 @@
+mod AgainLemmas
 mod ListLemmas
 mod TableLemmas

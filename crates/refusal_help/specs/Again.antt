@@ -1,10 +1,13 @@
 -- What is heard of the policy once more, behind a run that refused it.
-use Rattle.std.specs.Prelude.{◌≡◌, ℕ, true, List, [], ◌∷◌, ◌++◌, Option, Some, Ok}
+use Rattle.std.specs.Prelude.{◌≡◌, ℕ, Bool, true, false, List, [], ◌∷◌, ◌++◌, Option, Some, None, Result, Ok}
 use Rattle.std.specs.Option.{ForSome}
 use Rattle.tree_core.specs.Call as call
-use Rattle.tree_core.specs.Call.{Call}
-use Rattle.tree_texts.specs.Heard.{IsTextRead}
-use Rattle.run_context.specs.Paths.{IsConfigPath}
+use Rattle.tree_core.specs.Call.{Call, CallAnswer}
+use Rattle.tree_core.specs.Trace.{file_call}
+use Rattle.tree_core.specs.declared.tree.TreeError.{TreeError}
+use Rattle.tree_texts.specs.Heard.{IsTextRead, read_of}
+use Rattle.tree_texts.specs.declared.search.SearchError.{SearchError}
+use Rattle.run_context.specs.Paths.{ConfigPathUntil, IsConfigPath}
 use Rattle.run_found.specs.declared.error.Error.{Error}
 use Rattle.run_found.specs.declared.error.Error.TheVariants.{ConfigRead, ConfigSyntax}
 use Rattle.run_request.specs.declared.context.KrateContext.{KrateContext}
@@ -30,8 +33,33 @@ pub record IsHeardAgain (context : KrateContext) (old new : List Call) (path : L
 abbrev pub IsAgain : KrateContext → List Call → List Call → Again → Type 0
 IsAgain context old new again = ForSome again.policy (λ path. IsHeardAgain context old new path again.text)
 
--- nothing is asked but behind a policy that was not read, or whose text stands for no value
-abbrev pub IsAskedWhereDue : Error → List Call → List Call → Type 0
-IsAskedWhereDue (ConfigRead fault) old new = Unit {0}
-IsAskedWhereDue (ConfigSyntax fault) old new = Unit {0}
-IsAskedWhereDue _ old new = new ≡ old
+-- ---- which calls are made
+
+-- the search for the policy was made once more, and found this; or it was given up
+pub data SearchesAgain (context : KrateContext) (old new : List Call) (found : Option (List ℕ)) : Type 0 where
+  searched : IsConfigPath context old new found → SearchesAgain context old new found
+  given_up : (error : SearchError) → ConfigPathUntil context old new error → found ≡ None → SearchesAgain context old new found
+
+-- it was asked whether a regular file stands at a path; and where one does it may have been read
+pub data AsksForText (path : List ℕ) (old new : List Call) : Type 0 where
+  looked : (answer : Result Bool TreeError) → new ≡ old ++ file_call path answer ∷ [] → AsksForText path old new
+  read : (answer : CallAnswer) → new ≡ (old ++ file_there path ∷ []) ++ read_of path answer ∷ [] → AsksForText path old new
+
+-- a text is asked for where it is wanted and a path was found
+abbrev pub AsksWhere : Bool → Option (List ℕ) → List Call → List Call → Type 0
+AsksWhere true (Some path) old new = AsksForText path old new
+AsksWhere true None old new = new ≡ old
+AsksWhere false found old new = new ≡ old
+
+-- the search, and behind it what is asked of its path
+pub record AsksAgain (context : KrateContext) (with_text : Bool) (old new : List Call) : Type 0 where
+  pub between : List Call
+  pub found : Option (List ℕ)
+  pub search : SearchesAgain context old between found
+  pub behind : AsksWhere with_text found between new
+
+-- nothing is asked but behind a policy that was not read, or whose text stands for no value: of the first no text
+abbrev pub IsAskedWhereDue : KrateContext → Error → List Call → List Call → Type 0
+IsAskedWhereDue context (ConfigRead fault) old new = AsksAgain context false old new
+IsAskedWhereDue context (ConfigSyntax fault) old new = AsksAgain context true old new
+IsAskedWhereDue context _ old new = new ≡ old

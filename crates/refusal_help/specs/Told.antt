@@ -10,7 +10,7 @@ use Rattle.refusal_help.specs.Help.{help_of}
 
 -- the lines were written, or a front of them where the sink refused it; where memory was wanting, none of them
 abbrev pub LinesWritten : Option (List ℕ) → Option (List ℕ) → ℕ → ℕ → List ℕ → Type 0
-LinesWritten old new before after lines = LineWritten old new before after lines ⊎ (new ≡ old)
+LinesWritten old new before after lines = LineWritten old new before after lines ⊎ ((new ≡ old) × (after ≡ before))
 
 -- the calls that a tree told at two moments, and what a sink told, with its counts of faults
 pub record ToldBetween : Type 0 where
@@ -29,10 +29,11 @@ told_between calls_old calls_new old new before after =
 pub record IsStill (told : ToldBetween) : Type 0 where
   pub calls : told.calls_new ≡ told.calls_old
   pub text : told.new ≡ told.old
+  pub count : told.after ≡ told.before
 
 -- the help of a refusal was written, by what was heard of the policy once more
 pub record TellsHelp (request : Request) (error : Error) (told : ToldBetween) : Type 0 where
   pub again : Again
-  pub due : IsAskedWhereDue error told.calls_old told.calls_new
+  pub due : IsAskedWhereDue request.krate_ctx error told.calls_old told.calls_new
   pub heard : IsAgain request.krate_ctx told.calls_old told.calls_new again
   pub written : LinesWritten told.old told.new told.before told.after (help_of request again error)

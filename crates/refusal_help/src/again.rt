@@ -1,7 +1,7 @@
 //! What is heard of the policy once more, behind a run that refused it.
-ghost use Rattle.std.specs.Prelude.{◌≡◌, None};
+ghost use Rattle.std.specs.Prelude.{◌≡◌, Some, None};
 ghost use Rattle.std.specs.Option.{ForSome};
-ghost use Rattle.refusal_help.specs.Again.{IsAgain, IsAskedWhereDue, IsReadAgain};
+ghost use Rattle.refusal_help.specs.Again.{AsksAgain, AsksForText, AsksWhere, IsAgain, IsAskedWhereDue, IsReadAgain};
 ghost use Rattle.run_found.specs.Hearing.{seen_between, HasMade};
 
 use deny_text::{PathBuf, Text};
@@ -35,6 +35,7 @@ impl Again {
 /// The text of a regular file. A pipe is not read twice: a second read could wait for ever.
 fn text_again<T: Tree>(alloc: Global, tree: &mut T, path: &str) -> Option<Text>
     ensures read { ForSome result (IsReadAgain (T.trace tree.old) (T.trace tree.new) path.now) }
+    ensures asked { AsksForText path.now (T.trace tree.old) (T.trace tree.new) }
     ensures made { HasMade (seen_between T.content T.fault_count T.trace tree.old tree.new) }
 {
     let Ok(true) = tree.is_file(alloc, path) else {
@@ -50,6 +51,7 @@ fn text_again<T: Tree>(alloc: Global, tree: &mut T, path: &str) -> Option<Text>
 /// The same where it is asked for.
 fn text_where<T: Tree>(alloc: Global, tree: &mut T, path: &str, is_asked: bool) -> Option<Text>
     ensures read { ForSome result (IsReadAgain (T.trace tree.old) (T.trace tree.new) path.now) }
+    ensures asked { AsksWhere is_asked (Some path.now) (T.trace tree.old) (T.trace tree.new) }
     ensures made { HasMade (seen_between T.content T.fault_count T.trace tree.old tree.new) }
 {
     if is_asked {
@@ -67,16 +69,20 @@ fn policy_again<T: Tree>(
     with_text: bool,
 ) -> Again
     ensures again { IsAgain context.now (T.trace tree.old) (T.trace tree.new) result }
+    ensures asked { AsksAgain context.now with_text (T.trace tree.old) (T.trace tree.new) }
     ensures made { HasMade (seen_between T.content T.fault_count T.trace tree.old tree.new) }
 {
     let begun = tree.faults();
-    let Ok(Some(policy)) = config_path_since(context, alloc, tree, begun) else {
-        return Again::nothing();
-    };
-    let text = text_where(alloc, tree, policy.as_path(), with_text);
-    Again {
-        policy: Some(policy),
-        text,
+    match config_path_since(context, alloc, tree, begun) {
+        Ok(Some(policy)) => {
+            let text = text_where(alloc, tree, policy.as_path(), with_text);
+            Again {
+                policy: Some(policy),
+                text,
+            }
+        }
+        Ok(None) => Again::nothing(),
+        Err(_) => Again::nothing(),
     }
 }
 
@@ -89,7 +95,7 @@ pub(crate) fn heard_again<T: Tree>(
     error: &Error,
 ) -> Again
     ensures again { IsAgain context.now (T.trace tree.old) (T.trace tree.new) result }
-    ensures due { IsAskedWhereDue error.now (T.trace tree.old) (T.trace tree.new) }
+    ensures due { IsAskedWhereDue context.now error.now (T.trace tree.old) (T.trace tree.new) }
     ensures made { HasMade (seen_between T.content T.fault_count T.trace tree.old tree.new) }
 {
     match error {

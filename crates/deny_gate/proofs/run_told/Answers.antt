@@ -16,9 +16,13 @@ returns-clause-ran g c =
     let whole : is_whole (g.E.Sink.fault_count c.args.err.now) (g.E.Sink.fault_count c.run_started-outcome.new.err) ≡ c.is_whole-is_whole.result = cc in
     record {
       ended = ended;
+      later = record { made = c.run_started-outcome.ensures.made; out = c.run_started-outcome.ensures.out_later; err = c.run_started-outcome.ensures.err_later };
       ran = c.run_started-outcome.ensures.ran;
       told = subst (λ (is : Bool). TellsBehind is c.run_started-outcome.result.request (told_behind ended after) c.run_started-outcome.result.ended) (sym whole) c.tell_behind.ensures.told;
+      made = c.tell_behind.ensures.made;
       out = refl;
+      out_count = refl;
+      err_count = c.tell_behind.ensures.later;
     }
 
 pub returns-clause-made : goal.returns-clause-made
