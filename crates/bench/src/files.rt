@@ -79,10 +79,7 @@ pub(crate) fn placed(
     let name = Text::copy(alloc, "deny.toml")?;
     let source = Text::copy(alloc, text)?;
     let file = files.add_unnamed(name, source)?;
-    // once for each of the first places, as who prints them does
-    for _ in 0..4 {
-        files.index(file);
-    }
+    files.index(file);
     meter.start();
     columns(&files, text, file)
 }

@@ -76,14 +76,6 @@ fn make_index_at(files: &mut Vec<SourceFile>, id: FileId, alloc: Global)
     files[id].make_index(alloc);
 }
 
-/// Asks for the index of a file, which is seen as it was.
-fn ask_index_at(files: &mut Vec<SourceFile>, id: FileId, alloc: Global)
-    requires { id < length files.old.items }
-    ensures { files.new.items ≡ files.old.items }
-{
-    files[id].ask_index(alloc);
-}
-
 /// The place of the licence field of a file, which is seen as it was.
 fn license_span_at(files: &mut Vec<SourceFile>, id: FileId) -> Option<Span>
     requires { id < length files.old.items }
@@ -168,30 +160,20 @@ impl Files {
     {
         match self.add(path, source) {
             Ok(id) => {
-                self.make_index(id);
+                self.index(id);
                 Ok(id)
             }
             Err(error) => Err(error),
         }
     }
 
-    /// Makes the index of a file's lines, where there is none and memory for it.
-    fn make_index(&mut self, id: FileId)
-        ensures { self.new ≡ self.old }
-    {
-        if id < self.files.len() {
-            make_index_at(&mut self.files, id, self.alloc);
-        }
-    }
-
-    /// Asks for the index of a file's lines, once for each place that is to be found in it. It is made when that was
-    /// asked for a few times, where there is memory for it: places are found fast from then on. Without an index all
-    /// that stands before a place is gone over.
+    /// Makes the index of a file's lines, where there is none and memory for it: places in it are found fast
+    /// from then on. Without an index all that stands before a place is gone over.
     pub fn index(&mut self, id: FileId)
         ensures { self.new ≡ self.old }
     {
         if id < self.files.len() {
-            ask_index_at(&mut self.files, id, self.alloc);
+            make_index_at(&mut self.files, id, self.alloc);
         }
     }
 

@@ -16,9 +16,6 @@ use diag_texts::license_span;
 use std::alloc::Global;
 use std::marker::Model;
 
-/// So often an index is asked for in vain: a few places near the front of a text are found faster without one.
-const FEW: u8 = 3;
-
 /// What a file is called.
 #[derive(Drop)]
 pub(crate) enum FileName {
@@ -35,8 +32,6 @@ pub(crate) struct SourceFile {
     source: Text,
     /// Without it places are found by going over the text.
     index: Option<LineIndex>,
-    /// How often an index was asked for, up to `FEW`.
-    asked: u8,
     /// Where its licence field stands, once that was searched for.
     license: Option<Option<Span>>,
 }
@@ -72,7 +67,6 @@ impl SourceFile {
             name,
             source,
             index: None,
-            asked: 0,
             license: None,
         }
     }
@@ -95,17 +89,6 @@ impl SourceFile {
         }
         if let Ok(index) = LineIndex::new(alloc, self.source.as_str()) {
             self.index = Some(index);
-        }
-    }
-
-    /// Makes the index, where that was asked for a few times before.
-    pub(crate) fn ask_index(&mut self, alloc: Global)
-        ensures { self.new ≡ self.old }
-    {
-        if self.asked < FEW {
-            self.asked += 1;
-        } else {
-            self.make_index(alloc);
         }
     }
 
