@@ -1,12 +1,12 @@
 -- Lines by the places at which they start.
-use Rattle.std.proofs.Common.{◌≡◌, ℕ, zero, suc, ◌+◌, ◌-◌, ◌<◌, ◌≤◌, Bool, true, false, cond, leb, List, [], ◌∷◌, length, get_or, take, refl, sym, ap, subst, ◌∙◌, arith}
+use Rattle.std.proofs.Common.{◌≡◌, ℕ, zero, suc, ◌+◌, ◌-◌, ◌<◌, ◌≤◌, Bool, true, false, ◌||◌, nat_le, cond, leb, slice_index, List, [], ◌∷◌, length, get_or, take, refl, sym, ap, subst, ◌∙◌, arith}
 use Rattle.std.specs.List.{count_by}
 use Rattle.std.specs.List.Sorted.{IsPartitionPoint}
-use Rattle.std.proofs.lemmas.Bool.{le-leb, leb-true}
+use Rattle.std.proofs.lemmas.Bool.{le-leb, leb-true, lt-ltb}
 use Rattle.std.proofs.lemmas.Bool.Decides.{nat_tests}
 use Rattle.std.proofs.lemmas.List.Sums.{sum_by-cons}
 use Rattle.diag_core.specs.Lines.{FoundLine}
-use Rattle.diag_core.specs.Position.{is_line_feed, line_of, line_count, line_starts, places_behind_line_feeds}
+use Rattle.diag_core.specs.Position.{begins_character, is_line_feed, line_of, line_count, line_starts, places_behind_line_feeds}
 
 -- each item is no less than those before it
 abbrev pub Rises : List ℕ → Type 0
@@ -56,6 +56,13 @@ pub count_by-yes : (q : ℕ → Bool) (x : ℕ) (xs : List ℕ) (n : ℕ) → q 
 count_by-yes q x xs n here rest =
     let one : cond {A = ℕ} (q x) 1 0 ≡ 1 = rw here refl in
     omega (arith, count_by-cons q x xs)
+
+-- in ASCII each byte begins a character
+pub ascii_count : (text : List ℕ) → ((i : ℕ) → slice_index text i < 128) → length text ≡ count_by begins_character text
+ascii_count [] small = refl
+ascii_count (byte ∷ text) small =
+    let begins : begins_character byte ≡ true = ap (λ (low : Bool). low || nat_le 192 byte) (lt-ltb byte 128 (small 0)) in
+    sym (count_by-yes begins_character byte text (length text) begins (sym (ascii_count text (λ i. small (suc i)))))
 
 pub count_by-no : (q : ℕ → Bool) (x : ℕ) (xs : List ℕ) (n : ℕ) → q x ≡ false → count_by q xs ≡ n → count_by q (x ∷ xs) ≡ n
 count_by-no q x xs n here rest =

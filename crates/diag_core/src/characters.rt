@@ -12,10 +12,13 @@ pub(crate) fn begins_character(byte: u8) -> bool
     byte < 0x80 || byte >= 0xc0
 }
 
-/// How many characters begin in the bytes.
+/// How many characters begin in the bytes: where all are ASCII, one in each.
 fn character_count(bytes: &[u8]) -> usize
     ensures { result ≡ count_by begins bytes.now }
 {
+    if bytes.is_ascii() {
+        return bytes.len();
+    }
     bytes.iter().filter(|byte| begins_character(**byte)).count()
 }
 
