@@ -19,7 +19,7 @@ use std::env;
 use std::process::ExitCode;
 use tests_files::AnswerText;
 
-/// A number that a word names, or another one.
+/// The number that the word at a place names, or another one; the word at 0 is the program's name.
 fn number_at(words: &[String], place: usize, other: u64) -> u64 {
     match words.get(place) {
         Some(word) => word.parse::<u64>().unwrap_or(other),
@@ -29,7 +29,7 @@ fn number_at(words: &[String], place: usize, other: u64) -> u64 {
 
 /// Whether what a workspace is shall be printed too.
 fn wants_files(words: &[String]) -> bool {
-    match words.get(2) {
+    match words.get(3) {
         Some(word) => word.as_str() == "files",
         None => false,
     }
@@ -42,8 +42,8 @@ fn put_lines(
     store: &LicenseStore,
     out: &mut AnswerText,
 ) -> Result<(), AllocError> {
-    let seed = number_at(words, 0, 1);
-    let count = number_at(words, 1, 5);
+    let seed = number_at(words, 1, 1);
+    let count = number_at(words, 2, 5);
     for step in 0..count {
         put_run(
             rt.alloc(),
@@ -69,7 +69,7 @@ fn lines(rt: &HostRuntime, words: &[String]) -> Result<String, AllocError> {
 fn told(rt: &HostRuntime) -> Result<String, AllocError> {
     match env::args(rt) {
         Ok(args) => {
-            let words: Vec<String> = args.skip(1).collect(rt.alloc())?;
+            let words: Vec<String> = args.collect(rt.alloc())?;
             lines(rt, words.as_slice())
         }
         Err(_) => Err(AllocError),

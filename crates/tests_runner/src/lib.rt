@@ -5,10 +5,12 @@ mod command;
 mod compared;
 mod counted;
 mod identifiers;
+mod lines;
 mod seen;
 mod settings;
 
 use compared::compare_runs;
+pub use lines::put_run;
 
 /// Files of cases: of the first path and failures, of what words ask for and how they are refused, of metadata, of
 /// policies, of what is found, of what is read of each crate, of the calls of the tree, of licence families, of
