@@ -19,12 +19,12 @@ use Rattle.policy_load.specs.declared.loading.PolicyPaths.{PolicyPaths}
 use Rattle.run_found.specs.declared.policy.PolicyRefusal.TheVariants as refusal
 use Rattle.run_found.specs.Error.{cause_of, error_of_load}
 use Rattle.run_found.specs.Finds.{FindsInPart, FindsPolicy, FindsRefusal, alone}
-use Rattle.run_found.specs.Found.{load_text, loaded_of}
+use Rattle.run_found.specs.Found.{load_text, load_told}
 use Rattle.run_found.specs.Given.{RequestArguments}
 use Rattle.run_found.specs.Hearing.{RequestHearing, TreeSeen, seen}
 use Rattle.run_found.specs.Paths.{ArePathsAt}
 use Rattle.run_found.specs.Written.{TextWritten}
-use Rattle.run_found.proofs.FoundLemmas.{found-policy, found-refused, loaded-is, table-is}
+use Rattle.run_found.proofs.FoundLemmas.{found-policy, found-refused, loaded-is, table-is, told-due}
 use Rattle.run_found.proofs.LoadedLemmas.{LoadEnded, cut_part, load_ended}
 use Rattle.run_found.proofs.SearchLemmas.{Searched, nothing_of, searched}
 
@@ -56,8 +56,8 @@ module _ (given : RequestArguments) (tree : TreeSeen) (paths : PolicyPaths) (hea
   came = load_of given.lists [] paths heard
 
   -- what is told of the load
-  text_same : load_text given.log (loaded_of given own) ≡ load_text given.log (Ok came)
-  text_same = ap (load_text given.log) (loaded-is given own paths ended.paths_are ∙ ap Ok ended.loads)
+  text_same : load_told given own ≡ load_text given.log (Ok came)
+  text_same = told-due given own ended.due ∙ ap (load_text given.log) (loaded-is given own paths ended.paths_are ∙ ap Ok ended.loads)
 
   -- the policy
   pub loaded_finds : (policy : LoadedPolicy) (new : List File) (before behind : ℕ) → Comes came given.log [] new held gained (Ok policy) → FindsPolicy given tree held gained before behind new (Ok policy)
@@ -122,7 +122,7 @@ module _ (given : RequestArguments) (paths : PolicyPaths) (old between more : Li
   cut_finds : (error : LoadError) → IsCutLoad given.lists begun between more [] paths held gained (Err error) → FindsPolicy given whole held gained before behind new (Err (refusal.Load error))
   cut_finds error cut =
       let part = cut_part given paths old between more found begun first after told middle tells looked loaded cut.calls_are in
-      let text = load_text given.log (loaded_of given (alone whole part.heard)) in
+      let text = load_told given (alone whole part.heard) in
       let finds : FindsInPart given whole held gained before behind no_memory = record {
         heard = part.heard;
         made = part.made;

@@ -1,6 +1,7 @@
 -- What is found of a policy, stage by stage: the two searches, and the load.
-use Rattle.std.proofs.Common.{◌≡◌, ◌∙◌, refl, ap, ℕ, List, [], ◌++◌, Option, None, Result, Ok, Err}
+use Rattle.std.proofs.Common.{◌≡◌, ◌∙◌, refl, ap, ℕ, true, cond, List, [], ◌++◌, Option, Some, None, Result, Ok, Err, ◌&&◌}
 use Rattle.std.specs.Option.{option_and_then}
+use Rattle.tree_core.specs.Call.{CallAnswer}
 use Rattle.tree_core.specs.Trace.{faults_after}
 use Rattle.tree_core.proofs.MadeLemmas.{faults_after-append}
 use Rattle.policy_core.specs.Policy.{PolicyFound}
@@ -10,9 +11,9 @@ use Rattle.policy_load.specs.declared.loading.PolicyPaths.{PolicyPaths}
 use Rattle.run_found.specs.declared.error.Error.{Error}
 use Rattle.run_found.specs.Error.{error_of_load}
 use Rattle.run_found.specs.Finds.{HearsPolicy}
-use Rattle.run_found.specs.Found.{config_in, count_exceptions, count_looked, count_policy, due_by_text, exceptions_due, exceptions_in, files_loaded, files_of_load, load_at, load_heard, loaded_of, looked_behind, or_load_error, paths_found, paths_looked, paths_sought, policy_calls, policy_due, policy_found}
+use Rattle.run_found.specs.Found.{config_in, count_exceptions, count_looked, count_policy, due_by_text, exceptions_due, exceptions_in, files_loaded, files_of_load, load_at, load_heard, load_text, load_told, loaded_of, looked_behind, or_load_error, paths_found, paths_looked, paths_sought, policy_calls, policy_due, policy_found}
 use Rattle.run_found.specs.Given.{RequestArguments}
-use Rattle.run_found.specs.Hearing.{RequestHearing, look_calls, read_calls}
+use Rattle.run_found.specs.Hearing.{LooksResult, look_failed, nowhere, at, unended, IsReadWhereDue, RequestHearing, is_ended, is_read_where_due, look_calls, looks_by, read_calls}
 use Rattle.run_found.specs.Steps.{◌>>=◌, unless_refused}
 use Rattle.tree_texts.specs.Search.{candidates}
 use Rattle.tree_texts.specs.declared.search.SoughtFile.TheVariants.{Exceptions}
@@ -108,3 +109,26 @@ module _ (given : RequestArguments) (hearing : RequestHearing) where
       ∙ ap (λ n. faults_after n policy) (faults_after-append hearing.begun sought looks)
       ∙ counts_due (policy_due given hearing) hearing.policy (count_looked given hearing) due.policy)
       ∙ counts_due (exceptions_due given hearing) hearing.exceptions (count_policy given hearing) due.exceptions
+
+-- ---- what is told of a load, where all of it was heard
+
+ended_true : (came : LooksResult) → (came ≡ unended → ⊥) → is_ended came ≡ true
+ended_true look_failed bound = refl
+ended_true nowhere bound = refl
+ended_true (at path) bound = refl
+ended_true unended bound = absurd (bound refl)
+
+read_true : (due : Option (List ℕ)) (answer : Option CallAnswer) → IsReadWhereDue due answer → is_read_where_due due answer ≡ true
+read_true None answer is = refl
+read_true (Some path) answer is = is
+
+pub told-due : (given : RequestArguments) (hearing : RequestHearing) → HearsPolicy given hearing → load_told given hearing ≡ load_text given.log (loaded_of given hearing)
+told-due given hearing due =
+    let text = load_text given.log (loaded_of given hearing) in
+    let looked = is_ended (looks_by (paths_looked given hearing) hearing.looks) in
+    let policy = is_read_where_due (policy_due given hearing) hearing.policy in
+    let exceptions = is_read_where_due (exceptions_due given hearing) hearing.exceptions in
+    ap (λ b. cond (b && (looked && (policy && exceptions))) text []) (ended_true (looks_by (paths_sought given) hearing.sought) due.looks.sought)
+    ∙ ap (λ b. cond (b && (policy && exceptions)) text []) (ended_true (looks_by (paths_looked given hearing) hearing.looks) due.looks.looks)
+    ∙ ap (λ b. cond (b && exceptions) text []) (read_true (policy_due given hearing) hearing.policy due.policy)
+    ∙ ap (λ b. cond b text []) (read_true (exceptions_due given hearing) hearing.exceptions due.exceptions)

@@ -20,12 +20,12 @@ use Rattle.run_found.specs.declared.error.Error.{Error}
 use Rattle.run_found.specs.declared.error.Error.TheVariants.{ConfigRead}
 use Rattle.run_found.specs.declared.policy.PolicyRefusal.TheVariants as refusal
 use Rattle.run_found.specs.Finds.{FindsPolicy, HearsPolicy, PolicyHeard, alone, at_looks, at_sought}
-use Rattle.run_found.specs.Found.{policy_calls, config_by, config_in, count_looked, count_sought, exceptions_due, exceptions_in, load_text, loaded_of, path_by, paths_found, paths_looked, paths_sought, policy_due, sought_for}
+use Rattle.run_found.specs.Found.{policy_calls, config_by, config_in, count_looked, count_sought, exceptions_due, exceptions_in, load_text, load_told, path_by, paths_found, paths_looked, paths_sought, policy_due, sought_for}
 use Rattle.run_found.specs.Given.{RequestArguments}
 use Rattle.run_found.specs.Hearing.{LooksResult, look_failed, nowhere, at, unended, IsReadWhereDue, MadeOn, RequestHearing, TreeSeen, look_calls, looks_by, read_calls, seen}
 use Rattle.run_found.specs.Paths.{ArePathsAt, PathsUntil}
 use Rattle.run_found.proofs.CallLemmas.{LooksAre, LooksMade, failed_are, looked_are, looks_found, lost_made, no_looks, no_read}
-use Rattle.run_found.proofs.FoundLemmas.{due-refused, exceptions-refused, loaded-refused, looked-at, looked-none, paths-config, paths-exceptions, policy-refused}
+use Rattle.run_found.proofs.FoundLemmas.{due-refused, exceptions-refused, loaded-refused, looked-at, looked-none, paths-config, paths-exceptions, policy-refused, told-due}
 
 nowhere-apart : ◌≡◌ {A = LooksResult} nowhere unended → ⊥
 nowhere-apart e = absurd (cc)
@@ -173,7 +173,7 @@ module _ (given : RequestArguments) (told tells : Option Content) (count after :
     heard = looked_alone looks.looks [];
     made = sought_made looks.looks looks.made;
     stops = at_sought refl refl refl;
-    written = nothing_of held (load_text given.log (loaded_of given (alone tree (looked_alone looks.looks []))));
+    written = nothing_of held (load_told given (alone tree (looked_alone looks.looks [])));
   }
 
   -- what is heard where the paths were refused
@@ -199,7 +199,7 @@ module _ (given : RequestArguments) (told tells : Option Content) (count after :
         made = all;
         due = due;
         is = policy-refused given hearing error same;
-        written = subst (Gained held held) (sym (ap (load_text given.log) (loaded-refused given hearing error same))) (gained-nil held);
+        written = subst (Gained held held) (sym (told-due given hearing due ∙ ap (load_text given.log) (loaded-refused given hearing error same))) (gained-nil held);
       }
 
   sought_refused : (first last : ℕ) → ConfigFailed given.context given.context.config_path calls more → ReadCounts count count after (failed_read first last)
@@ -250,7 +250,7 @@ module _ (given : RequestArguments) (told tells : Option Content) (count after :
       heard = heard_both lost.looks lost.made;
       made = both_made lost.looks lost.made;
       stops = at_looks config.ended refl refl;
-      written = nothing_of held (load_text given.log (loaded_of given (hearing_both lost.looks lost.made)));
+      written = nothing_of held (load_told given (hearing_both lost.looks lost.made));
     }
 
     looks_refused : (first last : ℕ) → LooksAre manifest_looks look_failed between more → ReadCounts count count after (failed_read first last)

@@ -61,12 +61,6 @@ cause_of (MetadataRead (Failed before after)) = failed_read before after
 cause_of (WriteFault before after) = refused_write before after
 cause_of _ = told
 
--- want of memory and a refused write may come in the place of any answer, and nothing else may
-abbrev pub FreeOr : Cause → Type 0 → Type 0
-FreeOr no_memory P = Unit {0}
-FreeOr (refused_write before after) P = Unit {0}
-FreeOr _ P = P
-
 -- it may end a run over lawful input without a fault
 abbrev pub MayEndLawful : Cause → Type 0
 MayEndLawful no_memory = Unit {0}

@@ -10,7 +10,7 @@ use Rattle.policy_load.specs.Answer.{IsPolicyOf}
 use Rattle.tree_texts.specs.Cause.{Cause, no_memory, refused_write}
 use Rattle.run_found.specs.declared.policy.PolicyRefusal.{PolicyRefusal}
 use Rattle.run_found.specs.Error.{cause_of, error_of_policy}
-use Rattle.run_found.specs.Found.{LooksEnd, SoughtEnds, exceptions_due, files_loaded, load_text, loaded_of, policy_calls, policy_due, policy_found}
+use Rattle.run_found.specs.Found.{LooksEnd, SoughtEnds, exceptions_due, files_loaded, load_told, policy_calls, policy_due, policy_found}
 use Rattle.run_found.specs.Given.{RequestArguments}
 use Rattle.run_found.specs.Hearing.{RequestHearing, IsReadWhereDue, MadeOn, TreeSeen}
 use Rattle.run_found.specs.Written.{TextWritten}
@@ -53,7 +53,7 @@ pub record FindsLoaded (given : RequestArguments) (tree : TreeSeen) (old new : O
   pub is : policy_found given (alone tree heard) ≡ Ok found
   pub valid : IsPolicyOf found loaded
   pub files_are : files ≡ files_loaded given (alone tree heard)
-  pub written : Gained old new (load_text given.log (loaded_of given (alone tree heard)))
+  pub written : Gained old new (load_told given (alone tree heard))
 
 -- The calls of what was heard were made, and no other; the refusal is the one that it comes to.
 pub record FindsRefusal (given : RequestArguments) (tree : TreeSeen) (old new : Option (List ℕ)) (before after : ℕ) (refusal : PolicyRefusal) : Type 0 where
@@ -61,7 +61,7 @@ pub record FindsRefusal (given : RequestArguments) (tree : TreeSeen) (old new : 
   pub made : MadeOn tree (policy_calls given (alone tree heard))
   pub due : HearsPolicy given (alone tree heard)
   pub is : policy_found given (alone tree heard) ≡ Err (error_of_policy refusal)
-  pub written : TextWritten (load_text given.log (loaded_of given (alone tree heard))) old new before after (cause_of (error_of_policy refusal))
+  pub written : TextWritten (load_told given (alone tree heard)) old new before after (cause_of (error_of_policy refusal))
 
 -- among the looks for a policy, among those for an exceptions file, at the read of the policy, or at that of the exceptions file
 pub data StopsBeforePolicy (given : RequestArguments) (hearing : RequestHearing) : Type 0 where
@@ -70,12 +70,13 @@ pub data StopsBeforePolicy (given : RequestArguments) (hearing : RequestHearing)
   at_policy : LooksEnd given hearing → hearing.exceptions ≡ None → StopsBeforePolicy given hearing
   at_exceptions : LooksEnd given hearing → IsReadWhereDue (policy_due given hearing) hearing.policy → StopsBeforePolicy given hearing
 
--- Memory was wanting or a write was refused: the calls are those that were due up to some place, and a front of the text was written.
+-- Memory was wanting or a write was refused: the calls are those that were due up to some place, and a prefix of what is told by them was
+-- written.
 pub record FindsInPart (given : RequestArguments) (tree : TreeSeen) (old new : Option (List ℕ)) (before after : ℕ) (cause : Cause) : Type 0 where
   pub heard : PolicyHeard
   pub made : MadeOn tree (policy_calls given (alone tree heard))
   pub stops : StopsBeforePolicy given (alone tree heard)
-  pub written : TextWritten (load_text given.log (loaded_of given (alone tree heard))) old new before after cause
+  pub written : TextWritten (load_told given (alone tree heard)) old new before after cause
 
 abbrev pub FindsBy : RequestArguments → TreeSeen → Option (List ℕ) → Option (List ℕ) → ℕ → ℕ → PolicyRefusal → Cause → Type 0
 FindsBy given tree old new before after refusal no_memory = FindsInPart given tree old new before after no_memory

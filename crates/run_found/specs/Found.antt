@@ -1,6 +1,6 @@
 -- What is found on the way to the licences of crates: where the policy's files are, what comes of its load, the graph of the metadata;
 -- which calls that takes. A command puts its own steps between.
-use Rattle.std.specs.Prelude.{◌≡◌, ◌≢◌, ℕ, List, [], ◌++◌, Option, Some, None, Result, Ok, Err}
+use Rattle.std.specs.Prelude.{◌≡◌, ◌≢◌, ◌&&◌, ℕ, Bool, List, [], ◌++◌, Option, Some, None, Result, Ok, Err, if◌then◌else◌}
 use Rattle.std.specs.Option.{option_and_then}
 use Rattle.deny_text.specs.Path.{join_of}
 use Rattle.tree_core.specs.Call.{Call}
@@ -32,7 +32,7 @@ use Rattle.run_found.specs.declared.error.Error.{Error}
 use Rattle.run_found.specs.declared.error.Error.TheVariants.{ConfigRead, NotCarried}
 use Rattle.run_found.specs.Error.{error_of_krates, error_of_load}
 use Rattle.run_found.specs.Given.{RequestArguments}
-use Rattle.run_found.specs.Hearing.{RequestHearing, LooksResult, look_failed, nowhere, at, unended, count_behind, look_calls, looks_by, read_calls, text_by}
+use Rattle.run_found.specs.Hearing.{RequestHearing, LooksResult, look_failed, nowhere, at, unended, count_behind, is_ended, is_read_where_due, look_calls, looks_by, read_calls, text_by}
 use Rattle.run_found.specs.Steps.{◌>>=◌, unless_refused}
 
 -- ---- where the policy's files are
@@ -196,6 +196,17 @@ files_loaded given hearing = files_of_load (loaded_of given hearing)
 abbrev pub load_text : LogContext → Result LoadResult Error → List ℕ
 load_text log (Ok loaded) = printed_findings log loaded.files loaded.findings
 load_text log (Err error) = []
+
+-- each look and each read that a load takes was made where it was due, and something is heard by it
+abbrev pub is_load_heard : RequestArguments → RequestHearing → Bool
+is_load_heard given hearing =
+    is_ended (looks_by (paths_sought given) hearing.sought)
+    && (is_ended (looks_by (paths_looked given hearing) hearing.looks)
+    && (is_read_where_due (policy_due given hearing) hearing.policy && is_read_where_due (exceptions_due given hearing) hearing.exceptions))
+
+-- What is told of a load by what was heard. Nothing is told of a policy or an exceptions file that was not read where it was due.
+abbrev pub load_told : RequestArguments → RequestHearing → List ℕ
+load_told given hearing = if is_load_heard given hearing then load_text given.log (loaded_of given hearing) else []
 
 -- ---- with a command's own steps
 

@@ -93,6 +93,13 @@ looks_behind call.wrong_kind rest = []
 looks_behind call.failed rest = []
 looks_behind call.no_memory rest = []
 
+-- not one is wanting that was due
+abbrev pub is_ended : LooksResult → Bool
+is_ended look_failed = true
+is_ended nowhere = true
+is_ended (at path) = true
+is_ended unended = false
+
 -- their calls
 abbrev pub look_calls : List (List ℕ) → List CallAnswer → List Call
 look_calls [] answers = []
@@ -126,6 +133,11 @@ is_heard (Some answer) = is_some (text_answered 0 0 answer)
 abbrev pub IsReadWhereDue : Option (List ℕ) → Option CallAnswer → Type 0
 IsReadWhereDue None answer = answer ≡ None
 IsReadWhereDue (Some path) answer = is_heard answer ≡ true
+
+-- so far as a test tells
+abbrev pub is_read_where_due : Option (List ℕ) → Option CallAnswer → Bool
+is_read_where_due None answer = true
+is_read_where_due (Some path) answer = is_heard answer
 
 -- ---- on a content
 

@@ -8,11 +8,6 @@ abbrev pub ◌>>=◌ : {X Y : Type 0} → Result X Error → (X → Result Y Err
 Ok value >>= next = next value
 Err error >>= next = Err error
 
--- a value, or this refusal where there is none
-abbrev pub or_refused : {X : Type 0} → Error → Option X → Result X Error
-or_refused error None = Err error
-or_refused error (Some value) = Ok value
-
 -- the value of what was not refused
 abbrev pub unless_refused : {X : Type 0} → Result X Error → Option X
 unless_refused (Ok value) = Some value

@@ -1,0 +1,10 @@
+pub mod Carried
+pub mod Complete
+pub mod Crates
+pub mod Found
+pub mod Given
+pub mod Manifest
+pub mod Prelude
+pub mod Settled
+pub mod Stops
+pub mod Written

@@ -1,0 +1,134 @@
+//! The policy of a command, and the crates that it looks at.
+ghost use Rattle.std.specs.Prelude.{◌≡◌, ◌≤◌, ℕ, List, [], IfErr, IfOk, None};
+ghost use Rattle.tree_core.specs.Hearing.{MadeSome};
+ghost use Rattle.tree_texts.specs.Cause.{ReadCounts};
+ghost use Rattle.spdx_catalog.specs.declared.identifier.Match.{Match};
+ghost use Rattle.graph_workspace.specs.Krates.{krates_cause};
+ghost use Rattle.policy_core.specs.Places.{PolicyStands};
+ghost use Rattle.run_context.specs.Asked.{IsAnswerBy, IsRefused, uncarried};
+ghost use Rattle.run_overrides.specs.Levels.{PutAtLevels};
+ghost use Rattle.run_found.specs.Error.{cause_of};
+ghost use Rattle.run_found.specs.Hearing.{seen_between};
+ghost use Rattle.run_found.specs.Written.{sink_between};
+ghost use Rattle.run_command.specs.Crates.{FindsCrates, options_of};
+ghost use Rattle.run_command.specs.Found as spec;
+ghost use Rattle.run_command.specs.Found.{left_by};
+ghost use Rattle.run_command.specs.Given.{command_arguments_of};
+
+use diag_core::{DiagnosticOverrides, Files};
+use diag_print::LogContext;
+use graph_workspace::{Krates, KratesError};
+use policy_load::LoadedPolicy;
+use policy_parts::GraphConfig;
+use policy_valid::ValidConfig;
+use run_context::{LeftOut, gather_krates_since};
+use run_found::{Error, policy_found};
+use run_overrides::overrides_of;
+use run_request::{KrateContext, LintLevels};
+use spdx_core::Catalog;
+use std::alloc::Global;
+use tree_core::{Sink, Tree};
+
+/// How a command goes by its policy.
+#[derive(Clone, Copy)]
+pub struct PolicyUse<'l> {
+    /// The codes and levels that are asked for.
+    pub levels: &'l LintLevels,
+    /// Whether the flags of the policy's graph leave crates out, beside its specs.
+    pub with_flags: bool,
+    /// The least score at which a text is taken for a licence, in hundredths, where it is not the policy's.
+    pub threshold: Option<i64>,
+}
+
+/// The policy of a command, its lists in order; the overrides that are asked for; and the crates that the command
+/// looks at.
+#[derive(Drop)]
+pub struct CratesFound {
+    pub policy: ValidConfig,
+    pub overrides: DiagnosticOverrides,
+    pub krates: Krates,
+}
+
+/// A policy, with the least score that a command asks for in the place of its own.
+fn at_threshold(threshold: Option<i64>, policy: ValidConfig) -> ValidConfig
+    ensures { result ≡ spec.at_threshold threshold policy }
+{
+    match threshold {
+        None => policy,
+        Some(threshold) => {
+            let mut policy = policy;
+            policy.confidence_threshold = threshold;
+            policy
+        }
+    }
+}
+
+/// The crates that a request and its policy leave, in the metadata that the request names. `begun` is the tree's
+/// count of faults when the run began.
+fn krates_left<T: Tree>(
+    alloc: Global,
+    context: &KrateContext,
+    with_flags: bool,
+    graph: &GraphConfig,
+    tree: &mut T,
+    begun: u64,
+) -> Result<Krates, KratesError>
+    requires { begun ≤ T.fault_count tree.old }
+    ensures refused { IsRefused context.now graph.now.exclude result }
+    ensures read { IsAnswerBy context.now (left_by with_flags graph.now) begun
+        (T.fault_count tree.new) (T.trace tree.old) (T.trace tree.new) result }
+    ensures made { MadeSome (T.content tree.old) (T.content tree.new) (T.fault_count tree.old)
+        (T.fault_count tree.new) (T.trace tree.old) (T.trace tree.new) }
+    ensures counts { IfErr result (λ error. ReadCounts begun
+        (T.fault_count tree.old) (T.fault_count tree.new) (krates_cause error)) }
+{
+    let leaves = LeftOut {
+        exclude: &graph.exclude,
+        exclude_dev: with_flags && graph.exclude_dev,
+        exclude_unpublished: with_flags && graph.exclude_unpublished,
+    };
+    gather_krates_since(context, alloc, tree, &leaves, begun)
+}
+
+/// The policy of a command, and the crates that it looks at, of a request all of which is carried: the policy's files
+/// are looked for and loaded, what is told of the load is written, no code and no level stands twice, and the metadata
+/// is read. No file is known before.
+pub fn crates_found<T: Tree, S: Sink, C: Catalog>(
+    alloc: Global,
+    context: &KrateContext,
+    log_ctx: LogContext,
+    use_of: &PolicyUse<'_>,
+    files: &mut Files,
+    tree: &mut T,
+    err: &mut S,
+    catalog: &C,
+) -> Result<CratesFound, Error>
+    requires empty { files.old ≡ [] }
+    requires carried { uncarried context.now [] ≡ None }
+    // whatever identifies texts
+    ensures found { (match_of : List ℕ → Match) → FindsCrates
+        (command_arguments_of (C.lists catalog.now) match_of log_ctx context.now (options_of use_of.now))
+        (seen_between T.content T.fault_count T.trace tree.old tree.new)
+        (sink_between S.written S.fault_count err.old err.new)
+        files.new result }
+    // Each place that the policy keeps lies in its file.
+    ensures places { IfOk result (λ found. PolicyStands files.new found.policy) }
+    ensures overrides { IfOk result (λ found. PutAtLevels use_of.now.levels.now found.overrides) }
+    ensures counts { IfErr result (λ error. ReadCounts
+        (T.fault_count tree.old) (T.fault_count tree.old) (T.fault_count tree.new) (cause_of error)) }
+    ensures later { S.fault_count err.old ≤ S.fault_count err.new }
+{
+    let begun = tree.faults();
+    let LoadedPolicy {
+        licenses,
+        graph,
+        ..
+    } = policy_found(alloc, context, log_ctx, files, tree, err, catalog)?;
+    let overrides = overrides_of(alloc, use_of.levels)?;
+    let krates = krates_left(alloc, context, use_of.with_flags, &graph, tree, begun)?;
+    Ok(CratesFound {
+        policy: at_threshold(use_of.threshold, licenses),
+        overrides,
+        krates,
+    })
+}

@@ -1,0 +1,14 @@
+//! What all commands over crates share: what they are given, what is looked at and read before they do their own, and
+//! in which order they are refused.
+#![tactic(auto)]
+
+mod carried;
+pub mod crates;
+mod manifest;
+pub mod prelude;
+mod written;
+
+pub use carried::{no_levels, uncarried_in};
+pub use crates::{CratesFound, PolicyUse, crates_found};
+pub use prelude::lists_of_request;
+pub use written::write_answer;
