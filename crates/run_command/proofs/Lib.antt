@@ -1,0 +1,8 @@
+pub mod AlikeLemmas
+pub mod CarriedLemmas
+pub mod FoundLemmas
+pub mod ManifestLemmas
+pub mod OwnLemmas
+pub mod SettledLemmas
+pub mod StopLemmas
+pub mod TurnLemmas

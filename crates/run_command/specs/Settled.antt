@@ -2,14 +2,18 @@
 use Rattle.std.specs.Prelude.{◌≡◌, ◌⊎◌, ℕ, List, Result, Ok, Err}
 use Rattle.tree_core.specs.Faults.{Gained, GainedPrefix}
 use Rattle.tree_texts.specs.Cause.{Cause, no_memory, refused_write}
-use Rattle.tree_reads.specs.Read.{AreReads}
+use Rattle.tree_reads.specs.Read.{AreReads, records_of_reads}
 use Rattle.diag_core.specs.File.{File}
 use Rattle.policy_valid.specs.declared.policy.ValidConfig.{ValidConfig}
-use Rattle.gather_core.specs.Calls.{AreTurnsBy, reads_of_all}
+use Rattle.gather_expression.specs.Scanned.{Scanner}
+use Rattle.gather_findings.specs.License.{expression_of}
+use Rattle.gather_core.specs.Calls.{AreTurnsBy, CrateReads, reads_of_all}
+use Rattle.gather_core.specs.Gathered.{krate_of}
 use Rattle.gather_core.specs.declared.summary.KrateLicense.{KrateLicense}
 use Rattle.run_found.specs.declared.error.Error.{Error}
 use Rattle.run_found.specs.Found.{count_metadata, files_loaded}
 use Rattle.run_found.specs.Hearing.{RequestHearing, TreeSeen, crates_heard}
+use Rattle.run_found.specs.Licences.{expression_in, priority_heard}
 use Rattle.run_found.specs.Error.{cause_of}
 use Rattle.run_found.specs.Written.{IsRefusedIn, IsSilent, SinkSeen}
 use Rattle.run_command.specs.Found.{HearsAllDue, IsHeard, PutsInOrder, load_heard, turns_in}
@@ -27,6 +31,13 @@ pub record IsSettled (given : CommandArguments) (hearing : RequestHearing) (poli
   pub crates : crates_heard hearing ≡ asked.crates
   pub records : AreReads (count_metadata given.request hearing) (reads_of_all hearing.crates)
   pub turns : AreTurnsBy (files_loaded given.request hearing) (turns_in given hearing policy) licenses last
+
+-- The licence of a crate is the one that has priority by what the answers to its own reads let hear, and its reads are kept as they were
+-- made. Of all crates this follows from their turns.
+pub record IsLicenceHeard (scanner : Scanner) (policy : ValidConfig) (one : CrateReads) (license : KrateLicense) : Type 0 where
+  pub krate : krate_of license ≡ one.krate
+  pub reads : license.reads ≡ records_of_reads one.reads
+  pub expression : expression_of license.lic_info ≡ expression_in (priority_heard scanner policy one)
 
 -- ---- what is so of a tree and a sink
 

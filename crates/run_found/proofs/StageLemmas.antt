@@ -4,14 +4,14 @@ use Rattle.tree_core.specs.Call.{CallAnswer, Call}
 use Rattle.tree_core.specs.Content.{Content}
 use Rattle.tree_core.specs.Hearing.{MadeSome}
 use Rattle.tree_core.specs.Trace.{fault_behind}
-use Rattle.tree_core.proofs.MadeLemmas.{made_as, made_joined, made_these}
+use Rattle.tree_core.proofs.MadeLemmas.{made_as, made_these}
 use Rattle.diag_core.specs.File.{File}
 use Rattle.gather_expression.specs.Scanned.{Scanner}
 use Rattle.graph_core.specs.Metadata.{Graph}
 use Rattle.tree_texts.specs.Heard.{read_of, text_answered}
 use Rattle.tree_texts.specs.declared.fault.ReadFault.{ReadFault}
 use Rattle.graph_selection.specs.Choice.{Choice}
-use Rattle.graph_selection.specs.Listed.{Chosen, IsChosen}
+use Rattle.graph_selection.specs.Listed.{Chosen}
 use Rattle.policy_valid.specs.declared.policy.ValidConfig.{ValidConfig}
 use Rattle.gather_core.specs.Calls.{CrateReads, calls_of_all}
 use Rattle.gather_core.specs.Gathered.{krate_of}
@@ -24,7 +24,7 @@ use Rattle.graph_workspace.specs.declared.error.KratesError.TheVariants as krate
 use Rattle.graph_workspace.specs.declared.error.What.{What}
 use Rattle.run_request.specs.declared.context.KrateContext.{KrateContext}
 use Rattle.run_context.specs.Asked.{IsRefused, uncarried}
-use Rattle.run_found.specs.Gathering.{HasNoCrates, IsGatheringGivenUp, NoCratesBy, TellsGraph}
+use Rattle.run_found.specs.Gathering.{HasNoCrates, NoCratesBy, TellsGraph}
 use Rattle.run_found.specs.Hearing.{TreeSeen, seen}
 use Rattle.run_found.specs.Licences.{IsGatherCut, IsGatheredOn, turns_heard}
 
@@ -92,28 +92,11 @@ module _ (choice : Choice) (told middle tells : Option Content) (before mid afte
     rooted = gathers.from.rooted;
   }
 
-  pub cut_behind : (scanner : Scanner) (policy : ValidConfig) (files : List File)
-      → ((graph : Graph) (own : Choice) → IsChosen graph own chosen → IsGatherCut scanner policy (seen middle tells mid after between new) files graph own)
-      → IsGatheringGivenUp choice scanner policy tree files begun path
-  cut_behind scanner policy files cuts =
-      let own = cuts gathers.from.graph choice gathers.from.reached in
-      inr (record {
-        answer = gathers.read.answer;
-        crates = own.crates;
-        lost = own.lost;
-        made = made_joined (made_these made gathers.read.made) own.made;
-        graph = gathers.from.graph;
-        tells = graph_told;
-        checked = own.checked;
-        selected = own.selected;
-        turns = own.turns;
-      })
-
 -- the metadata's read alone
-module _ (choice : Choice) (scanner : Scanner) (policy : ValidConfig) (told tells : Option Content) (before after : ℕ) (old new : List Call) (files : List File) (begun : ℕ) (path : List ℕ)
+module _ (choice : Choice) (told tells : Option Content) (before after : ℕ) (old new : List Call) (begun : ℕ) (path : List ℕ)
     (made : MadeSome told tells before after old new) where
   abbrev Refuses : KratesError → Type 0
-  Refuses error = NoCratesBy choice scanner policy (seen told tells before after old new) files begun path error
+  Refuses error = NoCratesBy choice (seen told tells before after old new) begun path error
 
   refused_by : (error : KratesError) (heard : Result (List ℕ) ReadFault) (answer : CallAnswer) → new ≡ old ++ read_of path answer ∷ [] → text_answered begun after answer ≡ Some heard
       → AreFrom choice heard (Err error) → HasNoCrates choice (seen told tells before after old new) begun path error
@@ -131,7 +114,7 @@ module _ (choice : Choice) (scanner : Scanner) (policy : ValidConfig) (told tell
   memory_of error e = cc
 
   gathered_by : (error : KratesError) → IsCarried error → GathersBy choice begun after old new path (Err error) → Refuses error
-  gathered_by krates.Memory carried gathers = inl (Some gathers.0, made_these made gathers.1)
+  gathered_by krates.Memory carried gathers = (Some gathers.0, made_these made gathers.1)
   gathered_by (krates.NotCarried what) carried gathers = absurd carried
   gathered_by (krates.MetadataRead fault) carried gathers = refused_by (krates.MetadataRead fault) gathers.heard gathers.read.answer gathers.read.made gathers.read.hears gathers.from
   gathered_by krates.MetadataSyntax carried gathers = refused_by krates.MetadataSyntax gathers.heard gathers.read.answer gathers.read.made gathers.read.hears gathers.from
@@ -143,6 +126,6 @@ module _ (choice : Choice) (scanner : Scanner) (policy : ValidConfig) (told tell
       → ((◌≡◌ {A = Result Chosen KratesError} (Err error) (Err krates.Memory)) × (new ≡ old)) ⊎ GathersBy choice begun after old new path (Err error)
       → Refuses error
   no_crates_by error carried (inl none) =
-      let given_up : Refuses krates.Memory = inl (None, made_these made (none.1 ∙ sym (append-nil old))) in
+      let given_up : Refuses krates.Memory = (None, made_these made (none.1 ∙ sym (append-nil old))) in
       subst Refuses (memory_of error none.0) given_up
   no_crates_by error carried (inr gathers) = gathered_by error carried gathers

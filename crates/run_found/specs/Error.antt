@@ -22,8 +22,6 @@ use Rattle.run_found.specs.declared.error.Error.{Error}
 use Rattle.run_found.specs.declared.error.Error.TheVariants.{Memory, NotCarried, ManifestPath, ManifestRead, CatalogRead, CatalogSyntax, StoreRead, ConfigRead, ConfigSyntax, ConfigShape, ConfigInvalid, OverrideTwice, MetadataRead, MetadataSyntax, MetadataShape, NoRoots, RecordRead, RecordSyntax, WriteFault}
 use Rattle.run_found.specs.declared.policy.PolicyRefusal.{PolicyRefusal}
 use Rattle.run_found.specs.declared.policy.PolicyRefusal.TheVariants as refusal
-use Rattle.run_found.specs.declared.refusal.CrateRefusal.{CrateRefusal}
-use Rattle.run_found.specs.declared.refusal.CrateRefusal.TheVariants as crates
 
 abbrev pub error_text : Error → List ℕ
 error_text Memory = codes "out of memory"
@@ -122,8 +120,3 @@ abbrev pub error_of_policy : PolicyRefusal → Error
 error_of_policy refusal.Memory = Memory
 error_of_policy (refusal.Search error) = error_of_search error
 error_of_policy (refusal.Load error) = error_of_load error
-
--- why there are no crates to look at
-abbrev pub error_of_crates : CrateRefusal → Error
-error_of_crates crates.Memory = Memory
-error_of_crates (crates.Krates refused) = error_of_krates refused

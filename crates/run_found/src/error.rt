@@ -4,7 +4,6 @@ ghost use Rattle.run_found.specs.Error.{fault_line};
 
 use crate::policy::PolicyRefusal;
 use crate::reads::CrateReads;
-use crate::refusal::CrateRefusal;
 use deny_text::{PathBuf, Text};
 use diag_core::Severity;
 use diag_print::PrintError;
@@ -250,19 +249,6 @@ impl From<PolicyRefusal> for Error {
             PolicyRefusal::Memory => Error::Memory,
             PolicyRefusal::Search(refused) => Error::from(refused),
             PolicyRefusal::Load(refused) => Error::from(refused),
-        }
-    }
-}
-
-impl From<CrateRefusal> for Error {
-    ghost use Rattle.run_found.specs.Error.{error_of_crates};
-
-    ghost from_gives = { λ refused error. error ≡ error_of_crates refused };
-
-    fn from(refused: CrateRefusal) -> Error {
-        match refused {
-            CrateRefusal::Memory => Error::Memory,
-            CrateRefusal::Krates(refused) => Error::from(refused),
         }
     }
 }

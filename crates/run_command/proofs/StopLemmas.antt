@@ -1,0 +1,326 @@
+-- A command that is refused before it does its own: no policy is found, a code or a level stands twice, or there are no crates.
+use Rattle.std.proofs.Common.{◌≡◌, ◌∙◌, ◌⊎◌, inl, inr, refl, sym, ap, subst, ℕ, ℤ, List, [], ◌∷◌, ◌++◌, append-nil, append_assoc, Option, Some, None, Result, Ok, Err}
+use Rattle.tree_core.specs.Call.{CallAnswer, Call}
+use Rattle.tree_core.specs.Content.{Content}
+use Rattle.tree_core.specs.Faults.{Gained, GainedPrefix}
+use Rattle.tree_core.specs.Hearing.{Made, MadeSome}
+use Rattle.tree_core.specs.Trace.{fault_behind}
+use Rattle.tree_core.proofs.MadeLemmas.{made_as, made_joined, made_these, some_made}
+use Rattle.graph_core.specs.Metadata.{Graph}
+use Rattle.graph_selection.specs.Choice.{Choice}
+use Rattle.graph_selection.specs.Listed.{Chosen}
+use Rattle.tree_texts.specs.Cause.{Cause, no_memory, told, failed_read, refused_write}
+use Rattle.tree_texts.specs.Heard.{read_of, text_answered}
+use Rattle.tree_texts.specs.declared.fault.ReadFault.{ReadFault}
+use Rattle.tree_texts.specs.declared.fault.ReadFault.TheVariants.{Failed, Absent, Folder, NotUtf8}
+use Rattle.graph_selection.specs.Roots.{HasRoot, LacksRoots}
+use Rattle.graph_workspace.specs.Krates.{GathersBy, IsCarried, graph_in}
+use Rattle.graph_workspace.specs.declared.error.KratesError.{KratesError}
+use Rattle.graph_workspace.specs.declared.error.KratesError.TheVariants as krates
+use Rattle.policy_parts.specs.declared.graph.GraphConfig.{GraphConfig}
+use Rattle.policy_valid.specs.declared.policy.ValidConfig.{ValidConfig}
+use Rattle.diag_core.specs.File.{File}
+use Rattle.gather_core.specs.Calls.{CrateReads, calls_of_all}
+use Rattle.gather_core.specs.Gathered.{include_of}
+use Rattle.policy_core.specs.Policy.{PolicyFound}
+use Rattle.policy_core.specs.declared.load.LoadedPolicy.{LoadedPolicy}
+use Rattle.policy_load.specs.Answer.{IsPolicyOf}
+use Rattle.policy_validate.specs.Order.{PutsPolicyInOrder}
+use Rattle.run_context.specs.Asked.{choice_asked}
+use Rattle.run_overrides.specs.Overrides.{IsFirstTold}
+use Rattle.run_overrides.specs.Twice.{Twice, first_twice}
+use Rattle.run_overrides.specs.declared.error.OverrideError.{OverrideError}
+use Rattle.run_overrides.specs.declared.error.OverrideError.TheVariants as overrides
+use Rattle.run_found.specs.declared.error.Error.{Error}
+use Rattle.run_found.specs.declared.error.Error.TheVariants.{Memory, OverrideTwice}
+use Rattle.run_found.specs.declared.policy.PolicyRefusal.{PolicyRefusal}
+use Rattle.run_found.specs.Error.{cause_of, error_of_krates, error_of_override, error_of_policy}
+use Rattle.run_found.specs.Finds.{FindsBy, FindsInPart, FindsLoaded, FindsPolicy, FindsRefusal, HearsPolicy, PolicyHeard, alone, hearing_of}
+use Rattle.run_found.specs.Found.{count_exceptions, count_metadata, graph_heard, metadata_heard, or_krates_error, policy_calls, policy_found}
+use Rattle.run_found.specs.Gathering.{HasNoCrates, NoCratesBy}
+use Rattle.run_found.specs.Hearing.{IsReadWhereDue, MadeOn, RequestHearing, TreeSeen, is_heard, read_calls, seen, text_by}
+use Rattle.run_found.specs.Selection.{included_in}
+use Rattle.run_found.specs.Written.{SinkSeen, TextWritten}
+use Rattle.run_found.proofs.CallLemmas.{heard_where, text_heard_by}
+use Rattle.run_found.proofs.FoundLemmas.{count-behind}
+use Rattle.run_found.proofs.StageLemmas.{gathers_chosen, graph_told}
+use Rattle.run_found.proofs.StepLemmas.{IsFree}
+use Rattle.run_command.specs.declared.crates.CratesFound.{CratesFound}
+use Rattle.run_command.specs.Crates.{HasCrates}
+use Rattle.run_command.specs.Found.{HearsAllDue, IsHeard, PutsInOrder, at_threshold, calls_of, choice_in, input_of, left_by, load_heard, metadata_due, policy_asked}
+use Rattle.run_command.specs.Given.{CommandArguments}
+use Rattle.run_command.specs.Stops.{IsGivenUp, IsRefusal, IsRefusedBy, Refuses, Stops, StopsAt, at_metadata, at_policy}
+use Rattle.run_command.proofs.FoundLemmas.{asked-once, asked-refused, asked-twice, calls-unread, input-graph, input-refused, metadata-is, metadata-refused}
+
+-- all of a text is a prefix of it
+pub all_of : (old new : Option (List ℕ)) (text : List ℕ) → Gained old new text → GainedPrefix old new text
+all_of old new text gained = record { front = text; rest = []; parts = sym (append-nil text); gained = gained }
+
+-- ---- refusals by their cause
+
+module _ (given : CommandArguments) (tree : TreeSeen) (hearing : RequestHearing) (error : Error) where
+  refused_as : (cause : Cause) → IsGivenUp given tree hearing → IsFree cause → IsRefusedBy given tree hearing error cause
+  refused_as no_memory up free = up
+  refused_as told up free = absurd free
+  refused_as (failed_read before after) up free = absurd free
+  refused_as (refused_write before after) up free = up
+
+  -- the command was given up
+  pub given_up : IsGivenUp given tree hearing → IsFree (cause_of error) → IsRefusedBy given tree hearing error (cause_of error)
+  given_up up free = refused_as (cause_of error) up free
+
+  -- it is no refused write, and not for want of memory
+  told_as : (cause : Cause) → IsHeard given tree hearing → IsRefusal given hearing error → (IsFree cause → ⊥) → IsRefusedBy given tree hearing error cause
+  told_as no_memory heard refusal bound = absurd (bound tt)
+  told_as told heard refusal bound = (heard, refusal)
+  told_as (failed_read before after) heard refusal bound = (heard, refusal)
+  told_as (refused_write before after) heard refusal bound = absurd (bound tt)
+
+  pub refused_first : IsHeard given tree hearing → IsRefusal given hearing error → (IsFree (cause_of error) → ⊥) → IsRefusedBy given tree hearing error (cause_of error)
+  refused_first heard refusal bound = told_as (cause_of error) heard refusal bound
+
+-- calls were made, however a command is refused
+pub stops_made : (given : CommandArguments) (tree : TreeSeen) (err : SinkSeen) (error : Error) → Stops given tree err error
+    → MadeSome tree.told tree.tells tree.count_before tree.count_after tree.calls_before tree.calls_after
+stops_made given tree err error stops = some_by (cause_of error) stops.refused
+  where
+    some_by : (cause : Cause) → IsRefusedBy given tree stops.hearing error cause → MadeSome tree.told tree.tells tree.count_before tree.count_after tree.calls_before tree.calls_after
+    some_by no_memory up = some_made up.made
+    some_by told refused = some_made refused.0.made
+    some_by (failed_read before after) refused = some_made refused.0.made
+    some_by (refused_write before after) up = some_made up.made
+
+-- the calls of what was heard up to some place were made, and no other
+pub up_without : (given : CommandArguments) (tree : TreeSeen) (hearing : RequestHearing) → hearing.begun ≡ tree.count_before → MadeOn tree (calls_of given hearing) → StopsAt given hearing [] → IsGivenUp given tree hearing
+up_without given tree hearing begun made stops = record {
+  begun = begun;
+  lost = [];
+  made = subst (MadeOn tree) (sym (append-nil (calls_of given hearing))) made;
+  stops = stops;
+}
+
+-- the first refusal
+pub first_of : (given : CommandArguments) (hearing : RequestHearing) (error : Error) → HearsAllDue given hearing → hearing.crates ≡ [] → input_of given hearing ≡ Err error → IsRefusal given hearing error
+first_of given hearing error due none is =
+    record { due = due; crates = none; refused = subst (λ found. Refuses given found error) (sym is) refl }
+
+-- ---- no policy was found
+
+module _ (given : CommandArguments) (tree : TreeSeen) (err : SinkSeen) where
+  -- the calls up to the policy, and no other
+  alone_calls : (heard : PolicyHeard) → calls_of given (alone tree heard) ≡ policy_calls given.request (alone tree heard)
+  alone_calls heard = calls-unread given (alone tree heard) refl refl
+
+  alone_heard : (heard : PolicyHeard) → MadeOn tree (policy_calls given.request (alone tree heard)) → IsHeard given tree (alone tree heard)
+  alone_heard heard made = record { begun = refl; made = made_as (sym (alone_calls heard)) made }
+
+  part_ends : (error : Error) → IsFree (cause_of error) → FindsInPart given.request tree err.old err.new err.before err.after (cause_of error) → Stops given tree err error
+  part_ends error free part = record {
+    hearing = alone tree part.heard;
+    refused = given_up given tree (alone tree part.heard) error
+        (up_without given tree (alone tree part.heard) refl (made_as (sym (alone_calls part.heard)) part.made) (at_policy part.stops refl refl refl)) free;
+    written = part.written;
+  }
+
+  -- a refusal of what is found up to the policy
+  alone_due : (heard : PolicyHeard) (error : Error) → HearsPolicy given.request (alone tree heard) → policy_asked given (alone tree heard) ≡ Err error → HearsAllDue given (alone tree heard)
+  alone_due heard error due asked =
+      record { policy = due; metadata = subst (λ own. IsReadWhereDue own None) (sym (metadata-refused given (alone tree heard) error asked)) refl }
+
+  alone_refused : (heard : PolicyHeard) (error : Error) → MadeOn tree (policy_calls given.request (alone tree heard)) → HearsPolicy given.request (alone tree heard) → policy_asked given (alone tree heard) ≡ Err error
+      → (IsFree (cause_of error) → ⊥) → IsRefusedBy given tree (alone tree heard) error (cause_of error)
+  alone_refused heard error made due asked bound =
+      refused_first given tree (alone tree heard) error (alone_heard heard made)
+      (first_of given (alone tree heard) error (alone_due heard error due asked) refl (input-refused given (alone tree heard) error asked)) bound
+
+  refusal_ends : (refused : PolicyRefusal) → (IsFree (cause_of (error_of_policy refused)) → ⊥) → FindsRefusal given.request tree err.old err.new err.before err.after refused → Stops given tree err (error_of_policy refused)
+  refusal_ends refused bound finds = record {
+    hearing = alone tree finds.heard;
+    refused = alone_refused finds.heard (error_of_policy refused) finds.made finds.due (asked-refused given (alone tree finds.heard) (error_of_policy refused) finds.is) bound;
+    written = finds.written;
+  }
+
+  by_cause : (refused : PolicyRefusal) (cause : Cause) → cause_of (error_of_policy refused) ≡ cause → FindsBy given.request tree err.old err.new err.before err.after refused cause → Stops given tree err (error_of_policy refused)
+  by_cause refused no_memory is finds =
+      part_ends (error_of_policy refused) (subst IsFree (sym is) tt) (subst (FindsInPart given.request tree err.old err.new err.before err.after) (sym is) finds)
+  by_cause refused (refused_write first last) is finds =
+      part_ends (error_of_policy refused) (subst IsFree (sym is) tt) (subst (FindsInPart given.request tree err.old err.new err.before err.after) (sym is) finds)
+  by_cause refused told is finds = refusal_ends refused (λ free. subst IsFree is free) finds
+  by_cause refused (failed_read first last) is finds = refusal_ends refused (λ free. subst IsFree is free) finds
+
+  pub policy_ends : (files : List File) (refused : PolicyRefusal) → FindsPolicy given.request tree err.old err.new err.before err.after files (Err refused) → Stops given tree err (error_of_policy refused)
+  policy_ends files refused finds = by_cause refused (cause_of (error_of_policy refused)) refl finds
+
+  -- ---- a code or a level stands twice
+
+  module _ (files : List File) (policy : LoadedPolicy) (finds : FindsLoaded given.request tree err.old err.new files policy) where
+    pub twice_ends : (refused : OverrideError) → IsFirstTold (first_twice given.options.levels) refused → Stops given tree err (error_of_override refused)
+    twice_ends overrides.Memory told_first = record {
+      hearing = alone tree finds.heard;
+      refused = given_up given tree (alone tree finds.heard) Memory
+          (up_without given tree (alone tree finds.heard) refl (alone_heard finds.heard finds.made).made (at_metadata finds.due refl refl)) tt;
+      written = all_of err.old err.new (load_heard given (alone tree finds.heard)) finds.written;
+    }
+    twice_ends (overrides.OverrideTwice name first second) told_first = record {
+      hearing = alone tree finds.heard;
+      refused = alone_refused finds.heard (OverrideTwice name first second) finds.made finds.due
+          (asked-twice given (alone tree finds.heard) finds.found finds.is (record { name = name; first = first; second = second }) told_first) (λ free. free);
+      written = finds.written;
+    }
+
+-- ---- behind the policy
+
+-- what is heard up to the policy is heard behind it too
+due_behind : (given : CommandArguments) (begun : ℕ) (heard : PolicyHeard) (metadata : Option CallAnswer) (crates : List CrateReads) → HearsPolicy given.request (hearing_of begun heard None [])
+    → HearsPolicy given.request (hearing_of begun heard metadata crates)
+due_behind given begun heard metadata crates due =
+    record { looks = record { sought = due.looks.sought; looks = due.looks.looks }; policy = due.policy; exceptions = due.exceptions }
+
+-- what is left out by the policy that was answered is what is left out by the one that was found
+same_choice : (given : CommandArguments) (found : PolicyFound) (loaded : LoadedPolicy) → IsPolicyOf found loaded
+    → choice_asked given.request.context (left_by given.options.with_flags loaded.graph) ≡ choice_in given found
+same_choice given found loaded is = ap (λ (graph : GraphConfig). choice_asked given.request.context (left_by given.options.with_flags graph)) is.graph
+
+-- its lists are in order, whatever the least score is
+in_order_at : (threshold : Option ℤ) (written sorted : ValidConfig) → PutsPolicyInOrder written sorted → PutsPolicyInOrder (at_threshold threshold written) (at_threshold threshold sorted)
+in_order_at None written sorted order = order
+in_order_at (Some threshold) written sorted order =
+    record { rest = ap (at_threshold (Some threshold)) order.rest; allowed = order.allowed; clarifications = order.clarifications }
+
+module _ (given : CommandArguments) (once : first_twice given.options.levels ≡ None) (path : List ℕ) (at : given.request.context.metadata_path ≡ Some path)
+    (begun mid after : ℕ) (told_first middle tells : Option Content) (old between more : List Call) (err : SinkSeen) (files : List File) (policy : LoadedPolicy)
+    (finds : FindsLoaded given.request (seen told_first middle begun mid old between) err.old err.new files policy) where
+  abbrev whole : TreeSeen
+  whole = seen told_first tells begun after old more
+
+  abbrev behind : TreeSeen
+  behind = seen middle tells mid after between more
+
+  abbrev hears : Option CallAnswer → RequestHearing
+  hears metadata = hearing_of begun finds.heard metadata []
+
+  abbrev choice : Choice
+  choice = choice_asked given.request.context (left_by given.options.with_flags policy.graph)
+
+  asked_at : (metadata : Option CallAnswer) → policy_asked given (hears metadata) ≡ Ok finds.found
+  asked_at metadata = asked-once given (hears metadata) finds.found finds.is once
+
+  metadata_at : (metadata : Option CallAnswer) → metadata_due given (hears metadata) ≡ Some path
+  metadata_at metadata = metadata-is given (hears metadata) finds.found (asked_at metadata) ∙ at
+
+  -- the calls, with that of the metadata
+  calls_at : (metadata : Option CallAnswer) → calls_of given (hears metadata) ≡ policy_calls given.request (hears metadata) ++ read_calls (Some path) metadata
+  calls_at metadata =
+      let before = policy_calls given.request (hears metadata) in
+      ap (λ due. before ++ read_calls due metadata ++ calls_of_all []) (metadata_at metadata)
+      ∙ append-nil (before ++ read_calls (Some path) metadata)
+
+  made_first : (metadata : Option CallAnswer) → Made told_first middle begun mid old between (policy_calls given.request (hears metadata))
+  made_first metadata = finds.made
+
+  made_all : (metadata : Option CallAnswer) → MadeOn behind (read_calls (Some path) metadata) → MadeOn whole (calls_of given (hears metadata))
+  made_all metadata then = made_as (sym (calls_at metadata)) (made_joined (made_first metadata) then)
+
+  policy_due_at : (metadata : Option CallAnswer) → HearsPolicy given.request (hears metadata)
+  policy_due_at metadata = due_behind given begun finds.heard metadata [] finds.due
+
+  due_at : (answer : CallAnswer) → is_heard (Some answer) ≡ true → HearsAllDue given (hears (Some answer))
+  due_at answer heard_by = record {
+    policy = policy_due_at (Some answer);
+    metadata = subst (λ due. IsReadWhereDue due (Some answer)) (sym (metadata_at (Some answer))) heard_by;
+  }
+
+  -- the count behind the policy's reads
+  mid_is : count_exceptions given.request (hears None) ≡ mid
+  mid_is = sym (count-behind given.request (hears None) (policy_due_at None)) ∙ sym (made_first None).counts
+
+  count_at : (answer : CallAnswer) → count_metadata given.request (hears (Some answer)) ≡ fault_behind mid answer
+  count_at answer = ap (λ n. fault_behind n answer) mid_is
+
+  metadata_text : (answer : CallAnswer) (heard : Result (List ℕ) ReadFault) → text_answered begun (fault_behind mid answer) answer ≡ Some heard → metadata_heard given.request (hears (Some answer)) ≡ heard
+  metadata_text answer heard is = ap (λ n. text_by begun n (Some answer)) (count_at answer) ∙ text_heard_by answer begun (fault_behind mid answer) heard is
+
+  drawn_at : (answer : CallAnswer) (heard : Result (List ℕ) ReadFault) (graph : Graph) → text_answered begun (fault_behind mid answer) answer ≡ Some heard → graph_in heard ≡ Ok graph
+      → graph_heard (metadata_heard given.request (hears (Some answer))) ≡ Ok graph
+  drawn_at answer heard graph hears_it tells_graph = ap graph_heard (metadata_text answer heard hears_it) ∙ ap or_krates_error tells_graph
+
+  -- a refusal behind the policy
+  behind_stops : (metadata : Option CallAnswer) (error : Error) → IsRefusedBy given whole (hears metadata) error (cause_of error)
+      → TextWritten (load_heard given (hears metadata)) err.old err.new err.before err.after (cause_of error) → Stops given whole err error
+  behind_stops metadata error refused written = record { hearing = hears metadata; refused = refused; written = written }
+
+  -- ---- no crates
+
+  no_crates : (error : KratesError) (none : HasNoCrates choice behind begun path error) → (IsFree (cause_of (error_of_krates error)) → ⊥)
+      → TextWritten (load_heard given (hears (Some none.answer))) err.old err.new err.before err.after (cause_of (error_of_krates error))
+      → ((due : HearsAllDue given (hears (Some none.answer))) → IsRefusal given (hears (Some none.answer)) (error_of_krates error))
+      → Stops given whole err (error_of_krates error)
+  no_crates error none bound written refusal_by =
+      behind_stops (Some none.answer) (error_of_krates error)
+      (refused_first given whole (hears (Some none.answer)) (error_of_krates error)
+      (record { begun = refl; made = made_all (Some none.answer) none.made })
+      (refusal_by (due_at none.answer (heard_where none.answer begun (fault_behind mid none.answer) none.heard none.hears))) bound)
+      written
+
+  -- the metadata tells of no graph
+  no_graph : (error : KratesError) (none : HasNoCrates choice behind begun path error) → graph_in none.heard ≡ Err error
+      → (due : HearsAllDue given (hears (Some none.answer))) → IsRefusal given (hears (Some none.answer)) (error_of_krates error)
+  no_graph error none refused due =
+      let hearing = hears (Some none.answer) in
+      first_of given hearing (error_of_krates error) due refl
+      (input-graph given hearing finds.found (asked_at (Some none.answer)) (Err (error_of_krates error))
+      (ap graph_heard (metadata_text none.answer none.heard none.hears) ∙ ap or_krates_error refused))
+
+  -- no root is left of it
+  no_roots : (base excluded unpublished : ℕ) (none : HasNoCrates choice behind begun path (krates.NoRoots base excluded unpublished))
+      → (due : HearsAllDue given (hears (Some none.answer))) → IsRefusal given (hears (Some none.answer)) (error_of_krates (krates.NoRoots base excluded unpublished))
+  no_roots base excluded unpublished none due =
+      let hearing = hears (Some none.answer) in
+      let rootless = none.from in
+      let error = error_of_krates (krates.NoRoots base excluded unpublished) in
+      let input_is = input-graph given hearing finds.found (asked_at (Some none.answer)) (Ok rootless.graph) (drawn_at none.answer none.heard rootless.graph none.hears rootless.tells) in
+      let lacks = subst (λ own. LacksRoots rootless.graph own base excluded unpublished) (same_choice given finds.found policy finds.valid) rootless.lacks in
+      record { due = due; crates = refl; refused = subst (λ own. Refuses given own error) (sym input_is) lacks }
+
+  pub krates_ends : (error : KratesError) → IsCarried error → NoCratesBy choice behind begun path error → Stops given whole err (error_of_krates error)
+  krates_ends krates.Memory carried_by read =
+      behind_stops read.0 Memory
+      (given_up given whole (hears read.0) Memory (up_without given whole (hears read.0) refl (made_all read.0 read.1) (at_metadata (policy_due_at read.0) refl refl)) tt)
+      (all_of err.old err.new (load_heard given (hears read.0)) finds.written)
+  krates_ends (krates.NotCarried what) carried_by none = absurd carried_by
+  krates_ends (krates.MetadataRead (Failed first last)) carried_by none =
+      no_crates (krates.MetadataRead (Failed first last)) none (λ free. free) finds.written (no_graph (krates.MetadataRead (Failed first last)) none none.from)
+  krates_ends (krates.MetadataRead Absent) carried_by none = no_crates (krates.MetadataRead Absent) none (λ free. free) finds.written (no_graph (krates.MetadataRead Absent) none none.from)
+  krates_ends (krates.MetadataRead Folder) carried_by none = no_crates (krates.MetadataRead Folder) none (λ free. free) finds.written (no_graph (krates.MetadataRead Folder) none none.from)
+  krates_ends (krates.MetadataRead (NotUtf8 place)) carried_by none =
+      no_crates (krates.MetadataRead (NotUtf8 place)) none (λ free. free) finds.written (no_graph (krates.MetadataRead (NotUtf8 place)) none none.from)
+  krates_ends krates.MetadataSyntax carried_by none = no_crates krates.MetadataSyntax none (λ free. free) finds.written (no_graph krates.MetadataSyntax none none.from)
+  krates_ends (krates.MetadataShape fault) carried_by none = no_crates (krates.MetadataShape fault) none (λ free. free) finds.written (no_graph (krates.MetadataShape fault) none none.from)
+  krates_ends (krates.NoRoots base excluded unpublished) carried_by none =
+      no_crates (krates.NoRoots base excluded unpublished) none (λ free. free) finds.written (no_roots base excluded unpublished none)
+
+  -- ---- the crates
+
+  module _ (made : MadeSome middle tells mid after between more) (chosen : Chosen) (gathers : GathersBy choice begun after between more path (Ok chosen)) where
+    pub crates_are : (found : CratesFound) → found.policy ≡ at_threshold given.options.threshold policy.licenses → found.krates ≡ chosen → HasCrates given whole err files found
+    crates_are found policy_is krates_are =
+        let answer = gathers.read.answer in
+        let tells_graph = graph_told choice middle tells tells mid after after between more more begun path made chosen gathers in
+        let same = same_choice given finds.found policy finds.valid in
+        record {
+          heard = finds.heard;
+          answer = answer;
+          made = made_all (Some answer) (made_these made gathers.read.made);
+          due = due_at answer (heard_where answer begun (fault_behind mid answer) tells_graph.heard tells_graph.hears);
+          policy = finds.found;
+          policy_is = finds.is;
+          once = once;
+          ordered = subst (PutsPolicyInOrder (at_threshold given.options.threshold finds.found.licenses)) (sym policy_is)
+              (in_order_at given.options.threshold finds.found.licenses policy.licenses finds.valid.licenses);
+          graph = gathers.from.graph;
+          graph_is = drawn_at answer tells_graph.heard gathers.from.graph tells_graph.hears tells_graph.tells;
+          root = subst (HasRoot gathers.from.graph) same gathers.from.rooted;
+          chosen = gathers.from.reached;
+          files_are = finds.files_are;
+          written = finds.written;
+        }
