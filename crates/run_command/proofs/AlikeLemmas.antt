@@ -1,5 +1,5 @@
 -- Calls that are answered alike: those that a lawful run makes, and those that a tree was asked.
-use Rattle.std.proofs.Common.{◌≡◌, ◌∙◌, refl, sym, ap, subst, ℕ, ◌≤◌, List, [], ◌∷◌, ◌++◌, All, append-nil, Some, None, Result, Ok}
+use Rattle.std.proofs.Common.{◌≡◌, ◌∙◌, refl, sym, ap, subst, ℕ, ◌≤◌, List, [], ◌∷◌, ◌++◌, All}
 use Rattle.std.specs.List.{AllByRecursion}
 use Rattle.std.proofs.lemmas.List.Elements.{All-from_recursion, recursion_from_All}
 use Rattle.tree_core.specs.Call as call
@@ -9,14 +9,7 @@ use Rattle.tree_core.specs.Faults.{Rose, counted}
 use Rattle.tree_core.specs.Trace.{IsUnlessLost, Says, content_answer, fault_behind, faults_after}
 use Rattle.tree_core.proofs.MadeLemmas.{faults_after-later}
 use Rattle.tree_reads.proofs.ReadLemmas.{rose_counted}
-use Rattle.run_found.specs.declared.error.Error.{Error}
-use Rattle.run_found.specs.Hearing.{TreeSeen}
-use Rattle.run_lists.specs.Found.{FindsLists}
-use Rattle.run_lists.specs.Given.{ListsAsked, ListsGiven}
-use Rattle.run_lists.specs.Heard.{given_heard, lists_calls}
-use Rattle.run_check.specs.Headline.{TellsContent}
-use Rattle.deny_run.specs.Lawful.{HasLists}
-use Rattle.run_command.proofs.OwnLemmas.{lists_same}
+use Rattle.run_found.specs.Hearing.{TellsContent}
 
 -- behind some of them
 pub all_behind : {X : Type 0} (P : X → Type 0) (front more : List X) → All P (front ++ more) → All P more
@@ -80,25 +73,3 @@ content_alike content count after quiet one other more rest same asked path lost
 
     own : other.answer ≡ content_answer content other.asked other.path
     own = unless_lost (content_answer content other.asked other.path) other.answer lost failed_apart same.says.0
-
--- ---- names and texts
-
--- what was heard of them on a tree with a content, where no call failed and memory was not wanting, is what the content has
-module _ (given : ListsGiven) (asked : ListsAsked) (content : Content) (had : ListsGiven) (has : HasLists given asked content had) where
-  abbrev lawful_calls : List Call
-  lawful_calls = lists_calls given asked has.hearing
-
-  pub lists_told : (tree : TreeSeen) → tree.told ≡ Some content → ¬ (Rose tree.count_before tree.count_after) → (answer : Result ListsGiven Error) → (finds : FindsLists given asked tree answer)
-      → (given_heard given asked finds.hearing ≡ None → ⊥) → given_heard given asked finds.hearing ≡ Some (Ok had)
-  lists_told tree told quiet answer finds heard =
-      let calls = lists_calls given asked finds.hearing in
-      let count = tree.count_before in
-      let after = tree.count_after in
-      let same : IsSameContent content count after lawful_calls calls = record {
-        tells = recursion_from_All (TellsContent content) lawful_calls has.tells;
-        says = recursion_from_All (Says content) calls (finds.made.says content told);
-        counts = finds.made.counts;
-      } in
-      (lists_same (IsSameContent content count after) (content_alike content count after quiet) given asked has.hearing finds.hearing had [] [] has.heard heard
-      (subst (λ one. IsSameContent content count after one (calls ++ [])) (sym (append-nil lawful_calls))
-      (subst (λ one. IsSameContent content count after lawful_calls one) (sym (append-nil calls)) same))).0

@@ -1,8 +1,11 @@
 pub mod AlikeLemmas
 pub mod CarriedLemmas
 pub mod FoundLemmas
+pub mod HeardAlike
+pub mod LawfulLemmas
 pub mod ManifestLemmas
 pub mod OwnLemmas
+pub mod PreludeLemmas
 pub mod SettledLemmas
 pub mod StopLemmas
 pub mod TurnLemmas

@@ -3,6 +3,7 @@ pub mod Complete
 pub mod Crates
 pub mod Found
 pub mod Given
+pub mod Lawful
 pub mod Manifest
 pub mod Prelude
 pub mod Settled

@@ -32,7 +32,7 @@ pub data ComesTo (given : CommandAsked) (tree : TreeSeen) (answer : Result Lists
   no_lists : given.command.options.uncarried ≡ None → (told : Option Content) (count : ℕ) (calls : List Call)
       → LooksAtManifest given.command.request.context.manifest_path (up_to tree told count calls) (Ok tt)
       → (error : Error) → FindsLists (handed_in given.command) given.own (from_there tree told count calls) (Err error) → answer ≡ Err error → ComesTo given tree answer
-  had : given.command.options.uncarried ≡ None → (told : Option Content) (count : ℕ) (calls : List Call)
+  lists_had : given.command.options.uncarried ≡ None → (told : Option Content) (count : ℕ) (calls : List Call)
       → LooksAtManifest given.command.request.context.manifest_path (up_to tree told count calls) (Ok tt)
       → (lists : ListsGiven) → FindsLists (handed_in given.command) given.own (from_there tree told count calls) (Ok lists) → answer ≡ Ok lists → ComesTo given tree answer
 
