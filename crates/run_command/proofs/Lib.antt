@@ -1,5 +1,6 @@
 pub mod AlikeLemmas
 pub mod CarriedLemmas
+pub mod CountLemmas
 pub mod FoundLemmas
 pub mod HeardAlike
 pub mod LawfulLemmas

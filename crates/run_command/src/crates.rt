@@ -119,13 +119,17 @@ pub fn crates_found<T: Tree, S: Sink, C: Catalog>(
     ensures later { S.fault_count err.old ≤ S.fault_count err.new }
 {
     let begun = tree.faults();
-    let LoadedPolicy {
-        licenses,
-        graph,
-        ..
-    } = policy_found(alloc, context, log_ctx, files, tree, err, catalog)?;
+    let loaded = policy_found(alloc, context, log_ctx, files, tree, err, catalog)?;
     let overrides = overrides_of(alloc, use_of.levels)?;
-    let krates = krates_left(alloc, context, use_of.with_flags, &graph, tree, begun)?;
+    let krates = krates_left(
+        alloc,
+        context,
+        use_of.with_flags,
+        &loaded.graph,
+        tree,
+        begun,
+    )?;
+    let LoadedPolicy { licenses, .. } = loaded;
     Ok(CratesFound {
         policy: at_threshold(use_of.threshold, licenses),
         overrides,

@@ -58,14 +58,14 @@ pub fn lists_of_request<'g, T: Tree, C: Catalog, I: Identifier>(
     ensures counts { IfErr result (λ error. ReadCounts
         (T.fault_count tree.old) (T.fault_count tree.old) (T.fault_count tree.new) (cause_of error)) }
 {
-    if let Some(what) = uncarried {
-        return Err(Error::NotCarried(what));
-    }
-    match look_at_manifest(alloc, tree, request.krate_ctx.manifest_path.as_path()) {
-        Err(error) => Err(error),
-        Ok(()) => match own_lists(alloc, tree, request, catalog, identifier) {
+    match uncarried {
+        Some(what) => Err(Error::NotCarried(what)),
+        None => match look_at_manifest(alloc, tree, request.krate_ctx.manifest_path.as_path()) {
             Err(error) => Err(error),
-            Ok(found) => Ok(found),
+            Ok(()) => match own_lists(alloc, tree, request, catalog, identifier) {
+                Err(error) => Err(error),
+                Ok(found) => Ok(found),
+            },
         },
     }
 }
