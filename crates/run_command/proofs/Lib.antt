@@ -1,3 +1,4 @@
+pub mod AbsentLemmas
 pub mod AlikeLemmas
 pub mod CarriedLemmas
 pub mod CountLemmas
