@@ -1,16 +1,16 @@
--- What a run is given, but for its files.
-use Rattle.std.specs.Prelude.{ℕ, List}
+-- What the run is given, but for its files.
+use Rattle.std.specs.Prelude.{ℕ, List, Option, Some, None}
 use Rattle.std.specs.declared.string.String.{String}
 use Rattle.spdx_catalog.specs.Catalog.{CatalogLists}
 use Rattle.spdx_catalog.specs.declared.identifier.Match.{Match}
-use Rattle.run_request.specs.declared.check.Args.{Args}
 use Rattle.run_request.specs.declared.request.Request.{Request}
+use Rattle.run_request.specs.declared.request.Subcommand.{Subcommand}
+use Rattle.run_request.specs.declared.request.Subcommand.TheVariants.{Check, List as Listing, Sample, Record, Verify}
 use Rattle.run_request.specs.Given.{texts}
-use Rattle.run_lists.specs.Given.{lists_asked, lists_given}
-use Rattle.run_check.specs.Given.{check_arguments_of}
-use Rattle.run_list.specs.Given.{list_arguments_of}
-use Rattle.run_request.specs.declared.list.Args.{Args as ListArgs}
-use Rattle.deny_run.specs.Own.{CheckAsked, CommandAsked, ListAsked}
+use Rattle.run_command.specs.Carried.{plain_options}
+use Rattle.run_command.specs.Given.{CommandAsked, CommandOptions, command_asked}
+use Rattle.run_check.specs.Given.{check_options}
+use Rattle.run_list.specs.Given.{list_options}
 
 -- the catalogue's lists, what the identifier says of each text, the words and the working folder
 pub record RunArguments : Type 0 where
@@ -22,17 +22,14 @@ pub record RunArguments : Type 0 where
 abbrev pub run_arguments_of : {A : Type 0} → CatalogLists → (List ℕ → Match) → List (String A) → List ℕ → RunArguments
 run_arguments_of lists match_of words cwd = record { lists = lists; match_of = match_of; words = texts words; cwd = cwd }
 
--- the check of a request
-abbrev pub check_asked : CatalogLists → (List ℕ → Match) → Request → Args → CheckAsked
-check_asked lists match_of request args =
-    record { check = check_arguments_of lists match_of request.log_ctx args request.krate_ctx; own = lists_asked request.catalog request.store }
+-- in what the command of a request differs from the others; a sample is over no crates of a request
+abbrev pub options_of : Request → Subcommand → Option CommandOptions
+options_of request (Check args) = Some (check_options request.log_ctx args request.krate_ctx)
+options_of request (Listing args) = Some (list_options request.log_ctx args request.krate_ctx)
+options_of request (Sample size) = None
+options_of request Record = Some (plain_options request.log_ctx request.krate_ctx)
+options_of request (Verify path) = Some (plain_options request.log_ctx request.krate_ctx)
 
--- its listing
-abbrev pub list_asked : CatalogLists → (List ℕ → Match) → Request → ListArgs → ListAsked
-list_asked lists match_of request args =
-    record { list = list_arguments_of lists match_of request.log_ctx args request.krate_ctx; own = lists_asked request.catalog request.store }
-
--- what it asks of a command without options of its own
-abbrev pub command_asked : CatalogLists → (List ℕ → Match) → Request → CommandAsked
-command_asked lists match_of request =
-    record { log = request.log_ctx; context = request.krate_ctx; handed = lists_given lists match_of; own = lists_asked request.catalog request.store }
+-- what a request asks of a command with these options
+abbrev pub asked_of : RunArguments → Request → CommandOptions → CommandAsked
+asked_of given request options = command_asked given.lists given.match_of request options

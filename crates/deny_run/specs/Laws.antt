@@ -1,38 +1,47 @@
 -- What the log level changes: which findings are written, and nothing of what is asked, heard and reported, nor of the status.
-use Rattle.std.specs.Prelude.{◌≡◌, ℕ}
+use Rattle.std.specs.Prelude.{◌≡◌, ℕ, All}
 use Rattle.tree_core.specs.Content.{Content}
 use Rattle.diag_core.specs.declared.severity.LevelFilter.{LevelFilter}
-use Rattle.run_found.specs.Hearing.{TreeSeen}
+use Rattle.run_found.specs.Hearing.{TellsContent, TreeSeen}
+use Rattle.run_lists.specs.Given.{ListsGiven}
+use Rattle.run_command.specs.Given.{CommandArguments, CommandAsked, command_by}
+use Rattle.run_command.specs.Lawful.{CommandHearing, ComesBy, HasBegun, IsRunHeard, run_calls}
 use Rattle.run_check.specs.declared.report.Report.{Report}
-use Rattle.run_check.specs.Given.{CheckArguments}
+use Rattle.run_check.specs.Report.{IsReport}
 use Rattle.deny_run.specs.declared.outcome.RunEnd.TheVariants.{Checked}
-use Rattle.deny_run.specs.Headline.{IsHeardOf}
-use Rattle.deny_run.specs.Hearing.{IsRunHearing, RunHearing}
-use Rattle.deny_run.specs.Own.{CheckAsked}
-use Rattle.deny_run.specs.Report.{IsRunReport}
 use Rattle.deny_run.specs.Run.{exit_status}
 
--- the same check at another level
-abbrev pub check_at : LevelFilter → CheckArguments → CheckArguments
-check_at level given = record given { request = record given.request { log = record given.request.log { log_level = level } } }
+-- the same command at another level
+abbrev pub command_at : LevelFilter → CommandArguments → CommandArguments
+command_at level given = record given { request = record given.request { log = record given.request.log { log_level = level } } }
 
-abbrev pub at_level : LevelFilter → CheckAsked → CheckAsked
-at_level level given = record given { check = check_at level given.check }
+abbrev pub at_level : LevelFilter → CommandAsked → CommandAsked
+at_level level given = record given { command = command_at level given.command }
+
+-- what was heard, and the report by that
+pub record IsReported (given : CommandAsked) (hearing : CommandHearing) (had : ListsGiven) (report : Report) : Type 0 where
+  pub comes : ComesBy given hearing had
+  pub is : IsReport (command_by given.command had) hearing.found report
+
+-- what is heard of a content, where no call fails and no memory is wanting
+pub record IsHeardOf (given : CommandAsked) (content : Content) (count : ℕ) (hearing : CommandHearing) (had : ListsGiven) : Type 0 where
+  pub begun : HasBegun hearing count
+  pub tells : All (TellsContent content) (run_calls given hearing had)
 
 -- the calls of a run are those that are due at each level, and its report is the one that is asked for at each, with its counts and so
 -- its status
 abbrev pub LevelChangesNoReport : Type 0
 LevelChangesNoReport =
-    (given : CheckAsked) (level : LevelFilter) (tree : TreeSeen) (hearing : RunHearing) (report : Report)
-    → IsRunHearing given tree hearing → IsRunReport given hearing report
-    → IsRunHearing (at_level level given) tree hearing × IsRunReport (at_level level given) hearing report
+    (given : CommandAsked) (level : LevelFilter) (tree : TreeSeen) (hearing : CommandHearing) (had : ListsGiven) (report : Report)
+    → IsRunHeard given tree hearing had → IsReported given hearing had report
+    → IsRunHeard (at_level level given) tree hearing had × IsReported (at_level level given) hearing had report
 
 -- Two runs over equal content, where no call failed and no memory was wanting, that differ in the level of the log alone and both end
 -- with a report have equal statuses.
 abbrev pub LevelKeepsStatus : Type 0
 LevelKeepsStatus =
-    (given : CheckAsked) (level : LevelFilter) (content : Content) (count : ℕ)
-    (one other : RunHearing) (report more : Report)
-    → IsHeardOf given content count one → IsRunReport given one report
-    → IsHeardOf (at_level level given) content count other → IsRunReport (at_level level given) other more
+    (given : CommandAsked) (level : LevelFilter) (content : Content) (count : ℕ)
+    (one other : CommandHearing) (had own : ListsGiven) (report more : Report)
+    → IsHeardOf given content count one had → IsReported given one had report
+    → IsHeardOf (at_level level given) content count other own → IsReported (at_level level given) other own more
     → exit_status (Checked report) ≡ exit_status (Checked more)

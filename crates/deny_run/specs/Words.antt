@@ -1,17 +1,18 @@
 -- What a run over words comes to that have no request: help and the version are shown, mistakes are told, and no call is made.
-use Rattle.std.specs.Prelude.{◌≡◌, ◌⊎◌, ℕ, true, List, [], Some, None}
-use Rattle.tree_core.specs.Faults.{Rose, Gained, GainedPrefix}
-use Rattle.tree_core.specs.Script.{FaultCounts, LineWritten, SinkTexts}
+use Rattle.std.specs.Prelude.{◌≡◌, ◌⊎◌, ℕ, true, false, List, Option, Some, None, Result, Ok, Err}
+use Rattle.tree_core.specs.Faults.{Gained}
 use Rattle.tree_texts.specs.Cause.{Cause, no_memory, refused_write}
 use Rattle.run_request.specs.declared.request.Request.{Request}
 use Rattle.run_request.specs.Given.{Takes, may_refuse, may_show, word_faults}
 use Rattle.run_request.specs.Request.{gate_words, request_in}
+use Rattle.run_found.specs.declared.error.Error.{Error}
 use Rattle.run_found.specs.declared.error.Error.TheVariants.{Memory, WriteFault}
-use Rattle.run_found.specs.Error.{cause_of, fault_line}
-use Rattle.run_found.specs.Hearing.{MadeOn, TreeSeen}
+use Rattle.run_found.specs.Error.{cause_of}
+use Rattle.run_found.specs.Written.{IsRefusedIn, IsSilent, SinkSeen}
 use Rattle.deny_run.specs.declared.outcome.RunEnd.{RunEnd}
-use Rattle.deny_run.specs.declared.outcome.RunEnd.TheVariants.{Checked, Listed, Sampled, Recorded, Verified, Shown, Usage, Refused}
+use Rattle.deny_run.specs.declared.outcome.RunEnd.TheVariants.{Shown, Usage, Refused}
 use Rattle.deny_run.specs.Given.{RunArguments}
+use Rattle.deny_run.specs.Seen.{HasLine, IsStill, RunSeen}
 
 -- the words are taken, and ask for this
 pub record HasRequest (given : RunArguments) (request : Request) : Type 0 where
@@ -28,55 +29,48 @@ MayRefuse given =
     (may_refuse (word_faults (gate_words given.words)) ≡ true)
     ⊎ (Takes (gate_words given.words) × (request_in (gate_words given.words) given.cwd ≡ None))
 
--- no call was made on the tree, and it is as before
-abbrev pub IsUntouched : TreeSeen → Type 0
-IsUntouched tree = MadeOn tree []
+-- the write of a text was refused, of which a prefix was written
+abbrev pub IsUnshown : SinkSeen → List ℕ → Error → Type 0
+IsUnshown sink text (WriteFault before after) = IsRefusedIn sink text before after
+IsUnshown sink text _ = ⊥
 
--- some text was written to `out`, and nothing to `err`
-pub record ShowsText (old new : SinkTexts) : Type 0 where
-  pub text : List ℕ
-  pub out : Gained old.out new.out text
-  pub err : new.err ≡ old.err
+-- The answer to words that have no request, of which the line of a refusal is not written yet: some text was shown on `out`; or `out`
+-- refused a write of it; or some text was told on `err`, or a prefix of it where `err` refused, which changes nothing in the answer; or
+-- memory was wanting before anything was written.
+pub data AnswersNone (given : RunArguments) (seen : RunSeen) (answer : Result RunEnd Error) : Type 0 where
+  shown : MayShow given → (text : List ℕ) → Gained seen.out.old seen.out.new text → IsStill seen.err → answer ≡ Ok Shown → AnswersNone given seen answer
+  unshown : MayShow given → (text : List ℕ) (error : Error) → IsUnshown seen.out text error → IsStill seen.err → answer ≡ Err error → AnswersNone given seen answer
+  mistaken : MayRefuse given → (text : List ℕ) → HasLine seen.err text → IsSilent seen.out → answer ≡ Ok Usage → AnswersNone given seen answer
+  lost : IsSilent seen.out → IsStill seen.err → answer ≡ Err Memory → AnswersNone given seen answer
 
--- `out` refused a write of some text, of which it has a front; the line of the refusal stands on `err`
-pub record ShowsFront (counts : FaultCounts) (old new : SinkTexts) (before after : ℕ) : Type 0 where
-  pub text : List ℕ
-  pub out : GainedPrefix old.out new.out text
-  pub begun : before ≡ counts.out_before
-  pub behind : after ≡ counts.out_after
-  pub rose : Rose before after
-  pub line : LineWritten old.err new.err counts.err_before counts.err_after (fault_line (WriteFault before after))
+-- ---- completeness: but for want of memory, and for a refused write of help
 
--- the end of what is shown: it was written, or the write was refused
-abbrev pub EndsShown : FaultCounts → SinkTexts → SinkTexts → RunEnd → Type 0
-EndsShown counts old new Shown = ShowsText old new
-EndsShown counts old new (Refused (WriteFault before after)) = ShowsFront counts old new before after
-EndsShown counts old new _ = ⊥
+-- words that are taken and ask for something have it told
+abbrev pub AnswersRequest : RunArguments → Option Request → RunEnd → Type 0
+AnswersRequest given told ended = (request : Request) → HasRequest given request → (told ≡ Some request) ⊎ (ended ≡ Refused Memory)
 
--- some text was written to `err`, or where that refused a write a front of it, which changes nothing in the answer; and nothing to `out`
-pub record TellsUsage (counts : FaultCounts) (old new : SinkTexts) : Type 0 where
-  pub text : List ℕ
-  pub err : LineWritten old.err new.err counts.err_before counts.err_after text
-  pub out : new.out ≡ old.out
+abbrev pub IsShownBy : Cause → Type 0
+IsShownBy no_memory = Unit {0}
+IsShownBy (refused_write before after) = Unit {0}
+IsShownBy _ = ⊥
 
--- memory was wanting before anything was written but the line of the refusal
-pub record TellsMemory (counts : FaultCounts) (old new : SinkTexts) : Type 0 where
-  pub out : new.out ≡ old.out
-  pub line : LineWritten old.err new.err counts.err_before counts.err_after (fault_line Memory)
+-- help was shown, or memory was wanting, or the write was refused
+abbrev pub EndsHelp : RunEnd → Type 0
+EndsHelp ended = (ended ≡ Shown) ⊎ ((error : Error) × (ended ≡ Refused error) × IsShownBy (cause_of error))
 
--- what is refused without a request: for want of memory, or since `out` refused what is shown
-abbrev pub IsLost : RunArguments → FaultCounts → SinkTexts → SinkTexts → Cause → Type 0
-IsLost given counts old new no_memory = TellsMemory counts old new
-IsLost given counts old new (refused_write before after) = MayShow given × ShowsFront counts old new before after
-IsLost given counts old new _ = ⊥
+-- words that can be taken for nothing but a call for help or the version have it shown
+abbrev pub AnswersHelp : RunArguments → Option Request → RunEnd → Type 0
+AnswersHelp given told ended =
+    may_show (word_faults (gate_words given.words)) ≡ true → may_refuse (word_faults (gate_words given.words)) ≡ false → (told ≡ None) × EndsHelp ended
 
--- The end of a run over words that have no request.
-abbrev pub IsEndOfWords : RunArguments → FaultCounts → SinkTexts → SinkTexts → RunEnd → Type 0
-IsEndOfWords given counts old new (Checked report) = ⊥
-IsEndOfWords given counts old new (Listed reads) = ⊥
-IsEndOfWords given counts old new (Sampled report) = ⊥
-IsEndOfWords given counts old new (Recorded reads) = ⊥
-IsEndOfWords given counts old new (Verified crates) = ⊥
-IsEndOfWords given counts old new Shown = MayShow given × ShowsText old new
-IsEndOfWords given counts old new Usage = MayRefuse given × TellsUsage counts old new
-IsEndOfWords given counts old new (Refused error) = IsLost given counts old new (cause_of error)
+-- words that can be taken for nothing but a mistake, and words that are taken and ask for nothing, are refused
+abbrev pub AnswersMistake : RunArguments → RunEnd → Type 0
+AnswersMistake given ended =
+    may_show (word_faults (gate_words given.words)) ≡ false
+    → (may_refuse (word_faults (gate_words given.words)) ≡ true) ⊎ (request_in (gate_words given.words) given.cwd ≡ None)
+    → (ended ≡ Usage) ⊎ (ended ≡ Refused Memory)
+
+pub record AnswersWords (given : RunArguments) (told : Option Request) (ended : RunEnd) : Type 0 where
+  pub request : AnswersRequest given told ended
+  pub help : AnswersHelp given told ended
+  pub mistake : AnswersMistake given ended

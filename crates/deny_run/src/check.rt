@@ -1,20 +1,19 @@
-//! The check of a request.
-ghost use Rattle.std.specs.Prelude.{◌≡◌, ◌≢◌, ◌≤◌, Err, IfErr, None, Some};
-ghost use Rattle.tree_texts.specs.declared.fault.ReadFault.{ReadFault};
+//! The command `check` of a request.
+ghost use Rattle.std.specs.Prelude.{◌≡◌, ◌≤◌, None, IfErr};
 ghost use Rattle.tree_texts.specs.Cause.{ReadCounts};
-ghost use Rattle.graph_workspace.specs.declared.error.What.{What};
 ghost use Rattle.run_found.specs.Error.{cause_of};
-ghost use Rattle.run_check.specs.Carried.{uncarried_of};
-ghost use Rattle.run_check.specs.Report.{LabelsLie};
-ghost use Rattle.deny_run.specs.Given.{check_asked};
-ghost use Rattle.deny_run.specs.Script.{WritesFirst, counts_between, sink_texts};
-ghost use Rattle.deny_run.specs.Words.{IsUntouched};
 ghost use Rattle.run_found.specs.Hearing.{seen_between};
+ghost use Rattle.run_found.specs.Written.{sink_between};
+ghost use Rattle.run_command.specs.Given.{command_asked};
+ghost use Rattle.run_command.specs.Prelude.{Runs};
+ghost use Rattle.run_check.specs.Carried.{uncarried_of};
+ghost use Rattle.run_check.specs.Given.{check_arguments_of, check_options};
+ghost use Rattle.run_check.specs.Report.{LabelsLie};
+ghost use Rattle.deny_run.specs.Check.{Checks};
 
-use crate::manifest::look_at_manifest;
-use crate::own::own_lists;
 use crate::summary::write_summary;
 use run_check::{Report, check_since, uncarried_in};
+use run_command::lists_of_request;
 use run_found::Error;
 use run_request::Request;
 use run_request::check::Args;
@@ -22,44 +21,9 @@ use spdx_core::{Catalog, Identifier};
 use std::alloc::Global;
 use tree_core::{Sink, Tree};
 
-/// The report that a request for a check asks for: the manifest is looked at, then an organisation's own names and
-/// texts are read, where some are asked for, and then the check runs. What is told of the policy's load and what was
-/// found goes to `err`, and the summary to its sink.
-pub fn check_request<T: Tree, O: Sink, E: Sink, C: Catalog, I: Identifier>(
-    alloc: Global,
-    request: &Request,
-    args: &Args,
-    tree: &mut T,
-    out: &mut O,
-    err: &mut E,
-    catalog: &C,
-    identifier: &I,
-) -> Result<Report, Error>
-    ensures policy { result ≢ Err (Error.ConfigRead ReadFault.Absent) }
-    ensures counts { IfErr result (λ error. ReadCounts
-        (T.fault_count tree.old) (T.fault_count tree.old) (T.fault_count tree.new) (cause_of error)) }
-    ensures written { WritesFirst
-        (check_asked (C.lists catalog.now) (I.match_of identifier.now) request.now args.now)
-        (seen_between T.content T.fault_count T.trace tree.old tree.new)
-        (counts_between T.fault_count O.fault_count E.fault_count tree.old out.old err.old tree.new out.new err.new)
-        (sink_texts O.written E.written out.old err.old)
-        (sink_texts O.written E.written out.new err.new)
-        result }
-    ensures uncarried { (what : What) → uncarried_of request.now.log_ctx args.now request.now.krate_ctx ≡ Some what
-        → (result ≡ Err (Error.NotCarried what)) × IsUntouched
-        (seen_between T.content T.fault_count T.trace tree.old tree.new) }
-    ensures labels { LabelsLie result }
-    ensures out_later { O.fault_count out.old ≤ O.fault_count out.new }
-    ensures err_later { E.fault_count err.old ≤ E.fault_count err.new }
-{
-    if let Some(what) = uncarried_in(request.log_ctx, args, &request.krate_ctx) {
-        return Err(Error::NotCarried(what));
-    }
-    check_carried(alloc, request, args, tree, out, err, catalog, identifier)
-}
-
-/// The same of a request all of which is carried.
-fn check_carried<T: Tree, O: Sink, E: Sink, C: Catalog, I: Identifier>(
+/// The report of a check by some names and texts, all of whose request is carried, with what was found on `err`, and
+/// then its summary on its sink.
+fn check_by<T: Tree, O: Sink, E: Sink, C: Catalog, I: Identifier>(
     alloc: Global,
     request: &Request,
     args: &Args,
@@ -70,49 +34,84 @@ fn check_carried<T: Tree, O: Sink, E: Sink, C: Catalog, I: Identifier>(
     identifier: &I,
 ) -> Result<Report, Error>
     requires { uncarried_of request.now.log_ctx args.now request.now.krate_ctx ≡ None }
-    ensures policy { result ≢ Err (Error.ConfigRead ReadFault.Absent) }
+    ensures checks { Checks args.now.show_stats
+        (sink_between O.written O.fault_count out.old out.new)
+        (sink_between E.written E.fault_count err.old err.new)
+        (check_arguments_of (C.lists catalog.now) (I.match_of identifier.now) request.now.log_ctx args.now request.now.krate_ctx)
+        (seen_between T.content T.fault_count T.trace tree.old tree.new) result }
+    ensures labels { LabelsLie result }
     ensures counts { IfErr result (λ error. ReadCounts
         (T.fault_count tree.old) (T.fault_count tree.old) (T.fault_count tree.new) (cause_of error)) }
-    ensures written { WritesFirst
-        (check_asked (C.lists catalog.now) (I.match_of identifier.now) request.now args.now)
-        (seen_between T.content T.fault_count T.trace tree.old tree.new)
-        (counts_between T.fault_count O.fault_count E.fault_count tree.old out.old err.old tree.new out.new err.new)
-        (sink_texts O.written E.written out.old err.old)
-        (sink_texts O.written E.written out.new err.new)
-        result }
-    ensures labels { LabelsLie result }
     ensures out_later { O.fault_count out.old ≤ O.fault_count out.new }
     ensures err_later { E.fault_count err.old ≤ E.fault_count err.new }
 {
     let begun = err.faults();
-    match look_at_manifest(alloc, tree, request.krate_ctx.manifest_path.as_path()) {
+    let log_ctx = request.log_ctx;
+    match check_since(
+        alloc,
+        tree,
+        err,
+        catalog,
+        identifier,
+        log_ctx,
+        args,
+        &request.krate_ctx,
+    ) {
         Err(error) => Err(error),
-        Ok(()) => match own_lists(alloc, tree, request, catalog, identifier) {
+        Ok(report) => match write_summary(
+            alloc,
+            &report,
+            args.show_stats,
+            log_ctx,
+            out,
+            err,
+            begun,
+        ) {
+            Ok(()) => Ok(report),
             Err(error) => Err(error),
-            Ok(found) => match check_since(
-                alloc,
-                tree,
-                err,
-                &found.catalog,
-                &found.identifier,
-                request.log_ctx,
-                args,
-                &request.krate_ctx,
-            ) {
-                Err(error) => Err(error),
-                Ok(report) => match write_summary(
-                    alloc,
-                    &report,
-                    args.show_stats,
-                    request.log_ctx,
-                    out,
-                    err,
-                    begun,
-                ) {
-                    Ok(()) => Ok(report),
-                    Err(error) => Err(error),
-                },
-            },
         },
+    }
+}
+
+/// The report that a request for a check asks for, behind what comes before it. What is told of the policy's load and
+/// what was found goes to `err`, and the summary to its sink.
+pub(crate) fn check_request<T: Tree, O: Sink, E: Sink, C: Catalog, I: Identifier>(
+    alloc: Global,
+    request: &Request,
+    args: &Args,
+    tree: &mut T,
+    out: &mut O,
+    err: &mut E,
+    catalog: &C,
+    identifier: &I,
+) -> Result<Report, Error>
+    ensures runs { Runs
+        (command_asked (C.lists catalog.now) (I.match_of identifier.now) request.now
+        (check_options request.now.log_ctx args.now request.now.krate_ctx))
+        (Checks args.now.show_stats
+        (sink_between O.written O.fault_count out.old out.new)
+        (sink_between E.written E.fault_count err.old err.new))
+        (seen_between T.content T.fault_count T.trace tree.old tree.new)
+        (sink_between E.written E.fault_count err.old err.new)
+        (sink_between O.written O.fault_count out.old out.new) result }
+    ensures labels { LabelsLie result }
+    ensures counts { IfErr result (λ error. ReadCounts
+        (T.fault_count tree.old) (T.fault_count tree.old) (T.fault_count tree.new) (cause_of error)) }
+    ensures out_later { O.fault_count out.old ≤ O.fault_count out.new }
+    ensures err_later { E.fault_count err.old ≤ E.fault_count err.new }
+{
+    let uncarried = uncarried_in(request.log_ctx, args, &request.krate_ctx);
+    match lists_of_request(alloc, tree, request, uncarried, catalog, identifier) {
+        Err(error) => Err(error),
+        Ok(found) => check_by(
+            alloc,
+            request,
+            args,
+            tree,
+            out,
+            err,
+            &found.catalog,
+            &found.identifier,
+        ),
     }
 }

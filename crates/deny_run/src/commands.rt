@@ -1,82 +1,69 @@
-//! The commands without options of their own: what comes before them, and the two commands of a verdict file.
-ghost use Rattle.std.specs.Prelude.{◌≡◌, ◌≢◌, ◌≤◌, Err, IfErr, None, Some};
-ghost use Rattle.tree_texts.specs.declared.fault.ReadFault.{ReadFault};
+//! The commands `list`, `record` and `verify` of a request, behind what comes before each.
+ghost use Rattle.std.specs.Prelude.{◌≤◌, IfErr};
 ghost use Rattle.tree_texts.specs.Cause.{ReadCounts};
-ghost use Rattle.graph_workspace.specs.declared.error.What.{What};
 ghost use Rattle.run_found.specs.Error.{cause_of};
-ghost use Rattle.run_lists.specs.Found.{found_answer};
-ghost use Rattle.run_list.specs.Carried.{uncarried_of};
-ghost use Rattle.deny_run.specs.Commands.{ComesTo, RecordsRun, VerifiesRun};
-ghost use Rattle.deny_run.specs.Given.{command_asked};
-ghost use Rattle.deny_run.specs.Words.{IsUntouched};
-ghost use Rattle.run_found.specs.Hearing.{seen_between, HasMade};
-ghost use Rattle.run_list.specs.Script.{sink_between};
+ghost use Rattle.run_found.specs.Hearing.{seen_between};
+ghost use Rattle.run_found.specs.Written.{sink_between};
+ghost use Rattle.run_command.specs.Carried.{plain_options};
+ghost use Rattle.run_command.specs.Given.{command_asked};
+ghost use Rattle.run_command.specs.Prelude.{Runs};
+ghost use Rattle.run_list.specs.Given.{list_options};
+ghost use Rattle.deny_run.specs.Ends.{ListsAs, RecordsAs, VerifiesAs};
 
-use crate::manifest::look_at_manifest;
-use crate::own::own_lists;
+use run_command::{lists_of_request, uncarried_in};
 use run_found::{CrateReads, Error};
-use run_list::uncarried_in;
-use run_lists::ListsFound;
+use run_list::list_since;
 use run_record::{VerifiedCrates, record_since, verify_since};
 use run_request::Request;
+use run_request::list::Args;
 use spdx_core::{Catalog, Identifier};
 use std::alloc::Global;
 use tree_core::{Sink, Tree};
 
-/// What comes before a command: the manifest is looked at, and then an organisation's own names and texts are read,
-/// where some are asked for. Those that the command goes by are answered.
-fn lists_of_request<'g, T: Tree, C: Catalog, I: Identifier>(
+/// The crates of a request are listed on `out`; what is told of the policy's load goes to `err`.
+pub(crate) fn list_request<T: Tree, O: Sink, E: Sink, C: Catalog, I: Identifier>(
     alloc: Global,
-    tree: &mut T,
     request: &Request,
-    catalog: &'g C,
-    identifier: &'g I,
-) -> Result<ListsFound<'g, C, I>, Error>
-    ensures comes { ComesTo
-        (command_asked (C.lists catalog.now) (I.match_of identifier.now) request.now)
+    args: Args,
+    tree: &mut T,
+    out: &mut O,
+    err: &mut E,
+    catalog: &C,
+    identifier: &I,
+) -> Result<CrateReads, Error>
+    ensures runs { Runs
+        (command_asked (C.lists catalog.now) (I.match_of identifier.now) request.now
+        (list_options request.now.log_ctx args request.now.krate_ctx))
+        (ListsAs args
+        (sink_between O.written O.fault_count out.old out.new)
+        (sink_between E.written E.fault_count err.old err.new))
         (seen_between T.content T.fault_count T.trace tree.old tree.new)
-        (found_answer C.lists I.match_of result) }
-    ensures policy { IfErr result (λ error. error ≢ Error.ConfigRead ReadFault.Absent) }
-    ensures uncarried { (what : What) → uncarried_of request.now.log_ctx request.now.krate_ctx ≡ Some what
-        → (result ≡ Err (Error.NotCarried what)) × IsUntouched
-        (seen_between T.content T.fault_count T.trace tree.old tree.new) }
+        (sink_between E.written E.fault_count err.old err.new)
+        (sink_between O.written O.fault_count out.old out.new) result }
     ensures counts { IfErr result (λ error. ReadCounts
         (T.fault_count tree.old) (T.fault_count tree.old) (T.fault_count tree.new) (cause_of error)) }
+    ensures out_later { O.fault_count out.old ≤ O.fault_count out.new }
+    ensures err_later { E.fault_count err.old ≤ E.fault_count err.new }
 {
-    if let Some(what) = uncarried_in(request.log_ctx, &request.krate_ctx) {
-        return Err(Error::NotCarried(what));
-    }
-    lists_carried(alloc, tree, request, catalog, identifier)
-}
-
-/// The same of a request all of which is carried.
-fn lists_carried<'g, T: Tree, C: Catalog, I: Identifier>(
-    alloc: Global,
-    tree: &mut T,
-    request: &Request,
-    catalog: &'g C,
-    identifier: &'g I,
-) -> Result<ListsFound<'g, C, I>, Error>
-    requires { uncarried_of request.now.log_ctx request.now.krate_ctx ≡ None }
-    ensures comes { ComesTo
-        (command_asked (C.lists catalog.now) (I.match_of identifier.now) request.now)
-        (seen_between T.content T.fault_count T.trace tree.old tree.new)
-        (found_answer C.lists I.match_of result) }
-    ensures policy { IfErr result (λ error. error ≢ Error.ConfigRead ReadFault.Absent) }
-    ensures counts { IfErr result (λ error. ReadCounts
-        (T.fault_count tree.old) (T.fault_count tree.old) (T.fault_count tree.new) (cause_of error)) }
-{
-    match look_at_manifest(alloc, tree, request.krate_ctx.manifest_path.as_path()) {
+    let uncarried = uncarried_in(request.log_ctx, &request.krate_ctx);
+    match lists_of_request(alloc, tree, request, uncarried, catalog, identifier) {
         Err(error) => Err(error),
-        Ok(()) => match own_lists(alloc, tree, request, catalog, identifier) {
-            Err(error) => Err(error),
-            Ok(found) => Ok(found),
-        },
+        Ok(found) => list_since(
+            alloc,
+            tree,
+            out,
+            err,
+            &found.catalog,
+            &found.identifier,
+            request.log_ctx,
+            args,
+            &request.krate_ctx,
+        ),
     }
 }
 
 /// The verdicts on the crates of a request are written to `out`, and what is told of the policy's load to `err`.
-pub fn record_request<T: Tree, O: Sink, E: Sink, C: Catalog, I: Identifier>(
+pub(crate) fn record_request<T: Tree, O: Sink, E: Sink, C: Catalog, I: Identifier>(
     alloc: Global,
     request: &Request,
     tree: &mut T,
@@ -85,23 +72,22 @@ pub fn record_request<T: Tree, O: Sink, E: Sink, C: Catalog, I: Identifier>(
     catalog: &C,
     identifier: &I,
 ) -> Result<CrateReads, Error>
-    ensures policy { result ≢ Err (Error.ConfigRead ReadFault.Absent) }
-    ensures made { HasMade (seen_between T.content T.fault_count T.trace tree.old tree.new) }
-    ensures counts { IfErr result (λ error. ReadCounts
-        (T.fault_count tree.old) (T.fault_count tree.old) (T.fault_count tree.new) (cause_of error)) }
-    ensures runs { RecordsRun
-        (command_asked (C.lists catalog.now) (I.match_of identifier.now) request.now)
+    ensures runs { Runs
+        (command_asked (C.lists catalog.now) (I.match_of identifier.now) request.now
+        (plain_options request.now.log_ctx request.now.krate_ctx))
+        (RecordsAs
+        (sink_between O.written O.fault_count out.old out.new)
+        (sink_between E.written E.fault_count err.old err.new))
         (seen_between T.content T.fault_count T.trace tree.old tree.new)
         (sink_between E.written E.fault_count err.old err.new)
-        (sink_between O.written O.fault_count out.old out.new)
-        result }
-    ensures uncarried { (what : What) → uncarried_of request.now.log_ctx request.now.krate_ctx ≡ Some what
-        → (result ≡ Err (Error.NotCarried what)) × IsUntouched
-        (seen_between T.content T.fault_count T.trace tree.old tree.new) }
+        (sink_between O.written O.fault_count out.old out.new) result }
+    ensures counts { IfErr result (λ error. ReadCounts
+        (T.fault_count tree.old) (T.fault_count tree.old) (T.fault_count tree.new) (cause_of error)) }
     ensures out_later { O.fault_count out.old ≤ O.fault_count out.new }
     ensures err_later { E.fault_count err.old ≤ E.fault_count err.new }
 {
-    match lists_of_request(alloc, tree, request, catalog, identifier) {
+    let uncarried = uncarried_in(request.log_ctx, &request.krate_ctx);
+    match lists_of_request(alloc, tree, request, uncarried, catalog, identifier) {
         Err(error) => Err(error),
         Ok(found) => record_since(
             alloc,
@@ -118,7 +104,7 @@ pub fn record_request<T: Tree, O: Sink, E: Sink, C: Catalog, I: Identifier>(
 
 /// It is told on `out` whether the verdict file at a path is right about the crates of a request; what is told of
 /// the policy's load goes to `err`.
-pub fn verify_request<T: Tree, O: Sink, E: Sink, C: Catalog, I: Identifier>(
+pub(crate) fn verify_request<T: Tree, O: Sink, E: Sink, C: Catalog, I: Identifier>(
     alloc: Global,
     request: &Request,
     path: &str,
@@ -128,23 +114,22 @@ pub fn verify_request<T: Tree, O: Sink, E: Sink, C: Catalog, I: Identifier>(
     catalog: &C,
     identifier: &I,
 ) -> Result<VerifiedCrates, Error>
-    ensures policy { result ≢ Err (Error.ConfigRead ReadFault.Absent) }
-    ensures made { HasMade (seen_between T.content T.fault_count T.trace tree.old tree.new) }
-    ensures counts { IfErr result (λ error. ReadCounts
-        (T.fault_count tree.old) (T.fault_count tree.old) (T.fault_count tree.new) (cause_of error)) }
-    ensures runs { VerifiesRun
-        (command_asked (C.lists catalog.now) (I.match_of identifier.now) request.now) path.now
+    ensures runs { Runs
+        (command_asked (C.lists catalog.now) (I.match_of identifier.now) request.now
+        (plain_options request.now.log_ctx request.now.krate_ctx))
+        (VerifiesAs path.now
+        (sink_between O.written O.fault_count out.old out.new)
+        (sink_between E.written E.fault_count err.old err.new))
         (seen_between T.content T.fault_count T.trace tree.old tree.new)
         (sink_between E.written E.fault_count err.old err.new)
-        (sink_between O.written O.fault_count out.old out.new)
-        result }
-    ensures uncarried { (what : What) → uncarried_of request.now.log_ctx request.now.krate_ctx ≡ Some what
-        → (result ≡ Err (Error.NotCarried what)) × IsUntouched
-        (seen_between T.content T.fault_count T.trace tree.old tree.new) }
+        (sink_between O.written O.fault_count out.old out.new) result }
+    ensures counts { IfErr result (λ error. ReadCounts
+        (T.fault_count tree.old) (T.fault_count tree.old) (T.fault_count tree.new) (cause_of error)) }
     ensures out_later { O.fault_count out.old ≤ O.fault_count out.new }
     ensures err_later { E.fault_count err.old ≤ E.fault_count err.new }
 {
-    match lists_of_request(alloc, tree, request, catalog, identifier) {
+    let uncarried = uncarried_in(request.log_ctx, &request.krate_ctx);
+    match lists_of_request(alloc, tree, request, uncarried, catalog, identifier) {
         Err(error) => Err(error),
         Ok(found) => verify_since(
             alloc,

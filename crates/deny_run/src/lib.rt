@@ -1,13 +1,11 @@
 //! The run of the licence gate: from words and files to verdicts, a summary and a status.
 #![tactic(auto)]
 
+pub mod answer;
 mod check;
 mod commands;
 pub mod laws;
-mod listing;
-mod manifest;
 pub mod outcome;
-mod own;
 pub mod run;
 mod summary;
 mod words;

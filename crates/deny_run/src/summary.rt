@@ -1,9 +1,10 @@
 //! The summary of a report.
 ghost use Rattle.std.specs.Prelude.{◌≡◌, ◌≤◌, IfErr, OnOk};
 ghost use Rattle.tree_core.specs.Script.{Gains};
-ghost use Rattle.diag_stats.specs.Summary.{sink_counts, summary_of, target_of};
+ghost use Rattle.diag_stats.specs.Summary.{summary_of, target_of};
 ghost use Rattle.run_found.specs.Error.{cause_of};
-ghost use Rattle.deny_run.specs.Script.{CutsSummary, by_target, sink_texts};
+ghost use Rattle.run_found.specs.Written.{sink_between, sink_seen};
+ghost use Rattle.deny_run.specs.Check.{CutsSummary, by_target, texts_before, texts_behind};
 
 use diag_print::{Format, LogContext, PrintError};
 use diag_stats::print_stats;
@@ -35,13 +36,16 @@ pub(crate) fn write_summary<O: Sink, E: Sink>(
 ) -> Result<(), Error>
     requires { begun ≤ E.fault_count err.old }
     ensures ok { OnOk result (Gains
-        (sink_texts O.written E.written out.old err.old)
-        (sink_texts O.written E.written out.new err.new)
+        (texts_before (sink_between O.written O.fault_count out.old out.new)
+        (sink_between E.written E.fault_count err.old err.new))
+        (texts_behind (sink_between O.written O.fault_count out.old out.new)
+        (sink_between E.written E.fault_count err.old err.new))
         (summary_of log_ctx.format log_ctx.log_level show_stats report.now.stats)) }
-    ensures err { IfErr result (λ error. CutsSummary
-        (sink_counts (O.fault_count out.old) (O.fault_count out.new) begun (E.fault_count err.new))
-        (sink_texts O.written E.written out.old err.old)
-        (sink_texts O.written E.written out.new err.new)
+    ensures err { IfErr result (λ error. CutsSummary (target_of log_ctx.format)
+        (sink_between O.written O.fault_count out.old out.new)
+        (sink_seen (E.written err.old) (E.written err.new) begun (E.fault_count err.new))
+        (texts_before (sink_between O.written O.fault_count out.old out.new)
+        (sink_between E.written E.fault_count err.old err.new))
         (summary_of log_ctx.format log_ctx.log_level show_stats report.now.stats) (cause_of error)) }
     ensures out_later { O.fault_count out.old ≤ O.fault_count out.new }
     ensures err_later { E.fault_count err.old ≤ E.fault_count err.new }

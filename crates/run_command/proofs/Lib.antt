@@ -11,3 +11,4 @@ pub mod PreludeLemmas
 pub mod SettledLemmas
 pub mod StopLemmas
 pub mod TurnLemmas
+pub mod WrittenLemmas

@@ -24,7 +24,7 @@ use Rattle.run_command.specs.Found.{IsHeard, calls_of}
 use Rattle.run_command.specs.Given.{CommandArguments, CommandAsked, command_by, handed_in}
 use Rattle.run_command.specs.Lawful.{CommandHearing, IsLawful, IsLawfulOver, IsLawfulRun, IsRunHeard, run_calls, there_call}
 use Rattle.run_command.specs.Manifest.{AnswersLook, IsLookedWhereDue, LooksAtManifest, is_manifest, look_by, look_in, manifest_call, manifest_calls, manifest_due, manifest_found, unlooked}
-use Rattle.run_command.specs.Prelude.{ComesTo, Runs, came, from_there, lists_had, no_lists, no_manifest, stopped, uncarried, up_to}
+use Rattle.run_command.specs.Prelude.{ComesTo, IsUntouched, Runs, came, from_there, lists_had, no_lists, no_manifest, stopped, uncarried, up_to}
 use Rattle.run_command.specs.Stops.{IsRefusal, RequestInput}
 use Rattle.run_command.proofs.AlikeLemmas.{IsAlike, IsSameContent, IsSameTrace, content_alike, trace_alike}
 use Rattle.run_command.proofs.LawfulLemmas.{NoRefusal, free_read, free_told}
@@ -87,6 +87,28 @@ comes_by given tree lists (lists_had carried told count calls looked own finds s
 -- all of the request is carried, and no call failed
 pub comes_carried : (given : CommandAsked) (tree : TreeSeen) (lists : ListsGiven) → ComesTo given tree (Ok lists) → given.command.options.uncarried ≡ None
 comes_carried given tree lists comes = (comes_by given tree lists comes).carried
+
+pub comes_still : (given : CommandAsked) (tree : TreeSeen) (lists : ListsGiven) → ComesTo given tree (Ok lists) → tree.count_after ≡ tree.count_before
+comes_still given tree lists comes = (comes_by given tree lists comes).still
+
+-- a part that is not carried is the refusal, and no call is made
+pub runs_uncarried : {X : Type 0} (given : CommandAsked) (IsDone : CommandArguments → TreeSeen → Result X Error → Type 0) (tree : TreeSeen) (err out : SinkSeen) (answer : Result X Error) (what : What)
+    → given.command.options.uncarried ≡ Some what → Runs given IsDone tree err out answer → (answer ≡ Err (NotCarried what)) × IsUntouched tree
+runs_uncarried {X} given IsDone tree err out answer what is (stopped error comes same silent silent_out) = by_comes comes
+  where
+    refused_with : {own : What} {refusal : Error} → own ≡ what → ◌≡◌ {A = Result ListsGiven Error} (Err refusal) (Err (NotCarried own)) → ◌≡◌ {A = Result X Error} (Err refusal) (Err (NotCarried what))
+    refused_with own_is e = cc
+
+    same_what : {own : What} → ◌≡◌ {A = Option What} (Some own) (Some what) → own ≡ what
+    same_what e = cc
+
+    by_comes : ComesTo given tree (Err error) → (answer ≡ Err (NotCarried what)) × IsUntouched tree
+    by_comes (uncarried own own_is refused untouched) = (same ∙ refused_with (same_what (sym own_is ∙ is)) refused, untouched)
+    by_comes (no_manifest carried own looked refused) = absurd (none_apart (sym is ∙ carried))
+    by_comes (no_lists carried told count calls looked own finds refused) = absurd (none_apart (sym is ∙ carried))
+    by_comes (lists_had carried told count calls looked own finds refused) = absurd (none_apart (sym is ∙ carried))
+runs_uncarried {X} given IsDone tree err out answer what is (came told count calls lists comes is_done) =
+    absurd (none_apart (sym is ∙ comes_carried given (up_to tree told count calls) lists comes))
 
 -- what was heard on a tree that came to its command, and then by the command
 pub run_heard : (given : CommandAsked) (tree : TreeSeen) (told : Option Content) (count : ℕ) (calls : List Call) (lists : ListsGiven) (comes : ComesTo given (up_to tree told count calls) (Ok lists)) (own : RequestHearing)
