@@ -3,7 +3,7 @@ use Rattle.std.specs.Prelude.{◌≡◌, ◌≤◌, ℕ, Bool, List, [], Option,
 use Rattle.tree_core.specs.Script.{FaultCounts, Gains, OutputSink, Script, SinkTexts, to_err, to_out}
 use Rattle.tree_texts.specs.Cause.{Cause, no_memory, refused_write}
 use Rattle.diag_print.specs.declared.context.LogContext.{LogContext}
-use Rattle.diag_stats.specs.Summary.{IsCutShort, summary_of, target_of}
+use Rattle.diag_stats.specs.Summary.{IsCutShort, count_of, summary_of, target_of}
 use Rattle.run_found.specs.declared.error.Error.{Error}
 use Rattle.run_found.specs.Error.{cause_of}
 use Rattle.run_found.specs.Hearing.{TreeSeen}
@@ -12,11 +12,6 @@ use Rattle.run_command.specs.Given.{CommandArguments}
 use Rattle.run_check.specs.declared.report.Report.{Report}
 use Rattle.run_check.specs.Script.{WritesCheck}
 use Rattle.deny_run.specs.Seen.{sink_to}
-
--- of two values that of the sink
-abbrev pub by_target : {X : Type 0} → OutputSink → X → X → X
-by_target {X} to_out out err = out
-by_target {X} to_err out err = err
 
 -- what is written to two sinks before and behind
 abbrev pub texts_before : SinkSeen → SinkSeen → SinkTexts
@@ -34,7 +29,7 @@ sink_faults out err = record { tree_before = 0; tree_after = 0; out_before = out
 abbrev pub CutsSummary : OutputSink → SinkSeen → SinkSeen → SinkTexts → Script → Cause → Type 0
 CutsSummary target out err old script no_memory = Gains old (texts_behind out err) []
 CutsSummary target out err old script (refused_write before after) =
-    IsCutShort (sink_faults out err) before after old (texts_behind out err) script × (after ≡ by_target target out.after err.after)
+    IsCutShort (sink_faults out err) before after old (texts_behind out err) script × (after ≡ count_of target out.after err.after)
 CutsSummary target out err old script _ = ⊥
 
 -- the summary of a report, on its sink, where so much was written to `err` before

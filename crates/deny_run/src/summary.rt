@@ -1,10 +1,10 @@
 //! The summary of a report.
 ghost use Rattle.std.specs.Prelude.{◌≡◌, ◌≤◌, IfErr, OnOk};
 ghost use Rattle.tree_core.specs.Script.{Gains};
-ghost use Rattle.diag_stats.specs.Summary.{summary_of, target_of};
+ghost use Rattle.diag_stats.specs.Summary.{count_of, summary_of, target_of};
 ghost use Rattle.run_found.specs.Error.{cause_of};
 ghost use Rattle.run_found.specs.Written.{sink_between, sink_seen};
-ghost use Rattle.deny_run.specs.Check.{CutsSummary, by_target, texts_before, texts_behind};
+ghost use Rattle.deny_run.specs.Check.{CutsSummary, texts_before, texts_behind};
 
 use diag_print::{Format, LogContext, PrintError};
 use diag_stats::print_stats;
@@ -15,7 +15,7 @@ use tree_core::Sink;
 
 /// The count of faults, when the run began, of the sink that a summary goes to: `out` has it still.
 fn begun_of(format: Format, out: u64, err: u64) -> u64
-    ensures { result ≡ by_target (target_of format) out err }
+    ensures { result ≡ count_of (target_of format) out err }
 {
     match format {
         Format::Human => out,

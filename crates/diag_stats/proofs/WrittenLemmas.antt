@@ -3,11 +3,11 @@ use Rattle.std.proofs.Common.{◌≡◌, ◌≢◌, refl, sym, ap, subst, ℕ, �
 use Rattle.std.specs.Prelude.{IfErr, IsOk}
 use Rattle.std.proofs.lemmas.Bool.{false≢true}
 use Rattle.tree_core.specs.Faults.{Rose, Gained, GainedPrefix}
-use Rattle.tree_core.specs.Script.{to_out, to_err, FaultCounts, RefusedBy}
+use Rattle.tree_core.specs.Script.{OutputSink, to_out, to_err, FaultCounts, RefusedBy}
 use Rattle.diag_print.specs.Refusal.{HasReason}
 use Rattle.diag_print.specs.declared.printer.PrintError.{PrintError}
 use Rattle.diag_print.specs.declared.printer.PrintError.TheVariants.{WriteFault, Memory}
-use Rattle.diag_stats.specs.Summary.{IsCutShort, IsUnwritten, piece_of, sink_counts}
+use Rattle.diag_stats.specs.Summary.{HasCountBehind, IsCutShort, IsUnwritten, count_of, piece_of, sink_counts}
 
 held_still : (held : Option (List ℕ)) → Gained held held []
 held_still None = refl
@@ -72,3 +72,9 @@ unwritten_err (Err (WriteFault first last)) old new other text before after othe
     cut_err old new other (sink_counts other_before other_after before after) first last text (some_text text (WriteFault first last) nothing) front
     (reason.0, (let e : last ≤ after = omega (arith, reason.1) in e), subst (λ n. Rose n last) (sym reason.0) (subst (Rose before) (sym reason.1) reason.2))
 unwritten_err (Err Memory) old new other text before after other_before other_after front reason never nothing = absurd (never refl)
+
+-- the count behind a refused write is that of its sink
+pub count_behind : (result : Result (Unit {0}) PrintError) (target : OutputSink) (before out err : ℕ) → IfErr result (HasReason before (count_of target out err)) → IfErr result (HasCountBehind target out err)
+count_behind (Ok value) target before out err reason = tt
+count_behind (Err (WriteFault first last)) target before out err reason = reason.1
+count_behind (Err Memory) target before out err reason = tt

@@ -1,5 +1,5 @@
 -- The summary of the checks that ran, and the sink that it goes to.
-use Rattle.std.specs.Prelude.{ℕ, Bool, List, [], ◌∷◌}
+use Rattle.std.specs.Prelude.{◌≡◌, ℕ, Bool, List, [], ◌∷◌}
 use Rattle.tree_core.specs.Script.{OutputSink, to_out, to_err, Script, FaultCounts, SinkTexts, Gains, IsCut}
 use Rattle.diag_core.specs.declared.severity.LevelFilter.{LevelFilter}
 use Rattle.diag_print.specs.declared.context.Format.{Format}
@@ -59,3 +59,13 @@ pub record IsCutShort (counts : FaultCounts) (before after : ℕ) (old new : Sin
 abbrev pub IsUnwritten : FaultCounts → SinkTexts → SinkTexts → Script → PrintError → Type 0
 IsUnwritten counts old new script (WriteFault before after) = IsCutShort counts before after old new script
 IsUnwritten counts old new script Memory = Gains old new []
+
+-- of two counts that of the sink
+abbrev pub count_of : OutputSink → ℕ → ℕ → ℕ
+count_of to_out out err = out
+count_of to_err out err = err
+
+-- a refused write is told with the count of its sink right behind it
+abbrev pub HasCountBehind : OutputSink → ℕ → ℕ → PrintError → Type 0
+HasCountBehind target out err (WriteFault before after) = after ≡ count_of target out err
+HasCountBehind target out err Memory = Unit {0}

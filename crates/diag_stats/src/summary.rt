@@ -4,7 +4,7 @@ ghost use Rattle.tree_core.specs.Faults.{Gained, GainedPrefix};
 ghost use Rattle.tree_core.specs.Script.{Gains};
 ghost use Rattle.diag_print.specs.Refusal.{HasReason};
 ghost use Rattle.diag_stats.specs.ExitCode.{exit_code_of};
-ghost use Rattle.diag_stats.specs.Summary.{IsUnwritten, piece_of, sink_counts, summary_of, summary_text};
+ghost use Rattle.diag_stats.specs.Summary.{HasCountBehind, IsUnwritten, piece_of, sink_counts, summary_of, summary_text};
 ghost use Rattle.diag_stats.specs.Summary.{text_of, target_of};
 
 use crate::checks::{CheckStats, checks_of};
@@ -88,6 +88,7 @@ fn write_summary<O: Sink, E: Sink>(
         (record { out = O.written out.old; err = E.written err.old })
         (record { out = O.written out.new; err = E.written err.new })
         (piece_of (target_of format) text.now)) }
+    ensures behind { IfErr result (HasCountBehind (target_of format) (O.fault_count out.new) (E.fault_count err.new)) }
     ensures out_later { O.fault_count out.old ≤ O.fault_count out.new }
     ensures err_later { E.fault_count err.old ≤ E.fault_count err.new }
 {
@@ -120,6 +121,7 @@ pub fn print_stats<O: Sink, E: Sink>(
         (record { out = O.written out.old; err = E.written err.old })
         (record { out = O.written out.new; err = E.written err.new })
         (summary_of log_ctx.format log_ctx.log_level show_stats stats.now)) }
+    ensures behind { IfErr result (HasCountBehind (target_of log_ctx.format) (O.fault_count out.new) (E.fault_count err.new)) }
     ensures out_later { O.fault_count out.old ≤ O.fault_count out.new }
     ensures err_later { E.fault_count err.old ≤ E.fault_count err.new }
 {

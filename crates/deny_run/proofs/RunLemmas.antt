@@ -1,0 +1,139 @@
+-- What is so of each end of a run, by what its command answers: which calls were made, what is not carried, and what no command is refused
+-- with.
+use Rattle.std.proofs.Common.{◌≡◌, ◌∙◌, refl, sym, ap, subst, ℕ, List, Option, Some, None, Result, Ok, Err, IfErr}
+use Rattle.tree_core.proofs.MadeLemmas.{some_made}
+use Rattle.tree_texts.specs.Cause.{ReadCounts}
+use Rattle.tree_texts.specs.declared.fault.ReadFault.TheVariants.{Absent}
+use Rattle.graph_workspace.specs.declared.error.What.{What}
+use Rattle.spdx_catalog.specs.Catalog.{CatalogLists}
+use Rattle.spdx_catalog.specs.declared.identifier.Match.{Match}
+use Rattle.run_request.specs.declared.list.Args.{Args}
+use Rattle.run_request.specs.declared.request.Request.{Request}
+use Rattle.run_request.specs.declared.request.Subcommand.{Subcommand}
+use Rattle.run_request.specs.declared.request.Subcommand.TheVariants.{Check, List as Listing, Sample, Record, Verify}
+use Rattle.run_found.specs.declared.error.Error.{Error}
+use Rattle.run_found.specs.declared.error.Error.TheVariants.{ConfigRead, NotCarried}
+use Rattle.run_found.specs.declared.reads.CrateRead.{CrateRead}
+use Rattle.run_found.specs.Error.{cause_of}
+use Rattle.run_found.specs.Hearing.{HasMade, TreeSeen}
+use Rattle.run_found.specs.Written.{SinkSeen}
+use Rattle.run_command.specs.Given.{CommandArguments, CommandAsked, CommandOptions, command_asked}
+use Rattle.run_command.specs.Prelude.{IsUntouched, Runs}
+use Rattle.run_command.proofs.AbsentLemmas.{runs_never}
+use Rattle.run_command.proofs.PreludeLemmas.{runs_made, runs_uncarried}
+use Rattle.run_command.proofs.WrittenLemmas.{writes_made, writes_never}
+use Rattle.run_check.specs.declared.report.Report.{Report}
+use Rattle.run_list.specs.Listed.{listing_text}
+use Rattle.run_list.specs.Listing.{IsListing}
+use Rattle.run_record.specs.Recorded.{IsRecorded, file_in, reads_in}
+use Rattle.run_record.specs.declared.verdicts.VerifiedCrates.{VerifiedCrates}
+use Rattle.deny_run.specs.declared.outcome.RunEnd.{RunEnd}
+use Rattle.deny_run.specs.declared.outcome.RunEnd.TheVariants.{Checked, Listed, Sampled, Recorded, Verified, Refused}
+use Rattle.deny_run.specs.Check.{Checks}
+use Rattle.deny_run.specs.Complete.{AsksCommand}
+use Rattle.deny_run.specs.Ends.{Answers, AnswersOf, IsEndBy, ListsAs, RecordsAs, RunsAs, VerifiesAs, as_end, end_of}
+use Rattle.deny_run.specs.Given.{RunArguments, options_of}
+use Rattle.deny_run.specs.Sample.{Samples}
+use Rattle.deny_run.specs.Seen.{RunSeen}
+use Rattle.deny_run.specs.Words.{AnswersNone, IsUnshown, lost, mistaken, shown, unshown}
+use Rattle.deny_run.proofs.CheckLemmas.{checks_made, checks_never}
+use Rattle.deny_run.proofs.EndLemmas.{IsNoRefusal, checked_apart, listed_apart, recorded_apart, refused_as, refused_end, sampled_apart, verified_apart}
+use Rattle.deny_run.proofs.VerifyLemmas.{verifies_made, verifies_never}
+
+-- ---- of each command
+
+pub lists_made : (args : Args) (out err : SinkSeen) (own : CommandArguments) (tree : TreeSeen) (value : Result (List CrateRead) Error) → ListsAs args out err own tree value → HasMade tree
+lists_made args out err own tree value lists =
+    writes_made own tree err out (IsListing (record { command = own; args = args })) (λ listing. listing_text (record { command = own; args = args }) listing.crates) (λ listing. listing.reads) value lists
+
+pub records_made : (out err : SinkSeen) (own : CommandArguments) (tree : TreeSeen) (value : Result (List CrateRead) Error) → RecordsAs out err own tree value → HasMade tree
+records_made out err own tree value records = writes_made own tree err out (IsRecorded own) file_in reads_in value records
+
+module _ {X : Type 0} (end_by : X → RunEnd) (asked : CommandAsked) (IsDone : SinkSeen → SinkSeen → CommandArguments → TreeSeen → Result X Error → Type 0) (seen : RunSeen) (answer : Result RunEnd Error)
+    (runs : RunsAs end_by asked IsDone seen answer) where
+  run_made : ((own : CommandArguments) (rest : TreeSeen) (value : Result X Error) → IsDone seen.out seen.err own rest value → HasMade rest) → HasMade seen.tree
+  run_made makes = runs_made asked (IsDone seen.out seen.err) seen.tree seen.err seen.out runs.value (λ own rest done. makes own rest runs.value done) runs.is_so
+
+  module _ (apart : IsNoRefusal end_by) where
+    value_refused : (error : Error) → end_of answer ≡ Refused error → runs.value ≡ Err error
+    value_refused error e = refused_as end_by apart runs.value error (sym (ap end_of runs.is) ∙ e)
+
+    run_never : ((own : CommandArguments) (rest : TreeSeen) → IsDone seen.out seen.err own rest (Err (ConfigRead Absent)) → ⊥) → end_of answer ≡ Refused (ConfigRead Absent) → ⊥
+    run_never never e =
+        runs_never asked (IsDone seen.out seen.err) seen.tree seen.err seen.out never
+        (subst (λ value. Runs asked (IsDone seen.out seen.err) seen.tree seen.err seen.out value) (value_refused (ConfigRead Absent) e) runs.is_so)
+
+  run_uncarried : (what : What) → asked.command.options.uncarried ≡ Some what → (end_of answer ≡ Refused (NotCarried what)) × IsUntouched seen.tree
+  run_uncarried what is =
+      let refusal = runs_uncarried asked (IsDone seen.out seen.err) seen.tree seen.err seen.out runs.value what is runs.is_so in
+      (ap end_of runs.is ∙ refused_end end_by runs.value (NotCarried what) refusal.0, refusal.1)
+
+-- ---- of a request
+
+module _ (lists : CatalogLists) (match_of : List ℕ → Match) (request : Request) (seen : RunSeen) (answer : Result RunEnd Error) where
+  abbrev asked : CommandOptions → CommandAsked
+  asked options = command_asked lists match_of request options
+
+  pub request_made : (command : Subcommand) → Answers lists match_of request command seen answer → HasMade seen.tree
+  request_made (Check args) runs = run_made Checked _ (Checks args.show_stats) seen answer runs (λ own rest value done. checks_made own rest args.show_stats seen.out seen.err value done)
+  request_made (Listing args) runs = run_made Listed _ (ListsAs args) seen answer runs (λ own rest value done. lists_made args seen.out seen.err own rest value done)
+  request_made (Sample size) ends = some_made ends.is_so.0
+  request_made Record runs = run_made Recorded _ RecordsAs seen answer runs (λ own rest value done. records_made seen.out seen.err own rest value done)
+  request_made (Verify path) runs = run_made Verified _ (VerifiesAs path) seen answer runs (λ own rest value done. verifies_made own path rest seen.err seen.out value done)
+
+  sample_never : (size : ℕ) (value : Result Report Error) → Samples size lists match_of seen.out seen.err value → value ≡ Err (ConfigRead Absent) → ⊥
+  sample_never size (Ok report) samples e = absurd (cc)
+  sample_never size (Err error) samples e = samples.there (same_error e)
+    where
+      same_error : ◌≡◌ {A = Result Report Error} (Err error) (Err (ConfigRead Absent)) → error ≡ ConfigRead Absent
+      same_error is = cc
+
+  pub request_never : (command : Subcommand) → Answers lists match_of request command seen answer → end_of answer ≡ Refused (ConfigRead Absent) → ⊥
+  request_never (Check args) runs = run_never Checked _ (Checks args.show_stats) seen answer runs checked_apart (λ own rest done. checks_never own rest args.show_stats seen.out seen.err done)
+  request_never (Listing args) runs =
+      run_never Listed _ (ListsAs args) seen answer runs listed_apart
+      (λ own rest done.
+      writes_never own rest seen.err seen.out (IsListing (record { command = own; args = args })) (λ listing. listing_text (record { command = own; args = args }) listing.crates) (λ listing. listing.reads) done)
+  request_never (Sample size) ends = λ e. sample_never size ends.value ends.is_so.1 (refused_as Sampled sampled_apart ends.value (ConfigRead Absent) (sym (ap end_of ends.is) ∙ e))
+  request_never Record runs = run_never Recorded _ RecordsAs seen answer runs recorded_apart (λ own rest done. writes_never own rest seen.err seen.out (IsRecorded own) file_in reads_in done)
+  request_never (Verify path) runs = run_never Verified _ (VerifiesAs path) seen answer runs verified_apart (λ own rest done. verifies_never own path rest seen.err seen.out done)
+
+  same_options : {one other : CommandOptions} → Some one ≡ Some other → one ≡ other
+  same_options e = cc
+
+  pub request_uncarried : (command : Subcommand) → Answers lists match_of request command seen answer → (options : CommandOptions) (what : What) → options_of request command ≡ Some options
+      → options.uncarried ≡ Some what → (end_of answer ≡ Refused (NotCarried what)) × IsUntouched seen.tree
+  request_uncarried (Check args) runs options what is none = run_uncarried Checked _ (Checks args.show_stats) seen answer runs what (ap (λ (own : CommandOptions). own.uncarried) (same_options is) ∙ none)
+  request_uncarried (Listing args) runs options what is none = run_uncarried Listed _ (ListsAs args) seen answer runs what (ap (λ (own : CommandOptions). own.uncarried) (same_options is) ∙ none)
+  request_uncarried (Sample size) ends options what is none = absurd (cc)
+  request_uncarried Record runs options what is none = run_uncarried Recorded _ RecordsAs seen answer runs what (ap (λ (own : CommandOptions). own.uncarried) (same_options is) ∙ none)
+  request_uncarried (Verify path) runs options what is none = run_uncarried Verified _ (VerifiesAs path) seen answer runs what (ap (λ (own : CommandOptions). own.uncarried) (same_options is) ∙ none)
+
+-- ---- of words
+
+none_never : (given : RunArguments) (seen : RunSeen) (answer : Result RunEnd Error) → AnswersNone given seen answer → end_of answer ≡ Refused (ConfigRead Absent) → ⊥
+none_never given seen answer (shown may text gained still is) e = absurd (cc)
+none_never given seen answer (unshown may text error cut still is) e = by_error error cut (same_error (sym (ap end_of is) ∙ e))
+  where
+    same_error : Refused error ≡ Refused (ConfigRead Absent) → error ≡ ConfigRead Absent
+    same_error same = cc
+
+    by_error : (own : Error) → IsUnshown seen.out text own → own ≡ ConfigRead Absent → ⊥
+    by_error own own_cut own_is = subst (λ one. IsUnshown seen.out text one) own_is own_cut
+none_never given seen answer (mistaken may text line silent is) e = absurd (cc)
+none_never given seen answer (lost silent still is) e = absurd (cc)
+
+module _ (given : RunArguments) (seen : RunSeen) (answer : Result RunEnd Error) where
+  pub answer_made : (request : Option Request) → AnswersOf given request seen answer → HasMade seen.tree
+  answer_made (Some request) answers = request_made given.lists given.match_of request seen answer request.command answers.1
+  answer_made None answers = some_made answers.0
+
+  pub answer_never : (request : Option Request) → AnswersOf given request seen answer → end_of answer ≡ Refused (ConfigRead Absent) → ⊥
+  answer_never (Some request) answers = request_never given.lists given.match_of request seen answer request.command answers.1
+  answer_never None answers = none_never given seen answer answers.1
+
+  pub answer_uncarried : (told : Option Request) → AnswersOf given told seen answer → (request : Request) (options : CommandOptions) (what : What) → told ≡ Some request → AsksCommand given request options
+      → options.uncarried ≡ Some what → (end_of answer ≡ Refused (NotCarried what)) × IsUntouched seen.tree
+  answer_uncarried told answers request options what is asks none =
+      let own = subst (λ one. AnswersOf given one seen answer) is answers in
+      request_uncarried given.lists given.match_of request seen answer request.command own.1 options what asks.options_are none
