@@ -8,9 +8,10 @@ ghost use Rattle.spdx_catalog.specs.BuiltIn.{built_in};
 ghost use Rattle.tree_core.specs.Script.{LineWritten};
 ghost use Rattle.run_request.specs.Given.{texts};
 ghost use Rattle.deny_run.specs.Run as run;
-ghost use Rattle.deny_gate.specs.Start.{IsRun, RunsAndTells, RunsOverSome, ending_of, moment, start_line};
+ghost use Rattle.deny_gate.specs.Start.{IsGate, IsGateRun, RunsAndTells, ending_of, start_line};
 ghost use Rattle.run_found.specs.Hearing.{seen_between, HasMade};
-ghost use Rattle.deny_run.specs.Script.{counts_between, sink_texts};
+ghost use Rattle.run_found.specs.Written.{sink_between};
+ghost use Rattle.deny_run.specs.Seen.{run_seen};
 
 mod behind;
 mod named;
@@ -125,15 +126,10 @@ fn run_started<T: Tree, O: Sink, E: Sink>(
     err: &mut E,
 ) -> Outcome
     requires { start.now.store ≡ built_in }
-    ensures made { HasMade (seen_between T.content T.fault_count T.trace tree.old tree.new) }
-    ensures ran { IsRun (texts start.now.words.items) (path_buf_bytes start.now.folder)
-        (seen_between T.content T.fault_count T.trace tree.old tree.new)
-        (counts_between T.fault_count O.fault_count E.fault_count tree.old out.old err.old tree.new out.new err.new)
-        (sink_texts O.written E.written out.old err.old)
-        (sink_texts O.written E.written out.new err.new)
-        result }
-    ensures out_later { O.fault_count out.old ≤ O.fault_count out.new }
-    ensures err_later { E.fault_count err.old ≤ E.fault_count err.new }
+    ensures { IsGateRun (texts start.now.words.items) (path_buf_bytes start.now.folder)
+        (run_seen (seen_between T.content T.fault_count T.trace tree.old tree.new)
+        (sink_between O.written O.fault_count out.old out.new)
+        (sink_between E.written E.fault_count err.old err.new)) result }
 {
     run(
         alloc,
@@ -158,13 +154,9 @@ fn run_told<T: Tree, O: Sink, E: Sink>(
     requires { start.now.store ≡ built_in }
     ensures made { HasMade (seen_between T.content T.fault_count T.trace tree.old tree.new) }
     ensures ran { RunsAndTells (texts start.now.words.items) (path_buf_bytes start.now.folder)
-        (moment (T.content tree.old) (T.trace tree.old)
-        (record { tree = T.fault_count tree.old; out = O.fault_count out.old; err = E.fault_count err.old })
-        (sink_texts O.written E.written out.old err.old))
-        (moment (T.content tree.new) (T.trace tree.new)
-        (record { tree = T.fault_count tree.new; out = O.fault_count out.new; err = E.fault_count err.new })
-        (sink_texts O.written E.written out.new err.new))
-        result }
+        (run_seen (seen_between T.content T.fault_count T.trace tree.old tree.new)
+        (sink_between O.written O.fault_count out.old out.new)
+        (sink_between E.written E.fault_count err.old err.new)) result }
     ensures status { result.status ≡ run.exit_status result.ended }
 {
     let begun = err.faults();
@@ -199,22 +191,9 @@ pub fn gate_over<V: Env + AllocGlobal, T: Tree, O: Sink, E: Sink>(
     out: &mut O,
     err: &mut E,
 ) -> Result<Outcome, StartError>
-    ensures made { HasMade (seen_between T.content T.fault_count T.trace tree.old tree.new) }
-
-    // Where the gate could not begin, its line stands on `err` and `out` is as it was.
-    ensures line { IfErr result (λ error. LineWritten (E.written err.old) (E.written err.new)
-        (E.fault_count err.old) (E.fault_count err.new) (start_line error)) }
-    ensures silent { OnErr result (O.written out.new ≡ O.written out.old) }
-
-    // Where it ran, it did what a run over some words and some folder does, and behind that standard error gained the
-    // help of a refusal; a front of it where a write was refused, and nothing where the run's own text was cut.
-    ensures ran { IfOk result (RunsOverSome
-        (moment (T.content tree.old) (T.trace tree.old)
-        (record { tree = T.fault_count tree.old; out = O.fault_count out.old; err = E.fault_count err.old })
-        (sink_texts O.written E.written out.old err.old))
-        (moment (T.content tree.new) (T.trace tree.new)
-        (record { tree = T.fault_count tree.new; out = O.fault_count out.new; err = E.fault_count err.new })
-        (sink_texts O.written E.written out.new err.new))) }
+    ensures { IsGate (run_seen (seen_between T.content T.fault_count T.trace tree.old tree.new)
+        (sink_between O.written O.fault_count out.old out.new)
+        (sink_between E.written E.fault_count err.old err.new)) result }
 {
     let start = started(env, err)?;
     Ok(run_told(env.alloc(), &start, tree, out, err))
