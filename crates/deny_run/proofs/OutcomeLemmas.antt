@@ -18,7 +18,7 @@ use Rattle.deny_run.specs.Words.{AnswersWords}
 use Rattle.deny_run.proofs.EndLemmas.{labels_end}
 use Rattle.deny_run.proofs.HeadlineLemmas.{headline}
 use Rattle.deny_run.proofs.LawfulLemmas.{complete}
-use Rattle.deny_run.proofs.RunLemmas.{answer_made, answer_never, answer_uncarried}
+use Rattle.deny_run.proofs.RunLemmas.{answer_ends, answer_made, answer_never, answer_uncarried}
 
 module _ (given : RunArguments) (seen : RunSeen) (answered : Answered) (written : Option (List ℕ)) (count : ℕ) (early : seen.err.before ≤ count) (late : count ≤ seen.err.after) (out_later : seen.out.before ≤ seen.out.after)
     (is : IsAnswered given (record seen { err = sink_to seen.err written count }) answered) (line : EndsLine answered.answer (sink_from seen.err written count)) where
@@ -35,7 +35,7 @@ module _ (given : RunArguments) (seen : RunSeen) (answered : Answered) (written 
   is_outcome = record { answer = answered.answer; is = refl; written = written; count = count; early = early; late = late; answers = is.answers; line = line }
 
   counts_of : (answer : Result RunEnd Error) → IfErr answer (λ error. ReadCounts seen.tree.count_before seen.tree.count_before seen.tree.count_after (cause_of error))
-      → ((own : RunEnd) (error : Error) → answer ≡ Ok own → own ≡ Refused error → ⊥)
+      → ((own : RunEnd) (one : Error) → answer ≡ Ok own → own ≡ Refused one → ⊥)
       → (error : Error) → end_of answer ≡ Refused error → ReadCounts seen.tree.count_before seen.tree.count_before seen.tree.count_after (cause_of error)
   counts_of (Ok own) counts apart error e = absurd (apart own error refl e)
   counts_of (Err own) counts apart error e = subst (λ one. ReadCounts seen.tree.count_before seen.tree.count_before seen.tree.count_after (cause_of one)) (same e) counts
@@ -43,14 +43,14 @@ module _ (given : RunArguments) (seen : RunSeen) (answered : Answered) (written 
       same : Refused own ≡ Refused error → own ≡ error
       same both = cc
 
-  pub is_run : ((own : RunEnd) (error : Error) → answered.answer ≡ Ok own → own ≡ Refused error → ⊥) → IsRun given seen outcome
-  is_run apart = record {
+  pub is_run : IsRun given seen outcome
+  is_run = record {
     outcome = is_outcome;
     words = is.words;
     uncarried = λ request options what told asks none. answer_uncarried given first answered.answer answered.request is.answers request options what told asks none;
     policy = λ e. answer_never given first answered.answer answered.request is.answers e;
     later = record { made = answer_made given first answered.answer answered.request is.answers; out = out_later; err = (let both : seen.err.before ≤ seen.err.after = omega (arith, early, late) in both) };
-    counts = λ error e. counts_of answered.answer is.counts apart error e;
+    counts = λ error e. counts_of answered.answer is.counts (answer_ends given first answered.answer answered.request is.answers) error e;
     labels = labels_end answered.answer is.labels;
     status = refl;
     headline = headline given seen outcome is_outcome refl;

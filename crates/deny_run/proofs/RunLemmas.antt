@@ -63,6 +63,14 @@ module _ {X : Type 0} (end_by : X → RunEnd) (asked : CommandAsked) (IsDone : S
         runs_never asked (IsDone seen.out seen.err) seen.tree seen.err seen.out never
         (subst (λ value. Runs asked (IsDone seen.out seen.err) seen.tree seen.err seen.out value) (value_refused (ConfigRead Absent) e) runs.is_so)
 
+    -- what ends well is no refusal
+    run_ends : (own : RunEnd) (error : Error) → answer ≡ Ok own → own ≡ Refused error → ⊥
+    run_ends own error is own_is =
+        both_apart (sym is ∙ runs.is ∙ ap (as_end end_by) (value_refused error (ap end_of is ∙ own_is)))
+      where
+        both_apart : ◌≡◌ {A = Result RunEnd Error} (Ok own) (Err error) → ⊥
+        both_apart e = absurd (cc)
+
   run_uncarried : (what : What) → asked.command.options.uncarried ≡ Some what → (end_of answer ≡ Refused (NotCarried what)) × IsUntouched seen.tree
   run_uncarried what is =
       let refusal = runs_uncarried asked (IsDone seen.out seen.err) seen.tree seen.err seen.out runs.value what is runs.is_so in
@@ -98,6 +106,17 @@ module _ (lists : CatalogLists) (match_of : List ℕ → Match) (request : Reque
   request_never Record runs = run_never Recorded _ RecordsAs seen answer runs recorded_apart (λ own rest done. writes_never own rest seen.err seen.out (IsRecorded own) file_in reads_in done)
   request_never (Verify path) runs = run_never Verified _ (VerifiesAs path) seen answer runs verified_apart (λ own rest done. verifies_never own path rest seen.err seen.out done)
 
+  pub request_ends : (command : Subcommand) → Answers lists match_of request command seen answer → (own : RunEnd) (error : Error) → answer ≡ Ok own → own ≡ Refused error → ⊥
+  request_ends (Check args) runs = run_ends Checked _ (Checks args.show_stats) seen answer runs checked_apart
+  request_ends (Listing args) runs = run_ends Listed _ (ListsAs args) seen answer runs listed_apart
+  request_ends (Sample size) ends = value_ends ends.value ends.is
+    where
+      value_ends : (value : Result Report Error) → answer ≡ as_end Sampled value → (own : RunEnd) (error : Error) → answer ≡ Ok own → own ≡ Refused error → ⊥
+      value_ends (Ok report) as own error is own_is = absurd (cc)
+      value_ends (Err refusal) as own error is own_is = absurd (cc)
+  request_ends Record runs = run_ends Recorded _ RecordsAs seen answer runs recorded_apart
+  request_ends (Verify path) runs = run_ends Verified _ (VerifiesAs path) seen answer runs verified_apart
+
   same_options : {one other : CommandOptions} → Some one ≡ Some other → one ≡ other
   same_options e = cc
 
@@ -123,6 +142,12 @@ none_never given seen answer (unshown may text error cut still is) e = by_error 
 none_never given seen answer (mistaken may text line silent is) e = absurd (cc)
 none_never given seen answer (lost silent still is) e = absurd (cc)
 
+none_ends : (given : RunArguments) (seen : RunSeen) (answer : Result RunEnd Error) → AnswersNone given seen answer → (own : RunEnd) (error : Error) → answer ≡ Ok own → own ≡ Refused error → ⊥
+none_ends given seen answer (shown may text gained still as) own error is own_is = absurd (cc)
+none_ends given seen answer (unshown may text refusal cut still as) own error is own_is = absurd (cc)
+none_ends given seen answer (mistaken may text line silent as) own error is own_is = absurd (cc)
+none_ends given seen answer (lost silent still as) own error is own_is = absurd (cc)
+
 module _ (given : RunArguments) (seen : RunSeen) (answer : Result RunEnd Error) where
   pub answer_made : (request : Option Request) → AnswersOf given request seen answer → HasMade seen.tree
   answer_made (Some request) answers = request_made given.lists given.match_of request seen answer request.command answers.1
@@ -131,6 +156,10 @@ module _ (given : RunArguments) (seen : RunSeen) (answer : Result RunEnd Error) 
   pub answer_never : (request : Option Request) → AnswersOf given request seen answer → end_of answer ≡ Refused (ConfigRead Absent) → ⊥
   answer_never (Some request) answers = request_never given.lists given.match_of request seen answer request.command answers.1
   answer_never None answers = none_never given seen answer answers.1
+
+  pub answer_ends : (request : Option Request) → AnswersOf given request seen answer → (own : RunEnd) (error : Error) → answer ≡ Ok own → own ≡ Refused error → ⊥
+  answer_ends (Some request) answers = request_ends given.lists given.match_of request seen answer request.command answers.1
+  answer_ends None answers = none_ends given seen answer answers.1
 
   pub answer_uncarried : (told : Option Request) → AnswersOf given told seen answer → (request : Request) (options : CommandOptions) (what : What) → told ≡ Some request → AsksCommand given request options
       → options.uncarried ≡ Some what → (end_of answer ≡ Refused (NotCarried what)) × IsUntouched seen.tree

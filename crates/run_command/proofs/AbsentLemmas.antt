@@ -1,5 +1,5 @@
 -- No command is refused since a policy is not there: where none is, the one without entries is taken.
-use Rattle.std.proofs.Common.{◌≡◌, ◌∙◌, refl, ap, subst, ℕ, Bool, true, false, List, [], Option, Some, None, Result, Ok, Err}
+use Rattle.std.proofs.Common.{◌≡◌, ◌∙◌, refl, subst, ℕ, Bool, true, false, List, [], Option, Some, None, Result, Ok, Err}
 use Rattle.std.specs.Prelude.{if◌then◌else◌}
 use Rattle.std.specs.List.{list_any}
 use Rattle.tree_core.specs.Call as call
@@ -21,8 +21,8 @@ use Rattle.policy_config.specs.Root.{root_of}
 use Rattle.policy_config.specs.declared.root.RootConfig.{RootConfig}
 use Rattle.policy_core.specs.Heard.{ExceptionsHeard}
 use Rattle.policy_core.specs.Policy.{PolicyFound}
-use Rattle.policy_load.specs.Heard.{LoadHeard}
-use Rattle.policy_load.specs.Load.{load_by_config, load_by_text, load_of}
+use Rattle.policy_load.specs.Heard.{LoadHeard, exceptions_heard}
+use Rattle.policy_load.specs.Load.{load_by_config, load_by_text, load_of, with_policy}
 use Rattle.policy_load.specs.declared.loading.PolicyPaths.{PolicyPaths}
 use Rattle.policy_text.specs.Config.{IsOfText, config_of_text, if_carried, or_shape, or_syntax, then_config}
 use Rattle.policy_text.specs.Text.{config_text_of}
@@ -56,8 +56,8 @@ abbrev pub IsNeverAbsent : {X : Type 0} → Result X Error → Type 0
 IsNeverAbsent {X} answer = answer ≡ Err (ConfigRead Absent) → ⊥
 
 bind_never : {X Y : Type 0} (first : Result X Error) (next : X → Result Y Error) → IsNeverAbsent first → ((value : X) → IsNeverAbsent (next value)) → IsNeverAbsent (first >>= next)
-bind_never {X} {Y} (Ok value) next one then = then value
-bind_never {X} {Y} (Err own) next one then = λ e. one (as_first e)
+bind_never {X} {Y} (Ok value) next one behind = behind value
+bind_never {X} {Y} (Err own) next one behind = λ e. one (as_first e)
   where
     as_first : ◌≡◌ {A = Result Y Error} (Err own) (Err (ConfigRead Absent)) → ◌≡◌ {A = Result X Error} (Err own) (Err (ConfigRead Absent))
     as_first e = cc
@@ -75,7 +75,7 @@ path_never begun after unended e = absurd (cc)
 
 config_never : (cwd : List ℕ) (path : Option (List ℕ)) (found : Result (Option (List ℕ)) Error) → IsNeverAbsent found → IsNeverAbsent (config_by cwd path found)
 config_never cwd (Some path) found never e = absurd (cc)
-config_never cwd None found never = never
+config_never cwd None found never e = never e
 
 -- ---- the policy's text
 
@@ -110,9 +110,13 @@ module _ (lists : CatalogLists) (old : List File) (paths : PolicyPaths) where
   by_config exceptions text (Err (config.ConfigShape faults)) of_text = λ e. absurd (cc)
   by_config exceptions text (Err config.NotCarried) of_text = λ e. absurd (cc)
 
+  at_text : (exceptions : Result (List ℕ) ReadFault) (text : ConfigText) → IsNeverAbsent (or_load_error (load_by_text lists old paths exceptions (Ok text)).answer)
+  at_text exceptions text =
+      by_config (exceptions_heard (with_policy old paths text) paths.exceptions exceptions) text (config_of_text lists text.text) (text_by lists (read_text text.text))
+
   by_text : (exceptions : Result (List ℕ) ReadFault) (policy : Result (List ℕ) ReadFault) → IsNeverAbsent (or_load_error (load_by_text lists old paths exceptions (config_text_of policy)).answer)
-  by_text exceptions (Ok text) = by_config _ _ (config_of_text lists text) (text_by lists (read_text text))
-  by_text exceptions (Err Absent) = by_config _ _ (config_of_text lists []) (text_by lists (read_text []))
+  by_text exceptions (Ok text) = at_text exceptions (record { text = text; is_there = true })
+  by_text exceptions (Err Absent) = at_text exceptions (record { text = []; is_there = false })
   by_text exceptions (Err (Failed before after)) = λ e. absurd (cc)
   by_text exceptions (Err Folder) = λ e. absurd (cc)
   by_text exceptions (Err (NotUtf8 place)) = λ e. absurd (cc)
@@ -160,12 +164,12 @@ input_never given hearing =
 pub stops_never : (given : CommandArguments) (tree : TreeSeen) (err : SinkSeen) → Stops given tree err (ConfigRead Absent) → ⊥
 stops_never given tree err stops = by_found (input_of given stops.hearing) refl stops.refused.1.refused
   where
+    as_refusal : {own : Error} → own ≡ ConfigRead Absent → ◌≡◌ {A = Result FoundInput Error} (Err own) (Err (ConfigRead Absent))
+    as_refusal is = cc
+
     by_found : (found : Result FoundInput Error) → input_of given stops.hearing ≡ found → Refuses given found (ConfigRead Absent) → ⊥
     by_found (Ok own) is refused = refused
-    by_found (Err own) is refused = input_never given stops.hearing (is ∙ ap refused_with refused)
-
-    refused_with : Error → Result FoundInput Error
-    refused_with error = Err error
+    by_found (Err own) is refused = input_never given stops.hearing (is ∙ as_refusal refused)
 
 -- ---- what comes before it
 

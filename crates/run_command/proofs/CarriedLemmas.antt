@@ -1,9 +1,8 @@
 -- A request of which all is carried.
-use Rattle.std.proofs.Common.{◌≡◌, ◌∙◌, refl, ap, ℕ, Bool, true, false, cond, List, [], ◌∷◌, Option, Some, None, Ok, ◌||◌}
+use Rattle.std.proofs.Common.{◌≡◌, ◌∙◌, refl, ap, ℕ, Bool, true, false, cond, List, [], Some, None, ◌||◌}
 use Rattle.std.specs.Prelude.{is_none}
 use Rattle.std.specs.List.{list_any}
 use Rattle.graph_selection.specs.Choice.{is_uncarried}
-use Rattle.graph_workspace.specs.declared.error.What.{What}
 use Rattle.graph_workspace.specs.declared.error.What.TheVariants as what
 use Rattle.diag_print.specs.declared.context.LogContext.{LogContext}
 use Rattle.run_context.specs.Asked.{uncarried}

@@ -1,5 +1,5 @@
 -- What a command finds, step by step: the policy, the levels, the metadata; and which calls that takes.
-use Rattle.std.proofs.Common.{◌≡◌, ◌∙◌, ap, ℕ, List, [], ◌++◌, append-nil, Option, Some, None, Result, Ok, Err}
+use Rattle.std.proofs.Common.{◌≡◌, ◌∙◌, ap, [], ◌++◌, append-nil, Option, Some, None, Result, Ok, Err}
 use Rattle.tree_core.specs.Trace.{faults_after}
 use Rattle.tree_core.proofs.MadeLemmas.{faults_after-append}
 use Rattle.graph_core.specs.Metadata.{Graph}

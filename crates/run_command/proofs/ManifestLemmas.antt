@@ -1,16 +1,13 @@
 -- The look at the manifest, by what the tree answered.
-use Rattle.std.proofs.Common.{◌≡◌, ◌⊎◌, ◌∙◌, inl, inr, refl, sym, ap, subst, ℕ, Bool, true, false, List, [], ◌∷◌, Option, Some, None, Result, Ok, Err, ◌≤◌, ◌++◌, append-nil, All}
+use Rattle.std.proofs.Common.{◌≡◌, ◌⊎◌, ◌∙◌, inl, inr, refl, sym, ap, subst, ℕ, Bool, true, false, List, [], ◌∷◌, Option, Some, None, Result, Ok, Err}
 use Rattle.std.specs.Prelude.{if◌then◌else◌}
 use Rattle.tree_core.specs.Call as call
 use Rattle.tree_core.specs.Call.{CallAnswer, Call}
 use Rattle.tree_core.specs.Content.{Content}
-use Rattle.tree_core.specs.Faults.{Rose, counted}
-use Rattle.tree_core.specs.Trace.{IsUnlessLost, Says, answered, content_answer, faults_after, file_call}
+use Rattle.tree_core.specs.Trace.{answered, file_call}
 use Rattle.tree_core.specs.declared.tree.TreeError.{TreeError}
 use Rattle.tree_core.specs.declared.tree.TreeError.TheVariants as tree_error
-use Rattle.tree_core.proofs.MadeLemmas.{faults_after-later, made_as, made_none}
-use Rattle.tree_reads.proofs.ReadLemmas.{rose_counted}
-use Rattle.std.proofs.lemmas.List.Elements.{recursion_from_All}
+use Rattle.tree_core.proofs.MadeLemmas.{made_as, made_none}
 use Rattle.tree_texts.specs.declared.fault.ReadFault.TheVariants.{Absent}
 use Rattle.run_found.specs.declared.error.Error.{Error}
 use Rattle.run_found.specs.declared.error.Error.TheVariants.{Memory, ManifestPath, ManifestRead, ConfigRead}
@@ -166,51 +163,3 @@ look_apart path tree error looked e = by_answer looked.answers
     by_answer : AnswersLook tree.count_before tree.count_after path looked.answer (Err error) → ⊥
     by_answer (inl wanting) = absurd (cc)
     by_answer (inr own) = apart (is_manifest path) (look_in looked.answer) own.1 e
-
--- ---- a content that has the manifest
-
-told_answer : (there : CallAnswer) (answer : CallAnswer) → (look_in (Some answer) ≡ unlooked → ⊥) → (answer ≡ call.failed → ⊥) → IsUnlessLost there answer → call.told true ≡ there → answer ≡ call.told true
-told_answer there (call.bytes items) looked bound says is = says ∙ sym is
-told_answer there (call.entries items) looked bound says is = says ∙ sym is
-told_answer there (call.told own) looked bound says is = says ∙ sym is
-told_answer there call.absent looked bound says is = says ∙ sym is
-told_answer there call.wrong_kind looked bound says is = says ∙ sym is
-told_answer there call.failed looked bound says is = absurd (bound refl)
-told_answer there call.no_memory looked bound says is = absurd (looked refl)
-
-pub told_look : (path : List ℕ) (content : Content) (count after : ℕ) (answer : Option CallAnswer) → (look_in answer ≡ unlooked → ⊥) → (more : List Call)
-    → All (Says content) (manifest_calls (Some path) answer ++ more) → after ≡ faults_after count (manifest_calls (Some path) answer ++ more) → ¬ (Rose count after)
-    → call.told true ≡ content_answer content call.is_file path → answer ≡ Some (call.told true)
-told_look path content count after None looked more says counts quiet is = absurd (looked refl)
-told_look path content count after (Some answer) looked more says counts quiet is =
-    let head = (recursion_from_All (Says content) (manifest_call path answer ∷ more) says).0 in
-    ap Some (told_answer (content_answer content call.is_file path) answer looked failed_apart head is)
-  where
-    failed_apart : answer ≡ call.failed → ⊥
-    failed_apart e =
-        let counts_failed : after ≡ faults_after (counted count) more = counts ∙ ap (λ own. faults_after count (manifest_call path own ∷ more)) e in
-        quiet (rose_counted count after (subst (λ n. counted count ≤ n) (sym counts_failed) (faults_after-later (counted count) more)))
-
--- a look of such a content that did not fail is refused for want of memory alone
-pub look_lawful : (path : List ℕ) (tree : TreeSeen) (content : Content) (error : Error) → is_manifest path ≡ true → call.told true ≡ content_answer content call.is_file path → tree.told ≡ Some content
-    → ¬ (Rose tree.count_before tree.count_after) → LooksAtManifest path tree (Err error) → error ≡ Memory
-look_lawful path tree content error named there told quiet looked = by_answer looked.answers
-  where
-    calls_are : manifest_calls (manifest_due None path) looked.answer ≡ manifest_calls (Some path) looked.answer ++ []
-    calls_are = ap (λ due. manifest_calls due looked.answer) (due_named path named) ∙ sym (append-nil (manifest_calls (Some path) looked.answer))
-
-    made : MadeOn tree (manifest_calls (Some path) looked.answer ++ [])
-    made = made_as calls_are looked.made
-
-    found_there : (answer : Option CallAnswer) → answer ≡ Some (call.told true) → found_by tree.count_before tree.count_after path (look_in answer) ≡ Err error → error ≡ Memory
-    found_there answer is found = absurd (apart (sym (ap (λ own. found_by tree.count_before tree.count_after path (look_in own)) is) ∙ found))
-      where
-        apart : ◌≡◌ {A = Result (Unit {0}) Error} (Ok tt) (Err error) → ⊥
-        apart e = absurd (cc)
-
-    by_answer : AnswersLook tree.count_before tree.count_after path looked.answer (Err error) → error ≡ Memory
-    by_answer (inl wanting) = cc
-    by_answer (inr own) =
-        let heard : look_in looked.answer ≡ unlooked → ⊥ = subst (λ due. IsLookedWhereDue due looked.answer) (due_named path named) own.0 in
-        let is = told_look path content tree.count_before tree.count_after looked.answer heard [] (made.says content told) made.counts quiet there in
-        found_there looked.answer is (sym (found_named path named tree.count_before tree.count_after looked.answer) ∙ own.1)

@@ -1,5 +1,5 @@
 -- Behind the crates of a policy, their licences: what was heard, and what is so by that.
-use Rattle.std.proofs.Common.{◌≡◌, ◌∙◌, refl, sym, ap, subst, ℕ, ℤ, List, [], ◌++◌, map, append-nil, append_assoc, Option, Some, None, Result, Ok}
+use Rattle.std.proofs.Common.{◌≡◌, ◌∙◌, refl, sym, ap, subst, ℕ, ℤ, List, [], ◌++◌, map, append-nil, append_assoc, Option, Some, None, Ok}
 use Rattle.tree_core.specs.Call.{Call}
 use Rattle.tree_core.specs.Content.{Content}
 use Rattle.tree_core.specs.Trace.{faults_after}
@@ -19,7 +19,7 @@ use Rattle.gather_core.proofs.CrateTurns.{krates_told}
 use Rattle.run_found.specs.declared.error.Error.TheVariants.{Memory}
 use Rattle.run_found.specs.Finds.{hearing_of}
 use Rattle.run_found.specs.Found.{count_metadata, files_loaded, policy_calls}
-use Rattle.run_found.specs.Hearing.{MadeOn, RequestHearing, TreeSeen, read_calls, seen}
+use Rattle.run_found.specs.Hearing.{RequestHearing, TreeSeen, read_calls, seen}
 use Rattle.run_found.specs.Licences.{HaveTurns, IsGatherCut, IsGatheredOn, turns_heard}
 use Rattle.run_found.specs.Selection.{included_in}
 use Rattle.run_found.specs.Written.{SinkSeen}
@@ -29,7 +29,7 @@ use Rattle.run_command.specs.Crates.{HasCrates}
 use Rattle.run_command.specs.Found.{AreSelected, HearsAllDue, at_threshold, calls_of, choice_in, input_of, load_heard, metadata_due, scanner_of_given, turns_in}
 use Rattle.run_command.specs.Given.{CommandArguments}
 use Rattle.run_command.specs.Settled.{HearsSo, IsSettled}
-use Rattle.run_command.specs.Stops.{IsGivenUp, Stops, at_crates}
+use Rattle.run_command.specs.Stops.{Stops, at_crates}
 use Rattle.run_command.proofs.FoundLemmas.{asked-once, count_is, input-graph}
 use Rattle.run_command.proofs.StopLemmas.{all_of}
 
@@ -55,9 +55,8 @@ module _ (given : CommandArguments) (told middle tells : Option Content) (begun 
   -- the calls, with those of the crates
   calls_at : (crates : List CrateReads) → calls_of given (hears []) ++ calls_of_all crates ≡ calls_of given (hears crates)
   calls_at crates =
-      let before = policy_calls given.request (hears []) in
-      let read = read_calls (metadata_due given (hears [])) (Some has.answer) in
-      ap (λ own. (before ++ own) ++ calls_of_all crates) (append-nil read) ∙ append_assoc before read (calls_of_all crates)
+      ap (λ own. own ++ calls_of_all crates)
+      (append-nil (policy_calls given.request (hears []) ++ read_calls (metadata_due given (hears [])) (Some has.answer)))
 
   due_at : (crates : List CrateReads) → HearsAllDue given (hears crates)
   due_at crates = record {
@@ -72,9 +71,8 @@ module _ (given : CommandArguments) (told middle tells : Option Content) (begun 
   -- the count behind the metadata's read
   count_at : mid ≡ count_metadata given.request (hears [])
   count_at =
-      let read = read_calls (metadata_due given (hears [])) (Some has.answer) in
       has.made.counts
-      ∙ ap (λ own. faults_after begun (policy_calls given.request (hears []) ++ own)) (append-nil read)
+      ∙ ap (faults_after begun) (append-nil (policy_calls given.request (hears []) ++ read_calls (metadata_due given (hears [])) (Some has.answer)))
       ∙ count_is given (hears []) (due_at [])
 
   -- what the policy says of the crates, once its lists are in order

@@ -1,5 +1,5 @@
 -- A command that is refused before it does its own: no policy is found, a code or a level stands twice, or there are no crates.
-use Rattle.std.proofs.Common.{◌≡◌, ◌∙◌, ◌⊎◌, inl, inr, refl, sym, ap, subst, ℕ, ℤ, List, [], ◌∷◌, ◌++◌, append-nil, append_assoc, Option, Some, None, Result, Ok, Err}
+use Rattle.std.proofs.Common.{◌≡◌, ◌∙◌, refl, sym, ap, subst, ℕ, ℤ, true, List, [], ◌++◌, append-nil, Option, Some, None, Result, Ok, Err}
 use Rattle.tree_core.specs.Call.{CallAnswer, Call}
 use Rattle.tree_core.specs.Content.{Content}
 use Rattle.tree_core.specs.Faults.{Gained, GainedPrefix}
@@ -8,9 +8,9 @@ use Rattle.tree_core.specs.Trace.{fault_behind}
 use Rattle.tree_core.proofs.MadeLemmas.{made_as, made_joined, made_these, some_made}
 use Rattle.graph_core.specs.Metadata.{Graph}
 use Rattle.graph_selection.specs.Choice.{Choice}
-use Rattle.graph_selection.specs.Listed.{Chosen}
+use Rattle.graph_selection.specs.Listed.{Chosen, IsChosen}
 use Rattle.tree_texts.specs.Cause.{Cause, no_memory, told, failed_read, refused_write}
-use Rattle.tree_texts.specs.Heard.{read_of, text_answered}
+use Rattle.tree_texts.specs.Heard.{text_answered}
 use Rattle.tree_texts.specs.declared.fault.ReadFault.{ReadFault}
 use Rattle.tree_texts.specs.declared.fault.ReadFault.TheVariants.{Failed, Absent, Folder, NotUtf8}
 use Rattle.graph_selection.specs.Roots.{HasRoot, LacksRoots}
@@ -21,14 +21,13 @@ use Rattle.policy_parts.specs.declared.graph.GraphConfig.{GraphConfig}
 use Rattle.policy_valid.specs.declared.policy.ValidConfig.{ValidConfig}
 use Rattle.diag_core.specs.File.{File}
 use Rattle.gather_core.specs.Calls.{CrateReads, calls_of_all}
-use Rattle.gather_core.specs.Gathered.{include_of}
 use Rattle.policy_core.specs.Policy.{PolicyFound}
 use Rattle.policy_core.specs.declared.load.LoadedPolicy.{LoadedPolicy}
 use Rattle.policy_load.specs.Answer.{IsPolicyOf}
 use Rattle.policy_validate.specs.Order.{PutsPolicyInOrder}
 use Rattle.run_context.specs.Asked.{choice_asked}
 use Rattle.run_overrides.specs.Overrides.{IsFirstTold}
-use Rattle.run_overrides.specs.Twice.{Twice, first_twice}
+use Rattle.run_overrides.specs.Twice.{first_twice}
 use Rattle.run_overrides.specs.declared.error.OverrideError.{OverrideError}
 use Rattle.run_overrides.specs.declared.error.OverrideError.TheVariants as overrides
 use Rattle.run_found.specs.declared.error.Error.{Error}
@@ -36,18 +35,17 @@ use Rattle.run_found.specs.declared.error.Error.TheVariants.{Memory, OverrideTwi
 use Rattle.run_found.specs.declared.policy.PolicyRefusal.{PolicyRefusal}
 use Rattle.run_found.specs.Error.{cause_of, error_of_krates, error_of_override, error_of_policy}
 use Rattle.run_found.specs.Finds.{FindsBy, FindsInPart, FindsLoaded, FindsPolicy, FindsRefusal, HearsPolicy, PolicyHeard, alone, hearing_of}
-use Rattle.run_found.specs.Found.{count_exceptions, count_metadata, graph_heard, metadata_heard, or_krates_error, policy_calls, policy_found}
+use Rattle.run_found.specs.Found.{count_exceptions, count_metadata, graph_heard, metadata_heard, or_krates_error, policy_calls}
 use Rattle.run_found.specs.Gathering.{HasNoCrates, NoCratesBy}
 use Rattle.run_found.specs.Hearing.{IsReadWhereDue, MadeOn, RequestHearing, TreeSeen, is_heard, read_calls, seen, text_by}
-use Rattle.run_found.specs.Selection.{included_in}
 use Rattle.run_found.specs.Written.{SinkSeen, TextWritten}
 use Rattle.run_found.proofs.CallLemmas.{heard_where, text_heard_by}
 use Rattle.run_found.proofs.FoundLemmas.{count-behind}
-use Rattle.run_found.proofs.StageLemmas.{gathers_chosen, graph_told}
+use Rattle.run_found.proofs.StageLemmas.{graph_told}
 use Rattle.run_found.proofs.StepLemmas.{IsFree}
 use Rattle.run_command.specs.declared.crates.CratesFound.{CratesFound}
 use Rattle.run_command.specs.Crates.{HasCrates}
-use Rattle.run_command.specs.Found.{HearsAllDue, IsHeard, PutsInOrder, at_threshold, calls_of, choice_in, input_of, left_by, load_heard, metadata_due, policy_asked}
+use Rattle.run_command.specs.Found.{HearsAllDue, IsHeard, at_threshold, calls_of, choice_in, input_of, left_by, load_heard, metadata_due, policy_asked}
 use Rattle.run_command.specs.Given.{CommandArguments}
 use Rattle.run_command.specs.Stops.{IsGivenUp, IsRefusal, IsRefusedBy, Refuses, Stops, StopsAt, at_metadata, at_policy}
 use Rattle.run_command.proofs.FoundLemmas.{asked-once, asked-refused, asked-twice, calls-unread, input-graph, input-refused, metadata-is, metadata-refused}
@@ -320,7 +318,7 @@ module _ (given : CommandArguments) (once : first_twice given.options.levels ≡
           graph = gathers.from.graph;
           graph_is = drawn_at answer tells_graph.heard gathers.from.graph tells_graph.hears tells_graph.tells;
           root = subst (HasRoot gathers.from.graph) same gathers.from.rooted;
-          chosen = gathers.from.reached;
+          chosen = subst (λ own. IsChosen gathers.from.graph own found.krates) same (subst (IsChosen gathers.from.graph choice) (sym krates_are) gathers.from.reached);
           files_are = finds.files_are;
           written = finds.written;
         }

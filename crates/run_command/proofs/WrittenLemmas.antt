@@ -1,5 +1,5 @@
 -- A command that writes a text to a sink of its own: which calls it made, how it ends over lawful input, and what it is never refused with.
-use Rattle.std.proofs.Common.{◌≡◌, ◌⊎◌, inl, inr, ℕ, List, Result, Ok, Err, ⊤}
+use Rattle.std.proofs.Common.{inl, inr, ℕ, List, Result, Ok, Err}
 use Rattle.tree_core.specs.Faults.{Rose}
 use Rattle.tree_core.proofs.MadeLemmas.{some_made}
 use Rattle.tree_texts.specs.Cause.{Cause, no_memory, failed_read, refused_write}
@@ -9,10 +9,9 @@ use Rattle.run_found.specs.declared.error.Error.{Error}
 use Rattle.run_found.specs.declared.error.Error.TheVariants.{ConfigRead}
 use Rattle.run_found.specs.Error.{EndsLawful, MayEndLawful, cause_of}
 use Rattle.run_found.specs.Hearing.{HasMade, RequestHearing, TreeSeen}
-use Rattle.run_found.specs.Written.{IsSilent, SinkSeen}
+use Rattle.run_found.specs.Written.{SinkSeen}
 use Rattle.run_command.specs.Given.{CommandArguments}
-use Rattle.run_command.specs.Settled.{CutsOut, IsCutBy, WritesOut}
-use Rattle.run_command.specs.Stops.{Stops}
+use Rattle.run_command.specs.Settled.{CutsOut, WritesOut}
 use Rattle.run_command.proofs.AbsentLemmas.{stops_never}
 use Rattle.run_command.proofs.LawfulLemmas.{NoRefusal, stops_lawful}
 use Rattle.run_command.proofs.StopLemmas.{stops_made}

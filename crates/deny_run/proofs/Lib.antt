@@ -1,0 +1,10 @@
+pub mod CheckLemmas
+pub mod EndLemmas
+pub mod HeadlineLemmas
+pub mod LawfulLemmas
+pub mod LevelLemmas
+pub mod OutcomeLemmas
+pub mod RunLemmas
+pub mod SummaryLemmas
+pub mod VerifyLemmas
+pub mod WordLemmas
