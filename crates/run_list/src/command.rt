@@ -118,9 +118,10 @@ pub fn list_since<T: Tree, O: Sink, S: Sink, C: Catalog, I: Identifier>(
     ensures later { S.fault_count err.old ≤ S.fault_count err.new }
     ensures out_later { O.fault_count out.old ≤ O.fault_count out.new }
 {
-    let CrateListing { crates, reads } = listing_found(
+    let listing = listing_found(
         alloc, tree, err, catalog, identifier, log_ctx, args, context,
     )?;
-    write_crates(alloc, out, crates.items(), args)?;
+    write_crates(alloc, out, listing.crates.items(), args)?;
+    let CrateListing { reads, .. } = listing;
     Ok(reads)
 }
