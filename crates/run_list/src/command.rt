@@ -9,13 +9,14 @@ ghost use Rattle.run_found.specs.Written.{sink_between};
 ghost use Rattle.run_command.specs.Carried.{uncarried_of};
 ghost use Rattle.run_command.specs.Settled.{IsCutBy};
 ghost use Rattle.run_listing.specs.Listing.{listing_of};
+ghost use Rattle.run_list.specs.Command.{IsListRun};
 ghost use Rattle.run_list.specs.Given.{list_arguments_of};
 ghost use Rattle.run_list.specs.Listing.{FindsListing, Lists};
 
 use crate::crates::{CrateListing, listing_of};
 use diag_core::Files;
 use diag_print::LogContext;
-use run_command::{PolicyUse, crates_found, no_levels};
+use run_command::{PolicyUse, crates_found, no_levels, uncarried_in};
 use run_found::{CrateReads, Error, licences_found};
 use run_listing::{ListError, ListedCrate, write_listing};
 use run_request::KrateContext;
@@ -124,4 +125,30 @@ pub fn list_since<T: Tree, O: Sink, S: Sink, C: Catalog, I: Identifier>(
     write_crates(alloc, out, listing.crates.items(), args)?;
     let CrateListing { reads, .. } = listing;
     Ok(reads)
+}
+
+/// The command `list` of a request: `list_since`, once a look at the words has told that all of the request is carried.
+pub fn cmd<T: Tree, O: Sink, S: Sink, C: Catalog, I: Identifier>(
+    alloc: Global,
+    tree: &mut T,
+    out: &mut O,
+    err: &mut S,
+    catalog: &C,
+    identifier: &I,
+    log_ctx: LogContext,
+    args: Args,
+    krate_ctx: KrateContext,
+) -> Result<CrateReads, Error>
+    ensures { IsListRun
+        (list_arguments_of (C.lists catalog.now) (I.match_of identifier.now) log_ctx args krate_ctx)
+        (seen_between T.content T.fault_count T.trace tree.old tree.new)
+        (sink_between S.written S.fault_count err.old err.new)
+        (sink_between O.written O.fault_count out.old out.new) result }
+{
+    match uncarried_in(log_ctx, &krate_ctx) {
+        Some(what) => Err(Error::NotCarried(what)),
+        None => list_since(
+            alloc, tree, out, err, catalog, identifier, log_ctx, args, &krate_ctx,
+        ),
+    }
 }

@@ -4,4 +4,4 @@
 pub mod command;
 pub mod crates;
 
-pub use command::list_since;
+pub use command::{cmd, list_since};
