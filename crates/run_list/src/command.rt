@@ -26,7 +26,8 @@ use std::alloc::Global;
 use tree_core::{Sink, Tree};
 
 /// What a request and the files have listed: each crate that the request, its policy and its metadata select, whatever
-/// the policy allows. Its flags leave no crate out. What is told of the policy's load is written to `err`.
+/// the policy allows. The flags of the policy's graph leave none out. What is told of the policy's load is written to
+/// `err`.
 fn listing_found<T: Tree, S: Sink, C: Catalog, I: Identifier>(
     alloc: Global,
     tree: &mut T,
