@@ -1,10 +1,3 @@
-pub mod AnswerLemmas
-pub mod CompleteLemmas
-pub mod EndLemmas
-pub mod FoundLemmas
-pub mod GatheredLemmas
-pub mod HeardAlike
-pub mod NamedLemmas
-pub mod ScriptLemmas
-pub mod StageLemmas
-pub mod StepLemmas
+pub mod CommandLemmas
+pub mod ListedLemmas
+pub mod ListingLemmas

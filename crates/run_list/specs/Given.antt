@@ -1,18 +1,23 @@
 -- What a listing is given, but for its files.
-use Rattle.std.specs.Prelude.{ℕ, List}
+use Rattle.std.specs.Prelude.{ℕ, List, Some, false}
 use Rattle.spdx_catalog.specs.Catalog.{CatalogLists}
 use Rattle.spdx_catalog.specs.declared.identifier.Match.{Match}
 use Rattle.diag_print.specs.declared.context.LogContext.{LogContext}
 use Rattle.run_request.specs.declared.list.Args.{Args}
 use Rattle.run_request.specs.declared.context.KrateContext.{KrateContext}
-use Rattle.run_found.specs.Given.{RequestArguments, request_arguments_of}
+use Rattle.run_command.specs.Carried.{no_levels, uncarried_of}
+use Rattle.run_command.specs.Given.{CommandArguments, CommandOptions, command_arguments_of}
 
--- what each command is given, what the identifier says of each text, and the options of `list`
+-- The flags of the policy's graph leave no crate out, and the least score of a text is the one that is asked for.
+abbrev pub list_options : LogContext → Args → KrateContext → CommandOptions
+list_options log args context =
+    record { uncarried = uncarried_of log context; levels = no_levels; with_flags = false; threshold = Some args.threshold }
+
+-- what each command is given, and the options of `list`
 pub record ListArguments : Type 0 where
-  pub request : RequestArguments
-  pub match_of : List ℕ → Match
+  pub command : CommandArguments
   pub args : Args
 
 abbrev pub list_arguments_of : CatalogLists → (List ℕ → Match) → LogContext → Args → KrateContext → ListArguments
 list_arguments_of lists match_of log args context =
-    record { request = request_arguments_of lists log context; match_of = match_of; args = args }
+    record { command = command_arguments_of lists match_of log context (list_options log args context); args = args }

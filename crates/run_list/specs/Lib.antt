@@ -1,11 +1,4 @@
-pub mod Answer
-pub mod Carried
-pub mod Complete
-pub mod Error
-pub mod Found
+pub mod Command
 pub mod Given
 pub mod Listed
-pub mod Named
-pub mod Run
-pub mod Script
-pub mod Steps
+pub mod Listing

@@ -1,5 +1,5 @@
 -- What a listing tells of crates, by what the answers to their reads let hear.
-use Rattle.std.specs.Prelude.{◌≡◌, ℕ, ℤ, List, [], map, Option, Some, None}
+use Rattle.std.specs.Prelude.{◌≡◌, ℕ, List, [], map, Option, Some, None}
 use Rattle.spdx_core.specs.Reading.{ExpressionView}
 use Rattle.tree_reads.specs.Read.{records_of_reads}
 use Rattle.policy_valid.specs.declared.policy.ValidConfig.{ValidConfig}
@@ -11,10 +11,6 @@ use Rattle.run_listing.specs.Listed.{crate_name, distinct, printed_terms}
 use Rattle.run_listing.specs.Listing.{listing_of}
 use Rattle.run_found.specs.declared.reads.CrateRead.{CrateRead}
 use Rattle.run_list.specs.Given.{ListArguments}
-
--- a policy, with the threshold that a listing asks for in the place of its own
-abbrev pub at_threshold : ℤ → ValidConfig → ValidConfig
-at_threshold threshold policy = record policy { confidence_threshold = threshold }
 
 -- the licences of what has priority of a crate; none where nothing has
 abbrev pub licences_in : Option ExpressionView → List (List ℕ)

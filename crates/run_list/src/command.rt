@@ -1,75 +1,108 @@
 //! The command `list`.
-ghost use Rattle.std.specs.Prelude.{◌≡◌, ◌≢◌, ◌≤◌, All, None, Some, Err, IfErr, IfOk};
-ghost use Rattle.std.specs.Option.{ForSome};
+ghost use Rattle.std.specs.Prelude.{◌≡◌, ◌≤◌, All, IfErr, IfOk, None, OnOk};
+ghost use Rattle.tree_core.specs.Faults.{Gained};
 ghost use Rattle.graph_core.specs.Metadata.{AreRising};
-ghost use Rattle.graph_workspace.specs.declared.error.What.{What};
-ghost use Rattle.tree_texts.specs.declared.fault.ReadFault.{ReadFault};
 ghost use Rattle.tree_texts.specs.Cause.{ReadCounts};
 ghost use Rattle.run_found.specs.Error.{cause_of};
-ghost use Rattle.run_list.specs.Answer.{IsListAnswer};
-ghost use Rattle.run_list.specs.Carried.{uncarried_of};
-ghost use Rattle.run_list.specs.Complete.{IsComplete, IsCompleteRead};
+ghost use Rattle.run_found.specs.Hearing.{seen_between};
+ghost use Rattle.run_found.specs.Written.{sink_between};
+ghost use Rattle.run_command.specs.Carried.{uncarried_of};
+ghost use Rattle.run_command.specs.Settled.{IsCutBy};
+ghost use Rattle.run_listing.specs.Listing.{listing_of};
+ghost use Rattle.run_list.specs.Command.{IsListRun};
 ghost use Rattle.run_list.specs.Given.{list_arguments_of};
-ghost use Rattle.run_list.specs.Named.{AnswersOwnReads, FailedReadsRise};
-ghost use Rattle.run_list.specs.Run.{answer_from, crates_from};
-ghost use Rattle.run_list.specs.Script.{WritesList, WritesLoad, sink_between};
-ghost use Rattle.run_found.specs.Hearing.{seen_between, HasMade};
+ghost use Rattle.run_list.specs.Listing.{FindsListing, Lists};
 
-use crate::carried::uncarried_in;
-use crate::crates::CrateListing;
-use crate::refusal::{ListRefusal, unwritten};
-use crate::stages::{list_crates, loaded_at};
+use crate::crates::{CrateListing, listing_of};
 use diag_core::Files;
 use diag_print::LogContext;
-use run_found::{CrateReads, Error, policy_found};
-use run_listing::write_listing;
+use run_command::{PolicyUse, crates_found, no_levels, uncarried_in};
+use run_found::{CrateReads, Error, licences_found};
+use run_listing::{ListError, ListedCrate, write_listing};
 use run_request::KrateContext;
 use run_request::list::Args;
 use spdx_core::{Catalog, Identifier};
 use std::alloc::Global;
 use tree_core::{Sink, Tree};
 
-/// What a request and the files have listed. What is told of the policy's load is written to the sink.
-fn listing_by<T: Tree, S: Sink, C: Catalog, I: Identifier>(
+/// What a request and the files have listed: each crate that the request, its policy and its metadata select, whatever
+/// the policy allows. The flags of the policy's graph leave none out. What is told of the policy's load is written to
+/// `err`.
+fn listing_found<T: Tree, S: Sink, C: Catalog, I: Identifier>(
     alloc: Global,
     tree: &mut T,
-    sink: &mut S,
+    err: &mut S,
     catalog: &C,
     identifier: &I,
     log_ctx: LogContext,
     args: Args,
     context: &KrateContext,
-) -> Result<CrateListing, ListRefusal>
+) -> Result<CrateListing, Error>
     requires { uncarried_of log_ctx context.now ≡ None }
-    ensures policy { answer_from result ≢ Err (Error.ConfigRead ReadFault.Absent) }
-    ensures counts { IfErr (answer_from result) (λ error. ReadCounts
-        (T.fault_count tree.old) (T.fault_count tree.old) (T.fault_count tree.new) (cause_of error)) }
-    ensures written { WritesLoad
+    ensures found { FindsListing
         (list_arguments_of (C.lists catalog.now) (I.match_of identifier.now) log_ctx args context.now)
         (seen_between T.content T.fault_count T.trace tree.old tree.new)
-        (crates_from result)
-        (S.written sink.old) (S.written sink.new) (S.fault_count sink.old) (S.fault_count sink.new)
-        (answer_from result) }
+        (sink_between S.written S.fault_count err.old err.new) result }
     ensures ordered { IfOk result (λ listing. All (λ listed. AreRising listed.licences) listing.crates) }
-    ensures later { S.fault_count sink.old ≤ S.fault_count sink.new }
+    ensures counts { IfErr result (λ error. ReadCounts
+        (T.fault_count tree.old) (T.fault_count tree.old) (T.fault_count tree.new) (cause_of error)) }
+    ensures later { S.fault_count err.old ≤ S.fault_count err.new }
 {
-    let begun = tree.faults();
+    let levels = no_levels(alloc);
+    let use_of = PolicyUse {
+        levels: &levels,
+        with_flags: false,
+        threshold: Some(args.threshold),
+    };
     let mut files = Files::new(alloc);
-    let found = policy_found(alloc, context, log_ctx, &mut files, tree, sink, catalog)?;
-    let policy = loaded_at(args.threshold, found);
-    let listing = list_crates(
-        alloc, &policy, context, &mut files, tree, catalog, identifier, begun,
+    let found = crates_found(
+        alloc, context, log_ctx, &use_of, &mut files, tree, err, catalog,
     )?;
+    let summary = licences_found(
+        alloc,
+        &found.policy,
+        &found.krates,
+        &mut files,
+        tree,
+        catalog,
+        identifier,
+    )?;
+    let listing = listing_of(alloc, summary)?;
     Ok(listing)
 }
 
-/// What a request asks for, all of which is carried: what is told of the policy's load is written to the sink,
-/// and then the listing to `out`.
+/// Writes a listing, in the format and the layout that are asked for. The counts of a refused write are those of this
+/// call.
+fn write_crates<O: Sink>(
+    alloc: Global,
+    out: &mut O,
+    crates: &[ListedCrate],
+    args: Args,
+) -> Result<(), Error>
+    requires { All (λ listed. AreRising listed.licences) crates.now }
+    ensures ok { OnOk result (Gained (O.written out.old) (O.written out.new)
+        (listing_of args.format args.layout crates.now)) }
+    ensures cut { IfErr result (λ error. IsCutBy (sink_between O.written O.fault_count out.old out.new)
+        (listing_of args.format args.layout crates.now) (cause_of error)) }
+    ensures later { O.fault_count out.old ≤ O.fault_count out.new }
+{
+    let begun = out.faults();
+    match write_listing(alloc, crates, args.format, args.layout, out, begun) {
+        Ok(()) => Ok(()),
+        Err(ListError::Memory) => Err(Error::Memory),
+        Err(ListError::WriteFault { before, after }) => Err(Error::WriteFault { before, after }),
+    }
+}
+
+/// The command `list` of a request, all of which is carried: each crate that the request, its policy and its metadata
+/// select is listed with its licences, whatever the policy allows. What is told of the policy's load is written to
+/// `err`, and the listing to `out`. Nothing is checked, so nothing else is told. The answer has the reads of each
+/// crate.
 pub fn list_since<T: Tree, O: Sink, S: Sink, C: Catalog, I: Identifier>(
     alloc: Global,
     tree: &mut T,
     out: &mut O,
-    sink: &mut S,
+    err: &mut S,
     catalog: &C,
     identifier: &I,
     log_ctx: LogContext,
@@ -77,105 +110,46 @@ pub fn list_since<T: Tree, O: Sink, S: Sink, C: Catalog, I: Identifier>(
     context: &KrateContext,
 ) -> Result<CrateReads, Error>
     requires { uncarried_of log_ctx context.now ≡ None }
-    ensures policy { result ≢ Err (Error.ConfigRead ReadFault.Absent) }
-    ensures made { HasMade (seen_between T.content T.fault_count T.trace tree.old tree.new) }
-    ensures counts { IfErr result (λ error. ReadCounts
-        (T.fault_count tree.old) (T.fault_count tree.old) (T.fault_count tree.new) (cause_of error)) }
-    ensures written { WritesList
+    ensures lists { Lists
         (list_arguments_of (C.lists catalog.now) (I.match_of identifier.now) log_ctx args context.now)
         (seen_between T.content T.fault_count T.trace tree.old tree.new)
-        (sink_between S.written S.fault_count sink.old sink.new)
-        (sink_between O.written O.fault_count out.old out.new)
-        result }
-    ensures later { S.fault_count sink.old ≤ S.fault_count sink.new }
+        (sink_between S.written S.fault_count err.old err.new)
+        (sink_between O.written O.fault_count out.old out.new) result }
+    ensures counts { IfErr result (λ error. ReadCounts
+        (T.fault_count tree.old) (T.fault_count tree.old) (T.fault_count tree.new) (cause_of error)) }
+    ensures later { S.fault_count err.old ≤ S.fault_count err.new }
     ensures out_later { O.fault_count out.old ≤ O.fault_count out.new }
 {
-    let begun = out.faults();
-    match listing_by(
-        alloc, tree, sink, catalog, identifier, log_ctx, args, context,
-    ) {
-        Ok(CrateListing { crates, reads }) => match write_listing(
-            alloc,
-            crates.items(),
-            args.format,
-            args.layout,
-            out,
-            begun,
-        ) {
-            Ok(()) => Ok(reads),
-            Err(refused) => Err(unwritten(refused)),
-        },
-        Err(refusal) => Err(refusal.into_error()),
-    }
+    let listing = listing_found(
+        alloc, tree, err, catalog, identifier, log_ctx, args, context,
+    )?;
+    write_crates(alloc, out, listing.crates.items(), args)?;
+    let CrateListing { reads, .. } = listing;
+    Ok(reads)
 }
 
-/// The command `list` of a request: each crate that the request, its policy and its metadata select is listed
-/// with its licences, whatever the policy allows. What is told of the policy's load is written to the sink, and
-/// the listing to `out`. Nothing is checked, so nothing else is told. The answer has the reads of each crate.
+/// The command `list` of a request: `list_since`, once a look at the words has told that all of the request is carried.
 pub fn cmd<T: Tree, O: Sink, S: Sink, C: Catalog, I: Identifier>(
     alloc: Global,
     tree: &mut T,
     out: &mut O,
-    sink: &mut S,
+    err: &mut S,
     catalog: &C,
     identifier: &I,
     log_ctx: LogContext,
     args: Args,
     krate_ctx: KrateContext,
 ) -> Result<CrateReads, Error>
-    // What was heard asks for is answered, whatever the tree tells of its content, and nothing else was read: each
-    // refusal is the first one, by its cause.
-    ensures answer { IsListAnswer
-        (list_arguments_of (C.lists catalog.now) (I.match_of identifier.now) log_ctx args krate_ctx)
-        (seen_between T.content T.fault_count T.trace tree.old tree.new) result }
-    ensures policy { result ≢ Err (Error.ConfigRead ReadFault.Absent) }
-
-    // Where a part of the request is not carried, no call is made, and nothing is written.
-    ensures uncarried { (what : What) → uncarried_of log_ctx krate_ctx ≡ Some what
-        → (result ≡ Err (Error.NotCarried what)) × (T.trace tree.new ≡ T.trace tree.old)
-        × (T.fault_count tree.new ≡ T.fault_count tree.old) × (S.written sink.new ≡ S.written sink.old)
-        × (O.written out.new ≡ O.written out.old) }
-
-    // Calls were made on the tree, and nothing else came of it; a failed read has a cause.
-    ensures made { HasMade (seen_between T.content T.fault_count T.trace tree.old tree.new) }
-    ensures counts { IfErr result (λ error. ReadCounts
-        (T.fault_count tree.old) (T.fault_count tree.old) (T.fault_count tree.new) (cause_of error)) }
-
-    // What was written to each sink, and when a write was refused.
-    ensures written { WritesList
+    ensures { IsListRun
         (list_arguments_of (C.lists catalog.now) (I.match_of identifier.now) log_ctx args krate_ctx)
         (seen_between T.content T.fault_count T.trace tree.old tree.new)
-        (sink_between S.written S.fault_count sink.old sink.new)
-        (sink_between O.written O.fault_count out.old out.new)
-        result }
-    ensures later { S.fault_count sink.old ≤ S.fault_count sink.new }
-    ensures out_later { O.fault_count out.old ≤ O.fault_count out.new }
-
-    // Lawful input without a fault is listed: by what was read, and by the content where the tree tells it.
-    ensures complete_read { IsCompleteRead
-        (list_arguments_of (C.lists catalog.now) (I.match_of identifier.now) log_ctx args krate_ctx)
-        (seen_between T.content T.fault_count T.trace tree.old tree.new)
-        (sink_between S.written S.fault_count sink.old sink.new)
-        (sink_between O.written O.fault_count out.old out.new)
-        result }
-    ensures complete { ForSome (T.content tree.old) (λ content. IsComplete
-        (list_arguments_of (C.lists catalog.now) (I.match_of identifier.now) log_ctx args krate_ctx) content
-        (seen_between T.content T.fault_count T.trace tree.old tree.new)
-        (sink_between S.written S.fault_count sink.old sink.new)
-        (sink_between O.written O.fault_count out.old out.new)
-        result) }
-
-    // By name, what is answered of reads.
-    ensures own_reads { IfOk result (AnswersOwnReads
-        (list_arguments_of (C.lists catalog.now) (I.match_of identifier.now) log_ctx args krate_ctx)
-        (seen_between T.content T.fault_count T.trace tree.old tree.new)) }
-    ensures rises { IfOk result (FailedReadsRise
-        (seen_between T.content T.fault_count T.trace tree.old tree.new)) }
+        (sink_between S.written S.fault_count err.old err.new)
+        (sink_between O.written O.fault_count out.old out.new) result }
 {
     match uncarried_in(log_ctx, &krate_ctx) {
         Some(what) => Err(Error::NotCarried(what)),
         None => list_since(
-            alloc, tree, out, sink, catalog, identifier, log_ctx, args, &krate_ctx,
+            alloc, tree, out, err, catalog, identifier, log_ctx, args, &krate_ctx,
         ),
     }
 }
