@@ -28,7 +28,7 @@ returns-in_err-report-clause-records g c =
     let p = err_from_is_err_and c.from_residual.result c.from_residual.ensures.1 in
     rw (p.1, p.2)
     (inl (
-      subst (λ options. Reports (command_arguments_of lists match_of log context options) tree err (Err c.in_err-report.field-0.0)) (plain_use log context _ c.no_levels.ensures c.requires)
+      subst (λ options. Reports (command_arguments_of lists match_of log context options) tree err (Err c.in_err-report.field-0.0)) (plain_use log context _ c.no_levels-levels.ensures c.requires)
           c.in_err-report.ensures.reports,
       refl,
     ))
@@ -44,7 +44,7 @@ returns-clause-records g c =
     (g.T.Tree.trace c.args.tree.now) (g.T.Tree.trace c.report_since.new.tree) in
     let err = sink_seen (g.S.Sink.written c.args.err.now) (g.S.Sink.written c.report_since.new.err) (g.S.Sink.fault_count c.args.err.now) (g.S.Sink.fault_count c.report_since.new.err) in
     let out = sink_seen (g.O.Sink.written c.args.out.now) (g.O.Sink.written c.record_report.new.out) (g.O.Sink.fault_count c.args.out.now) (g.O.Sink.fault_count c.record_report.new.out) in
-    let hears = subst (λ options. Reports (command_arguments_of lists match_of log context options) tree err (Ok report)) (plain_use log context _ c.no_levels.ensures c.requires)
+    let hears = subst (λ options. Reports (command_arguments_of lists match_of log context options) tree err (Ok report)) (plain_use log context _ c.no_levels-levels.ensures c.requires)
     c.in_ok-report.ensures.reports in
     report_ends (command_arguments_of lists match_of log context (plain_options log context)) tree err out report hears c.record_report.result c.record_report.ensures.records
 

@@ -27,7 +27,7 @@ returns-in_err-found-clause-verifies g c =
     let p = err_from_is_err_and c.from_residual.result c.from_residual.ensures.1 in
     rw (p.1, p.2)
     (inl (subst (λ options. FindsCrates (command_arguments_of lists match_of log context options) tree err c.crates_found.new.files (Err c.in_err-found.field-0.0))
-    (plain_use log context _ c.no_levels.ensures c.requires) (c.in_err-found.ensures.found match_of)))
+    (plain_use log context _ c.no_levels-levels.ensures c.requires) (c.in_err-found.ensures.found match_of)))
 
 pub returns-in_err-summary-clause-verifies : goal.returns-in_err-summary-clause-verifies
 returns-in_err-summary-clause-verifies g c =
@@ -49,7 +49,7 @@ returns-in_err-summary-clause-verifies g c =
     let err = sink_seen (g.S.Sink.written c.args.err.now) (g.S.Sink.written c.crates_found.new.err) (g.S.Sink.fault_count c.args.err.now) (g.S.Sink.fault_count c.crates_found.new.err) in
     let has : HasCrates given (seen first middle begun mid old between) err c.crates_found.new.files found =
     subst (λ options. FindsCrates (command_arguments_of lists match_of log context options) (seen first middle begun mid old between) err c.crates_found.new.files (Ok found))
-    (plain_use log context _ c.no_levels.ensures c.requires) (c.in_ok-found.ensures.found match_of) in
+    (plain_use log context _ c.no_levels-levels.ensures c.requires) (c.in_ok-found.ensures.found match_of) in
     let p = err_from_is_err_and c.from_residual-in_err-summary.result c.from_residual-in_err-summary.ensures.1 in
     rw (p.1, p.2)
     (inl (cut_stops given first middle tells begun mid after old between more err c.crates_found.new.files found has
@@ -78,7 +78,7 @@ returns-clause-verifies g c =
     let err = sink_seen (g.S.Sink.written c.args.err.now) (g.S.Sink.written c.crates_found.new.err) (g.S.Sink.fault_count c.args.err.now) (g.S.Sink.fault_count c.crates_found.new.err) in
     let has : HasCrates given (seen first middle begun mid old between) err c.crates_found.new.files found =
     subst (λ options. FindsCrates (command_arguments_of lists match_of log context options) (seen first middle begun mid old between) err c.crates_found.new.files (Ok found))
-    (plain_use log context _ c.no_levels.ensures c.requires) (c.in_ok-found.ensures.found match_of) in
+    (plain_use log context _ c.no_levels-levels.ensures c.requires) (c.in_ok-found.ensures.found match_of) in
     verified_by given c.requires c.args.path.now first middle later tells begun mid settled after old between more new err c.crates_found.new.files found has c.licences_found.new.files
     c.in_ok-summary.summary.nfos (c.in_ok-summary.ensures.gathered has.graph (choice_in given has.policy) has.chosen) c.verify_file.result c.verify_file.ensures
 

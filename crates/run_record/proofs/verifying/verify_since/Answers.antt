@@ -7,7 +7,7 @@ use Rattle.run_record.proofs.verifying.verify_since.Goals as goal
 pub returns-in_err-crates-clause-verifies : goal.returns-in_err-crates-clause-verifies
 returns-in_err-crates-clause-verifies g c =
     let p = err_from_is_err_and c.from_residual.result c.from_residual.ensures.1 in
-    rw (p.1, p.2) (inl (c.in_err-crates.ensures.verifies, refl))
+    rw (p.1, p.2) (inl (c.in_err-crates.ensures.verifies, refl {a = g.O.Sink.written c.args.out.now}))
 
 pub returns-in_err-write_answer-clause-verifies : goal.returns-in_err-write_answer-clause-verifies
 returns-in_err-write_answer-clause-verifies g c =
