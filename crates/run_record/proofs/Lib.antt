@@ -1,5 +1,3 @@
-pub mod CarriedLemmas
-pub mod CompleteLemmas
+pub mod EndLemmas
 pub mod RecordLemmas
-pub mod SettledLemmas
 pub mod VerifyLemmas

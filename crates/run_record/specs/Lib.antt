@@ -1,9 +1,4 @@
-pub mod Complete
-pub mod Error
-pub mod Given
 pub mod Judged
 pub mod Recorded
-pub mod Settled
 pub mod Steps
 pub mod Verified
-pub mod Written

@@ -1,11 +1,11 @@
 -- What verifying answers and writes.
-use Rattle.std.specs.Prelude.{◌≡◌, ◌⊎◌, ℕ, List, ◌++◌, Some, Result, Ok, Err, codes}
+use Rattle.std.specs.Prelude.{◌≡◌, ◌⊎◌, ℕ, List, [], ◌∷◌, ◌++◌, Some, Result, Ok, Err, codes}
 use Rattle.tree_core.specs.Call.{CallAnswer}
-use Rattle.tree_core.specs.Faults.{Gained}
-use Rattle.tree_core.specs.Trace.{fault_behind}
-use Rattle.tree_texts.specs.Cause.{Cause, no_memory, refused_write}
-use Rattle.tree_texts.specs.Heard.{text_answered}
+use Rattle.tree_core.specs.Faults.{Gained, GainedPrefix}
+use Rattle.tree_core.specs.Trace.{fault_behind, faults_after}
+use Rattle.tree_texts.specs.Heard.{read_of, text_answered}
 use Rattle.tree_texts.specs.declared.fault.ReadFault.{ReadFault}
+use Rattle.diag_core.specs.File.{File}
 use Rattle.policy_valid.specs.View.{policy_of}
 use Rattle.policy_valid.specs.declared.policy.ValidConfig.{ValidConfig}
 use Rattle.gather_core.specs.declared.summary.KrateLicense.{KrateLicense}
@@ -17,18 +17,17 @@ use Rattle.check_verify.specs.declared.answer.NoReason.{NoReason}
 use Rattle.check_verify.specs.declared.answer.NoReason.TheVariants.{Crates, Variant, NotAChoice, NotSatisfied, HasHit, NotBlocking}
 use Rattle.check_verify.specs.Verified.{IsVerified}
 use Rattle.run_found.specs.declared.error.Error.{Error}
-use Rattle.run_found.specs.Error.{cause_of}
-use Rattle.run_found.specs.Hearing.{TreeSeen}
-use Rattle.run_found.specs.Reads.{reads_gathered}
-use Rattle.run_check.specs.Given.{CheckArguments}
+use Rattle.run_found.specs.declared.error.Error.TheVariants.{Memory, RecordRead, RecordSyntax}
 use Rattle.run_found.specs.declared.reads.CrateRead.{CrateRead}
-use Rattle.run_record.specs.declared.error.VerifyError.{VerifyError}
-use Rattle.run_record.specs.declared.error.VerifyError.TheVariants.{Refused, RecordRead, RecordSyntax}
+use Rattle.run_found.specs.Hearing.{MadeOn, RequestHearing, TreeSeen}
+use Rattle.run_found.specs.Reads.{reads_gathered}
+use Rattle.run_found.specs.Written.{IsSilent, SinkSeen}
+use Rattle.run_command.specs.Found.{calls_of, load_heard}
+use Rattle.run_command.specs.Given.{CommandArguments}
+use Rattle.run_command.specs.Settled.{IsSettled}
+use Rattle.run_command.specs.Stops.{Stops}
+use Rattle.run_command.specs.Written.{IsWriteFault}
 use Rattle.run_record.specs.declared.verdicts.VerifiedCrates.{VerifiedCrates}
-use Rattle.run_record.specs.Error.{error_of_verify, verify_cause}
-use Rattle.run_record.specs.Recorded.{IsRefusedIn, IsUntouched, WritesLoadOn}
-use Rattle.run_list.specs.Script.{SinkSeen}
-use Rattle.run_record.specs.Settled.{SettlesBy}
 
 -- ---- what is written
 
@@ -44,9 +43,9 @@ abbrev pub answer_text : Answer → List ℕ
 answer_text Yes = codes "verified\n"
 answer_text (No reason) = codes "not verified: " ++ reason_words reason ++ codes "\n"
 
--- ---- what is answered, by the policy, the licences and the read of the file, from a count of faults on
+-- ---- what is told of a file, by the policy, the licences and the answer to its read, from a count of faults on
 
--- the file is the spelling of a record, and the answer tells whether that is right
+-- it is the spelling of a record, and the answer tells whether that is right
 pub record TellsVerified (crates : VerifiedCrates) (policy : ValidConfig) (licenses : List KrateLicense) (count : ℕ) (answer : CallAnswer) : Type 0 where
   pub text : List ℕ
   pub hears : text_answered count (fault_behind count answer) answer ≡ Some (Ok text)
@@ -55,67 +54,54 @@ pub record TellsVerified (crates : VerifiedCrates) (policy : ValidConfig) (licen
   pub verified : IsVerified (policy_of policy) licenses items crates.answer
   pub reads : crates.reads ≡ reads_gathered licenses
 
--- the file is a text, and the spelling of no record
+-- it is a text, and the spelling of no record
 pub record TellsNoRecord (policy : ValidConfig) (licenses : List KrateLicense) (count : ℕ) (answer : CallAnswer) : Type 0 where
   pub text : List ℕ
   pub hears : text_answered count (fault_behind count answer) answer ≡ Some (Ok text)
   pub not_spelled : (items : List RecordItem) → Spells text items → ⊥
 
--- the file is no text, or was not read
+-- it is no text, or was not read
 pub record TellsUnread (fault : ReadFault) (reads : List CrateRead) (policy : ValidConfig) (licenses : List KrateLicense) (count : ℕ) (answer : CallAnswer) : Type 0 where
   pub hears : text_answered count (fault_behind count answer) answer ≡ Some (Err fault)
   pub reads_are : reads ≡ reads_gathered licenses
 
--- nothing more is said
-abbrev pub TellsNothing : ValidConfig → List KrateLicense → ℕ → CallAnswer → Type 0
-TellsNothing policy licenses count answer = Unit {0}
-
--- ---- before the answer is written
-
--- want of memory may come behind the read of the file too
-abbrev pub IsFirstRefusal : CheckArguments → List ℕ → TreeSeen → SinkSeen → Error → Cause → Type 0
-IsFirstRefusal given path tree err error no_memory = WritesLoadOn given tree err (Err error) ⊎ SettlesBy given tree err path TellsNothing
-IsFirstRefusal given path tree err error _ = WritesLoadOn given tree err (Err error)
-
--- What is answered is told of what was heard; a refusal is the one that a check is refused with before it writes what it found, or it is
--- that of the file.
-abbrev pub VerifiesFirst : CheckArguments → List ℕ → TreeSeen → SinkSeen → Result VerifiedCrates VerifyError → Type 0
-VerifiesFirst given path tree err (Ok crates) = SettlesBy given tree err path (TellsVerified crates)
-VerifiesFirst given path tree err (Err (Refused error)) = IsFirstRefusal given path tree err error (cause_of error)
-VerifiesFirst given path tree err (Err (RecordRead fault reads)) = SettlesBy given tree err path (TellsUnread fault reads)
-VerifiesFirst given path tree err (Err RecordSyntax) = SettlesBy given tree err path TellsNoRecord
+-- so of an answer and of each refusal; nothing is told where memory was wanting
+abbrev pub Tells : Result VerifiedCrates Error → ValidConfig → List KrateLicense → ℕ → CallAnswer → Type 0
+Tells (Ok crates) = TellsVerified crates
+Tells (Err Memory) = λ policy licenses count answer. Unit {0}
+Tells (Err (RecordRead fault reads)) = TellsUnread fault reads
+Tells (Err RecordSyntax) = TellsNoRecord
+Tells (Err _) = λ policy licenses count answer. ⊥
 
 -- ---- the command
 
--- the answer is told of what was heard, and written
-pub record Verifies (given : CheckArguments) (path : List ℕ) (tree : TreeSeen) (out err : SinkSeen) (crates : VerifiedCrates) : Type 0 where
-  pub settles : SettlesBy given tree err path (TellsVerified crates)
-  pub written : Gained out.old out.new (answer_text crates.answer)
+-- The licences of the crates were settled, and then the file at a path was read; the calls of that were made, and no other; all that is
+-- told of the load was written; and this is so of the policy, the licences, the count of faults before the read and its answer.
+pub record SettlesBy (given : CommandArguments) (path : List ℕ) (tree : TreeSeen) (err : SinkSeen) (IsSo : ValidConfig → List KrateLicense → ℕ → CallAnswer → Type 0) : Type 0 where
+  pub hearing : RequestHearing
+  pub policy : ValidConfig
+  pub licenses : List KrateLicense
+  pub last : List File
+  pub answer : CallAnswer
+  pub begun : hearing.begun ≡ tree.count_before
+  pub made : MadeOn tree (calls_of given hearing ++ read_of path answer ∷ [])
+  pub settled : IsSettled given hearing policy licenses last
+  pub written : Gained err.old err.new (load_heard given hearing)
+  pub is_so : IsSo policy licenses (faults_after tree.count_before (calls_of given hearing)) answer
 
--- the answer was told, and could not be written
-pub record CutsAnswer (given : CheckArguments) (path : List ℕ) (tree : TreeSeen) (out err : SinkSeen) (first last : ℕ) : Type 0 where
+-- Before the answer is written: it is told of what was heard. So is a refusal, or the command was refused before it did its own.
+abbrev pub VerifiesFirst : CommandArguments → List ℕ → TreeSeen → SinkSeen → Result VerifiedCrates Error → Type 0
+VerifiesFirst given path tree err (Ok crates) = SettlesBy given path tree err (Tells (Ok crates))
+VerifiesFirst given path tree err (Err error) = Stops given tree err error ⊎ SettlesBy given path tree err (Tells (Err error))
+
+-- the answer was told, and a prefix of it written, behind which a write was refused
+pub record CutsAnswer (given : CommandArguments) (path : List ℕ) (tree : TreeSeen) (err out : SinkSeen) (error : Error) : Type 0 where
   pub crates : VerifiedCrates
-  pub settles : SettlesBy given tree err path (TellsVerified crates)
-  pub refused : IsRefusedIn out (answer_text crates.answer) first last
+  pub settles : SettlesBy given path tree err (Tells (Ok crates))
+  pub refused : IsWriteFault out.before out.after error
+  pub front : GainedPrefix out.old out.new (answer_text crates.answer)
 
--- nothing is on `out`, or a write of it was refused
-abbrev pub IsVerifyRefusal : CheckArguments → List ℕ → TreeSeen → SinkSeen → SinkSeen → VerifyError → Cause → Type 0
-IsVerifyRefusal given path tree out err error (refused_write first last) =
-    (VerifiesFirst given path tree err (Err error) × IsUntouched out) ⊎ CutsAnswer given path tree out err first last
-IsVerifyRefusal given path tree out err error _ = VerifiesFirst given path tree err (Err error) × IsUntouched out
-
-abbrev pub VerifiesOrNot : CheckArguments → List ℕ → TreeSeen → SinkSeen → SinkSeen → Result VerifiedCrates VerifyError → Type 0
-VerifiesOrNot given path tree out err (Ok crates) = Verifies given path tree out err crates
-VerifiesOrNot given path tree out err (Err error) = IsVerifyRefusal given path tree out err error (verify_cause error)
-
--- ---- the same, as what a run is refused with
-
--- the refusal is one of the command's
-pub record RefusesVerify (given : CheckArguments) (path : List ℕ) (tree : TreeSeen) (out err : SinkSeen) (error : Error) : Type 0 where
-  pub refusal : VerifyError
-  pub is : error ≡ error_of_verify refusal
-  pub refuses : IsVerifyRefusal given path tree out err refusal (verify_cause refusal)
-
-abbrev pub VerifiesCommand : CheckArguments → List ℕ → TreeSeen → SinkSeen → SinkSeen → Result VerifiedCrates Error → Type 0
-VerifiesCommand given path tree out err (Ok crates) = Verifies given path tree out err crates
-VerifiesCommand given path tree out err (Err error) = RefusesVerify given path tree out err error
+-- The answer is written. A refusal leaves nothing on `out`, or it is that of the write.
+abbrev pub Verifies : CommandArguments → List ℕ → TreeSeen → SinkSeen → SinkSeen → Result VerifiedCrates Error → Type 0
+Verifies given path tree err out (Ok crates) = SettlesBy given path tree err (Tells (Ok crates)) × Gained out.old out.new (answer_text crates.answer)
+Verifies given path tree err out (Err error) = (VerifiesFirst given path tree err (Err error) × IsSilent out) ⊎ CutsAnswer given path tree err out error
