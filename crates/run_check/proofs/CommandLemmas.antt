@@ -1,23 +1,20 @@
 -- What the command `check` promises, where a part of the request is not carried, and where all of it is.
-use Rattle.std.proofs.Common.{◌≡◌, ◌≤◌, ◌∙◌, refl, sym, ap, subst, inl, inr, ℕ, List, [], Option, Some, None, Result, Ok, Err, IfOk, IfErr}
+use Rattle.std.proofs.Common.{◌≡◌, ◌≤◌, ◌∙◌, arith, refl, sym, ap, inl, inr, ℕ, List, Option, Some, None, Result, Ok, Err, IfOk, IfErr}
 use Rattle.tree_core.specs.Call.{Call}
 use Rattle.tree_core.specs.Content.{Content}
-use Rattle.tree_core.specs.Faults.{Rose}
-use Rattle.tree_core.specs.Hearing.{MadeSome}
 use Rattle.tree_core.proofs.MadeLemmas.{made_none, some_made, some_none}
 use Rattle.tree_texts.specs.Cause.{Cause, ReadCounts, no_memory, failed_read, refused_write}
 use Rattle.tree_texts.specs.Cause as causes
 use Rattle.graph_workspace.specs.declared.error.What.{What}
 use Rattle.run_found.specs.declared.error.Error.{Error}
 use Rattle.run_found.specs.declared.error.Error.TheVariants.{NotCarried}
-use Rattle.run_found.specs.Error.{EndsLawful, cause_of}
+use Rattle.run_found.specs.Error.{cause_of}
 use Rattle.run_found.specs.Hearing.{HasMade, TreeSeen, seen}
 use Rattle.run_found.specs.Written.{SinkSeen, sink_seen}
 use Rattle.run_command.specs.Given.{CommandArguments}
 use Rattle.run_command.proofs.StopLemmas.{stops_made}
 use Rattle.run_check.specs.declared.report.Report.{Report}
 use Rattle.run_check.specs.Command.{IsCheckRun}
-use Rattle.run_check.specs.Headline.{CheckHeadline, CheckHeadlineRead}
 use Rattle.run_check.specs.Named.{FailedReadsRise, ReportsCertificates, ReportsFindings, ReportsOwnReads, ReportsPolicy, ReportsUnneeded}
 use Rattle.run_check.specs.Report.{LabelsLie}
 use Rattle.run_check.specs.Script.{CutsFindings, WritesBehind, WritesCheck, findings_text}

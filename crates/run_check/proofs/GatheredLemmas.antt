@@ -1,29 +1,22 @@
 -- The licences that were gathered, as what was read of crates and as what is told of them.
-use Rattle.std.proofs.Common.{◌≡◌, ◌∙◌, refl, sym, ap, subst, ℕ, Bool, true, false, List, [], ◌∷◌, map, Option, Some, None}
-use Rattle.std.proofs.lemmas.List.Elements.{All-from_recursion}
+use Rattle.std.proofs.Common.{◌≡◌, ◌∙◌, refl, sym, ap, subst, ℕ, List, [], ◌∷◌, map, Option, Some, None}
 use Rattle.std.specs.Prelude.{All, option_map, unwrap_or}
-use Rattle.std.specs.List.{AllByRecursion, AllZip}
-use Rattle.graph_core.specs.Krate.{Record}
-use Rattle.tree_reads.specs.Heard.{ReadResult}
-use Rattle.diag_core.specs.File.{File, file_id_at}
+use Rattle.std.specs.List.{AllZip}
+use Rattle.diag_core.specs.File.{File}
 use Rattle.diag_core.specs.declared.label.Coord.{Coord}
 use Rattle.gather_licence.specs.Priority.{answer_in}
 use Rattle.gather_licence.specs.declared.settling.JoinedNames.{JoinedNames}
 use Rattle.gather_licence.specs.declared.settling.LicenseBasis.{LicenseBasis}
 use Rattle.gather_licence.specs.declared.settling.LicenseBasis.TheVariants.{Clarified, Field, Files}
-use Rattle.gather_licence.specs.Clarification.{ClarificationView}
-use Rattle.gather_location.specs.Location.{located_by}
-use Rattle.gather_files.specs.Ears.{FolderReads}
 use Rattle.gather_core.specs.Told.{answer_view, info_by, joined_info, joined_notes, notes_of, nowhere, source_view}
-use Rattle.gather_core.specs.Turns.{IsCutOut, IsTurn, TurnInput, asks_manifest, field_text, files_behind, findings_in, info_in, located_in, located_where, notes_in, points_in, basis_in}
+use Rattle.gather_core.specs.Turns.{IsCutOut, IsTurn, TurnInput, files_behind, findings_in, info_in, located_in, notes_in, points_in, basis_in}
 use Rattle.gather_findings.specs.declared.license.LicenseInfo.{LicenseInfo}
 use Rattle.gather_findings.specs.declared.license.LicenseInfo.TheVariants.{SpdxExpression, Unlicensed}
 use Rattle.policy_valid.specs.declared.policy.ValidConfig.{ValidConfig}
 use Rattle.policy_valid.specs.Policy.{Policy}
 use Rattle.policy_valid.specs.View.{policy_of}
 use Rattle.gather_expression.specs.Scanned.{Scanner}
-use Rattle.gather_core.specs.Calls.{CrateReads, CrateTurn, HasOwnReads, IsTurnBy, turn_by, turns_of}
-use Rattle.gather_core.specs.Entries.{entries_of}
+use Rattle.gather_core.specs.Calls.{CrateReads, CrateTurn, IsTurnBy}
 use Rattle.gather_core.specs.Gathered.{krate_of}
 use Rattle.gather_core.specs.declared.summary.KrateLicense.{KrateLicense}
 use Rattle.gather_core.proofs.ZipLemmas.{all_left, same_maps}

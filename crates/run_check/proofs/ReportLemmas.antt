@@ -20,7 +20,7 @@ use Rattle.run_found.specs.Hearing.{RequestHearing, seen}
 use Rattle.run_found.specs.Written.{SinkSeen}
 use Rattle.run_command.specs.declared.crates.CratesFound.{CratesFound}
 use Rattle.run_command.specs.Crates.{HasCrates}
-use Rattle.run_command.specs.Found.{PutsInOrder, at_threshold, choice_in, scanner_of_given, turns_in}
+use Rattle.run_command.specs.Found.{at_threshold, choice_in, scanner_of_given, turns_in}
 use Rattle.run_command.specs.Given.{CommandArguments}
 use Rattle.run_command.specs.Settled.{IsSettled}
 use Rattle.run_command.proofs.SettledLemmas.{hears, hears_so, is_settled}

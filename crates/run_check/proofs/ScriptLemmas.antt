@@ -1,5 +1,5 @@
 -- What a check writes, from what its sink gained.
-use Rattle.std.proofs.Common.{inl, inr, ℕ, List, Option, Err}
+use Rattle.std.proofs.Common.{inr, ℕ, List, Option, Err}
 use Rattle.tree_core.specs.Faults.{Gained, GainedPrefix}
 use Rattle.tree_core.proofs.GainedLemmas.{Gained-then}
 use Rattle.diag_print.specs.declared.printer.PrintError.{PrintError}

@@ -1,5 +1,5 @@
 -- When a report is the one that a request and the files ask for.
-use Rattle.std.specs.Prelude.{◌≡◌, ℕ, List, map, Option, Some, None, option_map, Result, IfOk, All}
+use Rattle.std.specs.Prelude.{◌≡◌, List, map, Option, Some, None, option_map, Result, IfOk, All}
 use Rattle.std.specs.List.{AllZip}
 use Rattle.tree_reads.specs.Read.{records_of_reads}
 use Rattle.policy_valid.specs.View.{policy_of}

@@ -1,41 +1,25 @@
 -- What the steps of a check answer, one by one.
-use Rattle.std.specs.Prelude.{◌≡◌, ℕ, List, [], ◌∷◌, map, Option, Some, None, Result, Ok, Err, All}
-use Rattle.tree_core.specs.Call.{CallAnswer}
-use Rattle.tree_core.specs.Trace.{fault_behind}
+use Rattle.std.specs.Prelude.{◌≡◌, List, [], ◌∷◌, Option, Some, None, All}
 use Rattle.spdx_core.specs.Reading.{ExpressionView}
 use Rattle.graph_core.specs.Metadata.{Graph}
 use Rattle.diag_core.specs.File.{File}
-use Rattle.tree_reads.specs.Read.{AreReads}
-use Rattle.tree_texts.specs.Heard.{read_of}
 use Rattle.graph_selection.specs.Choice.{Choice}
-use Rattle.graph_selection.specs.Listed.{IsListOf}
-use Rattle.graph_selection.specs.Walks.{Selected}
-use Rattle.graph_workspace.specs.declared.error.KratesError.{KratesError}
 use Rattle.gather_expression.specs.Scanned.{Scanner}
 use Rattle.policy_valid.specs.View.{policy_of}
 use Rattle.policy_valid.specs.declared.policy.ValidConfig.{ValidConfig}
 use Rattle.gather_findings.specs.declared.license.LicenseInfo.{LicenseInfo}
 use Rattle.gather_findings.specs.declared.license.LicenseInfo.TheVariants.{SpdxExpression}
 use Rattle.gather_findings.specs.declared.license.LicenseInfo.TheVariants as license_info
-use Rattle.gather_core.specs.Calls.{AreTurnsBy, CrateReads, calls_of_all, reads_of_all}
-use Rattle.gather_core.specs.Gathered.{include_of, krate_of}
+use Rattle.gather_core.specs.Gathered.{krate_of}
 use Rattle.gather_core.specs.declared.summary.KrateLicense.{KrateLicense}
-use Rattle.policy_core.specs.declared.load.LoadedPolicy.{LoadedPolicy}
 use Rattle.spdx_certificates.specs.declared.verdict.Verdict.{Verdict}
 use Rattle.check_core.specs.Check.{AreVerdicts, findings_of}
 use Rattle.check_core.specs.Labels.{VerdictPoints}
 use Rattle.check_core.specs.Summary.{gathered_of_licenses}
 use Rattle.diag_stats.specs.Counts.{counts_of}
-use Rattle.run_request.specs.declared.context.KrateContext.{KrateContext}
 use Rattle.run_request.specs.declared.level.LintLevels.{LintLevels}
-use Rattle.run_context.specs.Asked.{choice_asked}
 use Rattle.run_overrides.specs.Levels.{packs_at}
-use Rattle.run_found.specs.declared.refusal.CrateRefusal.{CrateRefusal}
-use Rattle.run_found.specs.declared.refusal.CrateRefusal.TheVariants.{Memory, Krates}
-use Rattle.run_found.specs.Gathering as gathering
-use Rattle.run_found.specs.Hearing.{MadeOn, TreeSeen}
-use Rattle.run_found.specs.Licences.{turns_heard}
-use Rattle.run_found.specs.Selection.{left_by}
+use Rattle.run_found.specs.Hearing.{TreeSeen}
 use Rattle.run_check.specs.declared.check.CheckedCrates.{CheckedCrates}
 use Rattle.run_check.specs.declared.report.CrateReport.{CrateReport}
 use Rattle.run_check.specs.declared.report.Report.{Report}
