@@ -19,7 +19,7 @@ use crate::report::Report;
 use diag_core::Files;
 use diag_print::{LogContext, index_packs, print_packs};
 use diag_stats::AllStats;
-use run_command::{CratesFound, PolicyUse, crates_found};
+use run_command::{PolicyUse, crates_found};
 use run_found::Error;
 use run_request::check::Args;
 use run_request::{KrateContext, LintLevels};
@@ -76,13 +76,18 @@ pub fn report_since<T: Tree, S: Sink, C: Catalog, I: Identifier>(
         threshold: None,
     };
     let mut files = Files::new(alloc);
-    let CratesFound {
-        policy,
-        overrides,
-        krates,
-    } = crates_found(alloc, context, log_ctx, &use_of, &mut files, tree, err, catalog)?;
+    let found = crates_found(
+        alloc, context, log_ctx, &use_of, &mut files, tree, err, catalog,
+    )?;
     let checked = settle_and_judge(
-        alloc, policy, overrides, &krates, &mut files, tree, catalog, identifier,
+        alloc,
+        found.policy,
+        found.overrides,
+        &found.krates,
+        &mut files,
+        tree,
+        catalog,
+        identifier,
     )?;
     Ok(report_of(log_ctx, checked, files))
 }
