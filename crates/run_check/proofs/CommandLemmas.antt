@@ -29,22 +29,16 @@ no_report error report e = cc
 apart : (own : Option What) (what : What) → own ≡ Some what → own ≡ None → ⊥
 apart own what some none = let both : Some what ≡ None = sym some ∙ none in cc
 
-same_refusal : (one other : What) (own : Option What) → own ≡ Some one → own ≡ Some other → ◌≡◌ {A = Result Report Error} (Err (NotCarried one)) (Err (NotCarried other))
-same_refusal one other own first second = ap (λ what. Err (NotCarried what)) (some_same (sym first ∙ second))
+abbrev refused_for : What → Result Report Error
+refused_for what = Err (NotCarried what)
+
+same_refusal : (one other : What) (own : Option What) → own ≡ Some one → own ≡ Some other → refused_for one ≡ refused_for other
+same_refusal one other own first second = ap refused_for (some_same (sym first ∙ second))
   where
     some_same : ◌≡◌ {A = Option What} (Some one) (Some other) → one ≡ other
     some_same e = cc
 
 module _ (given : CommandArguments) (told : Option Content) (count : ℕ) (calls : List Call) (held : Option (List ℕ)) (faults : ℕ) (what : What) (is : given.options.uncarried ≡ Some what) where
-  abbrev tree : TreeSeen
-  tree = seen told told count count calls calls
-
-  abbrev err : SinkSeen
-  err = sink_seen held held faults faults
-
-  abbrev refusal : Result Report Error
-  refusal = Err (NotCarried what)
-
   pub uncarried_run : IsCheckRun given (seen told told count count calls calls) (sink_seen held held faults faults) (Err (NotCarried what))
   uncarried_run = record {
     uncarried = λ other is_other. (same_refusal what other given.options.uncarried is is_other, made_none told count calls, refl);
