@@ -15,7 +15,8 @@ use Rattle.run_check.proofs.command.report_since.Goals as goal
 
 pub returns-in_err-found-clause-reports : goal.returns-in_err-found-clause-reports
 returns-in_err-found-clause-reports g c =
-    rw c.from_residual.ensures (c.in_err-found.ensures.found (g.I.Identifier.match_of c.args.identifier.now))
+    let p = err_from_is_err_and c.from_residual.result c.from_residual.ensures.1 in
+    rw (p.1, p.2) (c.in_err-found.ensures.found (g.I.Identifier.match_of c.args.identifier.now))
 
 -- memory was wanting behind them
 
