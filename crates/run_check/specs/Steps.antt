@@ -20,6 +20,7 @@ use Rattle.diag_stats.specs.Counts.{counts_of}
 use Rattle.run_request.specs.declared.level.LintLevels.{LintLevels}
 use Rattle.run_overrides.specs.Levels.{packs_at}
 use Rattle.run_found.specs.Hearing.{TreeSeen}
+use Rattle.run_found.specs.Licences.{IsGatheredOn}
 use Rattle.run_check.specs.declared.check.CheckedCrates.{CheckedCrates}
 use Rattle.run_check.specs.declared.report.CrateReport.{CrateReport}
 use Rattle.run_check.specs.declared.report.Report.{Report}
