@@ -1,10 +1,9 @@
-pub mod AnswerLemmas
+pub mod CarriedLemmas
 pub mod CheckLemmas
+pub mod CommandLemmas
 pub mod CountLemmas
-pub mod FoundLemmas
 pub mod GatheredLemmas
 pub mod HeadlineLemmas
-pub mod HeardAlike
 pub mod NamedLemmas
 pub mod OrderAlike
 pub mod PlaceLemmas
@@ -12,5 +11,4 @@ pub mod ReadsAlike
 pub mod ReportAlike
 pub mod ReportLemmas
 pub mod ScriptLemmas
-pub mod StageLemmas
 pub mod StepLemmas

@@ -30,7 +30,7 @@ use Rattle.gather_licence.specs.Clarification.{ClarificationView, named_files, n
 use Rattle.gather_licence.specs.Priority.{folder_of, holding, is_nothing, looks_at_files, records_of, records_with}
 use Rattle.gather_core.specs.Taken.{turn_with}
 use Rattle.gather_core.specs.Turns.{asks_manifest, field_text, in_order, not_asked, records_in}
-use Rattle.run_check.specs.Headline.{TellsContent}
+use Rattle.run_found.specs.Hearing.{TellsContent}
 
 -- ---- what a content lets hear
 

@@ -21,7 +21,6 @@ use Rattle.policy_core.specs.Policy.{PolicyFound}
 use Rattle.policy_valid.specs.Policy.{IsPrivate, Policy}
 use Rattle.policy_valid.specs.View.{policy_of}
 use Rattle.policy_valid.specs.declared.policy.ValidConfig.{ValidConfig}
-use Rattle.policy_validate.specs.Order.{PutsPolicyInOrder}
 use Rattle.gather_expression.specs.Scanned.{Scanner}
 use Rattle.gather_licence.specs.Priority.{folder_of}
 use Rattle.gather_core.specs.Calls.{CrateReads, CrateTurn, HasOwnReads, calls_of_all, turn_by, turns_of}
@@ -36,17 +35,18 @@ use Rattle.check_evaluate.specs.Evaluation.{is_allowed}
 use Rattle.diag_stats.specs.Counts.{counts_of}
 use Rattle.run_overrides.specs.Levels.{packs_at}
 use Rattle.run_found.specs.declared.error.Error.{Error}
-use Rattle.run_found.specs.Found.{files_loaded}
-use Rattle.run_found.specs.Hearing.{RequestHearing}
+use Rattle.run_found.specs.Found.{FoundInput, files_loaded}
+use Rattle.run_found.specs.Hearing.{RequestHearing, TellsContent}
 use Rattle.run_found.specs.Licences.{turns_heard}
-use Rattle.run_found.specs.Selection.{AreSelected, choice_in, included_in}
+use Rattle.run_found.specs.Selection.{included_in}
+use Rattle.run_command.specs.Found.{AreSelected, PutsInOrder, at_threshold, calls_of, choice_in, scanner_of_given, turns_in}
+use Rattle.run_command.specs.Given.{CommandArguments}
+use Rattle.run_command.specs.Stops.{RequestInput}
+use Rattle.run_command.proofs.FoundLemmas.{input_by_Asks}
+use Rattle.run_command.proofs.HeardAlike.{FindsAlike, finds_alike}
 use Rattle.run_check.specs.declared.report.Report.{Report}
-use Rattle.run_check.specs.Found.{FoundInput, all_gathered, calls_of, scanner_of_given, turns_in}
-use Rattle.run_check.specs.Given.{CheckArguments}
-use Rattle.run_check.specs.Headline.{TellsContent}
-use Rattle.run_check.specs.Report.{RequestInput, IsReport, verdicts_in}
-use Rattle.run_check.proofs.FoundLemmas.{input_by_Asks}
-use Rattle.run_check.proofs.HeardAlike.{FindsAlike, finds_alike}
+use Rattle.run_check.specs.Found.{all_gathered}
+use Rattle.run_check.specs.Report.{IsReport, verdicts_in}
 use Rattle.run_check.proofs.OrderAlike.{lists_alike, policy_alike}
 use Rattle.run_check.proofs.ReadsAlike.{hear_there, records_heard, records_there, ears_there, there_of}
 
@@ -190,7 +190,7 @@ findings_alike policy asked one other first second =
 
 -- ---- the report
 
-module _ (given : CheckArguments) (content : Content) (one other : RequestHearing) (begun : one.begun ≡ other.begun) (told : AllByRecursion (TellsContent content) (calls_of given one)) (tells : AllByRecursion (TellsContent content) (calls_of given other))
+module _ (given : CommandArguments) (content : Content) (one other : RequestHearing) (begun : one.begun ≡ other.begun) (told : AllByRecursion (TellsContent content) (calls_of given one)) (tells : AllByRecursion (TellsContent content) (calls_of given other))
     (report more : Report) (first : IsReport given one report) (second : IsReport given other more) where
   abbrev BothTold : List Call → List Call → Type 0
   BothTold X Y = Told content X × Told content Y
@@ -201,17 +201,16 @@ module _ (given : CheckArguments) (content : Content) (one other : RequestHearin
 
   found : FindsAlike given BothTold one other
   found =
-      finds_alike BothTold both_step given first.verdicts.asks.carried one other begun first.verdicts.due second.verdicts.due
-      (told, tells)
+      finds_alike BothTold both_step given one other begun first.verdicts.settled.due second.verdicts.settled.due (told, tells)
 
   abbrev asked : RequestInput
-  asked = first.verdicts.asked
+  asked = first.verdicts.settled.asked
 
   abbrev asks : RequestInput
-  asks = second.verdicts.asked
+  asks = second.verdicts.settled.asked
 
   input_alike : ◌≡◌ {A = Result FoundInput Error} (Ok (record { policy = asked.policy; graph = asked.graph })) (Ok (record { policy = asks.policy; graph = asks.graph }))
-  input_alike = sym (input_by_Asks given one asked first.verdicts.asks) ∙ found.input ∙ input_by_Asks given other asks second.verdicts.asks
+  input_alike = sym (input_by_Asks given one asked first.verdicts.settled.asks) ∙ found.input ∙ input_by_Asks given other asks second.verdicts.settled.asks
 
   parts : (p q : PolicyFound) (g h : Graph) → ◌≡◌ {A = Result FoundInput Error} (Ok (record { policy = p; graph = g })) (Ok (record { policy = q; graph = h })) → (p ≡ q) × (g ≡ h)
   parts p q g h e =
@@ -226,13 +225,14 @@ module _ (given : CheckArguments) (content : Content) (one other : RequestHearin
 
   selected_alike : asked.crates ≡ asks.crates
   selected_alike =
-      lists_alike asks.graph (graph-rising second.verdicts.asks.metadata.text sparse_dir asks.graph second.verdicts.asks.metadata.tells) (Selected asks.graph (choice_in given.request asks.policy) (included_in asks.policy)) asked.crates asks.crates
-      (subst (λ graph. AreSelected given.request asks.policy graph asked.crates) graph_alike (subst (λ policy. AreSelected given.request policy asked.graph asked.crates) policy_found_alike first.verdicts.asks.selected))
-      second.verdicts.asks.selected
+      lists_alike asks.graph (graph-rising second.verdicts.settled.asks.metadata.text sparse_dir asks.graph second.verdicts.settled.asks.metadata.tells) (Selected asks.graph (choice_in given asks.policy) (included_in asks.policy)) asked.crates asks.crates
+      (subst (λ graph. AreSelected given asks.policy graph asked.crates) graph_alike (subst (λ policy. AreSelected given policy asked.graph asked.crates) policy_found_alike first.verdicts.settled.asks.selected))
+      second.verdicts.settled.asks.selected
 
   policies_alike : report.policy ≡ more.policy
   policies_alike =
-      policy_alike asks.policy.licenses report.policy more.policy (subst (λ found. PutsPolicyInOrder found.licenses report.policy) policy_found_alike first.verdicts.gives.policy) second.verdicts.gives.policy
+      policy_alike (at_threshold given.options.threshold asks.policy.licenses) report.policy more.policy
+      (subst (λ found. PutsInOrder given found report.policy) policy_found_alike first.verdicts.settled.ordered) second.verdicts.settled.ordered
 
   -- the turns by a policy, from a file table on
   abbrev turns_by : ValidConfig → List File → List CrateReads → List CrateTurn
@@ -243,7 +243,7 @@ module _ (given : CheckArguments) (content : Content) (one other : RequestHearin
       let policy = more.policy in
       let files = files_loaded given.request other in
       crates_alike content (scanner_of_given given policy) policy.file_id (entries_of policy) files one.crates other.crates
-      (first.verdicts.gives.crates ∙ selected_alike ∙ sym second.verdicts.gives.crates) found.crates.0 found.crates.1
+      (first.verdicts.settled.crates ∙ selected_alike ∙ sym second.verdicts.settled.crates) found.crates.0 found.crates.1
       (subst (λ table. AllByRecursion HasOwnReads (turns_by policy table one.crates)) found.files
       (subst (λ own. AllByRecursion HasOwnReads (turns_by own (files_loaded given.request one) one.crates)) policies_alike
       (recursion_from_All HasOwnReads (turns_in given one report.policy) first.own)))
@@ -262,7 +262,7 @@ module _ (given : CheckArguments) (content : Content) (one other : RequestHearin
   pub reported_alike : report.findings ≡ more.findings
   reported_alike =
       let gathered = all_gathered (turns_in given other more.policy) in
-      let levels = given.args.lint_levels in
+      let levels = given.options.levels in
       first.tells.findings
       ∙ ap (λ policy. packs_at levels (findings_of policy (all_gathered (turns_in given one report.policy)) (verdicts_in report))) policies_alike
       ∙ ap (λ those. packs_at levels (findings_of more.policy those (verdicts_in report))) gathered_alike

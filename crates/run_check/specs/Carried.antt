@@ -10,7 +10,6 @@ use Rattle.run_request.specs.declared.level.WhichCheck.TheVariants as which
 use Rattle.graph_workspace.specs.declared.error.What.{What}
 use Rattle.graph_workspace.specs.declared.error.What.TheVariants as what
 use Rattle.run_found.specs.Carried.{is_sarif}
-use Rattle.run_check.specs.Given.{CheckArguments}
 
 abbrev pub is_licenses : WhichCheck → Bool
 is_licenses which.Advisories = false
@@ -38,6 +37,3 @@ parts_of log args context =
 -- the first such part
 abbrev pub uncarried_of : LogContext → Args → KrateContext → Option What
 uncarried_of log args context = option_map (λ part. part.1) (find (λ part. part.0) (parts_of log args context))
-
-abbrev pub uncarried_in : CheckArguments → Option What
-uncarried_in given = uncarried_of given.request.log given.args given.request.context

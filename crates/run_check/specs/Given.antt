@@ -1,18 +1,22 @@
--- What a check is given, but for its files.
-use Rattle.std.specs.Prelude.{ℕ, List}
+-- What a check is given, but for its files: what each command is, by its own options.
+use Rattle.std.specs.Prelude.{ℕ, true, List, Option, None}
 use Rattle.spdx_catalog.specs.Catalog.{CatalogLists}
 use Rattle.spdx_catalog.specs.declared.identifier.Match.{Match}
 use Rattle.diag_print.specs.declared.context.LogContext.{LogContext}
+use Rattle.graph_workspace.specs.declared.error.What.{What}
 use Rattle.run_request.specs.declared.check.Args.{Args}
 use Rattle.run_request.specs.declared.context.KrateContext.{KrateContext}
-use Rattle.run_found.specs.Given.{RequestArguments, request_arguments_of}
+use Rattle.run_request.specs.declared.level.LintLevels.{LintLevels}
+use Rattle.run_command.specs.Given.{CommandArguments, CommandOptions, command_arguments_of}
+use Rattle.run_check.specs.Carried.{uncarried_of}
 
--- what each command is given, what the identifier says of each text, and the options of `check`
-pub record CheckArguments : Type 0 where
-  pub request : RequestArguments
-  pub match_of : List ℕ → Match
-  pub args : Args
+-- the policy counts as it is, with its flags, and findings come out at these levels
+abbrev pub report_options : LintLevels → Option What → CommandOptions
+report_options levels uncarried = record { uncarried = uncarried; levels = levels; with_flags = true; threshold = None }
 
-abbrev pub check_arguments_of : CatalogLists → (List ℕ → Match) → LogContext → Args → KrateContext → CheckArguments
-check_arguments_of lists match_of log args context =
-    record { request = request_arguments_of lists log context; match_of = match_of; args = args }
+-- the options of `check`
+abbrev pub check_options : LogContext → Args → KrateContext → CommandOptions
+check_options log args context = report_options args.lint_levels (uncarried_of log args context)
+
+abbrev pub check_arguments_of : CatalogLists → (List ℕ → Match) → LogContext → Args → KrateContext → CommandArguments
+check_arguments_of lists match_of log args context = command_arguments_of lists match_of log context (check_options log args context)

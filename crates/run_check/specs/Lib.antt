@@ -1,10 +1,9 @@
 pub mod Carried
-pub mod Error
+pub mod Command
 pub mod Found
 pub mod Given
 pub mod Headline
 pub mod Named
 pub mod Report
-pub mod Run
 pub mod Script
 pub mod Steps

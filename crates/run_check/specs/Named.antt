@@ -7,16 +7,16 @@ use Rattle.tree_reads.specs.Rising.{RiseInOrder}
 use Rattle.gather_core.specs.Calls.{CrateReads, HasOwnReads, reads_of_all}
 use Rattle.policy_core.specs.Policy.{PolicyFound}
 use Rattle.policy_valid.specs.View.{policy_of}
-use Rattle.policy_validate.specs.Order.{PutsPolicyInOrder}
 use Rattle.check_core.specs.Hits.{TellUnneeded}
 use Rattle.check_core.specs.Verdicts.{IsVerdictShown, is_skipped}
 use Rattle.run_found.specs.Found.{count_metadata, files_loaded}
 use Rattle.run_found.specs.Hearing.{RequestHearing, TreeSeen}
 use Rattle.run_found.specs.Policy.{PolicyAt}
+use Rattle.run_command.specs.Found.{IsHeard, PutsInOrder, turns_in}
+use Rattle.run_command.specs.Given.{CommandArguments}
 use Rattle.run_check.specs.declared.report.CrateReport.{CrateReport}
 use Rattle.run_check.specs.declared.report.Report.{Report}
-use Rattle.run_check.specs.Found.{IsCheckHearing, all_gathered, turns_in}
-use Rattle.run_check.specs.Given.{CheckArguments}
+use Rattle.run_check.specs.Found.{all_gathered}
 use Rattle.run_check.specs.Report.{TellsFindings, verdicts_in}
 
 -- the reads that a report lists, crate after crate
@@ -24,38 +24,38 @@ abbrev pub reads_in : Report → List ReadRecord
 reads_in report = flat_map (λ crate. crate.reads) report.crates
 
 -- Each crate's reads are its own: they are those that its turn asks for, they were made, and they are listed as they were answered.
-pub record ReportsOwnReads (given : CheckArguments) (tree : TreeSeen) (report : Report) : Type 0 where
+pub record ReportsOwnReads (given : CommandArguments) (tree : TreeSeen) (report : Report) : Type 0 where
   pub hearing : RequestHearing
-  pub heard : IsCheckHearing given tree hearing
+  pub heard : IsHeard given tree hearing
   pub records : AreReads (count_metadata given.request hearing) (reads_of_all hearing.crates)
   pub own : All HasOwnReads (turns_in given hearing report.policy)
   pub listed : AllZip (λ (one : CrateReads) (crate : CrateReport). crate.reads ≡ records_of_reads one.reads) hearing.crates report.crates
 
 -- the policy that is reported is that of the bytes, its lists put in order
-pub record ReportsPolicy (given : CheckArguments) (tree : TreeSeen) (report : Report) : Type 0 where
+pub record ReportsPolicy (given : CommandArguments) (tree : TreeSeen) (report : Report) : Type 0 where
   pub hearing : RequestHearing
-  pub heard : IsCheckHearing given tree hearing
+  pub heard : IsHeard given tree hearing
   pub policy : PolicyFound
   pub is : PolicyAt given.request hearing policy
-  pub ordered : PutsPolicyInOrder policy.licenses report.policy
+  pub ordered : PutsInOrder given policy report.policy
   pub file : report.policy.file_id ≡ 0
 
 -- what was found is told, with labels that cut out what they say
-pub record ReportsFindings (given : CheckArguments) (tree : TreeSeen) (report : Report) : Type 0 where
+pub record ReportsFindings (given : CommandArguments) (tree : TreeSeen) (report : Report) : Type 0 where
   pub hearing : RequestHearing
-  pub heard : IsCheckHearing given tree hearing
-  pub tells : TellsFindings given.args.lint_levels (files_loaded given.request hearing) (turns_in given hearing report.policy) report
+  pub heard : IsHeard given tree hearing
+  pub tells : TellsFindings given.options.levels (files_loaded given.request hearing) (turns_in given hearing report.policy) report
 
 -- the entries of the policy that no crate needs are those that are told
-pub record ReportsUnneeded (given : CheckArguments) (tree : TreeSeen) (report : Report) : Type 0 where
+pub record ReportsUnneeded (given : CommandArguments) (tree : TreeSeen) (report : Report) : Type 0 where
   pub hearing : RequestHearing
-  pub heard : IsCheckHearing given tree hearing
+  pub heard : IsHeard given tree hearing
   pub tells : TellUnneeded report.policy (all_gathered (turns_in given hearing report.policy)) (verdicts_in report)
 
 -- each verdict has what shows it
-pub record ReportsCertificates (given : CheckArguments) (tree : TreeSeen) (report : Report) : Type 0 where
+pub record ReportsCertificates (given : CommandArguments) (tree : TreeSeen) (report : Report) : Type 0 where
   pub hearing : RequestHearing
-  pub heard : IsCheckHearing given tree hearing
+  pub heard : IsHeard given tree hearing
   pub shown : AllZip (λ (one : CrateReads) (crate : CrateReport). IsVerdictShown (is_skipped crate.verdict) (policy_of report.policy) one.krate crate.expression crate.verdict)
       hearing.crates report.crates
 

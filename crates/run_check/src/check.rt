@@ -1,5 +1,5 @@
 //! The licences of all crates, and the check of them.
-ghost use Rattle.std.specs.Prelude.{◌≡◌, ◌≤◌, All, IfOk, OnErr};
+ghost use Rattle.std.specs.Prelude.{◌≡◌, All, IfOk, OnErr};
 ghost use Rattle.graph_core.specs.Metadata.{Graph};
 ghost use Rattle.graph_selection.specs.Choice.{Choice};
 ghost use Rattle.graph_selection.specs.Listed.{IsChosen};
@@ -148,7 +148,6 @@ pub(crate) fn settle_and_judge<T: Tree, C: Catalog, I: Identifier>(
         (seen_between T.content T.fault_count T.trace tree.old tree.new)
         files.old graph choice) }
     ensures labels { IfOk result (λ checked. All (PackLies files.new) checked.findings) }
-    ensures later { T.fault_count tree.old ≤ T.fault_count tree.new }
 {
     let summary = licences_found(alloc, &policy, krates, files, tree, catalog, identifier)?;
     judge_and_report(alloc, policy, overrides, krates, files, summary)

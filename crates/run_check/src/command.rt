@@ -1,33 +1,28 @@
 //! The command `check`.
-ghost use Rattle.std.specs.Prelude.{◌≡◌, ◌≢◌, ◌≤◌, None, Some, Err, IfErr, IfOk};
-ghost use Rattle.std.specs.Option.{ForSome};
-ghost use Rattle.graph_workspace.specs.declared.error.What.{What};
-ghost use Rattle.tree_texts.specs.declared.fault.ReadFault.{ReadFault};
+ghost use Rattle.std.specs.Prelude.{◌≡◌, ◌≤◌, [], None, IfErr};
 ghost use Rattle.tree_texts.specs.Cause.{ReadCounts};
+ghost use Rattle.run_context.specs.Asked.{uncarried};
 ghost use Rattle.run_found.specs.Error.{cause_of};
+ghost use Rattle.run_found.specs.Hearing.{seen_between};
+ghost use Rattle.run_found.specs.Written.{sink_between};
+ghost use Rattle.run_command.specs.Given.{command_arguments_of};
 ghost use Rattle.run_check.specs.Carried.{uncarried_of};
-ghost use Rattle.run_check.specs.Given.{check_arguments_of};
-ghost use Rattle.run_check.specs.Headline.{CheckHeadline, CheckHeadlineRead};
-ghost use Rattle.run_check.specs.Named.{FailedReadsRise, ReportsCertificates, ReportsFindings, ReportsOwnReads};
-ghost use Rattle.run_check.specs.Named.{ReportsPolicy, ReportsUnneeded};
-ghost use Rattle.run_check.specs.Report.{IsCheckAnswer, LabelsLie};
-ghost use Rattle.run_check.specs.Run.{answer_from};
-ghost use Rattle.run_check.specs.Script.{WritesCheck, WritesLoad};
+ghost use Rattle.run_check.specs.Command.{IsCheckRun};
+ghost use Rattle.run_check.specs.Given.{check_arguments_of, report_options};
+ghost use Rattle.run_check.specs.Report.{LabelsLie, Reports};
+ghost use Rattle.run_check.specs.Script.{WritesCheck};
 ghost use Rattle.run_check.specs.Steps.{report_with};
-ghost use Rattle.run_found.specs.Hearing.{seen_between, HasMade};
 
 use crate::carried::uncarried_in;
-use crate::check::CheckedCrates;
-use crate::refusal::CheckRefusal;
+use crate::check::{CheckedCrates, settle_and_judge};
 use crate::report::Report;
-use crate::stages::check_crates;
 use diag_core::Files;
 use diag_print::{LogContext, index_packs, print_packs};
 use diag_stats::AllStats;
-use run_found::{Error, policy_found};
-use run_overrides::overrides_of;
-use run_request::KrateContext;
+use run_command::{PolicyUse, crates_found};
+use run_found::Error;
 use run_request::check::Args;
+use run_request::{KrateContext, LintLevels};
 use spdx_core::{Catalog, Identifier};
 use std::alloc::Global;
 use tree_core::{Sink, Tree};
@@ -53,69 +48,48 @@ fn report_of(log_ctx: LogContext, checked: CheckedCrates, files: Files) -> Repor
     }
 }
 
-/// The report that a request and the files ask for. What is told of the policy's load is written to the sink.
-fn report_by<T: Tree, S: Sink, C: Catalog, I: Identifier>(
-    alloc: Global,
-    tree: &mut T,
-    sink: &mut S,
-    catalog: &C,
-    identifier: &I,
-    log_ctx: LogContext,
-    args: &Args,
-    context: &KrateContext,
-) -> Result<Report, CheckRefusal>
-    requires { uncarried_of log_ctx args.now context.now ≡ None }
-    ensures policy { answer_from result ≢ Err (Error.ConfigRead ReadFault.Absent) }
-    ensures counts { IfErr (answer_from result) (λ error. ReadCounts
-        (T.fault_count tree.old) (T.fault_count tree.old) (T.fault_count tree.new) (cause_of error)) }
-    ensures written { WritesLoad
-        (check_arguments_of (C.lists catalog.now) (I.match_of identifier.now) log_ctx args.now context.now)
-        (seen_between T.content T.fault_count T.trace tree.old tree.new)
-        (S.written sink.old) (S.written sink.new) (S.fault_count sink.old) (S.fault_count sink.new)
-        (answer_from result) }
-    ensures labels { LabelsLie (answer_from result) }
-    ensures later { S.fault_count sink.old ≤ S.fault_count sink.new }
-{
-    let begun = tree.faults();
-    let mut files = Files::new(alloc);
-    let policy = policy_found(alloc, context, log_ctx, &mut files, tree, sink, catalog)?;
-    let overrides = overrides_of(alloc, &args.lint_levels)?;
-    let checked = check_crates(
-        alloc, policy, overrides, context, &mut files, tree, catalog, identifier, begun,
-    )?;
-    Ok(report_of(log_ctx, checked, files))
-}
-
-/// The report that a request asks for, all of which is carried. What is told of the policy's load is written to the
-/// sink; what was found is not.
+/// The report that a request asks for, all of which is carried, its findings at these levels. What is told of the
+/// policy's load is written to the sink; what was found is not.
 pub fn report_since<T: Tree, S: Sink, C: Catalog, I: Identifier>(
     alloc: Global,
     tree: &mut T,
-    sink: &mut S,
+    err: &mut S,
     catalog: &C,
     identifier: &I,
     log_ctx: LogContext,
-    args: &Args,
+    levels: &LintLevels,
     context: &KrateContext,
 ) -> Result<Report, Error>
-    requires { uncarried_of log_ctx args.now context.now ≡ None }
-    ensures policy { result ≢ Err (Error.ConfigRead ReadFault.Absent) }
-    ensures made { HasMade (seen_between T.content T.fault_count T.trace tree.old tree.new) }
+    requires { uncarried context.now [] ≡ None }
+    ensures reports { Reports (command_arguments_of (C.lists catalog.now) (I.match_of identifier.now)
+        log_ctx context.now (report_options levels.now None))
+        (seen_between T.content T.fault_count T.trace tree.old tree.new)
+        (sink_between S.written S.fault_count err.old err.new) result }
+    ensures labels { LabelsLie result }
     ensures counts { IfErr result (λ error. ReadCounts
         (T.fault_count tree.old) (T.fault_count tree.old) (T.fault_count tree.new) (cause_of error)) }
-    ensures written { WritesLoad
-        (check_arguments_of (C.lists catalog.now) (I.match_of identifier.now) log_ctx args.now context.now)
-        (seen_between T.content T.fault_count T.trace tree.old tree.new)
-        (S.written sink.old) (S.written sink.new) (S.fault_count sink.old) (S.fault_count sink.new) result }
-    ensures labels { LabelsLie result }
-    ensures later { S.fault_count sink.old ≤ S.fault_count sink.new }
+    ensures later { S.fault_count err.old ≤ S.fault_count err.new }
 {
-    match report_by(
-        alloc, tree, sink, catalog, identifier, log_ctx, args, context,
-    ) {
-        Ok(report) => Ok(report),
-        Err(refusal) => Err(refusal.into_error()),
-    }
+    let use_of = PolicyUse {
+        levels,
+        with_flags: true,
+        threshold: None,
+    };
+    let mut files = Files::new(alloc);
+    let found = crates_found(
+        alloc, context, log_ctx, &use_of, &mut files, tree, err, catalog,
+    )?;
+    let checked = settle_and_judge(
+        alloc,
+        found.policy,
+        found.overrides,
+        &found.krates,
+        &mut files,
+        tree,
+        catalog,
+        identifier,
+    )?;
+    Ok(report_of(log_ctx, checked, files))
 }
 
 /// The report that a request asks for, all of which is carried, with what is told of the policy's load, and then
@@ -123,7 +97,7 @@ pub fn report_since<T: Tree, S: Sink, C: Catalog, I: Identifier>(
 pub fn check_since<T: Tree, S: Sink, C: Catalog, I: Identifier>(
     alloc: Global,
     tree: &mut T,
-    sink: &mut S,
+    err: &mut S,
     catalog: &C,
     identifier: &I,
     log_ctx: LogContext,
@@ -131,27 +105,26 @@ pub fn check_since<T: Tree, S: Sink, C: Catalog, I: Identifier>(
     context: &KrateContext,
 ) -> Result<Report, Error>
     requires { uncarried_of log_ctx args.now context.now ≡ None }
-    ensures policy { result ≢ Err (Error.ConfigRead ReadFault.Absent) }
-    ensures made { HasMade (seen_between T.content T.fault_count T.trace tree.old tree.new) }
-    ensures counts { IfErr result (λ error. ReadCounts
-        (T.fault_count tree.old) (T.fault_count tree.old) (T.fault_count tree.new) (cause_of error)) }
     ensures written { WritesCheck
         (check_arguments_of (C.lists catalog.now) (I.match_of identifier.now) log_ctx args.now context.now)
         (seen_between T.content T.fault_count T.trace tree.old tree.new)
-        (S.written sink.old) (S.written sink.new) (S.fault_count sink.old) (S.fault_count sink.new) result }
+        (sink_between S.written S.fault_count err.old err.new) result }
     ensures labels { LabelsLie result }
-    ensures later { S.fault_count sink.old ≤ S.fault_count sink.new }
+    ensures counts { IfErr result (λ error. ReadCounts
+        (T.fault_count tree.old) (T.fault_count tree.old) (T.fault_count tree.new) (cause_of error)) }
+    ensures later { S.fault_count err.old ≤ S.fault_count err.new }
 {
-    let begun = sink.faults();
+    let begun = err.faults();
+    let levels = &args.lint_levels;
     match report_since(
-        alloc, tree, sink, catalog, identifier, log_ctx, args, context,
+        alloc, tree, err, catalog, identifier, log_ctx, levels, context,
     ) {
         Ok(report) => match print_packs(
             alloc,
             log_ctx,
             report.findings.items(),
             &report.files,
-            sink,
+            err,
             begun,
         ) {
             Ok(()) => Ok(report),
@@ -166,73 +139,22 @@ pub fn check_since<T: Tree, S: Sink, C: Catalog, I: Identifier>(
 pub fn cmd<T: Tree, S: Sink, C: Catalog, I: Identifier>(
     alloc: Global,
     tree: &mut T,
-    sink: &mut S,
+    err: &mut S,
     catalog: &C,
     identifier: &I,
     log_ctx: LogContext,
     args: Args,
     krate_ctx: KrateContext,
 ) -> Result<Report, Error>
-    // What was heard asks for is answered, whatever the tree tells of its content, and nothing else was read: each
-    // refusal is the first one, by its cause.
-    ensures answer { IsCheckAnswer
-        (check_arguments_of (C.lists catalog.now) (I.match_of identifier.now) log_ctx args krate_ctx)
-        (seen_between T.content T.fault_count T.trace tree.old tree.new) result }
-    ensures policy { result ≢ Err (Error.ConfigRead ReadFault.Absent) }
-
-    // Where a part of the request is not carried, no call is made, and nothing is written.
-    ensures uncarried { (what : What) → uncarried_of log_ctx args krate_ctx ≡ Some what
-        → (result ≡ Err (Error.NotCarried what)) × (T.trace tree.new ≡ T.trace tree.old)
-        × (T.fault_count tree.new ≡ T.fault_count tree.old) × (S.written sink.new ≡ S.written sink.old) }
-
-    // Calls were made on the tree, and nothing else came of it; a failed read has a cause.
-    ensures made { HasMade (seen_between T.content T.fault_count T.trace tree.old tree.new) }
-    ensures counts { IfErr result (λ error. ReadCounts
-        (T.fault_count tree.old) (T.fault_count tree.old) (T.fault_count tree.new) (cause_of error)) }
-
-    // What was written, and when a write was refused.
-    ensures written { WritesCheck
+    ensures { IsCheckRun
         (check_arguments_of (C.lists catalog.now) (I.match_of identifier.now) log_ctx args krate_ctx)
         (seen_between T.content T.fault_count T.trace tree.old tree.new)
-        (S.written sink.old) (S.written sink.new) (S.fault_count sink.old) (S.fault_count sink.new) result }
-    ensures later { S.fault_count sink.old ≤ S.fault_count sink.new }
-
-    // Each label of each finding lies in the text of its file, between characters.
-    ensures labels { LabelsLie result }
-
-    // The headline, by what was read, and by the content where the tree tells it.
-    ensures headline_read { CheckHeadlineRead
-        (check_arguments_of (C.lists catalog.now) (I.match_of identifier.now) log_ctx args krate_ctx)
-        (seen_between T.content T.fault_count T.trace tree.old tree.new)
-        (S.fault_count sink.old) (S.fault_count sink.new) result }
-    ensures headline { ForSome (T.content tree.old) (λ content. CheckHeadline
-        (check_arguments_of (C.lists catalog.now) (I.match_of identifier.now) log_ctx args krate_ctx) content
-        (seen_between T.content T.fault_count T.trace tree.old tree.new)
-        (S.fault_count sink.old) (S.fault_count sink.new) result) }
-
-    // By name, parts of what is answered.
-    ensures own_reads { IfOk result (ReportsOwnReads
-        (check_arguments_of (C.lists catalog.now) (I.match_of identifier.now) log_ctx args krate_ctx)
-        (seen_between T.content T.fault_count T.trace tree.old tree.new)) }
-    ensures rises { IfOk result (FailedReadsRise
-        (seen_between T.content T.fault_count T.trace tree.old tree.new)) }
-    ensures reported_policy { IfOk result (ReportsPolicy
-        (check_arguments_of (C.lists catalog.now) (I.match_of identifier.now) log_ctx args krate_ctx)
-        (seen_between T.content T.fault_count T.trace tree.old tree.new)) }
-    ensures reported_findings { IfOk result (ReportsFindings
-        (check_arguments_of (C.lists catalog.now) (I.match_of identifier.now) log_ctx args krate_ctx)
-        (seen_between T.content T.fault_count T.trace tree.old tree.new)) }
-    ensures hits { IfOk result (ReportsUnneeded
-        (check_arguments_of (C.lists catalog.now) (I.match_of identifier.now) log_ctx args krate_ctx)
-        (seen_between T.content T.fault_count T.trace tree.old tree.new)) }
-    ensures certificates { IfOk result (ReportsCertificates
-        (check_arguments_of (C.lists catalog.now) (I.match_of identifier.now) log_ctx args krate_ctx)
-        (seen_between T.content T.fault_count T.trace tree.old tree.new)) }
+        (sink_between S.written S.fault_count err.old err.new) result }
 {
     match uncarried_in(log_ctx, &args, &krate_ctx) {
         Some(what) => Err(Error::NotCarried(what)),
         None => check_since(
-            alloc, tree, sink, catalog, identifier, log_ctx, &args, &krate_ctx,
+            alloc, tree, err, catalog, identifier, log_ctx, &args, &krate_ctx,
         ),
     }
 }

@@ -4,9 +4,7 @@
 mod carried;
 mod check;
 pub mod command;
-mod refusal;
 pub mod report;
-mod stages;
 
 pub use carried::uncarried_in;
 pub use command::{check_since, cmd, report_since};

@@ -14,7 +14,6 @@ use Rattle.run_found.specs.Licences.{scanner_of_policy}
 use Rattle.run_found.proofs.StageLemmas.{gather_cut}
 use Rattle.run_check.specs.Steps.{IsCheckOf, IsCheckedOn}
 use Rattle.run_check.proofs.CheckLemmas.{both_of}
-use Rattle.run_check.proofs.StageLemmas.{checked_on}
 use Rattle.run_check.proofs.check.settle_and_judge.Goals as goal
 
 pub returns-clause-checked : goal.returns-clause-checked
@@ -30,7 +29,7 @@ returns-clause-checked g c =
     (λ checked. (graph : Graph) (choice : Choice) (levels : LintLevels) → IsChosen graph choice c.args.krates.now → PutAtLevels levels c.args.overrides
     → IsCheckedOn own levels policy tree c.args.files.now last graph choice checked)
     (λ checked both graph choice levels chosen put.
-    checked_on own policy tree c.args.files.now last graph choice nfos (c.in_ok-summary.ensures.gathered graph choice chosen) levels checked (both.0 levels put) both.1)
+    record { licenses = nfos; gathered = c.in_ok-summary.ensures.gathered graph choice chosen; check = both.0 levels put; points = both.1 })
     (both_of c.judge_and_report.result (λ checked. (levels : LintLevels) → PutAtLevels levels c.args.overrides → IsCheckOf levels policy nfos checked)
     (λ _. All (VerdictPoints last (policy_of policy)) (gathered_of_licenses nfos)) c.judge_and_report.ensures.check c.judge_and_report.ensures.terms)
 
