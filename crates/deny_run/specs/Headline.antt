@@ -8,8 +8,8 @@
 -- And the same of what was read:
 --
 -- Whenever `run` ends a check with a `Report`, over any tree, real folders too, the report gives each selected crate exactly
--- one verdict, the one that the policy's bytes define for the crate's record and files, all as they were read; it read these
--- files, each once, and nothing else; without overrides the status is zero only if none is unlicensed or rejected; and where
+-- one verdict, the one that the policy's bytes define for the crate's record and files, all as they were read; it read each
+-- crate's files, each once for that crate and kind, and nothing else; without overrides the status is zero only if none is unlicensed or rejected; and where
 -- what was read is lawful and no call failed, it ends in a `Report` or for want of memory.
 --
 -- A report comes with its request, which is that of the words, and whose command is `check`. Without overrides: the request's
