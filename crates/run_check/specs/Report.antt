@@ -39,7 +39,7 @@ use Rattle.run_found.specs.Licences.{HaveTurns, ReadsItsFiles, expression_in, pr
 use Rattle.run_found.specs.Policy.{GraphAt, PolicyAt}
 pub use Rattle.run_found.specs.Selection.{RequestInput}
 use Rattle.run_found.specs.Selection.{AreSelected, choice_in}
-use Rattle.run_check.specs.declared.report.CrateReport.{CrateReport}
+use Rattle.check_core.specs.declared.report.CrateReport.{CrateReport}
 use Rattle.run_check.specs.declared.report.Report.{Report}
 use Rattle.run_check.specs.Carried.{uncarried_in}
 use Rattle.run_check.specs.Found.{FoundInput, HearsAllDue, HearsDue, HearsNothing, IsCheckHearing, all_gathered, calls_of, check_input_of, scanner_of_given, turns_in}

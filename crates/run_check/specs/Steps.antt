@@ -37,7 +37,7 @@ use Rattle.run_found.specs.Hearing.{MadeOn, TreeSeen}
 use Rattle.run_found.specs.Licences.{turns_heard}
 use Rattle.run_found.specs.Selection.{left_by}
 use Rattle.run_check.specs.declared.check.CheckedCrates.{CheckedCrates}
-use Rattle.run_check.specs.declared.report.CrateReport.{CrateReport}
+use Rattle.check_core.specs.declared.report.CrateReport.{CrateReport}
 use Rattle.run_check.specs.declared.report.Report.{Report}
 use Rattle.run_check.specs.Report.{license_source}
 
