@@ -1,8 +1,8 @@
 -- One more crate, behind those before.
-use Rattle.std.proofs.Common.{◌≡◌, ◌∙◌, refl, sym, ap, ap₂, subst, ℕ, ◌+◌, ◌<◌, ◌≤◌, List, [], ◌∷◌, ◌++◌, length, map, take, get_or, append_assoc, append-nil, arith}
-use Rattle.std.specs.List.{All, AllByRecursion}
-use Rattle.std.proofs.lemmas.List.{length-append, map-append, map_push, take_all}
-use Rattle.std.proofs.lemmas.List.Elements.{All-push, All-weaker, recursion_from_All}
+use Rattle.std.proofs.Common.{◌≡◌, ◌∙◌, refl, sym, ap, ap₂, subst, ℕ, ◌≤◌, List, [], ◌∷◌, ◌++◌, length, map, take, append_assoc, append-nil, arith}
+use Rattle.std.specs.List.{All}
+use Rattle.std.proofs.lemmas.List.{map-append, map_push, take_all}
+use Rattle.std.proofs.lemmas.List.Elements.{All-push, All-weaker}
 use Rattle.spdx_certificates.specs.declared.verdict.Hit.{Hit}
 use Rattle.spdx_certificates.specs.declared.verdict.Verdict.{Verdict}
 use Rattle.diag_core.specs.declared.overrides.ErrorSink.{ErrorSink}
@@ -19,6 +19,7 @@ use Rattle.check_core.specs.Reports.{report_of, reports_of, verdicts_of}
 use Rattle.check_core.specs.Summary.{gathered_of_license, gathered_of_licenses}
 use Rattle.check_core.specs.Turns.{GatheredCrate, expression_of, hits_by, pack_by}
 use Rattle.check_core.specs.Verdicts.{IsVerdict, is_skipped}
+use Rattle.check_core.proofs.FrontLemmas.{first_ones}
 
 -- a number that is no less than the size of each, and of one more
 pub most_more : {X : Type 0} (size : X → ℕ) (xs : List X) (x : X) (before after : ℕ) → before ≤ after → size x ≤ after → All (λ (one : X). size one ≤ before) xs
@@ -121,33 +122,6 @@ one_more policy licenses reports flags old new license report pack later last so
     }
 
 -- ---- the crates so far are some first ones
-
--- the one behind the front
-item_behind : {X : Type 0} (front rest : List X) (one d : X) → get_or (front ++ one ∷ rest) (length front) d ≡ one
-item_behind [] rest one d = refl
-item_behind (x ∷ front) rest one d = item_behind front rest one d
-
--- what holds of all does of the one behind the front
-all_behind : {X : Type 0} (P : X → Type 0) (front rest : List X) (one : X) → AllByRecursion P (front ++ one ∷ rest) → P one
-all_behind P [] rest one all = all.0
-all_behind P (x ∷ front) rest one all = all_behind P front rest one all.1
-
-pub holds_behind : {X : Type 0} (P : X → Type 0) (items front rest : List X) (one : X) → front ++ one ∷ rest ≡ items → All P items → P one
-holds_behind {X = X} P items front rest one whole all =
-    all_behind P front rest one (recursion_from_All P (front ++ one ∷ rest) (subst (All P) (sym whole) all))
-
-pub is_behind : {X : Type 0} (items front rest : List X) (one : X) → front ++ one ∷ rest ≡ items → one ≡ get_or items (length front) one
-is_behind {X = X} items front rest one whole = sym (ap (λ (all : List X). get_or all (length front) one) (sym whole) ∙ item_behind front rest one one)
-
-pub lies_inside : {X : Type 0} (items front rest : List X) (one : X) → front ++ one ∷ rest ≡ items → length front < length items
-lies_inside {X = X} items front rest one whole =
-    let long : length (front ++ one ∷ rest) ≡ length front + length (one ∷ rest) = length-append front (one ∷ rest) in
-    let same : length (front ++ one ∷ rest) ≡ length items = ap length whole in
-    omega arith
-
-first_ones : {X : Type 0} (front rest : List X) → take (length front) (front ++ rest) ≡ front
-first_ones {X = X} [] rest = refl
-first_ones {X = X} (x ∷ front) rest = ap (λ (more : List X). x ∷ more) (first_ones front rest)
 
 pub has_front : (policy : ValidConfig) (licenses front rest : List KrateLicense) (reports : List CrateReport) (flags : Flags) (old new : ErrorSink) → front ++ rest ≡ licenses
     → SoFar policy front reports flags old new → HasFront (policy_of policy) licenses old new

@@ -107,7 +107,7 @@ fn info_fits(files: &Files, info: &LicenseInfo)
 }
 
 /// The reports on crates, one after another.
-#[tactic(auto, using(crate::proofs::CheckLemmas::has_front, crate::proofs::CheckLemmas::nothing_gained, crate::proofs::StepLemmas::bounded_whole))]
+#[tactic(auto, using(crate::proofs::CheckLemmas::has_front, crate::proofs::CheckLemmas::nothing_gained))]
 fn judge_in_order<L: Ledger>(
     alloc: Global,
     policy: &ValidConfig,

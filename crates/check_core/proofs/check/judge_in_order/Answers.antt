@@ -1,14 +1,13 @@
-use Rattle.std.proofs.Common.{◌≡◌, ◌∙◌, ap, sym, subst, ℕ, ◌+◌, List, [], ◌∷◌, ◌++◌, length, append_assoc, arith}
+use Rattle.std.proofs.Common.{◌≡◌, ◌∙◌, ap, sym, subst, List, [], ◌∷◌, ◌++◌, append_assoc, arith}
 use Rattle.std.specs.Vec.Iter.{into_iter_items}
-use Rattle.std.proofs.lemmas.List.{length_push}
 use Rattle.diag_core.specs.declared.overrides.ErrorSink.{ErrorSink}
 use Rattle.gather_core.specs.declared.summary.KrateLicense.{KrateLicense}
 use Rattle.policy_valid.specs.View.{policy_of}
 use Rattle.check_core.specs.declared.report.CrateReport.{CrateReport}
 use Rattle.check_core.specs.Check.{HasFront}
-use Rattle.check_core.proofs.CheckLemmas.{SoFar, has_front, is_behind, lies_inside, one_more}
+use Rattle.check_core.proofs.CheckLemmas.{SoFar, has_front, one_more}
 use Rattle.check_core.proofs.SinkLemmas.{of_error}
-use Rattle.check_core.proofs.StepLemmas.{IsBounded, bounded_after, bounded_next}
+use Rattle.check_core.proofs.StepLemmas.{bounded_after, bounded_next}
 use Rattle.check_core.proofs.check.judge_in_order.Goals as goal
 
 pub licenses-preserved : goal.licenses-preserved
@@ -35,41 +34,29 @@ licenses-preserved g c =
       private = told.private ∙ before.private;
       so_far = subst (λ (reports : List CrateReport). SoFar policy (front ++ license ∷ []) reports flags c.args.sink.now sink) (sym c.in_ok-push.ensures.ok) more;
       steps = let early = before.steps in let late = told.steps in omega arith;
-      bound =
-          subst (λ (place : ℕ). IsBounded (policy_of policy) licenses place c.args.steps.now c.judge.new.steps) (sym (length_push front license))
-          (bounded_next (policy_of policy) licenses (length front) license c.args.steps.now c.licenses.steps c.judge.new.steps
-          (lies_inside licenses front rest license whole) (is_behind licenses front rest license whole) told.bound before.bound);
+      bound = bounded_next (policy_of policy) licenses front rest license c.args.steps.now c.licenses.steps c.judge.new.steps whole told.bound before.bound;
     }
 
 pub returns-in_err-judged-clause-bound : goal.returns-in_err-judged-clause-bound
 returns-in_err-judged-clause-bound g c =
-    let licenses = c.args.licenses in
     let front = c.licenses.yielded in
-    let rest = into_iter_items c.next.new.self in
-    let license = c.in-Some.license in
-    let whole : front ++ license ∷ rest ≡ licenses = ap (λ (l : List KrateLicense). front ++ l) (sym c.in-Some.ensures.steps.0) ∙ c.licenses.invariant.whole in
-    bounded_after (policy_of c.args.policy.now) licenses (length front) license c.args.steps.now c.licenses.steps c.judge.new.steps
-    (lies_inside licenses front rest license whole) (is_behind licenses front rest license whole) c.judge.ensures.bound c.licenses.invariant.bound
+    let whole = ap (λ (l : List KrateLicense). front ++ l) (sym c.in-Some.ensures.steps.0) ∙ c.licenses.invariant.whole in
+    bounded_after (policy_of c.args.policy.now) c.args.licenses front (into_iter_items c.next.new.self) c.in-Some.license c.args.steps.now c.licenses.steps c.judge.new.steps
+    whole c.judge.ensures.bound c.licenses.invariant.bound
 
 pub returns-in_err-push-clause-bound : goal.returns-in_err-push-clause-bound
 returns-in_err-push-clause-bound g c =
-    let licenses = c.args.licenses in
     let front = c.licenses.yielded in
-    let rest = into_iter_items c.next.new.self in
-    let license = c.in-Some.license in
-    let whole : front ++ license ∷ rest ≡ licenses = ap (λ (l : List KrateLicense). front ++ l) (sym c.in-Some.ensures.steps.0) ∙ c.licenses.invariant.whole in
-    bounded_after (policy_of c.args.policy.now) licenses (length front) license c.args.steps.now c.licenses.steps c.judge.new.steps
-    (lies_inside licenses front rest license whole) (is_behind licenses front rest license whole) c.judge.ensures.bound c.licenses.invariant.bound
+    let whole = ap (λ (l : List KrateLicense). front ++ l) (sym c.in-Some.ensures.steps.0) ∙ c.licenses.invariant.whole in
+    bounded_after (policy_of c.args.policy.now) c.args.licenses front (into_iter_items c.next.new.self) c.in-Some.license c.args.steps.now c.licenses.steps c.judge.new.steps
+    whole c.judge.ensures.bound c.licenses.invariant.bound
 
 pub returns-in_err-push-2-clause-bound : goal.returns-in_err-push-2-clause-bound
 returns-in_err-push-2-clause-bound g c =
-    let licenses = c.args.licenses in
     let front = c.licenses.yielded in
-    let rest = into_iter_items c.next.new.self in
-    let license = c.in-Some.license in
-    let whole : front ++ license ∷ rest ≡ licenses = ap (λ (l : List KrateLicense). front ++ l) (sym c.in-Some.ensures.steps.0) ∙ c.licenses.invariant.whole in
-    bounded_after (policy_of c.args.policy.now) licenses (length front) license c.args.steps.now c.licenses.steps c.judge.new.steps
-    (lies_inside licenses front rest license whole) (is_behind licenses front rest license whole) c.judge.ensures.bound c.licenses.invariant.bound
+    let whole = ap (λ (l : List KrateLicense). front ++ l) (sym c.in-Some.ensures.steps.0) ∙ c.licenses.invariant.whole in
+    bounded_after (policy_of c.args.policy.now) c.args.licenses front (into_iter_items c.next.new.self) c.in-Some.license c.args.steps.now c.licenses.steps c.judge.new.steps
+    whole c.judge.ensures.bound c.licenses.invariant.bound
 
 pub returns-in_err-push-clause-front : goal.returns-in_err-push-clause-front
 returns-in_err-push-clause-front g c =
@@ -83,4 +70,3 @@ returns-in_err-push-2-clause-front g c =
     (subst (λ (sink : ErrorSink). HasFront (policy_of c.args.policy.now) c.args.licenses c.args.sink.now sink) (sym c.in_err-push-2.ensures.err)
     (has_front c.args.policy.now c.args.licenses c.licenses.yielded (into_iter_items c.licenses.license-iterator) c.licenses.reports c.licenses.checker.flags
     c.args.sink.now c.licenses.sink c.licenses.invariant.whole c.licenses.invariant.so_far))
-
