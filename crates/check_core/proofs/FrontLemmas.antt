@@ -1,5 +1,5 @@
 -- A list by its front, an item, and what is behind it.
-use Rattle.std.proofs.Common.{◌≡◌, ◌∙◌, refl, sym, ap, ℕ, ◌+◌, ◌<◌, List, [], ◌∷◌, ◌++◌, length, take, get_or, arith}
+use Rattle.std.proofs.Common.{◌≡◌, ◌∙◌, refl, sym, ap, ◌+◌, ◌<◌, List, [], ◌∷◌, ◌++◌, length, take, get_or, arith}
 use Rattle.std.proofs.lemmas.List.{length-append}
 
 item_behind : {X : Type 0} (front rest : List X) (one d : X) → get_or (front ++ one ∷ rest) (length front) d ≡ one
