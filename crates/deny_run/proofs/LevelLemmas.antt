@@ -15,7 +15,7 @@ use Rattle.run_found.specs.Found.{LooksEnd}
 use Rattle.run_found.specs.Hearing.{RequestHearing}
 use Rattle.run_lists.specs.Given.{ListsGiven}
 use Rattle.run_lists.specs.Heard.{lists_calls}
-use Rattle.run_check.specs.declared.report.CrateReport.{CrateReport}
+use Rattle.check_core.specs.declared.report.CrateReport.{CrateReport}
 use Rattle.run_check.specs.declared.report.Report.{Report}
 use Rattle.run_check.specs.Found as check
 use Rattle.run_check.specs.Found.{HearsAllDue}

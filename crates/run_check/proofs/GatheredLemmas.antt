@@ -26,17 +26,17 @@ use Rattle.gather_core.specs.Entries.{entries_of}
 use Rattle.gather_core.specs.Gathered.{krate_of}
 use Rattle.gather_core.specs.declared.summary.KrateLicense.{KrateLicense}
 use Rattle.gather_core.proofs.ZipLemmas.{all_left, same_maps}
-use Rattle.run_check.specs.declared.report.CrateReport.{CrateReport}
+use Rattle.check_core.specs.declared.report.CrateReport.{CrateReport}
 use Rattle.run_check.specs.Given.{CheckArguments}
 use Rattle.spdx_certificates.specs.declared.verdict.Verdict.{Verdict}
 use Rattle.check_core.specs.Check.{AreVerdicts}
+use Rattle.check_core.specs.Reports.{license_source, reports_of}
 use Rattle.check_core.specs.Summary.{gathered_of_licenses, gathered_of_license}
 use Rattle.check_core.specs.Turns.{GatheredCrate, expression_of}
 use Rattle.check_core.specs.Verdicts.{IsVerdict}
 use Rattle.run_found.specs.Licences.{IsManifestRead, ReadsItsFiles, expression_in}
 use Rattle.run_check.specs.Found.{all_gathered, gathered_in, scanner_of_given}
-use Rattle.run_check.specs.Report.{IsReportOf, TellsSource, answer_of_parts, license_source}
-use Rattle.run_check.specs.Steps.{reports_of, license_expression}
+use Rattle.run_check.specs.Report.{IsReportOf, TellsSource, answer_of_parts}
 
 -- the verdicts that reports tell
 pub verdicts_reported : (policy : Policy) (licenses : List KrateLicense) (verdicts : List Verdict) → AreVerdicts policy (gathered_of_licenses licenses) verdicts
@@ -48,18 +48,13 @@ verdicts_reported policy (license ∷ licenses) (verdict ∷ verdicts) are = ap 
 
 -- ---- what is told of a licence
 
-told_expression : (info : LicenseInfo) (notes : List (List ℕ)) → license_expression info ≡ expression_in (answer_view info notes)
+told_expression : (info : LicenseInfo) (notes : List (List ℕ)) → expression_of info ≡ expression_in (answer_view info notes)
 told_expression Unlicensed notes = refl
 told_expression (SpdxExpression expression nfo) notes = refl
 
-told_answer : (info : LicenseInfo) (notes : List (List ℕ)) → answer_of_parts (license_expression info) (license_source info) notes ≡ answer_view info notes
+told_answer : (info : LicenseInfo) (notes : List (List ℕ)) → answer_of_parts (expression_of info) (license_source info) notes ≡ answer_view info notes
 told_answer Unlicensed notes = refl
 told_answer (SpdxExpression expression nfo) notes = refl
-
--- the expression that the check looks at
-looked_expression : (info : LicenseInfo) → expression_of info ≡ license_expression info
-looked_expression Unlicensed = refl
-looked_expression (SpdxExpression expression nfo) = refl
 
 -- nothing is noted where there is no expression
 joined_nothing : (place : Coord) (joined : Option JoinedNames) → Unlicensed ≡ joined_info place joined → joined_notes joined ≡ []
@@ -139,8 +134,7 @@ module _ (given : CheckArguments) (policy : ValidConfig) where
           expression = told_expression license.lic_info license.notes ∙ ap expression_in own.answer;
           answer = told_answer license.lic_info license.notes ∙ own.answer;
           notes = told_notes turn license.lic_info license.notes own.turn.info own.turn.noted ∙ ap notes_of own.answer;
-          verdict = subst (λ krate. IsVerdict (policy_of policy) krate (license_expression license.lic_info) verdict) (sym own.krate)
-              (subst (λ expression. IsVerdict (policy_of policy) (krate_of license) expression verdict) (looked_expression license.lic_info) are.0);
+          verdict = subst (λ krate. IsVerdict (policy_of policy) krate (expression_of license.lic_info) verdict) (sym own.krate) are.0;
         },
         reported_by (files_behind turn) crates licenses last verdicts each.1 are.1,
       )

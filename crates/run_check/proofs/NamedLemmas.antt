@@ -21,7 +21,7 @@ use Rattle.run_found.specs.Found.{count_exceptions, count_metadata, policy_calls
 use Rattle.run_found.specs.Hearing.{RequestHearing, TreeSeen, read_calls}
 use Rattle.run_found.proofs.CallLemmas.{counts_due}
 use Rattle.run_found.proofs.FoundLemmas.{count-behind}
-use Rattle.run_check.specs.declared.report.CrateReport.{CrateReport}
+use Rattle.check_core.specs.declared.report.CrateReport.{CrateReport}
 use Rattle.run_check.specs.declared.report.Report.{Report}
 use Rattle.run_check.specs.Found.{HearsAllDue, IsCheckHearing, all_gathered, metadata_due, turns_in}
 use Rattle.run_check.specs.Given.{CheckArguments}

@@ -13,7 +13,7 @@ use Rattle.check_core.specs.Verdicts.{IsVerdictShown, is_skipped}
 use Rattle.run_found.specs.Found.{count_metadata, files_loaded}
 use Rattle.run_found.specs.Hearing.{RequestHearing, TreeSeen}
 use Rattle.run_found.specs.Policy.{PolicyAt}
-use Rattle.run_check.specs.declared.report.CrateReport.{CrateReport}
+use Rattle.check_core.specs.declared.report.CrateReport.{CrateReport}
 use Rattle.run_check.specs.declared.report.Report.{Report}
 use Rattle.run_check.specs.Found.{IsCheckHearing, all_gathered, turns_in}
 use Rattle.run_check.specs.Given.{CheckArguments}

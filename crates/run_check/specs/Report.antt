@@ -16,10 +16,8 @@ use Rattle.gather_core.specs.Calls.{CrateReads, CrateTurn, HasOwnReads, files_be
 use Rattle.gather_core.specs.Told.{notes_of, source_view}
 use Rattle.gather_core.specs.Turns.{IsCutOut, info_in}
 use Rattle.gather_findings.specs.declared.license.LicenseExprSource.{LicenseExprSource}
-use Rattle.gather_findings.specs.declared.license.LicenseInfo.{LicenseInfo}
-use Rattle.gather_findings.specs.declared.license.LicenseInfo.TheVariants.{SpdxExpression}
-use Rattle.gather_findings.specs.declared.license.LicenseInfo.TheVariants as license_info
 use Rattle.check_core.specs.Check.{AreVerdicts, findings_of}
+use Rattle.check_core.specs.Reports.{license_source}
 use Rattle.check_core.specs.Labels.{PackLies, VerdictPoints}
 use Rattle.check_core.specs.Verdicts.{IsVerdict}
 use Rattle.policy_validate.specs.Order.{PutsPolicyInOrder}
@@ -39,7 +37,7 @@ use Rattle.run_found.specs.Licences.{HaveTurns, ReadsItsFiles, expression_in, pr
 use Rattle.run_found.specs.Policy.{GraphAt, PolicyAt}
 pub use Rattle.run_found.specs.Selection.{RequestInput}
 use Rattle.run_found.specs.Selection.{AreSelected, choice_in}
-use Rattle.run_check.specs.declared.report.CrateReport.{CrateReport}
+use Rattle.check_core.specs.declared.report.CrateReport.{CrateReport}
 use Rattle.run_check.specs.declared.report.Report.{Report}
 use Rattle.run_check.specs.Carried.{uncarried_in}
 use Rattle.run_check.specs.Found.{FoundInput, HearsAllDue, HearsDue, HearsNothing, IsCheckHearing, all_gathered, calls_of, check_input_of, scanner_of_given, turns_in}
@@ -77,11 +75,6 @@ pub record IsReportOf (given : CheckArguments) (policy : ValidConfig) (one : Cra
   pub answer : answer_in_report report ≡ priority_heard (scanner_of_given given policy) policy one
   pub notes : report.notes ≡ notes_of (priority_heard (scanner_of_given given policy) policy one)
   pub verdict : IsVerdict (policy_of policy) one.krate report.expression report.verdict
-
--- where the expression of a licence comes from
-abbrev pub license_source : LicenseInfo → Option LicenseExprSource
-license_source (SpdxExpression expression info) = Some info.source
-license_source license_info.Unlicensed = None
 
 -- The report on a crate tells the source that its turn says: of a field with the place where its manifest writes it, where that
 -- counts.

@@ -1,8 +1,7 @@
 -- What the steps of a check answer, one by one.
-use Rattle.std.specs.Prelude.{◌≡◌, ℕ, List, [], ◌∷◌, map, Option, Some, None, Result, Ok, Err, All}
+use Rattle.std.specs.Prelude.{◌≡◌, ℕ, List, ◌∷◌, map, Result, Ok, Err, All}
 use Rattle.tree_core.specs.Call.{CallAnswer}
 use Rattle.tree_core.specs.Trace.{fault_behind}
-use Rattle.spdx_core.specs.Reading.{ExpressionView}
 use Rattle.graph_core.specs.Metadata.{Graph}
 use Rattle.diag_core.specs.File.{File}
 use Rattle.tree_reads.specs.Read.{AreReads}
@@ -14,9 +13,6 @@ use Rattle.graph_workspace.specs.declared.error.KratesError.{KratesError}
 use Rattle.gather_expression.specs.Scanned.{Scanner}
 use Rattle.policy_valid.specs.View.{policy_of}
 use Rattle.policy_valid.specs.declared.policy.ValidConfig.{ValidConfig}
-use Rattle.gather_findings.specs.declared.license.LicenseInfo.{LicenseInfo}
-use Rattle.gather_findings.specs.declared.license.LicenseInfo.TheVariants.{SpdxExpression}
-use Rattle.gather_findings.specs.declared.license.LicenseInfo.TheVariants as license_info
 use Rattle.gather_core.specs.Calls.{AreTurnsBy, CrateReads, calls_of_all, reads_of_all}
 use Rattle.gather_core.specs.Gathered.{include_of, krate_of}
 use Rattle.gather_core.specs.declared.summary.KrateLicense.{KrateLicense}
@@ -24,6 +20,7 @@ use Rattle.policy_core.specs.declared.load.LoadedPolicy.{LoadedPolicy}
 use Rattle.spdx_certificates.specs.declared.verdict.Verdict.{Verdict}
 use Rattle.check_core.specs.Check.{AreVerdicts, findings_of}
 use Rattle.check_core.specs.Labels.{VerdictPoints}
+use Rattle.check_core.specs.Reports.{reports_of}
 use Rattle.check_core.specs.Summary.{gathered_of_licenses}
 use Rattle.diag_stats.specs.Counts.{counts_of}
 use Rattle.run_request.specs.declared.context.KrateContext.{KrateContext}
@@ -37,33 +34,9 @@ use Rattle.run_found.specs.Hearing.{MadeOn, TreeSeen}
 use Rattle.run_found.specs.Licences.{turns_heard}
 use Rattle.run_found.specs.Selection.{left_by}
 use Rattle.run_check.specs.declared.check.CheckedCrates.{CheckedCrates}
-use Rattle.run_check.specs.declared.report.CrateReport.{CrateReport}
 use Rattle.run_check.specs.declared.report.Report.{Report}
-use Rattle.run_check.specs.Report.{license_source}
 
 -- ---- one crate after another
-
--- the expression of a licence that was settled
-abbrev pub license_expression : LicenseInfo → Option ExpressionView
-license_expression (SpdxExpression expression info) = Some expression
-license_expression license_info.Unlicensed = None
-
--- the report on a crate, by its licence and the verdict on it
-abbrev pub report_of : KrateLicense → Verdict → CrateReport
-report_of license verdict = record {
-  id = (krate_of license).id;
-  reads = license.reads;
-  expression = license_expression license.lic_info;
-  source = license_source license.lic_info;
-  notes = license.notes;
-  verdict = verdict;
-}
-
--- one for each crate, in order
-abbrev pub reports_of : List KrateLicense → List Verdict → List CrateReport
-reports_of [] verdicts = []
-reports_of (license ∷ more) [] = []
-reports_of (license ∷ more) (verdict ∷ verdicts) = report_of license verdict ∷ reports_of more verdicts
 
 -- what a check of licences comes to, by the verdicts on them, with findings at the levels that are asked for
 abbrev pub checked_by : LintLevels → ValidConfig → List KrateLicense → List Verdict → CheckedCrates

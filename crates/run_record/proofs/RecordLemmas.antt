@@ -32,7 +32,7 @@ use Rattle.run_found.specs.Found.{paths_looked, paths_sought, policy_due, except
 use Rattle.run_found.specs.Hearing.{MadeOn, RequestHearing, TreeSeen, look_calls, read_calls, seen}
 use Rattle.run_found.proofs.CallLemmas.{no_looks, no_read}
 use Rattle.run_found.proofs.SearchLemmas.{nothing_of}
-use Rattle.run_check.specs.declared.report.CrateReport.{CrateReport}
+use Rattle.check_core.specs.declared.report.CrateReport.{CrateReport}
 use Rattle.run_check.specs.declared.report.Report.{Report}
 use Rattle.run_check.specs.Carried.{uncarried_in}
 use Rattle.run_check.specs.Found.{calls_by, metadata_due}
