@@ -67,7 +67,7 @@ loads_policy lists laws before after calls more file is_there at root path confi
     let grown : new ≡ files ++ heard_file_of hearing = ap (λ (s : LoadState). s.files) loads in
     let there = subst (λ known. IsConfigPlaced known file root) (sym grown) (placed_more files (heard_file_of hearing) file root placed) in
     let told = checks ∙ ap (λ (one : Config). found ++ absence ++ validation_findings lists file one) is in
-    let keeps = subst (ConfigKeeps placed.text) (sym is) (no_config_keeps placed.text root.licenses placed.keeps.licenses) in
+    let config_keeps = subst (ConfigKeeps placed.text) (sym is) (no_config_keeps placed.text root.licenses placed.keeps.licenses) in
     record {
       hearing = hearing;
       reads = reads;
@@ -75,5 +75,5 @@ loads_policy lists laws before after calls more file is_there at root path confi
       labels = λ points. subst (PointInto new) (sym settles)
           (settings_labels new file root heard there
           (exceptions_labels lists laws hearing old behind text loads (subst (PointInto files) (sym told) (checked_labels lists laws files file is_there at root found placed points))));
-      places = exceptions_places lists laws hearing old behind text loads (validated_stands lists files file placed.text config valid placed.source keeps puts);
+      places = exceptions_places lists laws hearing old behind text loads (validated_stands lists files file placed.text config valid placed.source config_keeps puts);
     }
