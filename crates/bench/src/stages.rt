@@ -10,7 +10,7 @@ ghost use Rattle.check_core.specs.Labels.{PackLies};
 use crate::failed::BenchFailure;
 use crate::meter::Meter;
 use crate::parts::from_root;
-use check_core::{CheckCtx, judge_all};
+use check_core::{CheckCtx, CrateReport, judge_all};
 use check_evaluate::Verdict;
 use deny_text::PathBuf;
 use diag_core::{ErrorSink, Files, LevelFilter, Pack, Packs};
@@ -110,11 +110,11 @@ fn licensed(summary: &Summary<'_>) -> usize {
     licensed
 }
 
-/// How many verdicts accept a crate.
-fn accepted(verdicts: &[Verdict]) -> usize {
+/// How many reports accept a crate.
+fn accepted(reports: &[CrateReport]) -> usize {
     let mut accepted: usize = 0;
-    for verdict in verdicts {
-        if let Verdict::Accepted { .. } = verdict {
+    for report in reports {
+        if let Verdict::Accepted { .. } = &report.verdict {
             accepted = accepted.saturating_add(1);
         }
     }
@@ -145,16 +145,16 @@ fn found_in(
     alloc: Global,
     run: &str,
     ctx: &CheckCtx<'_, ValidConfig>,
-    summary: &Summary<'_>,
+    summary: Summary<'_>,
 ) -> Result<Option<Packs>, BenchFailure>
-    requires placed { All (IsPlacedAt ctx.now.files.now) summary.now.nfos }
+    requires placed { All (IsPlacedAt ctx.now.files.now) summary.nfos }
     requires entries { EntriesLie ctx.now.files.now ctx.now.cfg }
     ensures { IfOk result (λ found. ForSome found (All (PackLies ctx.now.files.now))) }
 {
     let mut found = ErrorSink::new(alloc, None);
     match &judge_all(alloc, ctx, summary, &mut found) {
-        Ok(verdicts) => {
-            if meter.ends(run, "check", accepted(verdicts.items())) {
+        Ok(reports) => {
+            if meter.ends(run, "check", accepted(reports.items())) {
                 Ok(None)
             } else {
                 Ok(Some(found.packs))
@@ -184,9 +184,9 @@ fn found_under(
         log_level: LevelFilter::Info,
         files,
     };
-    match &summary {
+    match summary {
         Ok(summary) => {
-            if meter.ends(run, "gather", licensed(summary)) {
+            if meter.ends(run, "gather", licensed(&summary)) {
                 Ok(None)
             } else {
                 found_in(meter, alloc, run, &ctx, summary)

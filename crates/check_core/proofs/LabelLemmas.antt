@@ -36,6 +36,8 @@ use Rattle.check_verdicts.specs.Places.{LabelPoints, PointsBy}
 use Rattle.check_verdicts.proofs.PointLemmas.{labels_point}
 use Rattle.check_core.specs.Check.{HasFront, all_hits, findings_of, gained, packs_of}
 use Rattle.check_core.specs.Labels.{FindingLies, GainLies, InfoPoints, PackLies, VerdictPoints}
+use Rattle.check_core.specs.declared.report.CrateReport.{CrateReport}
+use Rattle.check_core.specs.Reports.{verdicts_of}
 use Rattle.check_core.specs.Summary.{IsExpressionIn, gathered_of_licenses, gathered_of_license}
 use Rattle.check_core.specs.Turns.{GatheredCrate, findings_by, pack_by, verdict_finding}
 use Rattle.check_core.specs.Verdicts.{is_skipped}
@@ -194,10 +196,10 @@ front_gain files policy licenses old new placed points front =
     (All-take (VerdictPoints files (policy_of policy)) front.count (gathered_of_licenses licenses) points)) old new front.verdicts front.front
 
 -- after any answer
-pub any_gain : {E : Type 0} (files : List File) (policy : ValidConfig) (licenses : List KrateLicense) (old new : ErrorSink) (result : Result (List Verdict) E) → All (IsPlacedAt files) licenses
-    → All (VerdictPoints files (policy_of policy)) (gathered_of_licenses licenses) → IfOk result (λ verdicts. new ≡ gained old (findings_of policy (gathered_of_licenses licenses) verdicts))
+pub any_gain : {E : Type 0} (files : List File) (policy : ValidConfig) (licenses : List KrateLicense) (old new : ErrorSink) (result : Result (List CrateReport) E) → All (IsPlacedAt files) licenses
+    → All (VerdictPoints files (policy_of policy)) (gathered_of_licenses licenses) → IfOk result (λ reports. new ≡ gained old (findings_of policy (gathered_of_licenses licenses) (verdicts_of reports)))
     → OnErr result (HasFront (policy_of policy) licenses old new) → EntriesLie files policy → GainLies files old new
-any_gain files policy licenses old new (Ok verdicts) placed points packs front lie = whole_gain files policy licenses placed points old new verdicts packs lie
+any_gain files policy licenses old new (Ok reports) placed points packs front lie = whole_gain files policy licenses placed points old new (verdicts_of reports) packs lie
 any_gain files policy licenses old new (Err error) placed points packs front lie = front_gain files policy licenses old new placed points front
 
 -- ---- where an expression stands

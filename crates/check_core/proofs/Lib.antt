@@ -1,4 +1,5 @@
 pub mod CheckLemmas
+pub mod FrontLemmas
 pub mod HitLemmas
 pub mod LabelLemmas
 pub mod LawLemmas

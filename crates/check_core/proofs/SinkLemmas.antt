@@ -1,5 +1,5 @@
 -- What a sink that held no packs has gained of a check.
-use Rattle.std.proofs.Common.{◌≡◌, ◌∙◌, refl, sym, ap, subst, List, [], ◌∷◌, ◌++◌, map, None, Result, Ok, Err, OnOk}
+use Rattle.std.proofs.Common.{◌≡◌, ◌∙◌, refl, sym, ap, subst, List, [], ◌∷◌, ◌++◌, map, None, Result, Ok, Err, OnOk, OnErr}
 use Rattle.std.specs.Prelude.{All}
 use Rattle.diag_core.specs.File.{File}
 use Rattle.diag_core.specs.Overrides.{pack_overridden}
@@ -24,3 +24,8 @@ labels_gained files old new empty gain = subst (All (PackLies files)) (sym (gain
 pub of_success : {T E : Type 0} (result : Result T E) (P : Type 0) → P → OnOk result P
 of_success (Ok value) P is = is
 of_success (Err error) P is = tt
+
+-- and of an error
+pub of_error : {T E : Type 0} (result : Result T E) (P : Type 0) → P → OnErr result P
+of_error (Ok value) P is = tt
+of_error (Err error) P is = is

@@ -1,11 +1,13 @@
 -- The entries that are asked, crate by crate.
-use Rattle.std.proofs.Common.{◌≡◌, ◌∙◌, refl, sym, ap, subst, ℕ, zero, suc, ◌+◌, ◌<◌, ◌≤◌, Bool, true, false, IsTrue, List, [], ◌∷◌, length, drop, get_or, arith}
+use Rattle.std.proofs.Common.{◌≡◌, ◌∙◌, refl, sym, subst, ℕ, zero, suc, ◌+◌, ◌<◌, ◌≤◌, Bool, true, false, IsTrue, List, [], ◌∷◌, ◌++◌, length, drop, get_or, arith}
 use Rattle.std.specs.Prelude.{◌↔◌}
+use Rattle.std.proofs.lemmas.List.{length_push}
 use Rattle.gather_core.specs.declared.summary.KrateLicense.{KrateLicense}
 use Rattle.policy_valid.specs.Policy.{IsPrivate, Policy}
 use Rattle.check_core.specs.Steps.{ArePassedOver, entries_for, entries_of_all, entries_of_info}
 use Rattle.check_core.specs.Summary.{gathered_of_license, gathered_of_licenses}
 use Rattle.check_core.specs.Turns.{GatheredCrate}
+use Rattle.check_core.proofs.FrontLemmas.{is_behind, lies_inside}
 
 -- of a crate that is not passed over
 pub asked_bound : (policy : Policy) (asked : GatheredCrate) (passed : Bool) (before after : ℕ) → IsTrue passed ↔ IsPrivate policy asked.krate → passed ≡ false
@@ -40,10 +42,10 @@ IsBounded policy licenses i start steps = (passed : List Bool) → ArePassedOver
 pub bounded_at_first : (policy : Policy) (licenses : List KrateLicense) (start : ℕ) → IsBounded policy licenses 0 start start
 bounded_at_first policy licenses start passed are = omega arith
 
-pub bounded_next : (policy : Policy) (licenses : List KrateLicense) (i : ℕ) (license : KrateLicense) (start before after : ℕ) → i < length licenses → license ≡ get_or licenses i license
+bounded_step : (policy : Policy) (licenses : List KrateLicense) (i : ℕ) (license : KrateLicense) (start before after : ℕ) → i < length licenses → license ≡ get_or licenses i license
     → ((private : Bool) → IsTrue private ↔ IsPrivate policy (gathered_of_license license).krate → after ≤ before + entries_for private policy (gathered_of_license license))
     → IsBounded policy licenses i start before → IsBounded policy licenses (i + 1) start after
-bounded_next policy licenses i license start before after inside is takes bounded passed are =
+bounded_step policy licenses i license start before after inside is takes bounded passed are =
     let j_is : suc i ≡ i + 1 = omega arith in
     let next : Next policy licenses passed i (i + 1) license =
     subst (λ (j : ℕ). Next policy licenses passed i j license) j_is
@@ -57,10 +59,17 @@ pub bounded_whole : (policy : Policy) (licenses : List KrateLicense) (i start st
     → (passed : List Bool) → ArePassedOver policy (gathered_of_licenses licenses) passed → steps ≤ start + entries_of_all policy (gathered_of_licenses licenses) passed
 bounded_whole policy licenses i start steps bounded passed are = let so_far = bounded passed are in omega arith
 
--- after one more crate
-pub bounded_after : (policy : Policy) (licenses : List KrateLicense) (i : ℕ) (license : KrateLicense) (start before after : ℕ) → i < length licenses → license ≡ get_or licenses i license
+-- after one more crate, which stands behind those before
+pub bounded_next : (policy : Policy) (licenses front rest : List KrateLicense) (license : KrateLicense) (start before after : ℕ) → front ++ license ∷ rest ≡ licenses
     → ((private : Bool) → IsTrue private ↔ IsPrivate policy (gathered_of_license license).krate → after ≤ before + entries_for private policy (gathered_of_license license))
-    → IsBounded policy licenses i start before
+    → IsBounded policy licenses (length front) start before → IsBounded policy licenses (length (front ++ license ∷ [])) start after
+bounded_next policy licenses front rest license start before after whole takes bounded =
+    subst (λ (place : ℕ). IsBounded policy licenses place start after) (sym (length_push front license))
+    (bounded_step policy licenses (length front) license start before after (lies_inside licenses front rest license whole) (is_behind licenses front rest license whole) takes bounded)
+
+pub bounded_after : (policy : Policy) (licenses front rest : List KrateLicense) (license : KrateLicense) (start before after : ℕ) → front ++ license ∷ rest ≡ licenses
+    → ((private : Bool) → IsTrue private ↔ IsPrivate policy (gathered_of_license license).krate → after ≤ before + entries_for private policy (gathered_of_license license))
+    → IsBounded policy licenses (length front) start before
     → (passed : List Bool) → ArePassedOver policy (gathered_of_licenses licenses) passed → after ≤ start + entries_of_all policy (gathered_of_licenses licenses) passed
-bounded_after policy licenses i license start before after inside is takes bounded =
-    bounded_whole policy licenses (i + 1) start after (bounded_next policy licenses i license start before after inside is takes bounded)
+bounded_after policy licenses front rest license start before after whole takes bounded =
+    bounded_whole policy licenses (length (front ++ license ∷ [])) start after (bounded_next policy licenses front rest license start before after whole takes bounded)

@@ -14,7 +14,7 @@ use Rattle.spdx_certificates.specs.Choices.{first_choice, is_accepted}
 use Rattle.spdx_certificates.proofs.LawLemmas.{no_choice}
 use Rattle.policy_valid.specs.Policy.{IsPrivate, Policy}
 use Rattle.check_evaluate.specs.Evaluation.{is_allowed, term_hits}
-use Rattle.check_core.specs.declared.crate_check.CrateCheck.{CrateCheck}
+use Rattle.check_core.specs.declared.crate_check.JudgedCrate.{JudgedCrate}
 use Rattle.check_core.specs.Verdicts.{accepted, rejected, IsCertifiedOrUnlicensed, IsCertified, IsVerdictShown, IsVerdict, is_skipped, judgement_in, judgement_of, verdict_of}
 
 -- what was kept is what the policy says of each term
@@ -76,6 +76,7 @@ answered_not_skipped policy krate expression verdict answered = (answered_is pol
 
 -- of a crate that was asked, unless memory was short
 pub answered_check : (policy : Policy) (krate : Record) (expression : Option ExpressionView) (private : Bool) → IsTrue private ↔ IsPrivate policy krate → private ≡ false
-    → (result : Result CrateCheck AllocError) → IfOk result (λ checked. IsCertifiedOrUnlicensed policy krate expression checked.verdict) → IfOk result (λ checked. IsVerdict policy krate expression checked.verdict)
-answered_check policy krate expression private tells asked (Ok checked) answered = answered_verdict policy krate expression private checked.verdict tells asked answered
+    → (result : Result JudgedCrate AllocError) → IfOk result (λ judged. IsCertifiedOrUnlicensed policy krate expression judged.report.verdict)
+    → IfOk result (λ judged. IsVerdict policy krate expression judged.report.verdict)
+answered_check policy krate expression private tells asked (Ok judged) answered = answered_verdict policy krate expression private judged.report.verdict tells asked answered
 answered_check policy krate expression private tells asked (Err error) none = tt

@@ -3,6 +3,7 @@ pub mod Hits
 pub mod Labels
 pub mod Laws
 pub mod Own
+pub mod Reports
 pub mod Rows
 pub mod Steps
 pub mod Summary

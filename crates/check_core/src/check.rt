@@ -17,15 +17,16 @@ ghost use Rattle.gather_findings.specs.License.{InfoStands, Stands};
 ghost use Rattle.gather_core.specs.Premises.{IsPlacedAt};
 ghost use Rattle.check_core.specs.Check.{AreVerdicts, HasFront, all_hits, findings_of, gained, packs_of};
 ghost use Rattle.check_core.specs.Labels.{GainLies, PackLies, VerdictPoints};
+ghost use Rattle.check_core.specs.Reports.{reports_of, verdicts_of};
 ghost use Rattle.check_core.specs.Steps.{ArePassedOver, entries_of_all};
 ghost use Rattle.check_core.specs.Summary as spec;
 ghost use Rattle.check_core.specs.Summary.{InfoFits, IsExpressionIn, gathered_of_licenses};
 
 use crate::crate_check::Checker;
-use check_evaluate::Verdict;
-use deny_text::{ListOf, Steps};
+use crate::report::CrateReports;
+use deny_text::Steps;
 use diag_core::{ErrorSink, FileId, Files, LevelFilter};
-use gather_core::{KrateLicense, LicenseExprInfo, LicenseInfo, Summary};
+use gather_core::{KrateLicense, KrateLicenses, LicenseExprInfo, LicenseInfo, Summary};
 use graph_selection::Krates;
 use policy_valid::ValidConfig;
 use spdx_core::Expression;
@@ -44,9 +45,6 @@ pub struct CheckCtx<'c, T> {
     /// The files that findings point into.
     pub files: &'c Files,
 }
-
-/// Verdicts on crates, in order.
-pub type Verdicts = ListOf<Verdict>;
 
 /// The nodes of an expression; none where there is no expression.
 fn nodes_in(info: &LicenseInfo) -> usize
@@ -108,43 +106,45 @@ fn info_fits(files: &Files, info: &LicenseInfo)
     }
 }
 
-/// The verdicts on crates, one after another.
+/// The reports on crates, one after another.
 #[tactic(auto, using(crate::proofs::CheckLemmas::has_front, crate::proofs::CheckLemmas::nothing_gained))]
 fn judge_in_order<L: Ledger>(
     alloc: Global,
     policy: &ValidConfig,
     files: &Files,
     checker: &mut Checker,
-    licenses: &[KrateLicense<'_>],
+    licenses: KrateLicenses<'_>,
     sink: &mut ErrorSink,
     steps: &mut Steps<L>,
-) -> Result<Verdicts, AllocError>
-    requires room { All (λ license. spec.nodes_in license.lic_info ≤ checker.old.nodes) licenses.now }
+) -> Result<CrateReports, AllocError>
+    requires room { All (λ license. spec.nodes_in license.lic_info ≤ checker.old.nodes) licenses }
     requires exceptions { exception_numbers (policy_of policy.now) ≡ checker.old.numbers }
     requires families { entry_families (policy_of policy.now) ≡ checker.old.families }
     requires private { private_numbers (policy_of policy.now) ≡ checker.old.private }
     requires flags { checker.old.flags ≡ flags_by policy.now [] }
-    requires placed { All (IsPlacedAt files.now) licenses.now }
-    ensures verdicts { IfOk result (λ verdicts.
-        AreVerdicts (policy_of policy.now) (gathered_of_licenses licenses.now) verdicts) }
-    ensures packs { IfOk result (λ verdicts.
-        sink.new ≡ gained sink.old (packs_of (policy_of policy.now) (gathered_of_licenses licenses.now) verdicts)) }
-    ensures flags { IfOk result (λ verdicts. checker.new.flags
-        ≡ flags_by policy.now (all_hits (policy_of policy.now) (gathered_of_licenses licenses.now) verdicts)) }
-    ensures front { OnErr result (HasFront (policy_of policy.now) licenses.now sink.old sink.new) }
+    requires placed { All (IsPlacedAt files.now) licenses }
+    ensures verdicts { IfOk result (λ reports.
+        AreVerdicts (policy_of policy.now) (gathered_of_licenses licenses.entry) (verdicts_of reports)) }
+    ensures reports { IfOk result (λ reports. reports ≡ reports_of licenses.entry (verdicts_of reports)) }
+    ensures packs { IfOk result (λ reports.
+        sink.new ≡ gained sink.old
+        (packs_of (policy_of policy.now) (gathered_of_licenses licenses.entry) (verdicts_of reports))) }
+    ensures flags { IfOk result (λ reports. checker.new.flags ≡ flags_by policy.now
+        (all_hits (policy_of policy.now) (gathered_of_licenses licenses.entry) (verdicts_of reports))) }
+    ensures front { OnErr result (HasFront (policy_of policy.now) licenses.entry sink.old sink.new) }
     ensures steps { steps.old ≤ steps.new }
-    ensures bound { let asked = gathered_of_licenses licenses.now in
+    ensures bound { let asked = gathered_of_licenses licenses.entry in
         (passed : List Bool) → ArePassedOver (policy_of policy.now) asked passed
         → steps.new ≤ steps.old + entries_of_all (policy_of policy.now) asked passed }
 {
-    let mut verdicts = Verdicts::new(alloc);
-    'licenses: for license in licenses {
+    let mut reports = CrateReports::new(alloc);
+    'licenses: for license in licenses.into_vec() {
         info_fits(files, &license.lic_info);
-        let checked = checker.judge(alloc, policy, license, steps)?;
-        verdicts.push(checked.verdict)?;
-        sink.push(checked.pack)?;
+        let judged = checker.judge(alloc, policy, license, steps)?;
+        reports.push(judged.report)?;
+        sink.push(judged.pack)?;
     }
-    Ok(verdicts)
+    Ok(reports)
 }
 
 /// Tells the policy's entries that allowed no term so far.
@@ -162,63 +162,66 @@ fn tell_unused(
     sink.push(last)
 }
 
-/// The verdicts on crates whose expressions have so many nodes at most, and what is told of the policy after them.
+/// The reports on crates whose expressions have so many nodes at most, and what is told of the policy after them.
 #[tactic(auto, using(crate::proofs::CheckLemmas::no_front, crate::proofs::CheckLemmas::whole_front, crate::proofs::CheckLemmas::gained_then))]
 fn judge_with_room<L: Ledger>(
     alloc: Global,
     policy: &ValidConfig,
     files: &Files,
-    licenses: &[KrateLicense<'_>],
+    licenses: KrateLicenses<'_>,
     nodes: usize,
     sink: &mut ErrorSink,
     steps: &mut Steps<L>,
-) -> Result<Verdicts, AllocError>
-    requires room { All (λ license. spec.nodes_in license.lic_info ≤ nodes) licenses.now }
-    requires placed { All (IsPlacedAt files.now) licenses.now }
-    ensures verdicts { IfOk result (λ verdicts.
-        AreVerdicts (policy_of policy.now) (gathered_of_licenses licenses.now) verdicts) }
-    ensures packs { IfOk result (λ verdicts.
-        sink.new ≡ gained sink.old (findings_of policy.now (gathered_of_licenses licenses.now) verdicts)) }
-    ensures front { OnErr result (HasFront (policy_of policy.now) licenses.now sink.old sink.new) }
+) -> Result<CrateReports, AllocError>
+    requires room { All (λ license. spec.nodes_in license.lic_info ≤ nodes) licenses }
+    requires placed { All (IsPlacedAt files.now) licenses }
+    ensures verdicts { IfOk result (λ reports.
+        AreVerdicts (policy_of policy.now) (gathered_of_licenses licenses.entry) (verdicts_of reports)) }
+    ensures reports { IfOk result (λ reports. reports ≡ reports_of licenses.entry (verdicts_of reports)) }
+    ensures packs { IfOk result (λ reports.
+        sink.new ≡ gained sink.old
+        (findings_of policy.now (gathered_of_licenses licenses.entry) (verdicts_of reports))) }
+    ensures front { OnErr result (HasFront (policy_of policy.now) licenses.entry sink.old sink.new) }
     ensures steps { steps.old ≤ steps.new }
-    ensures bound { let asked = gathered_of_licenses licenses.now in
+    ensures bound { let asked = gathered_of_licenses licenses.entry in
         (passed : List Bool) → ArePassedOver (policy_of policy.now) asked passed
         → steps.new ≤ steps.old + entries_of_all (policy_of policy.now) asked passed }
 {
     let mut checker = Checker::with_room(alloc, nodes, policy)?;
-    let verdicts = judge_in_order(alloc, policy, files, &mut checker, licenses, sink, steps)?;
+    let reports = judge_in_order(alloc, policy, files, &mut checker, licenses, sink, steps)?;
     tell_unused(alloc, policy, &checker, sink)?;
-    Ok(verdicts)
+    Ok(reports)
 }
 
-/// The verdicts on the crates of a summary, in order. What is found goes into the sink: a pack of each crate, in
+/// The reports on the crates of a summary, in order. What is found goes into the sink: a pack of each crate, in
 /// order, and then always one of the policy's entries that allow no term, which may be empty. Where memory is
 /// refused the sink has the packs of some first crates. A step is counted for each entry that is asked for a term:
 /// those of the term's family, in the crate's exception and in what is allowed, at most once each.
 pub fn check<L: Ledger>(
     alloc: Global,
     ctx: &CheckCtx<'_, ValidConfig>,
-    summary: &Summary<'_>,
+    summary: Summary<'_>,
     sink: &mut ErrorSink,
     steps: &mut Steps<L>,
-) -> Result<Verdicts, AllocError>
-    requires placed { All (IsPlacedAt ctx.now.files.now) summary.now.nfos }
-    ensures verdicts { IfOk result (λ verdicts.
-        AreVerdicts (policy_of ctx.now.cfg) (gathered_of_licenses summary.now.nfos) verdicts) }
-    ensures packs { IfOk result (λ verdicts.
-        sink.new ≡ gained sink.old (findings_of ctx.now.cfg (gathered_of_licenses summary.now.nfos) verdicts)) }
-    ensures front { OnErr result (HasFront (policy_of ctx.now.cfg) summary.now.nfos sink.old sink.new) }
+) -> Result<CrateReports, AllocError>
+    requires placed { All (IsPlacedAt ctx.now.files.now) summary.nfos }
+    ensures verdicts { IfOk result (λ reports.
+        AreVerdicts (policy_of ctx.now.cfg) (gathered_of_licenses summary.entry.nfos) (verdicts_of reports)) }
+    ensures reports { IfOk result (λ reports. reports ≡ reports_of summary.entry.nfos (verdicts_of reports)) }
+    ensures packs { IfOk result (λ reports.
+        sink.new ≡ gained sink.old
+        (findings_of ctx.now.cfg (gathered_of_licenses summary.entry.nfos) (verdicts_of reports))) }
+    ensures front { OnErr result (HasFront (policy_of ctx.now.cfg) summary.entry.nfos sink.old sink.new) }
     // where the policy's entries have places of their files, each label does
     ensures labels { EntriesLie ctx.now.files.now ctx.now.cfg → GainLies ctx.now.files.now sink.old sink.new }
-    ensures terms { All (VerdictPoints ctx.now.files.now (policy_of ctx.now.cfg)) (gathered_of_licenses summary.now.nfos) }
+    ensures terms { All (VerdictPoints ctx.now.files.now (policy_of ctx.now.cfg)) (gathered_of_licenses summary.entry.nfos) }
     ensures steps { steps.old ≤ steps.new }
-    ensures bound { let asked = gathered_of_licenses summary.now.nfos in
+    ensures bound { let asked = gathered_of_licenses summary.entry.nfos in
         (passed : List Bool) → ArePassedOver (policy_of ctx.now.cfg) asked passed
         → steps.new ≤ steps.old + entries_of_all (policy_of ctx.now.cfg) asked passed }
 {
-    let licenses = summary.nfos.items();
-    let nodes = most_nodes(licenses);
-    judge_with_room(alloc, &ctx.cfg, ctx.files, licenses, nodes, sink, steps)
+    let nodes = most_nodes(summary.nfos.items());
+    judge_with_room(alloc, &ctx.cfg, ctx.files, summary.nfos, nodes, sink, steps)
 }
 
 /// The same, into a sink that holds no packs yet, with its steps counted in a ledger that is handed in.
@@ -226,46 +229,48 @@ fn judge_by_ledger<L: Ledger>(
     ledger: Blank,
     alloc: Global,
     ctx: &CheckCtx<'_, ValidConfig>,
-    summary: &Summary<'_>,
+    summary: Summary<'_>,
     sink: &mut ErrorSink,
-) -> Result<Verdicts, AllocError>
+) -> Result<CrateReports, AllocError>
     requires name { ledger.name ≡ L.name }
     requires parts { ledger.parts ≡ L.parts }
     requires some { 0 < ledger.parts }
-    requires placed { All (IsPlacedAt ctx.now.files.now) summary.now.nfos }
+    requires placed { All (IsPlacedAt ctx.now.files.now) summary.nfos }
     requires entries { EntriesLie ctx.now.files.now ctx.now.cfg }
     requires empty { sink.old.packs ≡ [] }
-    ensures verdicts { IfOk result (λ verdicts.
-        AreVerdicts (policy_of ctx.now.cfg) (gathered_of_licenses summary.now.nfos) verdicts) }
+    ensures verdicts { IfOk result (λ reports.
+        AreVerdicts (policy_of ctx.now.cfg) (gathered_of_licenses summary.entry.nfos) (verdicts_of reports)) }
+    ensures reports { IfOk result (λ reports. reports ≡ reports_of summary.entry.nfos (verdicts_of reports)) }
     // each at the levels that the sink's overrides say
-    ensures packs { IfOk result (λ verdicts. sink.new.packs ≡ map (pack_overridden sink.old.overrides)
-        (findings_of ctx.now.cfg (gathered_of_licenses summary.now.nfos) verdicts)) }
-    ensures front { OnErr result (HasFront (policy_of ctx.now.cfg) summary.now.nfos sink.old sink.new) }
-    ensures terms { All (VerdictPoints ctx.now.files.now (policy_of ctx.now.cfg)) (gathered_of_licenses summary.now.nfos) }
+    ensures packs { IfOk result (λ reports. sink.new.packs ≡ map (pack_overridden sink.old.overrides)
+        (findings_of ctx.now.cfg (gathered_of_licenses summary.entry.nfos) (verdicts_of reports))) }
+    ensures front { OnErr result (HasFront (policy_of ctx.now.cfg) summary.entry.nfos sink.old sink.new) }
+    ensures terms { All (VerdictPoints ctx.now.files.now (policy_of ctx.now.cfg)) (gathered_of_licenses summary.entry.nfos) }
     ensures labels { OnOk result (All (PackLies ctx.now.files.now) sink.new.packs) }
 {
     let mut steps = Steps::<L>::new(ledger);
     check(alloc, ctx, summary, sink, &mut steps)
 }
 
-/// The verdicts on the crates of a summary, as `check` gives them, with its steps counted in a ledger of its own,
+/// The reports on the crates of a summary, as `check` gives them, with its steps counted in a ledger of its own,
 /// and a sink that holds no packs yet. Where memory is wanted the sink has the packs of some first crates.
 pub fn judge_all(
     alloc: Global,
     ctx: &CheckCtx<'_, ValidConfig>,
-    summary: &Summary<'_>,
+    summary: Summary<'_>,
     sink: &mut ErrorSink,
-) -> Result<Verdicts, AllocError>
-    requires placed { All (IsPlacedAt ctx.now.files.now) summary.now.nfos }
+) -> Result<CrateReports, AllocError>
+    requires placed { All (IsPlacedAt ctx.now.files.now) summary.nfos }
     requires entries { EntriesLie ctx.now.files.now ctx.now.cfg }
     requires empty { sink.old.packs ≡ [] }
-    ensures verdicts { IfOk result (λ verdicts.
-        AreVerdicts (policy_of ctx.now.cfg) (gathered_of_licenses summary.now.nfos) verdicts) }
+    ensures verdicts { IfOk result (λ reports.
+        AreVerdicts (policy_of ctx.now.cfg) (gathered_of_licenses summary.entry.nfos) (verdicts_of reports)) }
+    ensures reports { IfOk result (λ reports. reports ≡ reports_of summary.entry.nfos (verdicts_of reports)) }
     // each at the levels that the sink's overrides say
-    ensures packs { IfOk result (λ verdicts. sink.new.packs ≡ map (pack_overridden sink.old.overrides)
-        (findings_of ctx.now.cfg (gathered_of_licenses summary.now.nfos) verdicts)) }
-    ensures front { OnErr result (HasFront (policy_of ctx.now.cfg) summary.now.nfos sink.old sink.new) }
-    ensures terms { All (VerdictPoints ctx.now.files.now (policy_of ctx.now.cfg)) (gathered_of_licenses summary.now.nfos) }
+    ensures packs { IfOk result (λ reports. sink.new.packs ≡ map (pack_overridden sink.old.overrides)
+        (findings_of ctx.now.cfg (gathered_of_licenses summary.entry.nfos) (verdicts_of reports))) }
+    ensures front { OnErr result (HasFront (policy_of ctx.now.cfg) summary.entry.nfos sink.old sink.new) }
+    ensures terms { All (VerdictPoints ctx.now.files.now (policy_of ctx.now.cfg)) (gathered_of_licenses summary.entry.nfos) }
     ensures labels { OnOk result (All (PackLies ctx.now.files.now) sink.new.packs) }
 {
     judge_by_ledger::<Brand>(Blank::new(1), alloc, ctx, summary, sink)

@@ -4,6 +4,7 @@ ghost use Rattle.std.specs.Prelude.{false};
 ghost use Rattle.graph_core.specs.Krate.{record_of};
 ghost use Rattle.spdx_core.specs.Reading.{postfix};
 ghost use Rattle.spdx_certificates.specs.declared.verdict.Hit.{Hit};
+ghost use Rattle.gather_core.specs.Gathered.{krate_of};
 ghost use Rattle.policy_valid.specs.Policy.{IsPrivate};
 ghost use Rattle.policy_valid.specs.View.{policy_of};
 ghost use Rattle.check_evaluate.specs.Entries.{entries_of_terms, entry_families};
@@ -13,29 +14,37 @@ ghost use Rattle.check_unused.specs.Flags.{flags_by};
 ghost use Rattle.check_unused.specs.Unused as unused;
 ghost use Rattle.check_verdicts.specs.Findings as findings;
 ghost use Rattle.check_verdicts.specs.Places.{PlaceFits};
+ghost use Rattle.check_core.specs.Reports.{report_of};
 ghost use Rattle.check_core.specs.Steps.{entries_for, entries_of_info};
 ghost use Rattle.check_core.specs.Summary.{InfoFits, gathered_of_license, nodes_in};
 ghost use Rattle.check_core.specs.Turns.{expression_of, hits_by, hits_of, pack_by, verdict_finding};
 ghost use Rattle.check_core.specs.Verdicts.{IsCertifiedOrUnlicensed, IsCertified, IsVerdict, is_skipped};
 
+use crate::report::{CrateReport, report_on};
 use check_evaluate::{Evaluator, PrivateIndex, Verdict};
 use check_unused::{EntryHits, last_pack};
 use check_verdicts::{judged, pack_of, skipped, unlicensed};
 use deny_text::Steps;
-use diag_core::Pack;
-use gather_core::{KrateLicense, LicenseExprInfo, LicenseInfo};
-use graph_core::Krate;
+use diag_core::{Diag, Pack};
+use gather_core::{Diags, KrateLicense, LicenseExprInfo, LicenseInfo};
 use policy_valid::ValidConfig;
 use spdx_core::Expression;
 use std::alloc::{AllocError, Global};
 use std::marker::Model;
 use std::sync::ledger::Ledger;
 
-/// What the check of a crate comes to.
+/// What the check of a crate comes to: the report on it, and its findings.
 #[derive(Drop)]
-pub struct CrateCheck {
-    pub verdict: Verdict,
+pub struct JudgedCrate {
+    pub report: CrateReport,
     pub pack: Pack,
+}
+
+/// A verdict, and the finding that tells it.
+#[derive(Drop)]
+pub(crate) struct ToldVerdict {
+    verdict: Verdict,
+    told: Diag,
 }
 
 /// Checks crates one after another under a policy. It has taken the memory that their expressions want when it
@@ -62,31 +71,44 @@ impl Model for Checker {
 }
 
 /// A crate that the policy passes over: nothing of what was gathered is told.
-fn skip(alloc: Global, krate: &Krate) -> Result<CrateCheck, AllocError>
-    ensures verdict { IfOk result (λ checked. checked.verdict ≡ Verdict.Skipped) }
-    ensures pack { let krate = record_of krate.now in
-        IfOk result (λ checked. checked.pack ≡ findings.pack_of krate (findings.skipped krate ∷ [])) }
+fn skip(alloc: Global, license: KrateLicense<'_>) -> Result<JudgedCrate, AllocError>
+    ensures report { IfOk result (λ judged. judged.report ≡ report_of license.entry Verdict.Skipped) }
+    ensures pack { let krate = krate_of license.entry in
+        IfOk result (λ judged. judged.pack ≡ findings.pack_of krate (findings.skipped krate ∷ [])) }
 {
-    let told = skipped(alloc, krate)?;
-    let pack = pack_of(alloc, krate, &[], told)?;
-    Ok(CrateCheck {
-        verdict: Verdict::Skipped,
-        pack,
-    })
+    let told = skipped(alloc, license.krate)?;
+    let pack = pack_of(alloc, license.krate, Diags::new(alloc), told)?;
+    let (report, _) = report_on(alloc, license, Verdict::Skipped)?;
+    Ok(JudgedCrate { report, pack })
+}
+
+/// A crate that is not passed over, with the verdict on it: what was gathered moves into its findings.
+fn tell(
+    alloc: Global,
+    license: KrateLicense<'_>,
+    verdict: Verdict,
+    told: Diag,
+) -> Result<JudgedCrate, AllocError>
+    ensures report { IfOk result (λ judged. judged.report ≡ report_of license.entry verdict) }
+    ensures pack { IfOk result (λ judged.
+        judged.pack ≡ findings.pack_of (krate_of license.entry) (license.entry.diags ++ told ∷ [])) }
+{
+    let krate = license.krate;
+    let (report, gathered) = report_on(alloc, license, verdict)?;
+    let pack = pack_of(alloc, krate, gathered, told)?;
+    Ok(JudgedCrate { report, pack })
 }
 
 /// A crate without an expression.
-fn tell_unlicensed(alloc: Global, license: &KrateLicense<'_>) -> Result<CrateCheck, AllocError>
-    ensures verdict { IfOk result (λ checked. checked.verdict ≡ Verdict.Unlicensed) }
-    ensures pack { let krate = record_of license.now.krate.now in
-        IfOk result (λ checked. checked.pack ≡ findings.pack_of krate
-        (license.now.diags ++ findings.unlicensed krate license.now.notes ∷ [])) }
+fn tell_unlicensed(alloc: Global, license: &KrateLicense<'_>) -> Result<ToldVerdict, AllocError>
+    ensures verdict { IfOk result (λ answer. answer.verdict ≡ Verdict.Unlicensed) }
+    ensures told { IfOk result (λ answer.
+        answer.told ≡ findings.unlicensed (krate_of license.now) license.now.notes) }
 {
     let told = unlicensed(alloc, license.krate, license.notes.items())?;
-    let pack = pack_of(alloc, license.krate, license.diags.items(), told)?;
-    Ok(CrateCheck {
+    Ok(ToldVerdict {
         verdict: Verdict::Unlicensed,
-        pack,
+        told,
     })
 }
 
@@ -124,7 +146,7 @@ impl Checker {
         expr: &Expression,
         nfo: &LicenseExprInfo,
         steps: &mut Steps<L>,
-    ) -> Result<CrateCheck, AllocError>
+    ) -> Result<ToldVerdict, AllocError>
         requires room { length (postfix expr.now.tree) ≤ self.old.nodes }
         requires exceptions { exception_numbers (policy_of policy.now) ≡ self.old.numbers }
         requires families { entry_families (policy_of policy.now) ≡ self.old.families }
@@ -134,11 +156,10 @@ impl Checker {
         ensures families { self.new.families ≡ self.old.families }
         ensures private { self.new.private ≡ self.old.private }
         ensures verdict { let krate = record_of license.now.krate.now in
-            IfOk result (λ checked. IsCertified (policy_of policy.now) krate expr.now checked.verdict) }
-        ensures pack { let krate = record_of license.now.krate.now in
-            let info = LicenseInfo.SpdxExpression expr.now nfo.now in
-            IfOk result (λ checked. checked.pack ≡ findings.pack_of krate (license.now.diags
-            ++ verdict_finding (policy_of policy.now) krate info license.now.notes ∷ [])) }
+            IfOk result (λ answer. IsCertified (policy_of policy.now) krate expr.now answer.verdict) }
+        ensures told { let krate = record_of license.now.krate.now in
+            let info = LicenseInfo.SpdxExpression expr.now nfo.now in IfOk result (λ answer.
+            answer.told ≡ verdict_finding (policy_of policy.now) krate info license.now.notes) }
         ensures hits { let info = LicenseInfo.SpdxExpression expr.now nfo.now in
             (before : List Hit) → self.old.flags ≡ flags_by policy.now before
             → self.new.flags ≡ flags_by policy.now
@@ -152,18 +173,17 @@ impl Checker {
         let verdict = self.evaluator.certificate(alloc, expr)?;
         let hits = self.evaluator.hits();
         let told = judged(alloc, accepted, expr, nfo, hits, license.notes.items())?;
-        let pack = pack_of(alloc, license.krate, license.diags.items(), told)?;
-        Ok(CrateCheck { verdict, pack })
+        Ok(ToldVerdict { verdict, told })
     }
 
-    /// A crate that is not passed over.
-    fn ask<L: Ledger>(
+    /// The verdict on a crate that is not passed over.
+    fn answer<L: Ledger>(
         &mut self,
         alloc: Global,
         policy: &ValidConfig,
         license: &KrateLicense<'_>,
         steps: &mut Steps<L>,
-    ) -> Result<CrateCheck, AllocError>
+    ) -> Result<ToldVerdict, AllocError>
         requires room { nodes_in license.now.lic_info ≤ self.old.nodes }
         requires exceptions { exception_numbers (policy_of policy.now) ≡ self.old.numbers }
         requires families { entry_families (policy_of policy.now) ≡ self.old.families }
@@ -172,10 +192,10 @@ impl Checker {
         ensures numbers { self.new.numbers ≡ self.old.numbers }
         ensures families { self.new.families ≡ self.old.families }
         ensures private { self.new.private ≡ self.old.private }
-        ensures verdict { let asked = gathered_of_license license.now in IfOk result (λ checked.
-            IsCertifiedOrUnlicensed (policy_of policy.now) asked.krate (expression_of asked.info) checked.verdict) }
-        ensures pack { IfOk result (λ checked.
-            checked.pack ≡ pack_by false (policy_of policy.now) (gathered_of_license license.now)) }
+        ensures verdict { let asked = gathered_of_license license.now in IfOk result (λ answer.
+            IsCertifiedOrUnlicensed (policy_of policy.now) asked.krate (expression_of asked.info) answer.verdict) }
+        ensures told { let asked = gathered_of_license license.now in IfOk result (λ answer.
+            answer.told ≡ verdict_finding (policy_of policy.now) asked.krate asked.info asked.notes) }
         ensures hits { (before : List Hit) → self.old.flags ≡ flags_by policy.now before
             → self.new.flags ≡ flags_by policy.now
             (before ++ hits_by false (policy_of policy.now) (gathered_of_license license.now)) }
@@ -191,42 +211,76 @@ impl Checker {
         }
     }
 
-    /// The check of one crate: its verdict, and its findings. A crate that the policy passes over is skipped,
-    /// also where it has no expression; what it has hits no entry. It takes a step for each entry that is asked.
-    /// Where memory is wanted no hit is marked, or those of the crate's terms are.
-    pub fn judge<L: Ledger>(
+    /// A crate that is not passed over.
+    fn ask<L: Ledger>(
         &mut self,
         alloc: Global,
         policy: &ValidConfig,
-        license: &KrateLicense<'_>,
+        license: KrateLicense<'_>,
         steps: &mut Steps<L>,
-    ) -> Result<CrateCheck, AllocError>
-        requires room { nodes_in license.now.lic_info ≤ self.old.nodes }
+    ) -> Result<JudgedCrate, AllocError>
+        requires room { nodes_in license.lic_info ≤ self.old.nodes }
         requires exceptions { exception_numbers (policy_of policy.now) ≡ self.old.numbers }
         requires families { entry_families (policy_of policy.now) ≡ self.old.families }
-        requires private { private_numbers (policy_of policy.now) ≡ self.old.private }
-        requires fits { InfoFits license.now.lic_info }
+        requires fits { InfoFits license.lic_info }
         ensures nodes { self.new.nodes ≡ self.old.nodes }
         ensures numbers { self.new.numbers ≡ self.old.numbers }
         ensures families { self.new.families ≡ self.old.families }
         ensures private { self.new.private ≡ self.old.private }
-        ensures verdict { let asked = gathered_of_license license.now in IfOk result (λ checked.
-            IsVerdict (policy_of policy.now) asked.krate (expression_of asked.info) checked.verdict) }
-        ensures pack { IfOk result (λ checked.
-            checked.pack ≡ pack_by (is_skipped checked.verdict) (policy_of policy.now) (gathered_of_license license.now)) }
+        ensures verdict { let asked = gathered_of_license license.entry in IfOk result (λ judged.
+            IsCertifiedOrUnlicensed (policy_of policy.now) asked.krate (expression_of asked.info)
+            judged.report.verdict) }
+        ensures report { IfOk result (λ judged. judged.report ≡ report_of license.entry judged.report.verdict) }
+        ensures pack { IfOk result (λ judged.
+            judged.pack ≡ pack_by false (policy_of policy.now) (gathered_of_license license.entry)) }
         ensures hits { (before : List Hit) → self.old.flags ≡ flags_by policy.now before
-            → IfOk result (λ checked. self.new.flags ≡ flags_by policy.now
-            (before ++ hits_by (is_skipped checked.verdict) (policy_of policy.now) (gathered_of_license license.now))) }
+            → self.new.flags ≡ flags_by policy.now
+            (before ++ hits_by false (policy_of policy.now) (gathered_of_license license.entry)) }
+        ensures steps { steps.old ≤ steps.new }
+        ensures bound { let asked = gathered_of_license license.entry in
+            steps.new ≤ steps.old + entries_of_info (policy_of policy.now) asked.krate asked.info }
+    {
+        let answer = self.answer(alloc, policy, &license, steps)?;
+        tell(alloc, license, answer.verdict, answer.told)
+    }
+
+    /// The check of one crate: the report on it with its verdict, and its findings. A crate that the policy passes
+    /// over is skipped, also where it has no expression; what it has hits no entry. It takes a step for each entry
+    /// that is asked. Where memory is wanted no hit is marked, or those of the crate's terms are.
+    pub fn judge<L: Ledger>(
+        &mut self,
+        alloc: Global,
+        policy: &ValidConfig,
+        license: KrateLicense<'_>,
+        steps: &mut Steps<L>,
+    ) -> Result<JudgedCrate, AllocError>
+        requires room { nodes_in license.lic_info ≤ self.old.nodes }
+        requires exceptions { exception_numbers (policy_of policy.now) ≡ self.old.numbers }
+        requires families { entry_families (policy_of policy.now) ≡ self.old.families }
+        requires private { private_numbers (policy_of policy.now) ≡ self.old.private }
+        requires fits { InfoFits license.lic_info }
+        ensures nodes { self.new.nodes ≡ self.old.nodes }
+        ensures numbers { self.new.numbers ≡ self.old.numbers }
+        ensures families { self.new.families ≡ self.old.families }
+        ensures private { self.new.private ≡ self.old.private }
+        ensures verdict { let asked = gathered_of_license license.entry in IfOk result (λ judged.
+            IsVerdict (policy_of policy.now) asked.krate (expression_of asked.info) judged.report.verdict) }
+        ensures report { IfOk result (λ judged. judged.report ≡ report_of license.entry judged.report.verdict) }
+        ensures pack { let asked = gathered_of_license license.entry in IfOk result (λ judged.
+            judged.pack ≡ pack_by (is_skipped judged.report.verdict) (policy_of policy.now) asked) }
+        ensures hits { (before : List Hit) → self.old.flags ≡ flags_by policy.now before
+            → IfOk result (λ judged. self.new.flags ≡ flags_by policy.now (before
+            ++ hits_by (is_skipped judged.report.verdict) (policy_of policy.now) (gathered_of_license license.entry))) }
         ensures marks { (before : List Hit) → self.old.flags ≡ flags_by policy.now before
             → OnErr result ((self.new.flags ≡ self.old.flags) ⊎ (self.new.flags ≡ flags_by policy.now
-            (before ++ hits_by false (policy_of policy.now) (gathered_of_license license.now)))) }
+            (before ++ hits_by false (policy_of policy.now) (gathered_of_license license.entry)))) }
         ensures steps { steps.old ≤ steps.new }
-        ensures bound { let asked = gathered_of_license license.now in
+        ensures bound { let asked = gathered_of_license license.entry in
             (private : Bool) → IsTrue private ↔ IsPrivate (policy_of policy.now) asked.krate
             → steps.new ≤ steps.old + entries_for private (policy_of policy.now) asked }
     {
         if self.private.is_private(policy, license.krate) {
-            return skip(alloc, license.krate);
+            return skip(alloc, license);
         }
         self.ask(alloc, policy, license, steps)
     }

@@ -4,6 +4,8 @@
 pub mod check;
 pub mod crate_check;
 pub mod laws;
+pub mod report;
 
-pub use check::{CheckCtx, Verdicts, judge_all};
-pub use crate_check::{Checker, CrateCheck};
+pub use check::{CheckCtx, judge_all};
+pub use crate_check::{Checker, JudgedCrate};
+pub use report::{CrateReport, CrateReports};

@@ -1,4 +1,3 @@
 pub mod LabelLemmas
-pub mod PackLemmas
 pub mod PlaceLemmas
 pub mod PointLemmas

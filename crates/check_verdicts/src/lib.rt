@@ -1,7 +1,6 @@
 //! The verdict on a crate as a finding: what it says, and the terms of the crate's expression at their places.
 #![tactic(auto)]
 
-pub mod copy;
 pub mod label;
 pub mod laws;
 pub mod pack;
@@ -9,7 +8,6 @@ pub mod place;
 pub mod source;
 pub mod told;
 
-pub use copy::copied;
 pub use pack::pack_of;
 pub use place::fits;
 pub use source::source_text;

@@ -5,7 +5,6 @@ ghost use Rattle.check_verdicts.specs.Findings as spec;
 ghost use Rattle.check_verdicts.specs.Findings.{verdict_labels};
 ghost use Rattle.check_verdicts.specs.Places.{PlaceFits};
 
-use crate::copy::notes_copy;
 use crate::label::labels;
 use deny_text::Text;
 use diag_core::licenses::Code;
@@ -31,6 +30,18 @@ pub fn finding(
     diag.labels = labels;
     diag.notes = notes;
     Diag::new(diag, Some(DiagnosticCode::License(code)))
+}
+
+/// Copies of notes, in order.
+fn notes_copy(alloc: Global, notes: &[Text]) -> Result<Notes, AllocError>
+    ensures { IfOk result (λ copies. copies ≡ notes.now) }
+{
+    let mut copies = Notes::new(alloc);
+    'notes: for note in notes {
+        let copy = Text::copy(alloc, note.as_str())?;
+        copies.push(copy)?;
+    }
+    Ok(copies)
 }
 
 /// By whether the expression is accepted.

@@ -25,7 +25,7 @@ use Rattle.run_command.specs.Settled.{IsSettled}
 use Rattle.run_command.specs.Stops.{Asks, RequestInput}
 use Rattle.run_command.proofs.AlikeLemmas.{IsAlike}
 use Rattle.run_command.proofs.OwnLemmas.{lists_same}
-use Rattle.run_check.specs.declared.report.CrateReport.{CrateReport}
+use Rattle.check_core.specs.declared.report.CrateReport.{CrateReport}
 use Rattle.run_check.specs.declared.report.Report.{Report}
 use Rattle.run_check.specs.Report.{GivesVerdicts, IsReport, IsReportOf, TellsVerdicts}
 use Rattle.run_check.proofs.ReportAlike.{counted_alike, each_back, each_front}

@@ -10,12 +10,10 @@ use Rattle.std.proofs.lemmas.List.Sorted.{All-permutation}
 use Rattle.spdx_catalog.specs.Catalog.{CatalogLists, IsCatalog}
 use Rattle.deny_text.specs.declared.span.Span.{Span}
 use Rattle.diag_core.specs.File.{File, source_of_file}
-use Rattle.diag_core.specs.declared.diagnostic.Diagnostic.{Diagnostic}
 use Rattle.policy_places.proofs.EntryPlaces.{exceptions_file_stays}
 use Rattle.policy_places.specs.Entries.{ClarificationKeeps, ExceptionKeeps, exceptions_file_keeps, licensee_keeps}
 use Rattle.policy_places.specs.Policies.{ConfigKeeps}
 use Rattle.policy_config.specs.declared.config.Config.{Config}
-use Rattle.policy_config.specs.declared.root.RootConfig.{RootConfig}
 use Rattle.policy_entries.specs.Exceptions.{exceptions_file_of}
 use Rattle.policy_entries.specs.declared.clarification.Clarification.{Clarification}
 use Rattle.policy_entries.specs.declared.exception.Exception.{Exception}
@@ -34,19 +32,17 @@ use Rattle.toml_subset.proofs.Law.Whole.{text_sound}
 use Rattle.toml_subset.specs.Answer.{TomlReading}
 use Rattle.toml_subset.specs.Data.{Toml}
 use Rattle.toml_subset.specs.Reading.{read_text}
-use Rattle.tree_core.specs.Call.{Call}
 use Rattle.policy_validate.specs.Order.{PutsFilesInOrder, PutsPolicyInOrder}
 use Rattle.policy_validate.specs.Valid.{ItemOrFinding, clarification_judged, clarification_judged_by, exception_in, kept_by, strict, valid_part}
 use Rattle.policy_valid.specs.declared.policy.ValidClarification.{ValidClarification}
 use Rattle.policy_valid.specs.declared.policy.ValidConfig.{ValidConfig}
 use Rattle.policy_valid.specs.declared.policy.ValidException.{ValidException}
 use Rattle.policy_core.specs.Exceptions.{valid_exceptions_in, exceptions_kept, with_exceptions}
-use Rattle.policy_core.specs.Heard.{ExceptionsHeard, IsFileText, IsTextHeard, LoadState, LoadsExceptionsBy, heard_file_of, heard, no_path, exceptions_read_of, the_policy, value_or_fault}
-use Rattle.policy_core.specs.Load.{LoadsPolicyBy, Surroundings}
-use Rattle.policy_core.specs.Places.{ClarificationStands, ExceptionStands, ExpressionStands, FileStands, IsConfigPlaced, IsSpelledAt, LicenseeStands, LiesInFile, PolicyStands}
-use Rattle.policy_core.specs.Policy.{licences_in}
-use Rattle.policy_core.specs.declared.load.LoadedPolicy.{LoadedPolicy}
-use Rattle.policy_core.proofs.PlaceLemmas.{map_all, both, source_more, source_last, lies_more, in_file, no_config_keeps}
+use Rattle.policy_core.specs.Heard.{IsFileText, IsTextHeard, LoadState, after_exceptions, heard_file_of, exceptions_read_of, value_or_fault}
+use Rattle.policy_core.specs.Places.{ClarificationStands, ExceptionStands, ExpressionStands, FileStands, IsSpelledAt, LicenseeStands, LiesInFile, PolicyStands}
+use Rattle.policy_core.specs.declared.exceptions.ExceptionsHeard.{ExceptionsHeard}
+use Rattle.policy_core.specs.declared.exceptions.ExceptionsHeard.TheVariants.{NoPath, ThePolicy, Heard}
+use Rattle.policy_core.proofs.PlaceLemmas.{map_all, both, source_more, source_last, lies_more, in_file}
 
 -- ---- lists
 
@@ -229,10 +225,10 @@ text_stands lists laws files path text is_text (Err fault) is = tt
 
 exceptions_stand : (lists : CatalogLists) → IsCatalog lists → (files : List File) (hearing : ExceptionsHeard) → IsTextHeard hearing
     → AllByRecursion (ExceptionStands (files ++ heard_file_of hearing)) (exceptions_kept lists (length files) (exceptions_read_of hearing))
-exceptions_stand lists laws files no_path text = tt
-exceptions_stand lists laws files (the_policy path) text = tt
-exceptions_stand lists laws files (heard path (Ok content)) text = text_stands lists laws files path content text (read_text content) refl
-exceptions_stand lists laws files (heard path (Err fault)) text = tt
+exceptions_stand lists laws files NoPath text = tt
+exceptions_stand lists laws files (ThePolicy path) text = tt
+exceptions_stand lists laws files (Heard path (Ok content)) text = text_stands lists laws files path content text (read_text content) refl
+exceptions_stand lists laws files (Heard path (Err fault)) text = tt
 
 more_stand : (files : List File) (more : List ValidException) (policy : ValidConfig) → PolicyStands files policy → AllByRecursion (ExceptionStands files) more
     → PolicyStands files (with_exceptions more policy)
@@ -243,29 +239,9 @@ more_stand files more policy stands there = record {
   exceptions = both (ExceptionStands files) policy.exceptions more stands.exceptions there;
 }
 
--- ---- what the calls leave
-
-pub exceptions_places : (lists : CatalogLists) → IsCatalog lists → (before after : ℕ) (calls more : List Call) (path : Option (List ℕ)) (old new : LoadState)
-    → LoadsExceptionsBy lists before after calls more path old new → PolicyStands old.files old.policy → PolicyStands new.files new.policy
-exceptions_places lists laws before after calls more path old new loads stands =
-    let hearing = loads.hearing in
-    let all = old.files ++ heard_file_of hearing in
-    subst (λ (state : LoadState). PolicyStands state.files state.policy) (sym loads.loads)
-    (more_stand all (exceptions_kept lists (length old.files) (exceptions_read_of hearing)) old.policy (policy_more old.files (heard_file_of hearing) old.policy stands)
-    (exceptions_stand lists laws old.files hearing loads.text))
-
-pub load_places : (lists : CatalogLists) → IsCatalog lists → (before after : ℕ) (calls others : List Call) (file : ℕ) (absence : List Diagnostic) (root : RootConfig)
-    (path : Option (List ℕ)) (old new : Surroundings) (loaded : LoadedPolicy) → LoadsPolicyBy lists before after calls others file absence root path old new loaded
-    → IsConfigPlaced old.files file root → PolicyStands new.files loaded.licenses
-load_places lists laws before after calls others file absence root path old new loaded loads placed =
-    let hearing = loads.hearing in
-    let all = old.files ++ heard_file_of hearing in
-    let source = source_more old.files (heard_file_of hearing) file placed.text placed.source in
-    let config = licences_in root in
-    let more = exceptions_kept lists (length old.files) (exceptions_read_of hearing) in
-    let written = valid_part lists file config in
-    subst (λ (files : List File). PolicyStands files loaded.licenses) (sym loads.keeps.files)
-    (policy_in_order all (with_exceptions more written) loaded.licenses loads.keeps.licenses
-    (more_stand all more written
-    (valid_stands all file placed.text source lists config (no_config_keeps placed.text root.licenses placed.keeps.licenses))
-    (exceptions_stand lists laws old.files hearing loads.text)))
+pub exceptions_places : (lists : CatalogLists) → IsCatalog lists → (hearing : ExceptionsHeard) (old new : LoadState) → IsTextHeard hearing → new ≡ after_exceptions lists hearing old
+    → PolicyStands old.files old.policy → PolicyStands new.files new.policy
+exceptions_places lists laws hearing old new text loads stands =
+    subst (λ (state : LoadState). PolicyStands state.files state.policy) (sym loads)
+    (more_stand (old.files ++ heard_file_of hearing) (exceptions_kept lists (length old.files) (exceptions_read_of hearing)) old.policy
+    (policy_more old.files (heard_file_of hearing) old.policy stands) (exceptions_stand lists laws old.files hearing text))

@@ -1,7 +1,7 @@
 mod AnswerLemmas
 pub mod ExceptionLemmas
 mod Examples
-mod LoadLemmas
+pub mod LoadLemmas
 mod MapLemmas
-mod PlaceLemmas
-mod KeptLemmas
+pub mod PlaceLemmas
+pub mod KeptLemmas

@@ -29,7 +29,6 @@ use Rattle.spdx_core.proofs.FaultSpans.{fault_lies}
 use Rattle.spdx_core.specs.Reading.{ExpressionView, expression_of_text}
 use Rattle.spdx_terms.specs.Faults.{first_fault}
 use Rattle.spdx_terms.specs.declared.error.ParseError.{ParseError}
-use Rattle.tree_core.specs.Call.{Call}
 use Rattle.toml_laws.proofs.FirstFault.{first_fault as syntax_fault}
 use Rattle.toml_laws.proofs.Texts.{text_placed}
 use Rattle.deny_text.specs.Spans.{LiesBetween}
@@ -42,11 +41,11 @@ use Rattle.url.specs.Parts.{Parts}
 use Rattle.policy_validate.specs.Valid.{ItemOrFinding, address_findings, address_judged, address_judged_by, clarification_findings, clarification_judged, clarification_judged_by, place_in, removed_findings, removed_key, strict, findings_by_each, validation_findings}
 use Rattle.policy_core.specs.Exceptions.{exceptions_findings, shape_diagnostic}
 use Rattle.policy_core.specs.Findings.{graph_key_findings, moved_key_finding, output_key_findings, target_finding, target_findings}
-use Rattle.policy_core.specs.Heard.{ExceptionsHeard, IsFileText, IsTextHeard, LoadState, LoadsExceptionsBy, heard_file_of, heard, no_path, exceptions_read_of, the_policy, value_or_fault}
-use Rattle.policy_core.specs.Load.{LoadsPolicyBy, Surroundings}
+use Rattle.policy_core.specs.Heard.{IsFileText, IsTextHeard, LoadState, after_exceptions, heard_file_of, exceptions_read_of, value_or_fault}
 use Rattle.policy_core.specs.Places.{IsConfigPlaced, LabelPointsInFile, LiesInFile, PointInto, PointsInto}
 use Rattle.policy_core.specs.Policy.{absence_findings, licences_in}
-use Rattle.policy_core.specs.declared.load.LoadedPolicy.{LoadedPolicy}
+use Rattle.policy_core.specs.declared.exceptions.ExceptionsHeard.{ExceptionsHeard}
+use Rattle.policy_core.specs.declared.exceptions.ExceptionsHeard.TheVariants.{NoPath, ThePolicy, Heard}
 
 -- ---- lists
 
@@ -85,6 +84,15 @@ source_last (first ∷ files) file = source_last files file
 
 pub lies_more : (files more : List File) (file : ℕ) (place : Span) → LiesInFile files file place → LiesInFile (files ++ more) file place
 lies_more files more file place at = record { text = at.text; source = source_more files more file at.text at.source; lies = at.lies }
+
+-- and so does a policy
+pub placed_more : (files more : List File) (file : ℕ) (root : RootConfig) → IsConfigPlaced files file root → IsConfigPlaced (files ++ more) file root
+placed_more files more file root placed = record {
+  text = placed.text;
+  source = source_more files more file placed.text placed.source;
+  is_text = placed.is_text;
+  keeps = placed.keeps;
+}
 
 labels_more : (files more : List File) (labels : List Label) → AllByRecursion (LabelPointsInFile files) labels → AllByRecursion (LabelPointsInFile (files ++ more)) labels
 labels_more files more [] all = tt
@@ -195,60 +203,40 @@ text_points lists laws files path text is_text (Err fault) is =
 
 exceptions_point : (lists : CatalogLists) → IsCatalog lists → (files : List File) (hearing : ExceptionsHeard) → IsTextHeard hearing
     → PointInto (files ++ heard_file_of hearing) (exceptions_findings lists (length files) (exceptions_read_of hearing))
-exceptions_point lists laws files no_path text = tt
-exceptions_point lists laws files (the_policy path) text = (tt, tt)
-exceptions_point lists laws files (heard path (Ok content)) text = text_points lists laws files path content text (read_text content) refl
-exceptions_point lists laws files (heard path (Err fault)) text = (tt, tt)
+exceptions_point lists laws files NoPath text = tt
+exceptions_point lists laws files (ThePolicy path) text = (tt, tt)
+exceptions_point lists laws files (Heard path (Ok content)) text = text_points lists laws files path content text (read_text content) refl
+exceptions_point lists laws files (Heard path (Err fault)) text = (tt, tt)
 
--- ---- what the calls leave
-
-pub exceptions_labels : (lists : CatalogLists) → IsCatalog lists → (before after : ℕ) (calls more : List Call) (path : Option (List ℕ)) (old new : LoadState)
-    → LoadsExceptionsBy lists before after calls more path old new → PointInto old.files old.found → PointInto new.files new.found
-exceptions_labels lists laws before after calls more path old new loads points =
-    let hearing = loads.hearing in
-    subst (λ (state : LoadState). PointInto state.files state.found) (sym loads.loads)
+pub exceptions_labels : (lists : CatalogLists) → IsCatalog lists → (hearing : ExceptionsHeard) (old new : LoadState) → IsTextHeard hearing → new ≡ after_exceptions lists hearing old
+    → PointInto old.files old.found → PointInto new.files new.found
+exceptions_labels lists laws hearing old new text loads points =
+    subst (λ (state : LoadState). PointInto state.files state.found) (sym loads)
     (both (PointsInto (old.files ++ heard_file_of hearing)) old.found (exceptions_findings lists (length old.files) (exceptions_read_of hearing))
-    (point_into_more old.files (heard_file_of hearing) old.found points) (exceptions_point lists laws old.files hearing loads.text))
+    (point_into_more old.files (heard_file_of hearing) old.found points) (exceptions_point lists laws old.files hearing text))
+
+-- ---- what is told in front of the two, and behind them
 
 absence_points : (files : List File) (is_there : Bool) (path : Option (List ℕ)) → PointInto files (absence_findings is_there path)
 absence_points files true path = tt
 absence_points files false (Some path) = (tt, tt)
 absence_points files false None = (tt, tt)
 
-pub load_labels : (lists : CatalogLists) → IsCatalog lists → (before after : ℕ) (calls others : List Call) (file : ℕ) (is_there : Bool) (at : Option (List ℕ)) (root : RootConfig)
-    (path : Option (List ℕ)) (old new : Surroundings) (loaded : LoadedPolicy)
-    → LoadsPolicyBy lists before after calls others file (absence_findings is_there at) root path old new loaded
-    → IsConfigPlaced old.files file root → PointInto old.files old.found → PointInto new.files new.found
-load_labels lists laws before after calls others file is_there at root path old new loaded loads placed points =
-    let hearing = loads.hearing in
-    let all = old.files ++ heard_file_of hearing in
-    let text = placed.text in
-    let source = source_more old.files (heard_file_of hearing) file text placed.source in
-    let config = licences_in root in
-    let keeps = no_config_keeps text root.licenses placed.keeps.licenses in
-    let absence = absence_findings is_there at in
-    let addresses = address_findings file config in
-    let clarifications = clarification_findings lists file config in
-    let removed = removed_findings file config in
-    let exceptions = exceptions_findings lists (length old.files) (exceptions_read_of hearing) in
+pub checked_labels : (lists : CatalogLists) → IsCatalog lists → (files : List File) (file : ℕ) (is_there : Bool) (path : Option (List ℕ)) (root : RootConfig) (found : List Diagnostic)
+    → IsConfigPlaced files file root → PointInto files found
+    → PointInto files (found ++ absence_findings is_there path ++ validation_findings lists file (licences_in root))
+checked_labels lists laws files file is_there path root found placed points =
+    let absence = absence_findings is_there path in
+    both (PointsInto files) (found ++ absence) (validation_findings lists file (licences_in root)) (both (PointsInto files) found absence points (absence_points files is_there path))
+    (validation_points lists laws files file placed.text (licences_in root) placed.source placed.is_text (no_config_keeps placed.text root.licenses placed.keeps.licenses))
+
+pub settings_labels : (files : List File) (file : ℕ) (root : RootConfig) (found : List Diagnostic) → IsConfigPlaced files file root → PointInto files found
+    → PointInto files (found ++ target_findings file root ++ graph_key_findings file root ++ output_key_findings file root)
+settings_labels files file root found placed points =
     let targets = target_findings file root in
     let keys = graph_key_findings file root in
-    let key = output_key_findings file root in
-    let joined = both (PointsInto all) in
-    let first = joined absence addresses (absence_points all is_there at) (addresses_point all file text source config keeps) in
-    let second = joined (absence ++ addresses) clarifications first (clarifications_point all file text source placed.is_text lists laws config keeps) in
-    let third = joined (absence ++ addresses ++ clarifications) removed second (removed_point all file text source config keeps) in
-    let fourth =
-    joined (absence ++ addresses ++ clarifications ++ removed) exceptions third (exceptions_point lists laws old.files hearing loads.text) in
-    let fifth =
-    joined (absence ++ addresses ++ clarifications ++ removed ++ exceptions) targets fourth (targets_point all file text source root placed.keeps) in
-    let sixth =
-    joined (absence ++ addresses ++ clarifications ++ removed ++ exceptions ++ targets) keys fifth
-    (moved_point all file text source (codes "graph") root.graph_deprecated placed.keeps.graph_deprecated) in
-    let seventh =
-    joined (absence ++ addresses ++ clarifications ++ removed ++ exceptions ++ targets ++ keys) key sixth
-    (output_points all file text source root.output_deprecated placed.keeps.output_deprecated) in
-    let findings = absence ++ addresses ++ clarifications ++ removed ++ exceptions ++ targets ++ keys ++ key in
-    subst (λ (files : List File). PointInto files new.found) (sym loads.keeps.files)
-    (subst (λ (found : List Diagnostic). PointInto all found) (sym loads.keeps.found)
-    (joined old.found findings (point_into_more old.files (heard_file_of hearing) old.found points) seventh))
+    let joined = both (PointsInto files) in
+    joined (found ++ targets ++ keys) (output_key_findings file root)
+    (joined (found ++ targets) keys (joined found targets points (targets_point files file placed.text placed.source root placed.keeps))
+    (moved_point files file placed.text placed.source (codes "graph") root.graph_deprecated placed.keeps.graph_deprecated))
+    (output_points files file placed.text placed.source root.output_deprecated placed.keeps.output_deprecated)

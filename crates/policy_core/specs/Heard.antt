@@ -1,26 +1,18 @@
--- What is heard of an exceptions file, and what a call that loads it leaves.
-use Rattle.std.specs.Prelude.{◌≡◌, ◌⊎◌, ℕ, ◌<◌, ◌^◌, true, List, [], ◌∷◌, ◌++◌, codes, length, Option, Some, None, Result, Ok, Err, ⊤}
+-- What is heard of an exceptions file, and what that leaves.
+use Rattle.std.specs.Prelude.{ℕ, ◌<◌, ◌^◌, true, List, [], ◌∷◌, ◌++◌, codes, length, Ok, Err, ⊤}
 use Rattle.std.specs.Str.{IsUtf8}
 use Rattle.spdx_catalog.specs.Catalog.{CatalogLists}
-use Rattle.diag_core.specs.File.{File, file_id_at}
+use Rattle.diag_core.specs.File.{File}
 use Rattle.diag_core.specs.declared.diagnostic.Diagnostic.{Diagnostic}
-use Rattle.tree_texts.specs.Heard.{IsTextRead, read_of as call_of}
 use Rattle.tree_texts.specs.declared.fault.ReadFault.{ReadFault}
 use Rattle.tree_texts.specs.declared.fault.ReadFault.TheVariants.{Failed, Absent, Folder, NotUtf8}
 use Rattle.toml_subset.specs.Answer.{TomlReading}
 use Rattle.toml_subset.specs.Data.{Toml}
 use Rattle.toml_subset.specs.Reading.{read_text}
-use Rattle.tree_core.specs.Call.{CallAnswer, Call}
 use Rattle.policy_valid.specs.declared.policy.ValidConfig.{ValidConfig}
 use Rattle.policy_core.specs.Exceptions.{ExceptionsRead, no_file, policy_itself, no_text, no_value, value, exceptions_kept, exceptions_findings, with_exceptions}
-
-pub data ExceptionsHeard : Type 0 where
-  -- there is no path
-  no_path : ExceptionsHeard
-  -- the file at this path is the policy, of which nothing is heard for a second time
-  the_policy : List ℕ → ExceptionsHeard
-  -- the text of the file at this path, or why there is none
-  heard : List ℕ → Result (List ℕ) ReadFault → ExceptionsHeard
+use Rattle.policy_core.specs.declared.exceptions.ExceptionsHeard.{ExceptionsHeard}
+use Rattle.policy_core.specs.declared.exceptions.ExceptionsHeard.TheVariants.{NoPath, ThePolicy, Heard}
 
 -- why no text was heard
 abbrev pub fault_words : ReadFault → List ℕ
@@ -35,17 +27,17 @@ value_or_fault (Err fault) = no_value fault.span
 
 -- what is read of what is heard
 abbrev pub exceptions_read_of : ExceptionsHeard → ExceptionsRead
-exceptions_read_of no_path = no_file
-exceptions_read_of (the_policy path) = policy_itself path
-exceptions_read_of (heard path (Ok text)) = value_or_fault (read_text text)
-exceptions_read_of (heard path (Err fault)) = no_text path (fault_words fault)
+exceptions_read_of NoPath = no_file
+exceptions_read_of (ThePolicy path) = policy_itself path
+exceptions_read_of (Heard path (Ok text)) = value_or_fault (read_text text)
+exceptions_read_of (Heard path (Err fault)) = no_text path (fault_words fault)
 
 -- a text that is heard goes behind the other files, under its path
 abbrev pub heard_file_of : ExceptionsHeard → List File
-heard_file_of no_path = []
-heard_file_of (the_policy path) = []
-heard_file_of (heard path (Ok text)) = record { name = path; source = text; has_path = true } ∷ []
-heard_file_of (heard path (Err fault)) = []
+heard_file_of NoPath = []
+heard_file_of (ThePolicy path) = []
+heard_file_of (Heard path (Ok text)) = record { name = path; source = text; has_path = true } ∷ []
+heard_file_of (Heard path (Err fault)) = []
 
 -- characters, whose bytes a number of 64 bits counts
 pub record IsFileText (text : List ℕ) : Type 0 where
@@ -54,10 +46,10 @@ pub record IsFileText (text : List ℕ) : Type 0 where
 
 -- what is heard as a text is one, whatever the tree tells
 abbrev pub IsTextHeard : ExceptionsHeard → Type 0
-IsTextHeard no_path = ⊤
-IsTextHeard (the_policy path) = ⊤
-IsTextHeard (heard path (Ok text)) = IsFileText text
-IsTextHeard (heard path (Err fault)) = ⊤
+IsTextHeard NoPath = ⊤
+IsTextHeard (ThePolicy path) = ⊤
+IsTextHeard (Heard path (Ok text)) = IsFileText text
+IsTextHeard (Heard path (Err fault)) = ⊤
 
 -- a policy, the files that are known, and the findings so far
 pub record LoadState : Type 0 where
@@ -73,33 +65,3 @@ after_exceptions lists hearing state = record {
   files = state.files ++ heard_file_of hearing;
   found = state.found ++ exceptions_findings lists (length state.files) (exceptions_read_of hearing);
 }
-
--- ---- a call, by what the tree answered
-
--- A file that is found by the path is the policy, and no call is made. Else one call is made, the read of the path, and its answer
--- lets hear this.
-abbrev pub IsReadAt : ℕ → ℕ → List Call → List Call → Option ℕ → List ℕ → ExceptionsHeard → Type 0
-IsReadAt before after old new (Some policy) path hearing = (hearing ≡ the_policy path) × (new ≡ old)
-IsReadAt before after old new None path hearing =
-    (text : Result (List ℕ) ReadFault) × (hearing ≡ heard path text) × IsTextRead before after old new path text
-
--- the same where there may be no path
-abbrev pub IsReadOf : ℕ → ℕ → List Call → List Call → List File → Option (List ℕ) → ExceptionsHeard → Type 0
-IsReadOf before after old new files None hearing = (hearing ≡ no_path) × (new ≡ old)
-IsReadOf before after old new files (Some path) hearing = IsReadAt before after old new (file_id_at files path) path hearing
-
--- where memory was wanting, that call was made, whatever was answered, or none
-abbrev pub MayReadAt : List Call → List Call → Option ℕ → List ℕ → Type 0
-MayReadAt old new (Some policy) path = new ≡ old
-MayReadAt old new None path = (new ≡ old) ⊎ ((answer : CallAnswer) × (new ≡ old ++ call_of path answer ∷ []))
-
-abbrev pub MayReadOf : List Call → List Call → List File → Option (List ℕ) → Type 0
-MayReadOf old new files None = new ≡ old
-MayReadOf old new files (Some path) = MayReadAt old new (file_id_at files path) path
-
--- the exceptions file at a path was loaded, by the answer of its read, between two counts of the tree's faults
-pub record LoadsExceptionsBy (lists : CatalogLists) (before after : ℕ) (calls more : List Call) (path : Option (List ℕ)) (old new : LoadState) : Type 0 where
-  pub hearing : ExceptionsHeard
-  pub is : IsReadOf before after calls more old.files path hearing
-  pub text : IsTextHeard hearing
-  pub loads : new ≡ after_exceptions lists hearing old

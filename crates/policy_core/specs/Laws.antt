@@ -1,14 +1,18 @@
--- What holds of every validation of a policy whose places lie in the text of its file.
-use Rattle.std.specs.Prelude.{◌≡◌, ℕ, List, Some}
+-- What holds of every validation of a policy whose places lie in the text of its file, and of what comes behind it.
+use Rattle.std.specs.Prelude.{◌≡◌, ℕ, List, ◌++◌, Some}
 use Rattle.spdx_catalog.specs.Catalog.{CatalogLists, IsCatalog}
 use Rattle.diag_core.specs.File.{File, source_of_file}
+use Rattle.diag_core.specs.declared.diagnostic.Diagnostic.{Diagnostic}
 use Rattle.policy_places.specs.Policies.{ConfigKeeps}
 use Rattle.policy_config.specs.declared.config.Config.{Config}
+use Rattle.policy_config.specs.declared.root.RootConfig.{RootConfig}
 use Rattle.policy_valid.specs.declared.policy.ValidConfig.{ValidConfig}
 use Rattle.policy_validate.specs.Order.{PutsPolicyInOrder}
 use Rattle.policy_validate.specs.Valid.{valid_part, validation_findings}
-use Rattle.policy_core.specs.Heard.{IsFileText}
-use Rattle.policy_core.specs.Places.{PointInto, PolicyStands}
+use Rattle.policy_core.specs.Findings.{target_findings, graph_key_findings, output_key_findings}
+use Rattle.policy_core.specs.Heard.{IsFileText, IsTextHeard, LoadState, after_exceptions}
+use Rattle.policy_core.specs.Places.{IsConfigPlaced, PointInto, PolicyStands}
+use Rattle.policy_core.specs.declared.exceptions.ExceptionsHeard.{ExceptionsHeard}
 
 -- a configuration that was read from the text of the file of that number
 pub record IsConfigIn (files : List File) (file : ℕ) (config : Config) : Type 0 where
@@ -26,3 +30,20 @@ ValidationsPoint = (lists : CatalogLists) → IsCatalog lists → (files : List 
 abbrev pub ValidPoliciesStand : Type 0
 ValidPoliciesStand = (lists : CatalogLists) (files : List File) (file : ℕ) (config : Config) (valid : ValidConfig) → IsConfigIn files file config
     → PutsPolicyInOrder (valid_part lists file config) valid → PolicyStands files valid
+
+-- ---- what comes behind the validation, where what was told and kept before keeps its places
+
+-- what is told of an exceptions file points into its file
+abbrev pub ExceptionsPoint : Type 0
+ExceptionsPoint = (lists : CatalogLists) → IsCatalog lists → (hearing : ExceptionsHeard) (old new : LoadState) → IsTextHeard hearing
+    → new ≡ after_exceptions lists hearing old → PointInto old.files old.found → PointInto new.files new.found
+
+-- and what is kept of it keeps places of its file
+abbrev pub ExceptionsStand : Type 0
+ExceptionsStand = (lists : CatalogLists) → IsCatalog lists → (hearing : ExceptionsHeard) (old new : LoadState) → IsTextHeard hearing
+    → new ≡ after_exceptions lists hearing old → PolicyStands old.files old.policy → PolicyStands new.files new.policy
+
+-- what is told of settings points into the policy's file
+abbrev pub SettingsPoint : Type 0
+SettingsPoint = (files : List File) (file : ℕ) (root : RootConfig) (found : List Diagnostic) → IsConfigPlaced files file root → PointInto files found
+    → PointInto files (found ++ target_findings file root ++ graph_key_findings file root ++ output_key_findings file root)

@@ -1,13 +1,11 @@
 -- What loading a policy whose text was read leaves.
-use Rattle.std.specs.Prelude.{◌≡◌, ℕ, List, ◌++◌, length, Option}
-use Rattle.spdx_catalog.specs.Catalog.{CatalogLists}
+use Rattle.std.specs.Prelude.{◌≡◌, ℕ, List, ◌++◌, length}
 use Rattle.diag_core.specs.File.{File}
 use Rattle.diag_core.specs.declared.diagnostic.Diagnostic.{Diagnostic}
-use Rattle.tree_core.specs.Call.{Call}
-use Rattle.policy_config.specs.declared.root.RootConfig.{RootConfig}
 use Rattle.policy_validate.specs.Order.{PutsPolicyInOrder}
-use Rattle.policy_core.specs.Heard.{ExceptionsHeard, IsReadOf, IsTextHeard, heard_file_of, exceptions_read_of}
-use Rattle.policy_core.specs.Policy.{FileNumbers, PolicyFound, policy_found}
+use Rattle.policy_core.specs.Heard.{heard_file_of}
+use Rattle.policy_core.specs.Policy.{FileNumbers, PolicyFound}
+use Rattle.policy_core.specs.declared.exceptions.ExceptionsHeard.{ExceptionsHeard}
 use Rattle.policy_core.specs.declared.load.LoadedPolicy.{LoadedPolicy}
 
 -- the files that are known, and the findings so far
@@ -27,11 +25,3 @@ pub record Keeps (it : PolicyFound) (hearing : ExceptionsHeard) (old new : Surro
 -- the exceptions file has the next number
 abbrev pub numbers_at : ℕ → List File → FileNumbers
 numbers_at file files = record { policy = file; exceptions = length files }
-
--- The policy of this root in the file of this number was loaded, with its exceptions file, by the answer of that file's read,
--- between two counts of the tree's faults.
-pub record LoadsPolicyBy (lists : CatalogLists) (before after : ℕ) (calls more : List Call) (file : ℕ) (absence : List Diagnostic) (root : RootConfig) (exceptions_path : Option (List ℕ)) (old new : Surroundings) (loaded : LoadedPolicy) : Type 0 where
-  pub hearing : ExceptionsHeard
-  pub is : IsReadOf before after calls more old.files exceptions_path hearing
-  pub text : IsTextHeard hearing
-  pub keeps : Keeps (policy_found lists (numbers_at file old.files) absence (exceptions_read_of hearing) root) hearing old new loaded

@@ -1,14 +1,10 @@
-//! The exceptions file.
-ghost use Rattle.std.specs.Prelude.{◌≡◌, ◌++◌, is_some, false, Ok, Some, OnErr, OnOk};
-ghost use Rattle.std.specs.Option.{ForSome};
-ghost use Rattle.diag_core.specs.File.{Grows, file_id_at};
+//! The exceptions file, by what was heard of it.
+ghost use Rattle.std.specs.Prelude.{◌≡◌, ◌++◌, Ok, OnOk};
+ghost use Rattle.diag_core.specs.File.{Grows};
 ghost use Rattle.deny_text.specs.Fronts.{StandsInFront};
-ghost use Rattle.tree_core.specs.Hearing.{MadeSome};
 ghost use Rattle.policy_core.specs.Exceptions.{HasMoreExceptions};
 ghost use Rattle.policy_core.specs.ExceptionsText.{HadMemory, answer_exceptions, diagnostics_of};
-ghost use Rattle.policy_core.specs.Heard.{LoadState, after_exceptions, heard as heard_at};
-ghost use Rattle.policy_core.specs.Heard.{IsFileText, LoadsExceptionsBy, MayReadOf};
-ghost use Rattle.policy_core.specs.Places.{PointInto, PolicyStands};
+ghost use Rattle.policy_core.specs.Heard.{IsFileText, IsTextHeard, LoadState, after_exceptions};
 
 use crate::exceptions_text::{NoExceptions, read_exceptions};
 use crate::findings::{syntax, tell_itself, tell_shape, tell_unread};
@@ -20,8 +16,18 @@ use policy_valid::{ValidConfig, ValidExceptions};
 use policy_validate::add_exceptions;
 use spdx_core::Catalog;
 use std::alloc::{AllocError, Global};
-use tree_core::Tree;
-use tree_texts::read_file_text;
+use tree_texts::TextHeard;
+
+/// What was heard of the exceptions file of a policy.
+#[derive(Drop)]
+pub enum ExceptionsHeard {
+    /// There is no path.
+    NoPath,
+    /// The file at this path is the policy, of which nothing is heard for a second time.
+    ThePolicy(PathBuf),
+    /// The text of the file at this path, or why there is none.
+    Heard(PathBuf, TextHeard),
+}
 
 /// Puts the exceptions that were read behind the others, or what is wrong with them behind the findings so
 /// far.
@@ -62,7 +68,7 @@ fn take_text<C: Catalog>(
     ensures text { IsFileText text }
     ensures taken { let old : LoadState = record { policy = cfg.old; files = files.old; found = diags.old } in
         let new : LoadState = record { policy = cfg.new; files = files.new; found = diags.new } in
-        OnOk result (new ≡ after_exceptions (C.lists catalog.now) (heard_at path (Ok text)) old) }
+        OnOk result (new ≡ after_exceptions (C.lists catalog.now) (ExceptionsHeard.Heard path (Ok text)) old) }
     ensures grows { Grows files.old files.new }
     ensures policy { HasMoreExceptions cfg.old cfg.new }
     ensures findings { StandsInFront diags.old diags.new }
@@ -74,69 +80,34 @@ fn take_text<C: Catalog>(
     }
 }
 
-/// Loads an exceptions file that is not the policy.
-fn load_other<T: Tree, C: Catalog>(
-    alloc: Global,
-    cfg: &mut ValidConfig,
-    path: PathBuf,
-    tree: &mut T,
-    files: &mut Files,
-    diags: &mut Diagnostics,
-    catalog: &C,
-) -> Result<(), AllocError>
-    requires { is_some (file_id_at files.old path) ≡ false }
-    ensures read { OnOk result (LoadsExceptionsBy (C.lists catalog.now) (T.fault_count tree.old)
-        (T.fault_count tree.new) (T.trace tree.old) (T.trace tree.new) (Some path)
-        (record { policy = cfg.old; files = files.old; found = diags.old })
-        (record { policy = cfg.new; files = files.new; found = diags.new })) }
-    ensures no_memory { OnErr result
-        (MayReadOf (T.trace tree.old) (T.trace tree.new) files.old (Some path)) }
-    ensures grows { Grows files.old files.new }
-    ensures policy { HasMoreExceptions cfg.old cfg.new }
-    ensures findings { StandsInFront diags.old diags.new }
-    ensures made { MadeSome (T.content tree.old) (T.content tree.new) (T.fault_count tree.old)
-        (T.fault_count tree.new) (T.trace tree.old) (T.trace tree.new) }
-{
-    let begun = tree.faults();
-    match read_file_text(alloc, tree, path.as_path(), begun)? {
-        Ok(text) => take_text(alloc, cfg, path, text, files, diags, catalog),
-        Err(fault) => tell_unread(alloc, path.as_path(), fault, diags),
-    }
-}
-
-/// Loads an exceptions file: its exceptions go behind those of the policy, and its text, which gets the next
-/// number, behind the other files; what is wrong with it goes behind the findings so far. A file that is the
-/// policy is not read again.
+/// Keeps and tells what was heard of an exceptions file: its exceptions go behind those of the policy, and its
+/// text, which gets the next number, behind the other files; what is wrong with it goes behind the findings so
+/// far. Of a file that is the policy, or of which no text was heard, that is told.
 ///
-/// The path of the policy's file, and no other one, may be equal to that of the exceptions file, part by
-/// part. It is refused for want of memory alone; the three may have grown then. Files that are known keep
-/// their texts, findings their places, and the policy all that it has but more exceptions, whatever it answers.
-pub fn load_exceptions<T: Tree, C: Catalog>(
+/// It is refused for want of memory alone; the three may have grown then. Files that are known keep their texts,
+/// findings their places, and the policy all that it has but more exceptions, whatever it answers.
+pub fn take_exceptions<C: Catalog>(
     alloc: Global,
     cfg: &mut ValidConfig,
-    path: PathBuf,
-    tree: &mut T,
+    heard: ExceptionsHeard,
     files: &mut Files,
     diags: &mut Diagnostics,
     catalog: &C,
 ) -> Result<(), AllocError>
-    requires { ForSome (file_id_at files.old path) (λ id. id ≡ cfg.old.file_id) }
-    ensures labels { OnOk result (PointInto files.old diags.old → PointInto files.new diags.new) }
-    ensures places { OnOk result (PolicyStands files.old cfg.old → PolicyStands files.new cfg.new) }
-    ensures read { OnOk result (LoadsExceptionsBy (C.lists catalog.now) (T.fault_count tree.old)
-        (T.fault_count tree.new) (T.trace tree.old) (T.trace tree.new) (Some path)
-        (record { policy = cfg.old; files = files.old; found = diags.old })
-        (record { policy = cfg.new; files = files.new; found = diags.new })) }
-    ensures no_memory { OnErr result
-        (MayReadOf (T.trace tree.old) (T.trace tree.new) files.old (Some path)) }
+    ensures text { IsTextHeard heard }
+    ensures taken { let old : LoadState = record { policy = cfg.old; files = files.old; found = diags.old } in
+        let new : LoadState = record { policy = cfg.new; files = files.new; found = diags.new } in
+        OnOk result (new ≡ after_exceptions (C.lists catalog.now) heard old) }
     ensures grows { Grows files.old files.new }
     ensures policy { HasMoreExceptions cfg.old cfg.new }
     ensures findings { StandsInFront diags.old diags.new }
-    ensures made { MadeSome (T.content tree.old) (T.content tree.new) (T.fault_count tree.old)
-        (T.fault_count tree.new) (T.trace tree.old) (T.trace tree.new) }
 {
-    if files.id_for_path(path.as_path()).is_some() {
-        return tell_itself(alloc, path.as_path(), diags);
+    match heard {
+        ExceptionsHeard::NoPath => Ok(()),
+        ExceptionsHeard::ThePolicy(path) => tell_itself(alloc, path.as_path(), diags),
+        ExceptionsHeard::Heard(path, text) => match text {
+            Ok(text) => take_text(alloc, cfg, path, text, files, diags, catalog),
+            Err(fault) => tell_unread(alloc, path.as_path(), fault, diags),
+        },
     }
-    load_other(alloc, cfg, path, tree, files, diags, catalog)
 }

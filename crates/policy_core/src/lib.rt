@@ -1,4 +1,5 @@
-//! Policies: what of a policy that was read is valid, its exceptions file, and all that is told of the two.
+//! Policies: what of a policy that was read is valid, what its exceptions file adds by what was heard of it, and
+//! all that is told of the two.
 #![tactic(auto)]
 
 pub mod exceptions;
@@ -8,9 +9,9 @@ pub mod laws;
 pub mod load;
 
 pub use diag_lists::{Diagnostics, SpannedList, ValidationContext};
-pub use exceptions::load_exceptions;
+pub use exceptions::{ExceptionsHeard, take_exceptions};
 pub use findings::tell_shape;
-pub use load::{LoadedPolicy, PolicySource, load_policy};
+pub use load::{LoadedPolicy, PolicySource, tell_settings, validate_policy};
 pub use policy_config::{Config, RootConfig};
 pub use policy_entries::{
     Clarification, Clarifications, Exception, Exceptions, ExceptionsFile, Licensee, Licensees,

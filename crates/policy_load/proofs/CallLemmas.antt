@@ -19,18 +19,17 @@ use Rattle.policy_text.specs.Text.{config_text_of}
 use Rattle.policy_text.specs.declared.error.ConfigError.{ConfigError}
 use Rattle.policy_text.specs.declared.error.ConfigError.TheVariants as config
 use Rattle.policy_text.specs.declared.text.ConfigText.{ConfigText}
-use Rattle.policy_core.specs.Heard.{ExceptionsHeard, IsReadOf, MayReadOf, no_path}
-use Rattle.policy_core.specs.Load.{LoadsPolicyBy}
 use Rattle.policy_core.specs.Policy.{absence_findings}
+use Rattle.policy_core.specs.declared.exceptions.ExceptionsHeard.{ExceptionsHeard}
+use Rattle.policy_core.specs.declared.exceptions.ExceptionsHeard.TheVariants.{NoPath}
 use Rattle.policy_core.specs.declared.load.LoadedPolicy.{LoadedPolicy}
-use Rattle.policy_core.proofs.ExceptionLemmas.{unread_of}
-use Rattle.policy_load.specs.Answer.{Comes, EndsLoad, IsCutLoad, IsUnprinted, LoadsBy, LoadsRootBy, LoadsTextBy, MayReadFurther, Prints, ReadsBehind, ReadsFurther, refused_by}
-use Rattle.policy_load.specs.Heard.{IsPolicyRead, MayReadPolicy, exceptions_heard}
+use Rattle.policy_load.specs.Answer.{Comes, EndsLoad, IsCutLoad, IsUnprinted, LoadsBy, LoadsPolicyBy, LoadsRootBy, LoadsTextBy, MayReadFurther, Prints, ReadsBehind, ReadsFurther, refused_by}
+use Rattle.policy_load.specs.Heard.{IsPolicyRead, IsReadOf, MayReadOf, MayReadPolicy, exceptions_heard}
 use Rattle.policy_load.specs.Load.{error_of_config, load_by_config, load_by_text, with_policy}
 use Rattle.diag_print.specs.Findings.{printed_findings}
 use Rattle.policy_load.specs.declared.error.LoadError.{LoadError}
 use Rattle.policy_load.specs.declared.loading.PolicyPaths.{PolicyPaths}
-use Rattle.policy_load.proofs.HeardLemmas.{read_so, text_of}
+use Rattle.policy_load.proofs.HeardLemmas.{read_so, text_of, unread_of}
 use Rattle.policy_load.proofs.LoadLemmas.{refused_comes}
 use Rattle.policy_load.proofs.StageLemmas.{refused_text_comes, root_comes, root_text_comes}
 
@@ -64,7 +63,7 @@ pub reads_root : (lists : CatalogLists) (context : LogContext) (file : ℕ) (abs
     → LoadsRootBy lists context file absence root path mid after calls more old new before behind result
 reads_root lists context file absence root path mid after calls more old new found before behind policy result loads ends prints = record {
   exceptions = loads.hearing;
-  reads = loads.is;
+  reads = loads.reads;
   comes = root_comes lists context file absence root loads.hearing old new found before behind policy result loads.keeps ends prints;
 }
 
@@ -100,9 +99,9 @@ module _ (lists : CatalogLists) (context : LogContext) (paths : PolicyPaths) (te
       → Comes (refused_by (length old) refused) context (with_policy old paths text) new before behind (Err error)
       → LoadsTextBy lists context paths text mid after calls calls old new before behind (Err error)
   refusal_reads refused error told comes = record {
-    exceptions = no_path;
-    reads = subst (ReadsFurther mid after calls calls (with_policy old paths text) paths.exceptions no_path) (sym told) refl;
-    comes = refused_text_comes lists context paths text old new before behind refused no_path (Err error) told comes;
+    exceptions = NoPath;
+    reads = subst (ReadsFurther mid after calls calls (with_policy old paths text) paths.exceptions NoPath) (sym told) refl;
+    comes = refused_text_comes lists context paths text old new before behind refused NoPath (Err error) told comes;
   }
 
   -- the refusal of a policy's text

@@ -1,13 +1,31 @@
 -- What comes of a load, from what its steps answered.
-use Rattle.std.proofs.Common.{◌≡◌, ◌∙◌, refl, sym, ap, ℕ, List, [], ◌++◌, Option, None, Some, Result, Ok, Err, append-nil}
+use Rattle.std.proofs.Common.{◌≡◌, ◌∙◌, refl, sym, ap, subst, ℕ, Bool, List, [], ◌++◌, Option, None, Some, Result, Ok, Err, append-nil}
 use Rattle.std.specs.Result.{IsErrAnd}
+use Rattle.spdx_catalog.specs.Catalog.{CatalogLists, IsCatalog}
+use Rattle.tree_core.specs.Call.{Call}
 use Rattle.tree_core.specs.Faults.{Gained, GainedPrefix}
 use Rattle.diag_core.specs.File.{File}
+use Rattle.diag_core.specs.declared.diagnostic.Diagnostic.{Diagnostic}
 use Rattle.diag_print.specs.declared.context.LogContext.{LogContext}
 use Rattle.policy_text.specs.declared.error.ConfigError.{ConfigError}
 use Rattle.policy_text.specs.declared.error.ConfigError.TheVariants as config
+use Rattle.policy_config.specs.declared.config.Config.{Config}
+use Rattle.policy_config.specs.declared.root.RootConfig.{RootConfig}
+use Rattle.policy_places.specs.Policies.{ConfigKeeps}
+use Rattle.policy_valid.specs.declared.policy.ValidConfig.{ValidConfig}
+use Rattle.policy_validate.specs.Order.{PutsPolicyInOrder}
+use Rattle.policy_validate.specs.Valid.{valid_part, validation_findings}
+use Rattle.policy_core.specs.Findings.{target_findings, graph_key_findings, output_key_findings}
+use Rattle.policy_core.specs.Heard.{IsTextHeard, LoadState, after_exceptions, heard_file_of}
+use Rattle.policy_core.specs.Places.{IsConfigPlaced, PointInto}
+use Rattle.policy_core.specs.Policy.{absence_findings, licences_in}
+use Rattle.policy_core.specs.declared.exceptions.ExceptionsHeard.{ExceptionsHeard}
 use Rattle.policy_core.specs.declared.load.LoadedPolicy.{LoadedPolicy}
-use Rattle.policy_load.specs.Answer.{Comes}
+use Rattle.policy_core.proofs.KeptLemmas.{exceptions_places, validated_stands}
+use Rattle.policy_core.proofs.LoadLemmas.{keeps_policy}
+use Rattle.policy_core.proofs.PlaceLemmas.{checked_labels, exceptions_labels, no_config_keeps, placed_more, settings_labels}
+use Rattle.policy_load.specs.Answer.{Comes, LoadsPolicyBy}
+use Rattle.policy_load.specs.Heard.{IsReadOf}
 use Rattle.policy_load.specs.Load.{error_of_config}
 use Rattle.policy_load.specs.declared.error.LoadError.{LoadError}
 
@@ -31,3 +49,31 @@ refused_comes context old held (config.ConfigRead fault) = record { answers = re
 refused_comes context old held (config.ConfigSyntax fault) = record { answers = refl; files = sym (append-nil old); prints = gained_nothing held [] refl }
 refused_comes context old held (config.ConfigShape faults) = record { answers = refl; files = sym (append-nil old); prints = gained_nothing held [] refl }
 refused_comes context old held config.NotCarried = record { answers = refl; files = sym (append-nil old); prints = gained_nothing held [] refl }
+
+-- the policy was validated, its exceptions file was heard and taken, and its settings were told
+pub loads_policy : (lists : CatalogLists) → IsCatalog lists → (before after : ℕ) (calls more : List Call) (file : ℕ) (is_there : Bool) (at : Option (List ℕ)) (root : RootConfig)
+    (path : Option (List ℕ)) (config : Config) (hearing : ExceptionsHeard) (valid licenses : ValidConfig) (files new : List File) (found checked heard all : List Diagnostic)
+    → IsConfigPlaced files file root → config ≡ licences_in root
+    → PutsPolicyInOrder (valid_part lists file config) valid → checked ≡ found ++ absence_findings is_there at ++ validation_findings lists file config
+    → IsReadOf before after calls more files path hearing → IsTextHeard hearing
+    → (let behind : LoadState = record { policy = licenses; files = new; found = heard } in behind) ≡ after_exceptions lists hearing (record { policy = valid; files = files; found = checked })
+    → all ≡ heard ++ target_findings file root ++ graph_key_findings file root ++ output_key_findings file root
+    → LoadsPolicyBy lists before after calls more file (absence_findings is_there at) root path (record { files = files; found = found }) (record { files = new; found = all })
+    (record { licenses = licenses; graph = root.graph; output = root.output })
+loads_policy lists laws before after calls more file is_there at root path config hearing valid licenses files new found checked heard all placed is puts checks reads text loads settles =
+    let absence = absence_findings is_there at in
+    let old : LoadState = record { policy = valid; files = files; found = checked } in
+    let behind : LoadState = record { policy = licenses; files = new; found = heard } in
+    let grown : new ≡ files ++ heard_file_of hearing = ap (λ (s : LoadState). s.files) loads in
+    let there = subst (λ known. IsConfigPlaced known file root) (sym grown) (placed_more files (heard_file_of hearing) file root placed) in
+    let told = checks ∙ ap (λ (one : Config). found ++ absence ++ validation_findings lists file one) is in
+    let config_keeps = subst (ConfigKeeps placed.text) (sym is) (no_config_keeps placed.text root.licenses placed.keeps.licenses) in
+    record {
+      hearing = hearing;
+      reads = reads;
+      keeps = keeps_policy lists hearing file absence root config valid licenses files new found checked heard all is puts checks loads settles;
+      labels = λ points. subst (PointInto new) (sym settles)
+          (settings_labels new file root heard there
+          (exceptions_labels lists laws hearing old behind text loads (subst (PointInto files) (sym told) (checked_labels lists laws files file is_there at root found placed points))));
+      places = exceptions_places lists laws hearing old behind text loads (validated_stands lists files file placed.text config valid placed.source config_keeps puts);
+    }

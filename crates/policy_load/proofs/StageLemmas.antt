@@ -19,9 +19,10 @@ use Rattle.policy_text.specs.declared.error.ConfigError.{ConfigError}
 use Rattle.policy_text.specs.declared.error.ConfigError.TheVariants as config
 use Rattle.policy_text.specs.declared.text.ConfigText.{ConfigText}
 use Rattle.policy_core.specs.Exceptions.{shape_diagnostic}
-use Rattle.policy_core.specs.Heard.{ExceptionsHeard, heard_file_of, exceptions_read_of}
+use Rattle.policy_core.specs.Heard.{heard_file_of, exceptions_read_of}
 use Rattle.policy_core.specs.Load.{Keeps, numbers_at}
 use Rattle.policy_core.specs.Policy.{PolicyFound, absence_findings, policy_found}
+use Rattle.policy_core.specs.declared.exceptions.ExceptionsHeard.{ExceptionsHeard}
 use Rattle.policy_core.specs.declared.load.LoadedPolicy.{LoadedPolicy}
 use Rattle.policy_load.specs.Answer.{AnswersLoad, Comes, EndsLoad, GainsFiles, IsBehindRead, IsPolicyOf, Prints, WriteCounts}
 use Rattle.policy_load.specs.Answer.{error_of_print, load_cause, refused_by, rooted_by}

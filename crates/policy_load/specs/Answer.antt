@@ -13,17 +13,19 @@ use Rattle.diag_print.specs.declared.printer.PrintError.TheVariants as print
 use Rattle.tree_core.specs.Call.{Call}
 use Rattle.tree_core.specs.Faults.{Rose, Gained, GainedPrefix}
 use Rattle.tree_core.specs.Trace.{faults_after}
-use Rattle.policy_core.specs.Heard.{ExceptionsHeard, IsReadOf, MayReadOf, heard_file_of, exceptions_read_of}
-use Rattle.policy_core.specs.Load.{numbers_at}
+use Rattle.policy_core.specs.Heard.{heard_file_of, exceptions_read_of}
+use Rattle.policy_core.specs.Load.{Keeps, Surroundings, numbers_at}
+use Rattle.policy_core.specs.Places.{PointInto, PolicyStands}
 use Rattle.policy_core.specs.Policy.{PolicyFound, policy_found}
 use Rattle.policy_config.specs.declared.root.RootConfig.{RootConfig}
 use Rattle.policy_text.specs.Config.{config_of_text}
 use Rattle.policy_text.specs.Text.{config_text_of}
 use Rattle.policy_text.specs.declared.error.ConfigError.{ConfigError}
 use Rattle.policy_text.specs.declared.text.ConfigText.{ConfigText}
+use Rattle.policy_core.specs.declared.exceptions.ExceptionsHeard.{ExceptionsHeard}
 use Rattle.policy_core.specs.declared.load.LoadedPolicy.{LoadedPolicy}
 use Rattle.policy_validate.specs.Order.{PutsPolicyInOrder}
-use Rattle.policy_load.specs.Heard.{LoadHeard, IsPolicyRead, MayReadPolicy, exceptions_heard}
+use Rattle.policy_load.specs.Heard.{LoadHeard, IsPolicyRead, IsReadOf, MayReadOf, MayReadPolicy, exceptions_heard}
 use Rattle.policy_load.specs.Load.{LoadResult, error_of_config, load_by_config, load_of, refusal_findings, unless_error, with_policy}
 use Rattle.diag_print.specs.Findings.{is_error, printed_findings}
 use Rattle.policy_load.specs.declared.error.LoadError.{LoadError}
@@ -148,6 +150,16 @@ pub record LoadsTextBy (lists : CatalogLists) (context : LogContext) (paths : Po
   pub exceptions : ExceptionsHeard
   pub reads : ReadsFurther mid after calls more (with_policy old paths text) paths.exceptions exceptions (config_of_text lists text.text)
   pub comes : Comes (load_by_config lists old paths exceptions text (config_of_text lists text.text)) context old new before behind result
+
+-- The policy of this root in the file of this number was loaded, with its exceptions file, by the answer of that file's read,
+-- between two counts of the tree's faults; what is told points into its file, and what is kept lies there.
+pub record LoadsPolicyBy (lists : CatalogLists) (before after : ℕ) (calls more : List Call) (file : ℕ) (absence : List Diagnostic) (root : RootConfig)
+    (path : Option (List ℕ)) (old new : Surroundings) (loaded : LoadedPolicy) : Type 0 where
+  pub hearing : ExceptionsHeard
+  pub reads : IsReadOf before after calls more old.files path hearing
+  pub keeps : Keeps (policy_found lists (numbers_at file old.files) absence (exceptions_read_of hearing) root) hearing old new loaded
+  pub labels : PointInto old.files old.found → PointInto new.files new.found
+  pub places : PolicyStands new.files loaded.licenses
 
 -- the same where it has its shape, and its file is the one of that number
 pub record LoadsRootBy (lists : CatalogLists) (context : LogContext) (file : ℕ) (absence : List Diagnostic) (root : RootConfig) (path : Option (List ℕ))

@@ -7,9 +7,10 @@ use Rattle.diag_core.specs.declared.diagnostic.Diagnostic.{Diagnostic}
 use Rattle.tree_texts.specs.declared.fault.ReadFault.{ReadFault}
 use Rattle.policy_config.specs.declared.root.RootConfig.{RootConfig}
 use Rattle.policy_core.specs.Exceptions.{shape_diagnostic}
-use Rattle.policy_core.specs.Heard.{ExceptionsHeard, heard_file_of, exceptions_read_of}
+use Rattle.policy_core.specs.Heard.{heard_file_of, exceptions_read_of}
 use Rattle.policy_core.specs.Load.{numbers_at}
 use Rattle.policy_core.specs.Policy.{PolicyFound, absence_findings, policy_found}
+use Rattle.policy_core.specs.declared.exceptions.ExceptionsHeard.{ExceptionsHeard}
 use Rattle.policy_text.specs.Config.{config_of_text}
 use Rattle.policy_text.specs.Text.{config_text_of}
 use Rattle.policy_text.specs.declared.error.ConfigError.{ConfigError}

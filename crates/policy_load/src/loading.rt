@@ -1,5 +1,5 @@
 //! The load of a policy.
-ghost use Rattle.std.specs.Prelude.{◌≡◌, ◌≢◌, ◌≤◌, ◌⊎◌, ◌++◌, ◌∷◌, [], length, map, None, Err};
+ghost use Rattle.std.specs.Prelude.{◌≡◌, ◌≢◌, ◌≤◌, ◌⊎◌, ◌++◌, ◌∷◌, [], length, map, None, Some, Err};
 ghost use Rattle.std.specs.Prelude.{IfOk, IfErr, OnOk, OnErr};
 ghost use Rattle.std.specs.Option.{ForSome, option_and_then, option_copied};
 ghost use Rattle.tree_core.specs.Faults.{Gained, GainedPrefix};
@@ -9,13 +9,14 @@ ghost use Rattle.tree_texts.specs.declared.fault.ReadFault.{ReadFault};
 ghost use Rattle.diag_core.specs.File.{Grows, file_id_at};
 ghost use Rattle.policy_text.specs.Config as config;
 ghost use Rattle.policy_core.specs.Exceptions.{shape_diagnostic};
-ghost use Rattle.policy_core.specs.Heard.{IsFileText, MayReadOf};
-ghost use Rattle.policy_core.specs.Places.{IsConfigPlaced, PolicyStands};
+ghost use Rattle.policy_core.specs.Heard.{IsFileText};
+ghost use Rattle.policy_core.specs.Places.{IsConfigPlaced, PointInto, PolicyStands};
 ghost use Rattle.policy_core.specs.Policy.{absence_findings};
 ghost use Rattle.policy_load.specs.Answer.{Comes, EndsLoad, IsBehindRead, IsUnprinted};
 ghost use Rattle.policy_load.specs.Answer.{Prints, WriteCounts, load_cause, refused_by};
-ghost use Rattle.policy_load.specs.Answer.{IsCutLoad, LoadsBy, LoadsRootBy, LoadsTextBy, MayReadFurther};
-ghost use Rattle.policy_load.specs.Heard.{IsPolicyRead, MayReadPolicy};
+ghost use Rattle.policy_load.specs.Answer.{IsCutLoad, LoadsBy, LoadsPolicyBy, LoadsRootBy};
+ghost use Rattle.policy_load.specs.Answer.{LoadsTextBy, MayReadFurther};
+ghost use Rattle.policy_load.specs.Heard.{IsPolicyRead, IsReadOf, MayReadOf, MayReadPolicy};
 ghost use Rattle.policy_load.specs.Load.{policy_file, policy_name, refusal_findings, with_policy};
 ghost use Rattle.diag_print.specs.Findings.{AreInside, HasReasonSince, printed_findings};
 
@@ -24,13 +25,17 @@ use deny_text::{PathBuf, Text};
 use diag_core::{FileId, Files};
 use diag_print::findings::{has_error, print_findings};
 use diag_print::{LogContext, PrintError};
-use policy_core::{Diagnostics, LoadedPolicy, PolicySource, load_policy, tell_shape};
+use policy_core::{
+    Diagnostics, ExceptionsHeard, LoadedPolicy, PolicySource, take_exceptions, tell_settings,
+    tell_shape, validate_policy,
+};
 use policy_text::{
     ConfigError, ConfigText, ReadFault, RootConfig, ShapeErrors, TextHeard, read_config,
 };
 use spdx_core::Catalog;
 use std::alloc::{AllocError, Global};
 use tree_core::{Sink, Tree};
+use tree_texts::read_file_text;
 
 /// Where the two files of a policy are, if anywhere.
 #[derive(Drop)]
@@ -56,7 +61,7 @@ fn hear<T: Tree>(
         ReadCounts begun (T.fault_count tree.old) (T.fault_count tree.new) (heard_cause heard)) }
 {
     match path {
-        Some(path) => tree_texts::read_file_text(alloc, tree, path.as_path(), begun),
+        Some(path) => read_file_text(alloc, tree, path.as_path(), begun),
         None => Ok(Err(ReadFault::Absent)),
     }
 }
@@ -176,6 +181,90 @@ fn finish<S: Sink>(
         return Err(LoadError::ConfigInvalid(found));
     }
     Ok(policy)
+}
+
+/// What is heard of the exceptions file at a path. A known file that has the path is the policy, which is not read
+/// for a second time.
+fn hear_at<T: Tree>(
+    alloc: Global,
+    tree: &mut T,
+    path: PathBuf,
+    files: &Files,
+) -> Result<ExceptionsHeard, AllocError>
+    ensures read { IfOk result (IsReadOf (T.fault_count tree.old) (T.fault_count tree.new)
+        (T.trace tree.old) (T.trace tree.new) files.now (Some path)) }
+    ensures no_memory { OnErr result (MayReadOf (T.trace tree.old) (T.trace tree.new) files.now (Some path)) }
+    ensures made { MadeSome (T.content tree.old) (T.content tree.new) (T.fault_count tree.old)
+        (T.fault_count tree.new) (T.trace tree.old) (T.trace tree.new) }
+{
+    if files.id_for_path(path.as_path()).is_some() {
+        return Ok(ExceptionsHeard::ThePolicy(path));
+    }
+    let begun = tree.faults();
+    let text = read_file_text(alloc, tree, path.as_path(), begun)?;
+    Ok(ExceptionsHeard::Heard(path, text))
+}
+
+/// What is heard of the exceptions file, if there is a path.
+fn hear_exceptions<T: Tree>(
+    alloc: Global,
+    tree: &mut T,
+    path: Option<PathBuf>,
+    files: &Files,
+) -> Result<ExceptionsHeard, AllocError>
+    ensures read { IfOk result (IsReadOf (T.fault_count tree.old) (T.fault_count tree.new)
+        (T.trace tree.old) (T.trace tree.new) files.now path) }
+    ensures no_memory { OnErr result (MayReadOf (T.trace tree.old) (T.trace tree.new) files.now path) }
+    ensures made { MadeSome (T.content tree.old) (T.content tree.new) (T.fault_count tree.old)
+        (T.fault_count tree.new) (T.trace tree.old) (T.trace tree.new) }
+{
+    match path {
+        Some(path) => hear_at(alloc, tree, path, files),
+        None => Ok(ExceptionsHeard::NoPath),
+    }
+}
+
+/// The policy that a file's text was read as, with the exceptions of its exceptions file, which is heard once the
+/// policy is validated; all that is told of the two goes behind the findings so far.
+///
+/// The path of the policy's file, and no other one, may be equal to that of the exceptions file, part by part.
+/// It is refused for want of memory alone.
+fn load_policy<T: Tree, C: Catalog>(
+    alloc: Global,
+    source: &PolicySource<'_>,
+    root: RootConfig,
+    exceptions_path: Option<PathBuf>,
+    tree: &mut T,
+    files: &mut Files,
+    found: &mut Diagnostics,
+    catalog: &C,
+) -> Result<LoadedPolicy, AllocError>
+    requires exceptions { ForSome (option_and_then (file_id_at files.old) exceptions_path)
+        (λ id. id ≡ source.now.file_id) }
+    requires placed { IsConfigPlaced files.old source.now.file_id root }
+    ensures read { IfOk result (LoadsPolicyBy (C.lists catalog.now) (T.fault_count tree.old)
+        (T.fault_count tree.new) (T.trace tree.old) (T.trace tree.new) source.now.file_id
+        (absence_findings source.now.is_there (option_copied source.now.path)) root exceptions_path
+        (record { files = files.old; found = found.old }) (record { files = files.new; found = found.new })) }
+    ensures labels { OnOk result (PointInto files.old found.old → PointInto files.new found.new) }
+    ensures places { IfOk result (λ loaded. PolicyStands files.new loaded.licenses) }
+    ensures no_memory { OnErr result
+        (MayReadOf (T.trace tree.old) (T.trace tree.new) files.old exceptions_path) }
+    ensures grows { Grows files.old files.new }
+    ensures made { MadeSome (T.content tree.old) (T.content tree.new) (T.fault_count tree.old)
+        (T.fault_count tree.new) (T.trace tree.old) (T.trace tree.new) }
+{
+    let mut root = root;
+    let said = root.licenses.take();
+    let mut licenses = validate_policy(alloc, source, said, files, found, catalog)?;
+    let heard = hear_exceptions(alloc, tree, exceptions_path, files)?;
+    take_exceptions(alloc, &mut licenses, heard, files, found, catalog)?;
+    tell_settings(alloc, source.file_id, &root, found)?;
+    Ok(LoadedPolicy {
+        licenses,
+        graph: root.graph,
+        output: root.output,
+    })
 }
 
 /// A policy that has its shape, whose file is known: it is validated, its exceptions file is read, and what

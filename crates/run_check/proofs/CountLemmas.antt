@@ -20,7 +20,7 @@ use Rattle.check_verdicts.specs.Findings.{judged}
 use Rattle.check_core.specs.Check.{AreVerdicts, packs_of}
 use Rattle.check_core.specs.Turns.{GatheredCrate, expression_of, pack_by, verdict_finding}
 use Rattle.check_core.specs.Verdicts.{IsVerdict, accepted, is_skipped, rejected, unlicensed, verdict_of}
-use Rattle.run_check.specs.declared.report.CrateReport.{CrateReport}
+use Rattle.check_core.specs.declared.report.CrateReport.{CrateReport}
 use Rattle.diag_stats.specs.Counts.{count_in}
 use Rattle.run_check.specs.Headline.{is_against}
 

@@ -20,9 +20,10 @@ use Rattle.gather_core.specs.Calls.{CrateReads, CrateTurn, IsTurnBy}
 use Rattle.gather_core.specs.Gathered.{krate_of}
 use Rattle.gather_core.specs.declared.summary.KrateLicense.{KrateLicense}
 use Rattle.gather_core.proofs.ZipLemmas.{all_left, same_maps}
-use Rattle.run_check.specs.declared.report.CrateReport.{CrateReport}
+use Rattle.check_core.specs.declared.report.CrateReport.{CrateReport}
 use Rattle.spdx_certificates.specs.declared.verdict.Verdict.{Verdict}
 use Rattle.check_core.specs.Check.{AreVerdicts}
+use Rattle.check_core.specs.Reports.{license_source, reports_of}
 use Rattle.check_core.specs.Summary.{gathered_of_licenses, gathered_of_license}
 use Rattle.check_core.specs.Turns.{GatheredCrate, expression_of}
 use Rattle.check_core.specs.Verdicts.{IsVerdict}
@@ -31,8 +32,7 @@ use Rattle.run_command.specs.Found.{scanner_of_given}
 use Rattle.run_command.specs.Given.{CommandArguments}
 use Rattle.run_command.proofs.TurnLemmas.{turn_at, turns_at}
 use Rattle.run_check.specs.Found.{all_gathered, gathered_in}
-use Rattle.run_check.specs.Report.{IsReportOf, TellsSource, license_source, source_in}
-use Rattle.run_check.specs.Steps.{reports_of, license_expression}
+use Rattle.run_check.specs.Report.{IsReportOf, TellsSource, source_in}
 
 -- the verdicts that reports tell
 pub verdicts_reported : (policy : Policy) (licenses : List KrateLicense) (verdicts : List Verdict) → AreVerdicts policy (gathered_of_licenses licenses) verdicts
@@ -44,18 +44,13 @@ verdicts_reported policy (license ∷ licenses) (verdict ∷ verdicts) are = ap 
 
 -- ---- what is told of a licence
 
-told_expression : (info : LicenseInfo) (notes : List (List ℕ)) → license_expression info ≡ expression_in (answer_view info notes)
+told_expression : (info : LicenseInfo) (notes : List (List ℕ)) → expression_of info ≡ expression_in (answer_view info notes)
 told_expression Unlicensed notes = refl
 told_expression (SpdxExpression expression nfo) notes = refl
 
 told_source : (info : LicenseInfo) (notes : List (List ℕ)) → option_map source_view (license_source info) ≡ source_in (answer_view info notes)
 told_source Unlicensed notes = refl
 told_source (SpdxExpression expression nfo) notes = refl
-
--- the expression that the check looks at
-looked_expression : (info : LicenseInfo) → expression_of info ≡ license_expression info
-looked_expression Unlicensed = refl
-looked_expression (SpdxExpression expression nfo) = refl
 
 -- nothing is noted where there is no expression
 joined_nothing : (place : Coord) (joined : Option JoinedNames) → Unlicensed ≡ joined_info place joined → joined_notes joined ≡ []
@@ -121,8 +116,7 @@ module _ (given : CommandArguments) (policy : ValidConfig) where
           expression = told_expression license.lic_info license.notes ∙ ap expression_in own.answer;
           source = told_source license.lic_info license.notes ∙ ap source_in own.answer;
           notes = told_notes turn license.lic_info license.notes own.turn.info own.turn.noted ∙ ap notes_of own.answer;
-          verdict = subst (λ krate. IsVerdict (policy_of policy) krate (license_expression license.lic_info) verdict) (sym own.krate)
-              (subst (λ expression. IsVerdict (policy_of policy) (krate_of license) expression verdict) (looked_expression license.lic_info) are.0);
+          verdict = subst (λ krate. IsVerdict (policy_of policy) krate (expression_of license.lic_info) verdict) (sym own.krate) are.0;
         },
         reported_by (files_behind turn) crates licenses last verdicts each.1 are.1,
       )

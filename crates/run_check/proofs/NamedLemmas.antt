@@ -19,7 +19,7 @@ use Rattle.run_found.specs.Hearing.{RequestHearing, TreeSeen, read_calls}
 use Rattle.run_command.specs.Found.{IsHeard, metadata_due, turns_in}
 use Rattle.run_command.specs.Given.{CommandArguments}
 use Rattle.run_command.proofs.FoundLemmas.{count_is}
-use Rattle.run_check.specs.declared.report.CrateReport.{CrateReport}
+use Rattle.check_core.specs.declared.report.CrateReport.{CrateReport}
 use Rattle.run_check.specs.declared.report.Report.{Report}
 use Rattle.run_check.specs.Found.{all_gathered}
 use Rattle.run_check.specs.Named.{FailedReadsRise, ReportsCertificates, ReportsFindings, ReportsOwnReads, ReportsPolicy, ReportsUnneeded, reads_in}

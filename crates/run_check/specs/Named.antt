@@ -14,7 +14,7 @@ use Rattle.run_found.specs.Hearing.{RequestHearing, TreeSeen}
 use Rattle.run_found.specs.Policy.{PolicyAt}
 use Rattle.run_command.specs.Found.{IsHeard, PutsInOrder, turns_in}
 use Rattle.run_command.specs.Given.{CommandArguments}
-use Rattle.run_check.specs.declared.report.CrateReport.{CrateReport}
+use Rattle.check_core.specs.declared.report.CrateReport.{CrateReport}
 use Rattle.run_check.specs.declared.report.Report.{Report}
 use Rattle.run_check.specs.Found.{all_gathered}
 use Rattle.run_check.specs.Report.{TellsFindings, verdicts_in}

@@ -1,5 +1,5 @@
 -- When a report is the one that a request and the files ask for.
-use Rattle.std.specs.Prelude.{◌≡◌, List, map, Option, Some, None, option_map, Result, IfOk, All}
+use Rattle.std.specs.Prelude.{◌≡◌, List, map, Option, option_map, Result, IfOk, All}
 use Rattle.std.specs.List.{AllZip}
 use Rattle.tree_reads.specs.Read.{records_of_reads}
 use Rattle.policy_valid.specs.View.{policy_of}
@@ -12,11 +12,8 @@ use Rattle.gather_core.specs.Calls.{CrateReads, CrateTurn, HasOwnReads, files_be
 use Rattle.gather_core.specs.Told.{notes_of, source_view}
 use Rattle.gather_core.specs.Turns.{IsCutOut, info_in}
 use Rattle.gather_core.specs.declared.summary.KrateLicense.{KrateLicense}
-use Rattle.gather_findings.specs.declared.license.LicenseExprSource.{LicenseExprSource}
-use Rattle.gather_findings.specs.declared.license.LicenseInfo.{LicenseInfo}
-use Rattle.gather_findings.specs.declared.license.LicenseInfo.TheVariants.{SpdxExpression}
-use Rattle.gather_findings.specs.declared.license.LicenseInfo.TheVariants as license_info
 use Rattle.check_core.specs.Check.{AreVerdicts, findings_of}
+use Rattle.check_core.specs.Reports.{license_source}
 use Rattle.check_core.specs.Labels.{PackLies, VerdictPoints}
 use Rattle.check_core.specs.Verdicts.{IsVerdict}
 use Rattle.run_overrides.specs.Levels.{packs_at}
@@ -29,7 +26,7 @@ use Rattle.run_found.specs.Written.{SinkSeen}
 use Rattle.run_command.specs.Found.{scanner_of_given, turns_in}
 use Rattle.run_command.specs.Given.{CommandArguments}
 use Rattle.run_command.specs.Settled.{AnswersSo, IsSettled}
-use Rattle.run_check.specs.declared.report.CrateReport.{CrateReport}
+use Rattle.check_core.specs.declared.report.CrateReport.{CrateReport}
 use Rattle.run_check.specs.declared.report.Report.{Report}
 use Rattle.run_check.specs.Found.{all_gathered}
 
@@ -49,11 +46,6 @@ pub record IsReportOf (given : CommandArguments) (policy : ValidConfig) (one : C
   pub source : option_map source_view report.source ≡ source_in (priority_heard (scanner_of_given given policy) policy one)
   pub notes : report.notes ≡ notes_of (priority_heard (scanner_of_given given policy) policy one)
   pub verdict : IsVerdict (policy_of policy) one.krate report.expression report.verdict
-
--- where the expression of a licence comes from
-abbrev pub license_source : LicenseInfo → Option LicenseExprSource
-license_source (SpdxExpression expression info) = Some info.source
-license_source license_info.Unlicensed = None
 
 -- The report on a crate tells the source that its turn says: of a field with the place where its manifest writes it, where that
 -- counts.

@@ -1,20 +1,16 @@
 -- What the steps of a check answer, one by one.
-use Rattle.std.specs.Prelude.{◌≡◌, List, [], ◌∷◌, Option, Some, None, All}
-use Rattle.spdx_core.specs.Reading.{ExpressionView}
+use Rattle.std.specs.Prelude.{◌≡◌, List, All}
 use Rattle.graph_core.specs.Metadata.{Graph}
 use Rattle.diag_core.specs.File.{File}
 use Rattle.graph_selection.specs.Choice.{Choice}
 use Rattle.gather_expression.specs.Scanned.{Scanner}
 use Rattle.policy_valid.specs.View.{policy_of}
 use Rattle.policy_valid.specs.declared.policy.ValidConfig.{ValidConfig}
-use Rattle.gather_findings.specs.declared.license.LicenseInfo.{LicenseInfo}
-use Rattle.gather_findings.specs.declared.license.LicenseInfo.TheVariants.{SpdxExpression}
-use Rattle.gather_findings.specs.declared.license.LicenseInfo.TheVariants as license_info
-use Rattle.gather_core.specs.Gathered.{krate_of}
 use Rattle.gather_core.specs.declared.summary.KrateLicense.{KrateLicense}
 use Rattle.spdx_certificates.specs.declared.verdict.Verdict.{Verdict}
 use Rattle.check_core.specs.Check.{AreVerdicts, findings_of}
 use Rattle.check_core.specs.Labels.{VerdictPoints}
+use Rattle.check_core.specs.Reports.{reports_of}
 use Rattle.check_core.specs.Summary.{gathered_of_licenses}
 use Rattle.diag_stats.specs.Counts.{counts_of}
 use Rattle.run_request.specs.declared.level.LintLevels.{LintLevels}
@@ -22,33 +18,9 @@ use Rattle.run_overrides.specs.Levels.{packs_at}
 use Rattle.run_found.specs.Hearing.{TreeSeen}
 use Rattle.run_found.specs.Licences.{IsGatheredOn}
 use Rattle.run_check.specs.declared.check.CheckedCrates.{CheckedCrates}
-use Rattle.run_check.specs.declared.report.CrateReport.{CrateReport}
 use Rattle.run_check.specs.declared.report.Report.{Report}
-use Rattle.run_check.specs.Report.{license_source}
 
 -- ---- one crate after another
-
--- the expression of a licence that was settled
-abbrev pub license_expression : LicenseInfo → Option ExpressionView
-license_expression (SpdxExpression expression info) = Some expression
-license_expression license_info.Unlicensed = None
-
--- the report on a crate, by its licence and the verdict on it
-abbrev pub report_of : KrateLicense → Verdict → CrateReport
-report_of license verdict = record {
-  id = (krate_of license).id;
-  reads = license.reads;
-  expression = license_expression license.lic_info;
-  source = license_source license.lic_info;
-  notes = license.notes;
-  verdict = verdict;
-}
-
--- one for each crate, in order
-abbrev pub reports_of : List KrateLicense → List Verdict → List CrateReport
-reports_of [] verdicts = []
-reports_of (license ∷ more) [] = []
-reports_of (license ∷ more) (verdict ∷ verdicts) = report_of license verdict ∷ reports_of more verdicts
 
 -- what a check of licences comes to, by the verdicts on them, with findings at the levels that are asked for
 abbrev pub checked_by : LintLevels → ValidConfig → List KrateLicense → List Verdict → CheckedCrates

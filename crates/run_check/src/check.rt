@@ -12,15 +12,12 @@ ghost use Rattle.check_core.specs.Summary.{gathered_of_licenses};
 ghost use Rattle.run_request.specs.declared.level.LintLevels.{LintLevels};
 ghost use Rattle.run_overrides.specs.Levels.{PutAtLevels};
 ghost use Rattle.run_found.specs.Licences.{IsGatherCut, scanner_of_policy};
-ghost use Rattle.run_check.specs.Steps.{IsCheckOf, IsCheckedOn, reports_of, report_of};
+ghost use Rattle.run_check.specs.Steps.{IsCheckOf, IsCheckedOn};
 ghost use Rattle.run_found.specs.Hearing.{seen_between};
 
-use crate::report::CrateReport;
-use check_core::{CheckCtx, Verdicts, judge_all};
-use check_evaluate::Verdict;
-use deny_text::{ListOf, Text};
+use check_core::{CheckCtx, CrateReports, judge_all};
 use diag_core::{DiagnosticOverrides, ErrorSink, Files, LevelFilter, Packs};
-use gather_core::{KrateLicense, KrateLicenses, LicenseInfo, Summary};
+use gather_core::Summary;
 use graph_workspace::Krates;
 use policy_valid::ValidConfig;
 use run_found::licences_found;
@@ -32,65 +29,11 @@ use tree_core::Tree;
 #[derive(Drop)]
 pub(crate) struct CheckedCrates {
     pub(crate) policy: ValidConfig,
-    pub(crate) crates: ListOf<CrateReport>,
+    pub(crate) crates: CrateReports,
     pub(crate) findings: Packs,
 }
 
-/// The report on a crate, by its licence and the verdict on it.
-fn report_on(
-    alloc: Global,
-    license: KrateLicense<'_>,
-    verdict: Verdict,
-) -> Result<CrateReport, AllocError>
-    ensures { IfOk result (λ report. report ≡ report_of license.entry verdict) }
-{
-    let KrateLicense {
-        krate,
-        lic_info,
-        notes,
-        diags: _,
-        reads,
-    } = license;
-    let id = Text::copy(alloc, krate.id.as_str())?;
-    match lic_info {
-        LicenseInfo::SpdxExpression { expr, nfo } => Ok(CrateReport {
-            id,
-            reads,
-            expression: Some(expr),
-            source: Some(nfo.source),
-            notes,
-            verdict,
-        }),
-        LicenseInfo::Unlicensed => Ok(CrateReport {
-            id,
-            reads,
-            expression: None,
-            source: None,
-            notes,
-            verdict,
-        }),
-    }
-}
-
-/// The reports on crates, in order, by their licences and the verdicts on them.
-fn reports_on(
-    alloc: Global,
-    licenses: KrateLicenses<'_>,
-    verdicts: Verdicts,
-) -> Result<ListOf<CrateReport>, AllocError>
-    ensures { IfOk result (λ reports. reports ≡ reports_of licenses.entry verdicts) }
-{
-    let mut reports = ListOf::new(alloc);
-    let verdicts = verdicts.into_vec();
-    'crates: for (license, verdict) in licenses.into_vec().into_iter().zip(verdicts) {
-        let report = report_on(alloc, license, verdict)?;
-        reports.push(report)?;
-    }
-    Ok(reports)
-}
-
-/// The verdicts on the crates of a summary under a policy, and the reports on these crates. Findings come out at
-/// the levels that the overrides say.
+/// The reports on the crates of a summary under a policy. Findings come out at the levels that the overrides say.
 fn judge_and_report(
     alloc: Global,
     policy: ValidConfig,
@@ -115,8 +58,7 @@ fn judge_and_report(
         files,
     };
     let mut sink = ErrorSink::new(alloc, Some(overrides));
-    let verdicts = judge_all(alloc, &ctx, &summary, &mut sink)?;
-    let crates = reports_on(alloc, summary.nfos, verdicts)?;
+    let crates = judge_all(alloc, &ctx, summary, &mut sink)?;
     Ok(CheckedCrates {
         policy: ctx.cfg,
         crates,

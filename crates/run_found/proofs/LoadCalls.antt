@@ -9,13 +9,13 @@ use Rattle.tree_texts.specs.Heard.{read_of, text_answered}
 use Rattle.tree_texts.specs.declared.fault.ReadFault.{ReadFault}
 use Rattle.tree_texts.specs.declared.fault.ReadFault.TheVariants.{Absent, Failed}
 use Rattle.policy_config.specs.declared.root.RootConfig.{RootConfig}
-use Rattle.policy_core.specs.Heard.{IsReadAt, IsReadOf, MayReadAt, MayReadOf, heard}
+use Rattle.policy_core.specs.declared.exceptions.ExceptionsHeard.TheVariants.{Heard as heard}
 use Rattle.policy_text.specs.Config.{config_of_text}
 use Rattle.policy_text.specs.Text.{config_text_of}
 use Rattle.policy_text.specs.declared.error.ConfigError.{ConfigError}
 use Rattle.policy_text.specs.declared.text.ConfigText.{ConfigText}
 use Rattle.policy_load.specs.Answer.{MayReadFurther, ReadsBehind, ReadsFurther}
-use Rattle.policy_load.specs.Heard.{exceptions_at, exceptions_heard}
+use Rattle.policy_load.specs.Heard.{IsReadAt, IsReadOf, MayReadAt, MayReadOf, exceptions_at, exceptions_heard}
 use Rattle.policy_load.specs.Load.{load_by_config, load_by_text, with_policy}
 use Rattle.policy_load.specs.declared.loading.PolicyPaths.{PolicyPaths}
 use Rattle.run_found.specs.Found.{due_at, due_behind, due_by_text, unless_known}

@@ -14,7 +14,8 @@ use Rattle.policy_load.specs.declared.loading.PolicyPaths.{PolicyPaths}
 use Rattle.policy_config.specs.Root.{root_of}
 use Rattle.policy_config.specs.declared.root.RootConfig.{RootConfig}
 use Rattle.policy_core.specs.Exceptions.{ExceptionsRead, exceptions_findings, shape_diagnostic}
-use Rattle.policy_core.specs.Heard.{heard, exceptions_read_of, value_or_fault}
+use Rattle.policy_core.specs.Heard.{exceptions_read_of, value_or_fault}
+use Rattle.policy_core.specs.declared.exceptions.ExceptionsHeard.TheVariants.{Heard as heard}
 use Rattle.policy_core.specs.Policy.{PolicyFound, absence_findings, policy_found, load_findings, licences_in}
 use Rattle.policy_core.specs.Findings.{target_findings, graph_key_findings, output_key_findings}
 use Rattle.policy_validate.specs.Valid.{address_findings, clarification_findings, removed_findings}

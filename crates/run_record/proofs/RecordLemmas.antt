@@ -38,7 +38,7 @@ use Rattle.run_command.specs.Stops.{Stops, at_crates}
 use Rattle.run_command.specs.Written.{IsWriteFault}
 use Rattle.run_command.proofs.FoundLemmas.{input_by_Asks}
 use Rattle.run_command.proofs.StopLemmas.{all_of, up_without}
-use Rattle.run_check.specs.declared.report.CrateReport.{CrateReport}
+use Rattle.check_core.specs.declared.report.CrateReport.{CrateReport}
 use Rattle.run_check.specs.declared.report.Report.{Report}
 use Rattle.run_check.specs.Report.{IsReport, IsReportOf}
 use Rattle.run_record.specs.Judged.{AreJudged, IsJudgedReport}

@@ -5,7 +5,7 @@ use Rattle.graph_core.specs.Krate.{Record}
 use Rattle.graph_core.specs.Metadata.{AreRising}
 use Rattle.policy_valid.specs.Policy.{Policy}
 use Rattle.check_core.specs.Verdicts.{IsVerdict}
-use Rattle.run_check.specs.declared.report.CrateReport.{CrateReport}
+use Rattle.check_core.specs.declared.report.CrateReport.{CrateReport}
 
 -- the verdict is that on a crate by a policy, and has what shows it
 pub record IsJudgedReport (report : CrateReport) : Type 0 where

@@ -1,7 +1,7 @@
 -- What is printed of the sample: how many crates there are, and how many of each verdict.
 use Rattle.std.specs.Prelude.{ℕ, Bool, true, false, List, ◌++◌, length, codes, count_by, decimal}
 use Rattle.spdx_certificates.specs.declared.verdict.Verdict.{Verdict}
-use Rattle.run_check.specs.declared.report.CrateReport.{CrateReport}
+use Rattle.check_core.specs.declared.report.CrateReport.{CrateReport}
 use Rattle.spdx_certificates.specs.declared.verdict.Verdict.TheVariants.{Skipped, Unlicensed, Accepted, Rejected}
 
 abbrev pub is_accepted : Verdict → Bool

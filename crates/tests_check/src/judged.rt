@@ -9,7 +9,7 @@ use deny_text::{Steps, Text, Texts};
 use diag_core::licenses::Code;
 use diag_core::{Diag, Files, Label, Labels, LevelFilter, Notes, Pack, Severity};
 use diag_print::{Color, DiagPrinter, Format, LogContext, pack_labels_are_inside};
-use gather_core::{LicenseExprInfo, LicenseExprSource};
+use gather_core::{Diags, LicenseExprInfo, LicenseExprSource};
 use graph_core::{Krate, Source};
 use policy_valid::ValidConfig;
 use spdx_core::Expression;
@@ -225,8 +225,8 @@ fn warning(alloc: Global, entry: &CaseEntry) -> Option<Diag> {
     finding(alloc, Severity::Warning, code, message, labels, notes).ok()
 }
 
-fn warnings(alloc: Global, entries: &[CaseEntry]) -> Option<Vec<Diag>> {
-    let mut warnings = Vec::new(alloc);
+fn warnings(alloc: Global, entries: &[CaseEntry]) -> Option<Diags> {
+    let mut warnings = Diags::new(alloc);
     for entry in entries {
         if entry.key.as_str() == "gathered" {
             let warning = some!(warning(alloc, entry));
@@ -280,7 +280,7 @@ fn noted_verdict(alloc: Global, case: &Case<'_>, krate: &Krate) -> Option<Diag> 
 fn pack_about(alloc: Global, case: &Case<'_>, krate: &Krate) -> Option<Pack> {
     let warnings = some!(warnings(alloc, case.own));
     match noted_verdict(alloc, case, krate) {
-        Some(verdict) => pack_of(alloc, krate, &warnings, verdict).ok(),
+        Some(verdict) => pack_of(alloc, krate, warnings, verdict).ok(),
         None => None,
     }
 }

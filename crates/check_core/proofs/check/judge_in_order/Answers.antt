@@ -1,68 +1,72 @@
-use Rattle.std.proofs.Common.{◌≡◌, ◌∙◌, ap, sym, subst, take, ◌+◌, List, [], ◌∷◌, ◌++◌, arith}
-use Rattle.std.proofs.lemmas.List.{map_more}
-use Rattle.spdx_certificates.specs.declared.verdict.Verdict.{Verdict}
+use Rattle.std.proofs.Common.{◌≡◌, ◌∙◌, ap, sym, subst, List, [], ◌∷◌, ◌++◌, append_assoc, arith}
+use Rattle.std.specs.Vec.Iter.{into_iter_items}
+use Rattle.diag_core.specs.declared.overrides.ErrorSink.{ErrorSink}
 use Rattle.gather_core.specs.declared.summary.KrateLicense.{KrateLicense}
 use Rattle.policy_valid.specs.View.{policy_of}
-use Rattle.check_core.specs.Summary.{gathered_of_licenses, gathered_of_license}
-use Rattle.check_core.specs.Turns.{GatheredCrate}
-use Rattle.check_core.proofs.CheckLemmas.{SoFar, one_more}
-use Rattle.check_core.proofs.StepLemmas.{bounded_after, bounded_next, bounded_whole}
+use Rattle.check_core.specs.declared.report.CrateReport.{CrateReport}
+use Rattle.check_core.specs.Check.{HasFront}
+use Rattle.check_core.proofs.CheckLemmas.{SoFar, has_front, one_more}
+use Rattle.check_core.proofs.SinkLemmas.{of_error}
+use Rattle.check_core.proofs.StepLemmas.{bounded_after, bounded_next}
 use Rattle.check_core.proofs.check.judge_in_order.Goals as goal
 
 pub licenses-preserved : goal.licenses-preserved
 licenses-preserved g c =
-    let so_far = c.licenses.invariant in
+    let before = c.licenses.invariant in
     let policy = c.args.policy.now in
-    let licenses = c.args.licenses.now in
-    let place = c.licenses.license-index in
-    let license = c.license-item.result in
-    let one = gathered_of_license license in
-    let before = gathered_of_licenses (take place licenses) in
-    let checked = c.in_ok-checked.checked in
-    let told = c.in_ok-checked.ensures in
+    let licenses = c.args.licenses in
+    let front = c.licenses.yielded in
+    let rest = into_iter_items c.next.new.self in
+    let license = c.in-Some.license in
+    let judged = c.in_ok-judged.judged in
+    let told = c.in_ok-judged.ensures in
     let flags = c.judge.new.self.flags in
     let sink = c.push-in-licenses.new.self in
-    let next : gathered_of_licenses (take (place + 1) licenses) ≡ before ++ one ∷ [] =
-    map_more gathered_of_license licenses place license c.licenses-test.true ∙ ap (λ (here : KrateLicense). before ++ gathered_of_license here ∷ []) (sym c.license-item.is) in
+    let whole : front ++ license ∷ rest ≡ licenses = ap (λ (l : List KrateLicense). front ++ l) (sym c.in-Some.ensures.steps.0) ∙ before.whole in
     let more =
-    one_more policy before c.licenses.verdicts c.licenses.checker.flags c.args.sink.now c.licenses.sink one checked.verdict checked.pack flags sink
-    (record { are = so_far.verdicts; hit = so_far.flags; told = so_far.sink }) told.verdict told.pack told.hits c.in_ok-push-2.ensures.ok in
-    let all : SoFar policy (gathered_of_licenses (take (place + 1) licenses)) c.push.new.self flags c.args.sink.now sink =
-    subst (λ (asked : List GatheredCrate). SoFar policy asked c.push.new.self flags c.args.sink.now sink) (sym next)
-    (subst (λ (verdicts : List Verdict). SoFar policy (before ++ one ∷ []) verdicts flags c.args.sink.now sink) (sym c.in_ok-push.ensures.ok) more) in
+    one_more policy front c.licenses.reports c.licenses.checker.flags c.args.sink.now c.licenses.sink license judged.report judged.pack flags sink
+    before.so_far told.verdict told.report told.pack told.hits c.in_ok-push-2.ensures.ok in
     record {
-      nodes = told.nodes ∙ so_far.nodes;
-      numbers = told.numbers ∙ so_far.numbers;
-      families = told.families ∙ so_far.families;
-      private = told.private ∙ so_far.private;
-      verdicts = all.are;
-      flags = all.hit;
-      sink = all.told;
-      steps = let early = so_far.steps in let late = told.steps in omega arith;
-      bound = bounded_next (policy_of policy) licenses place license c.args.steps.now c.licenses.steps c.judge.new.steps c.licenses-test.true c.license-item.is told.bound so_far.bound;
+      whole = append_assoc front (license ∷ []) rest ∙ whole;
+      nodes = told.nodes ∙ before.nodes;
+      numbers = told.numbers ∙ before.numbers;
+      families = told.families ∙ before.families;
+      private = told.private ∙ before.private;
+      so_far = subst (λ (reports : List CrateReport). SoFar policy (front ++ license ∷ []) reports flags c.args.sink.now sink) (sym c.in_ok-push.ensures.ok) more;
+      steps = let early = before.steps in let late = told.steps in omega arith;
+      bound = bounded_next (policy_of policy) licenses front rest license c.args.steps.now c.licenses.steps c.judge.new.steps whole told.bound before.bound;
     }
 
-pub returns-in_err-checked-clause-bound : goal.returns-in_err-checked-clause-bound
-returns-in_err-checked-clause-bound g c =
-    let licenses = c.args.licenses.now in
-    let place = c.licenses.license-index in
-    bounded_after (policy_of c.args.policy.now) licenses place c.license-item.result c.args.steps.now c.licenses.steps c.judge.new.steps
-    c.licenses-test.true c.license-item.is c.judge.ensures.bound c.licenses.invariant.bound
+pub returns-in_err-judged-clause-bound : goal.returns-in_err-judged-clause-bound
+returns-in_err-judged-clause-bound g c =
+    let front = c.licenses.yielded in
+    let whole = ap (λ (l : List KrateLicense). front ++ l) (sym c.in-Some.ensures.steps.0) ∙ c.licenses.invariant.whole in
+    bounded_after (policy_of c.args.policy.now) c.args.licenses front (into_iter_items c.next.new.self) c.in-Some.license c.args.steps.now c.licenses.steps c.judge.new.steps
+    whole c.judge.ensures.bound c.licenses.invariant.bound
 
 pub returns-in_err-push-clause-bound : goal.returns-in_err-push-clause-bound
 returns-in_err-push-clause-bound g c =
-    let licenses = c.args.licenses.now in
-    let place = c.licenses.license-index in
-    bounded_after (policy_of c.args.policy.now) licenses place c.license-item.result c.args.steps.now c.licenses.steps c.judge.new.steps
-    c.licenses-test.true c.license-item.is c.judge.ensures.bound c.licenses.invariant.bound
+    let front = c.licenses.yielded in
+    let whole = ap (λ (l : List KrateLicense). front ++ l) (sym c.in-Some.ensures.steps.0) ∙ c.licenses.invariant.whole in
+    bounded_after (policy_of c.args.policy.now) c.args.licenses front (into_iter_items c.next.new.self) c.in-Some.license c.args.steps.now c.licenses.steps c.judge.new.steps
+    whole c.judge.ensures.bound c.licenses.invariant.bound
 
 pub returns-in_err-push-2-clause-bound : goal.returns-in_err-push-2-clause-bound
 returns-in_err-push-2-clause-bound g c =
-    let licenses = c.args.licenses.now in
-    let place = c.licenses.license-index in
-    bounded_after (policy_of c.args.policy.now) licenses place c.license-item.result c.args.steps.now c.licenses.steps c.judge.new.steps
-    c.licenses-test.true c.license-item.is c.judge.ensures.bound c.licenses.invariant.bound
+    let front = c.licenses.yielded in
+    let whole = ap (λ (l : List KrateLicense). front ++ l) (sym c.in-Some.ensures.steps.0) ∙ c.licenses.invariant.whole in
+    bounded_after (policy_of c.args.policy.now) c.args.licenses front (into_iter_items c.next.new.self) c.in-Some.license c.args.steps.now c.licenses.steps c.judge.new.steps
+    whole c.judge.ensures.bound c.licenses.invariant.bound
 
-pub returns-clause-bound : goal.returns-clause-bound
-returns-clause-bound g c =
-    bounded_whole (policy_of c.args.policy.now) c.args.licenses.now c.licenses.license-index c.args.steps.now c.licenses.steps c.licenses.invariant.bound
+pub returns-in_err-push-clause-front : goal.returns-in_err-push-clause-front
+returns-in_err-push-clause-front g c =
+    of_error c.from_residual-in_err-push.result _
+    (has_front c.args.policy.now c.args.licenses c.licenses.yielded (into_iter_items c.licenses.license-iterator) c.licenses.reports c.licenses.checker.flags
+    c.args.sink.now c.licenses.sink c.licenses.invariant.whole c.licenses.invariant.so_far)
+
+pub returns-in_err-push-2-clause-front : goal.returns-in_err-push-2-clause-front
+returns-in_err-push-2-clause-front g c =
+    of_error c.from_residual-in_err-push-2.result _
+    (subst (λ (sink : ErrorSink). HasFront (policy_of c.args.policy.now) c.args.licenses c.args.sink.now sink) (sym c.in_err-push-2.ensures.err)
+    (has_front c.args.policy.now c.args.licenses c.licenses.yielded (into_iter_items c.licenses.license-iterator) c.licenses.reports c.licenses.checker.flags
+    c.args.sink.now c.licenses.sink c.licenses.invariant.whole c.licenses.invariant.so_far))

@@ -1,8 +1,8 @@
 use Rattle.std.proofs.Common.{inl, inr, refl, sym, subst, []}
 use Rattle.std.specs.Option.{option_copied}
-use Rattle.policy_core.specs.Load.{LoadsPolicyBy}
 use Rattle.policy_core.specs.Places.{PointInto}
 use Rattle.policy_core.specs.Policy.{absence_findings}
+use Rattle.policy_load.specs.Answer.{LoadsPolicyBy}
 use Rattle.policy_load.specs.declared.error.LoadError.TheVariants.{Memory}
 use Rattle.policy_load.proofs.CallLemmas.{reads_root}
 use Rattle.policy_load.proofs.LoadLemmas.{handed_on}
@@ -11,7 +11,7 @@ use Rattle.policy_load.proofs.loading.load_root.Goals as goal
 
 pub finish-requires : goal.finish-requires
 finish-requires g c =
-    all_inside _ _ (c.in_ok-loaded.ensures.labels c.requires.placed (subst (PointInto c.args.files.now) (sym c.new-found.ensures) tt))
+    all_inside _ _ (c.in_ok-loaded.ensures.labels (subst (PointInto c.args.files.now) (sym c.new-found.ensures) tt))
 
 pub returns-in_err-loaded-clause-reads : goal.returns-in_err-loaded-clause-reads
 returns-in_err-loaded-clause-reads g c =

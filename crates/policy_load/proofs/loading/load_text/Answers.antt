@@ -1,10 +1,11 @@
 use Rattle.std.proofs.Common.{◌∙◌, ◌⊎◌, inl, refl, sym, ap, subst, length, Err}
 use Rattle.policy_text.specs.Config.{AnswersConfig, config_of_text}
-use Rattle.policy_core.specs.Heard.{IsFileText, MayReadOf}
+use Rattle.policy_core.specs.Heard.{IsFileText}
 use Rattle.policy_core.specs.Places.{IsConfigPlaced}
 use Rattle.policy_core.specs.Policy.{absence_findings}
 use Rattle.policy_core.proofs.ExceptionLemmas.{grows_itself}
 use Rattle.policy_load.specs.Answer.{Comes, IsUnprinted, LoadsRootBy, refused_by}
+use Rattle.policy_load.specs.Heard.{MayReadOf}
 use Rattle.policy_load.specs.Load.{policy_file, refusal_findings, with_policy}
 use Rattle.diag_print.specs.Findings.{AreInside}
 use Rattle.policy_load.specs.declared.error.LoadError.TheVariants.{Memory}

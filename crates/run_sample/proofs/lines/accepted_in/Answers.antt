@@ -2,7 +2,7 @@ use Rattle.std.proofs.Common.{◌∙◌, rules, tests}
 use Rattle.std.proofs.lemmas.Iterator.{YieldsList-from_slice}
 use Rattle.std.proofs.lemmas.Iterator.Consumers.{YieldsList-from_filter, count_from_yields_List}
 use Rattle.std.proofs.lemmas.List.Sums.{length-filter}
-use Rattle.run_check.specs.declared.report.CrateReport.{CrateReport}
+use Rattle.check_core.specs.declared.report.CrateReport.{CrateReport}
 use Rattle.run_sample.specs.Lines.{is_accepted}
 use Rattle.run_sample.proofs.lines.accepted_in.Goals as goal
 

@@ -1,24 +1,21 @@
-use Rattle.std.proofs.Common.{◌∙◌, ap, ap₂, ◌≡◌, ℕ, Bool, List, [], ◌∷◌, ◌++◌, Option}
+use Rattle.std.proofs.Common.{◌∙◌, ap, ap₂, ◌≡◌, ℕ, Bool, List, Option}
 use Rattle.graph_core.specs.Krate.{record_of}
 use Rattle.spdx_certificates.specs.declared.verdict.Hit.{Hit}
-use Rattle.diag_core.specs.declared.pack.Diag.{Diag}
 use Rattle.policy_valid.specs.View.{policy_of}
 use Rattle.check_evaluate.specs.Evaluation.{Evaluation, term_hits}
 use Rattle.check_verdicts.specs.Findings as findings
 use Rattle.check_verdicts.specs.Findings.{verdict_labels}
 use Rattle.check_core.proofs.crate_check.Checker.certify.Goals as goal
 
-pub returns-clause-pack : goal.returns-clause-pack
-returns-clause-pack g c =
+pub returns-clause-told : goal.returns-clause-told
+returns-clause-told g c =
     let license = c.args.license.now in
     let krate = record_of license.krate.now in
     let expression = c.args.expr.now in
     let nfo = c.args.nfo.now in
     let hits : c.hits-hits.result.now ≡ term_hits (policy_of c.args.policy.now) krate expression.terms =
     c.hits-hits.ensures ∙ ap (λ (e : Evaluation). e.hits) c.evaluate-accepted.ensures.evaluator in
-    c.in_ok-pack.ensures
-    ∙ ap₂ (λ (gathered : List Diag) (told : Diag). findings.pack_of krate (gathered ++ told ∷ [])) c.items-2.ensures
-    (c.in_ok-told.ensures
+    c.in_ok-told.ensures
     ∙ ap (λ (notes : List (List ℕ)). findings.judged c.evaluate-accepted.result (verdict_labels expression nfo c.hits-hits.result.now) notes) c.items.ensures
     ∙ ap₂ (λ (accepted : Bool) (kept : List (Option Hit)). findings.judged accepted (verdict_labels expression nfo kept) license.notes)
-    c.evaluate-accepted.ensures.answer hits)
+    c.evaluate-accepted.ensures.answer hits
