@@ -38,17 +38,15 @@ use Rattle.diag_core.specs.File.{File}
 use Rattle.diag_print.specs.Findings.{is_error}
 use Rattle.run_found.specs.Found.{config_in, count_looked, due_behind, due_by_text, exceptions_due, exceptions_in, load_heard, looked_behind, metadata_heard, path_by, paths_found, paths_looked, policy_due}
 use Rattle.run_found.specs.Given.{RequestArguments}
-use Rattle.run_found.specs.Hearing.{RequestHearing, IsReadWhereDue, look_calls, looks_by, nowhere, read_calls, unended}
+use Rattle.run_found.specs.Hearing.{RequestHearing, TellsContent, IsReadWhereDue, look_calls, looks_by, nowhere, read_calls, unended}
 use Rattle.run_found.specs.Policy.{GraphAt, PolicyAt}
-use Rattle.run_found.specs.Selection.{choice_in}
 use Rattle.run_found.specs.Steps.{◌>>=◌, unless_refused}
 use Rattle.run_found.proofs.ByteLemmas.{found_by_bytes, graph_by_bytes}
 use Rattle.run_found.proofs.FoundLemmas.{bind-Ok}
-use Rattle.run_check.specs.Carried.{uncarried_in}
-use Rattle.run_check.specs.Found.{HearsAllDue, calls_of, check_input_of, metadata_by, metadata_due, policy_asked}
-use Rattle.run_check.specs.Given.{CheckArguments}
-use Rattle.run_check.specs.Headline.{IsHeardOf, TellsContent}
-use Rattle.run_check.proofs.FoundLemmas.{asked-once, calls-carried, input-graph}
+use Rattle.run_command.specs.Complete.{IsHeardOf}
+use Rattle.run_command.specs.Found.{HearsAllDue, calls_of, choice_in, input_of, metadata_by, metadata_due, policy_asked}
+use Rattle.run_command.specs.Given.{CommandArguments}
+use Rattle.run_command.proofs.FoundLemmas.{asked-once, input-graph}
 use Rattle.run_sample.specs.Files.{sample_content, sample_policy}
 use Rattle.run_sample.specs.Metadata.{sample_metadata}
 use Rattle.run_sample.specs.Request.{sample_request}
@@ -174,7 +172,7 @@ policy_is_text : is_utf8 sample_policy ≡ true
 policy_is_text = is_utf8-from_IsUtf8 sample_policy (IsUtf8-are_ascii sample_policy refl)
 
 module _ (match_of : List ℕ → Match) (n : ℕ) (small : n ≤ 2 ^ 32) (some : 1 ≤ n) where
-  abbrev given : CheckArguments
+  abbrev given : CommandArguments
   given = sample_request table_lists match_of
 
   abbrev request : RequestArguments
@@ -185,9 +183,6 @@ module _ (match_of : List ℕ → Match) (n : ℕ) (small : n ≤ 2 ^ 32) (some 
 
   abbrev paths : PolicyPaths
   paths = record { policy = Some policy_path; exceptions = None }
-
-  pub carried : uncarried_in given ≡ None
-  carried = refl
 
   config_is : config_in request hearing ≡ Ok (Some policy_path)
   unfolding path_join
@@ -235,7 +230,7 @@ module _ (match_of : List ℕ → Match) (n : ℕ) (small : n ≤ 2 ^ 32) (some 
   }
 
   asked : policy_asked given hearing ≡ Ok sample_found
-  asked = asked-once given hearing carried sample_found (found_by_bytes request hearing sample_found policy_at) refl
+  asked = asked-once given hearing sample_found (found_by_bytes request hearing sample_found policy_at) refl
 
   graph_at : GraphAt request hearing (graph_of (sample_rows n))
   graph_at = record {
@@ -245,10 +240,10 @@ module _ (match_of : List ℕ → Match) (n : ℕ) (small : n ≤ 2 ^ 32) (some 
   }
 
   -- what it asks for
-  pub sample_input : check_input_of given hearing ≡ Ok (record { policy = sample_found; graph = graph_of (sample_rows n) })
+  pub sample_input : input_of given hearing ≡ Ok (record { policy = sample_found; graph = graph_of (sample_rows n) })
   sample_input = input-graph given hearing sample_found asked (Ok (graph_of (sample_rows n))) (graph_by_bytes request hearing (graph_of (sample_rows n)) graph_at)
 
-  pub sample_root : HasRoot (graph_of (sample_rows n)) (choice_in request sample_found)
+  pub sample_root : HasRoot (graph_of (sample_rows n)) (choice_in given sample_found)
   sample_root = has_root n small some
 
   policy_due_is : policy_due request hearing ≡ Some policy_path
@@ -293,9 +288,7 @@ module _ (match_of : List ℕ → Match) (n : ℕ) (small : n ≤ 2 ^ 32) (some 
   tells_calls : AllByRecursion (TellsContent content) (calls_of given hearing)
   tells_calls =
       let P = TellsContent content in
-      subst (AllByRecursion P) (sym (calls-carried given hearing carried))
-      (all_append P _ _
-      (all_append P _ _ (all_append P _ _ (all_append P _ _ tells_sought tells_policy) tells_exceptions) tells_metadata) tt)
+      all_append P _ _ (all_append P _ _ (all_append P _ _ (all_append P _ _ tells_sought tells_policy) tells_exceptions) tells_metadata) tt
 
   -- it is heard of the sample's files
   pub sample_heard : IsHeardOf given content 0 hearing

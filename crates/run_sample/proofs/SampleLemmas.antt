@@ -1,5 +1,5 @@
 -- What a check of the sample answers, and what is written of it.
-use Rattle.std.proofs.Common.{◌≡◌, ◌∙◌, inl, inr, refl, sym, ap, subst, ℕ, ◌≤◌, List, [], ◌∷◌, Option, Some, Result, Ok, Err, IfOk, IfErr, arith}
+use Rattle.std.proofs.Common.{◌≡◌, ◌∙◌, inl, inr, refl, sym, ap, subst, ℕ, ◌≤◌, List, [], ◌∷◌, Option, Some, None, Result, Ok, Err, IfOk, IfErr, arith}
 use Rattle.std.proofs.lemmas.List.Elements.{All-from_recursion}
 use Rattle.std.specs.Prelude.{All}
 use Rattle.std.specs.List.{AllByRecursion}
@@ -19,13 +19,19 @@ use Rattle.tree_reads.specs.Rising.{RiseFrom, RiseInOrder}
 use Rattle.tree_texts.specs.Cause.{Cause, ReadCounts, no_memory, failed_read, refused_write}
 use Rattle.tree_texts.specs.Cause as causes
 use Rattle.run_found.specs.declared.error.Error.{Error}
-use Rattle.run_found.specs.Error.{MayEndLawful, cause_of}
+use Rattle.run_found.specs.declared.error.Error.TheVariants.{ConfigRead}
+use Rattle.run_found.specs.Error.{EndsLawful, MayEndLawful, cause_of}
 use Rattle.run_found.specs.Hearing.{TreeSeen, seen}
+use Rattle.run_found.specs.Written.{SinkSeen, TextWritten, sink_seen}
+use Rattle.tree_texts.specs.declared.fault.ReadFault.TheVariants as read
 use Rattle.run_check.specs.declared.report.Report.{Report}
-use Rattle.run_check.specs.Given.{CheckArguments, check_arguments_of}
-use Rattle.run_check.specs.Headline.{CheckHeadline, EndsLawful, IsHeardOf}
+use Rattle.run_check.specs.Given.{check_arguments_of}
+use Rattle.run_check.specs.Headline.{CheckHeadline}
 use Rattle.run_check.specs.Named.{FailedReadsRise, ReportsCertificates, ReportsFindings, ReportsOwnReads, ReportsPolicy, ReportsUnneeded, reads_in}
-use Rattle.run_check.specs.Script as check
+use Rattle.run_check.specs.Script.{CutsFindings, WritesCheck}
+use Rattle.run_command.specs.Complete.{IsHeardOf}
+use Rattle.run_command.specs.Given.{CommandArguments}
+use Rattle.run_command.proofs.AbsentLemmas.{stops_never}
 use Rattle.run_sample.specs.Files.{sample_content}
 use Rattle.run_sample.specs.Request.{sample_args, sample_context, sample_log, sample_request}
 use Rattle.run_sample.specs.Sample.{EndsSampled, IsHeard, IsSampleComplete, IsSampleReport, IsSampleTree, IsSampled, IsUnfailed, IsUnwritten, LinesCut, MayEndSample, RefusalWritten}
@@ -68,7 +74,7 @@ none_failed (read ∷ reads) rises = both read.answer rises (none_failed reads)
 
 -- ---- the report
 
-module _ (n : ℕ) (given : CheckArguments) (tree : TreeSeen) (sample : IsSampleTree n tree) where
+module _ (n : ℕ) (given : CommandArguments) (tree : TreeSeen) (err : SinkSeen) (sample : IsSampleTree n tree) where
   all_heard : (report : Report) → FailedReadsRise tree report → All (λ (read : ReadRecord). IsHeard read.answer) (reads_in report)
   all_heard report rises =
       All-from_recursion (λ (read : ReadRecord). IsHeard read.answer) (reads_in report)
@@ -76,10 +82,10 @@ module _ (n : ℕ) (given : CheckArguments) (tree : TreeSeen) (sample : IsSample
       (subst (λ high. RiseInOrder 0 (reads_in report) high) sample.unfailed
       (subst (λ low. RiseInOrder low (reads_in report) tree.count_after) sample.begun rises)))
 
-  pub sampled_by : (before after : ℕ) (answer : Result Report Error) → CheckHeadline given (sample_content n) tree before after answer → IfOk answer (ReportsOwnReads given tree)
+  pub sampled_by : (answer : Result Report Error) → CheckHeadline given (sample_content n) tree err answer → IfOk answer (ReportsOwnReads given tree)
       → IfOk answer (FailedReadsRise tree) → IfOk answer (ReportsPolicy given tree) → IfOk answer (ReportsFindings given tree) → IfOk answer (ReportsUnneeded given tree)
       → IfOk answer (ReportsCertificates given tree) → IfOk answer (IsSampleReport n given)
-  sampled_by before after (Ok report) headline own rises policy findings unneeded certificates = record {
+  sampled_by (Ok report) headline own rises policy findings unneeded certificates = record {
     tree = tree;
     of_sample = sample;
     verdicts = headline.verdicts report refl;
@@ -90,7 +96,7 @@ module _ (n : ℕ) (given : CheckArguments) (tree : TreeSeen) (sample : IsSample
     unneeded = unneeded;
     certificates = certificates;
   }
-  sampled_by before after (Err error) headline own rises policy findings unneeded certificates = tt
+  sampled_by (Err error) headline own rises policy findings unneeded certificates = tt
 
 -- what is asked for by these is asked for by the sample's request
 pub given_by : (lists : CatalogLists) (match_of : List ℕ → Match) (log : LogContext) (args : Args) (context : KrateContext) → log ≡ sample_log → args ≡ sample_args → context ≡ sample_context
@@ -99,6 +105,15 @@ given_by lists match_of log args context logs asks looks =
     ap (λ own. check_arguments_of lists match_of own args context) logs
     ∙ ap (λ own. check_arguments_of lists match_of sample_log own context) asks
     ∙ ap (check_arguments_of lists match_of sample_log sample_args) looks
+
+-- all of it is carried
+pub carried_by : (lists : CatalogLists) (match_of : List ℕ → Match) (log : LogContext) (args : Args) (context : KrateContext) → log ≡ sample_log → args ≡ sample_args → context ≡ sample_context
+    → (check_arguments_of lists match_of log args context).options.uncarried ≡ None
+carried_by lists match_of log args context logs asks looks = ap (λ (own : CommandArguments). own.options.uncarried) (given_by lists match_of log args context logs asks looks)
+
+-- a sink that keeps nothing and refuses nothing
+abbrev pub nowhere : SinkSeen
+nowhere = sink_seen None None 0 0
 
 -- the tree that a sample is checked on
 pub sample_seen : (n : ℕ) (state made : TreeState) (tells : Option Content) (calls : List Call) → state ≡ made → made.content ≡ sample_content n → made.calls ≡ []
@@ -118,20 +133,36 @@ unfailed_by causes.told counts = tt
 unfailed_by (failed_read first last) counts = never_rose counts.2
 unfailed_by (refused_write first last) counts = tt
 
-unwritten_by : (given : CheckArguments) (tree : TreeSeen) (text : List ℕ) (old new : Option (List ℕ)) (cause : Cause) → check.RefusalWritten given tree text old new 0 0 cause → IsUnwritten cause
-unwritten_by given tree text old new no_memory written = tt
-unwritten_by given tree text old new causes.told written = tt
-unwritten_by given tree text old new (failed_read first last) written = tt
-unwritten_by given tree text old new (refused_write first last) written = never_rose written.2
-
 pub unfailed_of : (answer : Result Report Error) → IfErr answer (λ error. ReadCounts 0 0 0 (cause_of error)) → IfErr answer (λ error. IsUnfailed (cause_of error))
 unfailed_of (Ok report) counts = tt
 unfailed_of (Err error) counts = unfailed_by (cause_of error) counts
 
-pub unwritten_of : (given : CheckArguments) (tree : TreeSeen) (old new : Option (List ℕ)) (answer : Result Report Error) → check.WritesCheck given tree old new 0 0 answer
-    → IfErr answer (λ error. IsUnwritten (cause_of error))
-unwritten_of given tree old new (Ok report) writes = tt
-unwritten_of given tree old new (Err error) writes = unwritten_by given tree writes.text old new (cause_of error) writes.written
+-- the sink counts no fault
+module _ (given : CommandArguments) (tree : TreeSeen) (old new : Option (List ℕ)) where
+  abbrev still : SinkSeen
+  still = record { old = old; new = new; before = 0; after = 0 }
+
+  by_text : (text : List ℕ) (cause : Cause) → TextWritten text old new 0 0 cause → IsUnwritten cause
+  by_text text no_memory written = tt
+  by_text text causes.told written = tt
+  by_text text (failed_read first last) written = tt
+  by_text text (refused_write first last) written = never_rose written.2
+
+  by_findings : (cause : Cause) → CutsFindings given tree still cause → IsUnwritten cause
+  by_findings no_memory cut = tt
+  by_findings causes.told cut = absurd cut
+  by_findings (failed_read first last) cut = absurd cut
+  by_findings (refused_write first last) cut = never_rose cut.2
+
+  pub unwritten_of : (answer : Result Report Error) → WritesCheck given tree still answer → IfErr answer (λ error. IsUnwritten (cause_of error))
+  unwritten_of (Ok report) writes = tt
+  unwritten_of (Err error) (inl stops) = by_text _ (cause_of error) stops.written
+  unwritten_of (Err error) (inr cut) = by_findings (cause_of error) cut
+
+-- no check is refused since a policy is not there
+pub never_absent : (given : CommandArguments) (tree : TreeSeen) (err : SinkSeen) → WritesCheck given tree err (Err (ConfigRead read.Absent)) → ⊥
+never_absent given tree err (inl stops) = stops_never given tree err stops
+never_absent given tree err (inr cut) = cut
 
 lawful_sample : (cause : Cause) → MayEndLawful cause → MayEndSample cause
 lawful_sample no_memory may = tt
@@ -143,12 +174,17 @@ ends_by : (answer : Result Report Error) → EndsLawful answer → EndsSampled a
 ends_by (Ok report) ends = tt
 ends_by (Err error) ends = lawful_sample (cause_of error) ends
 
-pub complete_by : (n : ℕ) (lists : CatalogLists) (match_of : List ℕ → Match) (tree : TreeSeen) (answer : Result Report Error) → IsSampleTree n tree
-    → CheckHeadline (sample_request lists match_of) (sample_content n) tree 0 0 answer → IsSampleComplete n lists match_of answer
-complete_by n lists match_of tree answer sample headline hearing asked heard asks =
+pub complete_by : (n : ℕ) (lists : CatalogLists) (match_of : List ℕ → Match) (tree : TreeSeen) (old new : Option (List ℕ)) (answer : Result Report Error) → IsSampleTree n tree
+    → CheckHeadline (sample_request lists match_of) (sample_content n) tree (sink_seen old new 0 0) answer → IsSampleComplete n lists match_of answer
+complete_by n lists match_of tree old new answer sample headline hearing asked heard asks =
     ends_by answer
-    (headline.lawful hearing asked (subst (λ count. IsHeardOf (sample_request lists match_of) (sample_content n) count hearing) (sym sample.begun) heard) asks
-    (λ rose. never_rose (subst (λ count. Rose 0 count) sample.unfailed (subst (λ count. Rose count tree.count_after) sample.begun rose))) never_rose)
+    (headline.lawful hearing asked
+    (record {
+      heard = subst (λ count. IsHeardOf (sample_request lists match_of) (sample_content n) count hearing) (sym sample.begun) heard;
+      asks = asks;
+      still = λ rose. never_rose (subst (λ count. Rose 0 count) sample.unfailed (subst (λ count. Rose count tree.count_after) sample.begun rose));
+    })
+    never_rose)
 
 -- ---- what is written
 

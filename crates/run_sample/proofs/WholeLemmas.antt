@@ -15,20 +15,21 @@ use Rattle.tree_texts.specs.Cause as causes
 use Rattle.run_found.specs.declared.error.Error.{Error}
 use Rattle.run_found.specs.declared.error.Error.TheVariants.{Memory, NotCarried, ManifestPath, ManifestRead, CatalogRead, CatalogSyntax, StoreRead, ConfigRead, ConfigSyntax, ConfigShape, ConfigInvalid, OverrideTwice, MetadataRead, MetadataSyntax, MetadataShape, NoRoots, RecordRead, RecordSyntax, WriteFault}
 use Rattle.run_found.specs.Error.{cause_of}
-use Rattle.run_found.specs.Hearing.{RequestHearing, TreeSeen}
+use Rattle.run_found.specs.Hearing.{RequestHearing, TellsContent, TreeSeen}
 use Rattle.run_check.specs.declared.report.Report.{Report}
-use Rattle.run_check.specs.Found.{FoundInput, HearsDue, IsCheckHearing, calls_of}
-use Rattle.run_check.specs.Given.{CheckArguments}
-use Rattle.run_check.specs.Headline.{TellsContent}
-use Rattle.run_check.specs.Report.{IsAnsweredBy, IsCheckAnswer, IsRefusal, IsRefusedCheck, Refuses, RefusesSelection}
-use Rattle.run_check.proofs.HeardAlike.{found_alike}
+use Rattle.run_check.specs.Script.{CutsFindings, WritesCheck}
+use Rattle.run_command.specs.Found.{IsHeard, calls_of, choice_in}
+use Rattle.run_command.specs.Given.{CommandArguments}
+use Rattle.run_command.specs.Stops.{IsRefusal, IsRefusedBy, Refuses, RefusesSelection}
+use Rattle.run_command.proofs.HeardAlike.{finds_alike}
+use Rattle.run_found.specs.Found.{FoundInput}
+use Rattle.run_found.specs.Written.{SinkSeen}
 use Rattle.graph_metadata.specs.Records.{graph_of}
 use Rattle.graph_selection.specs.Roots.{HasRoot}
-use Rattle.run_found.specs.Selection.{choice_in}
 use Rattle.run_sample.specs.Files.{sample_content}
 use Rattle.run_sample.specs.Request.{sample_request}
 use Rattle.run_sample.specs.Sample.{EndsSampled, IsSampleTree, IsWholeSample, MayEndSample}
-use Rattle.run_sample.proofs.HearingLemmas.{carried, sample_found, sample_heard, sample_hearing, sample_input, sample_root}
+use Rattle.run_sample.proofs.HearingLemmas.{sample_found, sample_heard, sample_hearing, sample_input, sample_root}
 use Rattle.run_sample.proofs.RowLemmas.{sample_rows}
 
 -- ---- calls without a failure
@@ -68,7 +69,7 @@ told_step content asked path one other X Y both = (answered both.0.0 both.1.0, (
 -- ---- no refusal
 
 -- where a root is left
-selection_apart : (given : CheckArguments) (found : FoundInput) → HasRoot found.graph (choice_in given.request found.policy) → (error : Error) → RefusesSelection given found error → ⊥
+selection_apart : (given : CommandArguments) (found : FoundInput) → HasRoot found.graph (choice_in given found.policy) → (error : Error) → RefusesSelection given found error → ⊥
 selection_apart given found root Memory refuses = refuses
 selection_apart given found root (NotCarried what) refuses = refuses
 selection_apart given found root (ManifestPath path) refuses = refuses
@@ -90,35 +91,40 @@ selection_apart given found root RecordSyntax refuses = refuses
 selection_apart given found root (WriteFault before after) refuses = refuses
 
 module _ (match_of : List ℕ → Match) (n : ℕ) (small : n ≤ 2 ^ 32) (some : 1 ≤ n) (tree : TreeSeen) (sample : IsSampleTree n tree) where
-  abbrev given : CheckArguments
+  abbrev given : CommandArguments
   given = sample_request table_lists match_of
 
-  not_refused : (own : RequestHearing) (error : Error) → IsCheckHearing given tree own → IsRefusal given own error → ⊥
+  not_refused : (own : RequestHearing) (error : Error) → IsHeard given tree own → IsRefusal given own error → ⊥
   not_refused own error ran refusal =
       let content = sample_content n in
       let says = recursion_from_All (Says content) (calls_of given own) (ran.made.says content sample.told) in
       let counts = ap (λ count. faults_after count (calls_of given own)) (sym sample.begun) ∙ sym ran.made.counts ∙ sample.unfailed in
       let heard = sample_heard match_of n small some in
       let tells = recursion_from_All (TellsContent content) (calls_of given (sample_hearing n)) heard.tells in
-      let due = subst (HearsDue given own) (carried match_of n small some) refusal.due in
-      let alike = found_alike (AreToldBy content) (told_step content) given (carried match_of n small some) (sample_hearing n) own (sym (ran.begun ∙ sample.begun)) heard.due due
-      (tells, all_fair content (calls_of given own) says counts) in
+      let alike = (finds_alike (AreToldBy content) (told_step content) given (sample_hearing n) own (sym (ran.begun ∙ sample.begun)) heard.due refusal.due
+      (tells, all_fair content (calls_of given own) says counts)).input in
       selection_apart given (record { policy = sample_found; graph = graph_of (sample_rows n) }) (sample_root match_of n small some) error
       (subst (λ found. Refuses given found error) (sym alike ∙ sample_input match_of n small some) refusal.refused)
 
-  by_cause : (own : RequestHearing) (error : Error) (cause : Cause) → IsRefusedCheck given tree own error cause → MayEndSample cause
+  by_cause : (own : RequestHearing) (error : Error) (cause : Cause) → IsRefusedBy given tree own error cause → MayEndSample cause
   by_cause own error no_memory refused = tt
   by_cause own error causes.told refused = absurd (not_refused own error refused.0 refused.1)
   by_cause own error (failed_read first last) refused = absurd (not_refused own error refused.0 refused.1)
   by_cause own error (refused_write first last) refused = tt
 
-  ends_by : (own : RequestHearing) (answer : Result Report Error) → IsAnsweredBy given tree own answer → EndsSampled answer
-  ends_by own (Ok report) answers = tt
-  ends_by own (Err error) answers = by_cause own error (cause_of error) answers
+  by_cut : (err : SinkSeen) (cause : Cause) → CutsFindings given tree err cause → MayEndSample cause
+  by_cut err no_memory cut = tt
+  by_cut err causes.told cut = cut
+  by_cut err (failed_read first last) cut = cut
+  by_cut err (refused_write first last) cut = tt
+
+  ends_by : (err : SinkSeen) (answer : Result Report Error) → WritesCheck given tree err answer → EndsSampled answer
+  ends_by err (Ok report) writes = tt
+  ends_by err (Err error) (inl stops) = by_cause stops.hearing error (cause_of error) stops.refused
+  ends_by err (Err error) (inr cut) = by_cut err (cause_of error) cut
 
 -- a check of the sample with the built-in catalogue
-pub built_in_by : (n : ℕ) → n ≤ 2 ^ 32 → (lists : CatalogLists) (match_of : List ℕ → Match) (tree : TreeSeen) (answer : Result Report Error) → IsSampleTree n tree
-    → IsCheckAnswer (sample_request lists match_of) tree answer → IsWholeSample n lists answer
-built_in_by n small lists match_of tree answer sample answers some built_in =
-    let own = subst (λ known. IsCheckAnswer (sample_request known match_of) tree answer) built_in answers in
-    ends_by match_of n small some tree sample own.hearing answer own.answers
+pub built_in_by : (n : ℕ) → n ≤ 2 ^ 32 → (lists : CatalogLists) (match_of : List ℕ → Match) (tree : TreeSeen) (err : SinkSeen) (answer : Result Report Error) → IsSampleTree n tree
+    → WritesCheck (sample_request lists match_of) tree err answer → IsWholeSample n lists answer
+built_in_by n small lists match_of tree err answer sample writes some built_in =
+    ends_by match_of n small some tree sample err answer (subst (λ known. WritesCheck (sample_request known match_of) tree err answer) built_in writes)

@@ -9,7 +9,8 @@ use Rattle.diag_print.specs.declared.context.LogContext.{LogContext}
 use Rattle.run_request.specs.declared.check.Args.{Args as CheckArgs}
 use Rattle.run_request.specs.declared.context.KrateContext.{KrateContext}
 use Rattle.run_request.specs.declared.level.WhichCheck.TheVariants.{Licenses}
-use Rattle.run_check.specs.Given.{CheckArguments, check_arguments_of}
+use Rattle.run_command.specs.Given.{CommandArguments}
+use Rattle.run_check.specs.Given.{check_arguments_of}
 
 -- the check of licences, with no further option
 abbrev pub sample_args : CheckArgs
@@ -48,5 +49,5 @@ abbrev pub sample_log : LogContext
 sample_log = record { format = Human; color = Auto; log_level = Off }
 
 -- what `check licenses` asks for with these files, at level off, with a catalogue and an identifier
-abbrev pub sample_request : CatalogLists → (List ℕ → Match) → CheckArguments
+abbrev pub sample_request : CatalogLists → (List ℕ → Match) → CommandArguments
 sample_request lists match_of = check_arguments_of lists match_of sample_log sample_args sample_context

@@ -12,10 +12,11 @@ use Rattle.run_found.specs.Error.{cause_of}
 use Rattle.run_found.specs.Hearing.{RequestHearing, TreeSeen}
 use Rattle.check_core.specs.declared.report.CrateReport.{CrateReport}
 use Rattle.run_check.specs.declared.report.Report.{Report}
-use Rattle.run_check.specs.Given.{CheckArguments}
-use Rattle.run_check.specs.Headline.{HasVerdictsIn, IsHeardOf}
+use Rattle.run_command.specs.Complete.{IsHeardOf}
+use Rattle.run_command.specs.Given.{CommandArguments}
+use Rattle.run_command.specs.Stops.{Asks, RequestInput}
+use Rattle.run_check.specs.Headline.{HasVerdictsIn}
 use Rattle.run_check.specs.Named.{ReportsCertificates, ReportsFindings, ReportsOwnReads, ReportsPolicy, ReportsUnneeded, reads_in}
-use Rattle.run_check.specs.Report.{Asks, RequestInput}
 use Rattle.run_sample.specs.Files.{sample_content}
 use Rattle.run_sample.specs.Lines.{sample_lines}
 use Rattle.run_sample.specs.Request.{sample_request}
@@ -37,10 +38,10 @@ IsHeard (Failed before after) = ⊥
 
 -- The report is that of a check of the sample's request over the sample's files: it gives each selected crate the verdict that is
 -- asked for, and says all that the report of any check says, and none of its reads failed.
-pub record IsSampleReport (n : ℕ) (given : CheckArguments) (report : Report) : Type 0 where
+pub record IsSampleReport (n : ℕ) (given : CommandArguments) (report : Report) : Type 0 where
   pub tree : TreeSeen
   pub of_sample : IsSampleTree n tree
-  pub verdicts : HasVerdictsIn given (sample_content n) tree.count_before tree.count_after report
+  pub verdicts : HasVerdictsIn given (sample_content n) tree report
   pub own_reads : ReportsOwnReads given tree report
   pub heard : All (λ read. IsHeard read.answer) (reads_in report)
   pub policy : ReportsPolicy given tree report
