@@ -19,7 +19,7 @@ use Rattle.spdx_listing.specs.File.{first_fault, lines_of, lists_of}
 use Rattle.spdx_listing.specs.Folder.{StoreHeard, store_answered}
 use Rattle.policy_config.specs.Root.{root_of}
 use Rattle.policy_config.specs.declared.root.RootConfig.{RootConfig}
-use Rattle.policy_core.specs.Heard.{ExceptionsHeard}
+use Rattle.policy_core.specs.declared.exceptions.ExceptionsHeard.{ExceptionsHeard}
 use Rattle.policy_core.specs.Policy.{PolicyFound}
 use Rattle.policy_load.specs.Heard.{LoadHeard, exceptions_heard}
 use Rattle.policy_load.specs.Load.{load_by_config, load_by_text, load_of, with_policy}
