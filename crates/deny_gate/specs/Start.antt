@@ -2,9 +2,9 @@
 use Rattle.std.specs.Prelude.{◌≡◌, ◌≤◌, ℕ, List, Option, Result, Ok, Err, IfErr, IfOk, codes}
 use Rattle.tree_core.specs.Call.{Call}
 use Rattle.tree_core.specs.Content.{Content}
-use Rattle.spdx_catalog.specs.BuiltIn.{built_in}
-use Rattle.spdx_catalog.specs.Store.{match_of}
-use Rattle.spdx_catalog.specs.Table.{table_lists}
+use Rattle.spdx_terms.specs.catalog.BuiltIn.{built_in}
+use Rattle.spdx_terms.specs.catalog.Store.{match_of}
+use Rattle.spdx_terms.specs.catalog.Table.{table_lists}
 use Rattle.run_found.specs.Hearing.{HasMade}
 use Rattle.run_found.specs.Written.{IsSilent}
 use Rattle.run_command.specs.Prelude.{from_there, up_to}

@@ -12,7 +12,7 @@ use Rattle.run_overrides.specs.Levels.{HasNoOverrides}
 use Rattle.run_found.specs.declared.error.Error.{Error}
 use Rattle.run_found.specs.Hearing.{RequestHearing, TreeSeen}
 use Rattle.run_found.specs.Written.{SinkSeen}
-use Rattle.run_lists.specs.Given.{ListsGiven}
+use Rattle.run_found.specs.lists.Given.{ListsGiven}
 use Rattle.run_command.specs.Given.{CommandArguments, CommandAsked, command_by}
 use Rattle.run_command.specs.Lawful.{CommandHearing, IsRunHeard}
 use Rattle.run_command.specs.Prelude.{ComesTo, Runs, came, from_there, stopped, up_to}

@@ -3,8 +3,8 @@ use Rattle.std.proofs.Common.{◌≡◌, ◌∙◌, ◌⊎◌, inr, ◌≤◌, r
 use Rattle.tree_core.specs.Call.{Call}
 use Rattle.tree_core.specs.Content.{Content}
 use Rattle.tree_core.specs.Faults.{Rose}
-use Rattle.spdx_catalog.specs.Catalog.{CatalogLists}
-use Rattle.spdx_catalog.specs.declared.identifier.Match.{Match}
+use Rattle.spdx_terms.specs.catalog.Catalog.{CatalogLists}
+use Rattle.spdx_terms.specs.declared.catalog.identifier.Match.{Match}
 use Rattle.run_request.specs.declared.list.Args.{Args}
 use Rattle.run_request.specs.declared.request.Request.{Request}
 use Rattle.run_request.specs.declared.request.Subcommand.{Subcommand}
@@ -15,7 +15,7 @@ use Rattle.run_found.specs.declared.reads.CrateRead.{CrateRead}
 use Rattle.run_found.specs.Error.{EndsLawful as EndsCommand, MayEndLawful, cause_of}
 use Rattle.run_found.specs.Hearing.{HasMade, TreeSeen}
 use Rattle.run_found.specs.Written.{SinkSeen}
-use Rattle.run_lists.specs.Given.{ListsGiven}
+use Rattle.run_found.specs.lists.Given.{ListsGiven}
 use Rattle.run_command.specs.Given.{CommandArguments, CommandAsked, CommandOptions, command_asked, command_by}
 use Rattle.run_command.specs.Lawful.{CommandHearing, IsLawfulOver, IsLawfulRun}
 use Rattle.run_command.specs.Stops.{RequestInput}

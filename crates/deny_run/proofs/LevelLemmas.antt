@@ -10,14 +10,14 @@ use Rattle.diag_core.specs.declared.severity.LevelFilter.{LevelFilter}
 use Rattle.diag_core.specs.File.{File}
 use Rattle.diag_stats.specs.ExitCode.{has_errors}
 use Rattle.diag_stats.specs.declared.stats.AllStats.{AllStats}
-use Rattle.policy_valid.specs.declared.policy.ValidConfig.{ValidConfig}
+use Rattle.policy_core.specs.declared.valid.policy.ValidConfig.{ValidConfig}
 use Rattle.gather_core.specs.Calls.{CrateReads}
 use Rattle.gather_core.specs.declared.summary.KrateLicense.{KrateLicense}
 use Rattle.gather_core.proofs.ZipLemmas.{zip_weaker}
 use Rattle.run_found.specs.declared.error.Error.{Error}
 use Rattle.run_found.specs.Hearing.{RequestHearing, TellsContent}
-use Rattle.run_lists.specs.Given.{ListsGiven}
-use Rattle.run_lists.specs.Heard.{given_heard, lists_calls}
+use Rattle.run_found.specs.lists.Given.{ListsGiven}
+use Rattle.run_found.specs.lists.Heard.{given_heard, lists_calls}
 use Rattle.run_command.specs.Found.{HearsAllDue, calls_of}
 use Rattle.run_command.specs.Given.{CommandArguments, CommandAsked, command_by, handed_in}
 use Rattle.run_command.specs.Lawful.{CommandHearing, run_calls, there_call}

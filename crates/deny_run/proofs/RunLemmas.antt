@@ -2,11 +2,11 @@
 -- with.
 use Rattle.std.proofs.Common.{◌≡◌, ◌∙◌, refl, sym, ap, subst, ℕ, List, Option, Some, None, Result, Ok, Err, IfErr}
 use Rattle.tree_core.proofs.MadeLemmas.{some_made}
-use Rattle.tree_texts.specs.Cause.{ReadCounts}
-use Rattle.tree_texts.specs.declared.fault.ReadFault.TheVariants.{Absent}
+use Rattle.tree_core.specs.texts.Cause.{ReadCounts}
+use Rattle.tree_core.specs.declared.texts.fault.ReadFault.TheVariants.{Absent}
 use Rattle.graph_workspace.specs.declared.error.What.{What}
-use Rattle.spdx_catalog.specs.Catalog.{CatalogLists}
-use Rattle.spdx_catalog.specs.declared.identifier.Match.{Match}
+use Rattle.spdx_terms.specs.catalog.Catalog.{CatalogLists}
+use Rattle.spdx_terms.specs.declared.catalog.identifier.Match.{Match}
 use Rattle.run_request.specs.declared.list.Args.{Args}
 use Rattle.run_request.specs.declared.request.Request.{Request}
 use Rattle.run_request.specs.declared.request.Subcommand.{Subcommand}

@@ -3,8 +3,8 @@ use Rattle.std.proofs.Common.{◌≡◌, ◌⊎◌, inl, inr, ℕ, List, Result,
 use Rattle.tree_core.specs.Call.{CallAnswer}
 use Rattle.tree_core.specs.Faults.{Rose}
 use Rattle.tree_core.proofs.MadeLemmas.{some_made}
-use Rattle.tree_texts.specs.declared.fault.ReadFault.TheVariants.{Absent}
-use Rattle.policy_valid.specs.declared.policy.ValidConfig.{ValidConfig}
+use Rattle.tree_core.specs.declared.texts.fault.ReadFault.TheVariants.{Absent}
+use Rattle.policy_core.specs.declared.valid.policy.ValidConfig.{ValidConfig}
 use Rattle.gather_core.specs.declared.summary.KrateLicense.{KrateLicense}
 use Rattle.run_found.specs.declared.error.Error.{Error}
 use Rattle.run_found.specs.declared.error.Error.TheVariants.{Memory, NotCarried, ManifestPath, ManifestRead, CatalogRead, CatalogSyntax, StoreRead, ConfigRead, ConfigSyntax, ConfigShape, ConfigInvalid, OverrideTwice, MetadataRead, MetadataSyntax, MetadataShape, NoRoots, RecordRead, RecordSyntax, WriteFault}

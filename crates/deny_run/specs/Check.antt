@@ -1,7 +1,7 @@
 -- What a check answers, and what it writes to two sinks.
 use Rattle.std.specs.Prelude.{◌≡◌, ◌≤◌, ℕ, Bool, List, [], Option, Result, Ok, Err}
 use Rattle.tree_core.specs.Script.{FaultCounts, Gains, OutputSink, Script, SinkTexts, to_err, to_out}
-use Rattle.tree_texts.specs.Cause.{Cause, no_memory, refused_write}
+use Rattle.tree_core.specs.texts.Cause.{Cause, no_memory, refused_write}
 use Rattle.diag_print.specs.declared.context.LogContext.{LogContext}
 use Rattle.diag_stats.specs.Summary.{IsCutShort, count_of, summary_of, target_of}
 use Rattle.run_found.specs.declared.error.Error.{Error}

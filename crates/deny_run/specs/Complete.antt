@@ -10,7 +10,7 @@ use Rattle.run_request.specs.declared.request.Subcommand.TheVariants.{Check, Lis
 use Rattle.run_found.specs.declared.error.Error.{Error}
 use Rattle.run_found.specs.declared.error.Error.TheVariants.{RecordRead, RecordSyntax}
 use Rattle.run_found.specs.Error.{MayEndLawful, cause_of}
-use Rattle.run_lists.specs.Given.{ListsGiven}
+use Rattle.run_found.specs.lists.Given.{ListsGiven}
 use Rattle.run_command.specs.Given.{CommandOptions}
 use Rattle.run_command.specs.Lawful.{CommandHearing, IsLawfulOver, IsLawfulRun}
 use Rattle.run_command.specs.Stops.{RequestInput}

@@ -1,8 +1,8 @@
 -- How a run over a request ends.
 use Rattle.std.specs.Prelude.{◌≡◌, ◌≤◌, ℕ, List, All, Option, Some, None, Result, Ok, Err, IfErr, IfOk, ⊤}
-use Rattle.tree_texts.specs.Cause.{ReadCounts}
-use Rattle.spdx_catalog.specs.Catalog.{CatalogLists}
-use Rattle.spdx_catalog.specs.declared.identifier.Match.{Match}
+use Rattle.tree_core.specs.texts.Cause.{ReadCounts}
+use Rattle.spdx_terms.specs.catalog.Catalog.{CatalogLists}
+use Rattle.spdx_terms.specs.declared.catalog.identifier.Match.{Match}
 use Rattle.check_core.specs.Labels.{PackLies}
 use Rattle.run_request.specs.declared.list.Args.{Args}
 use Rattle.run_request.specs.declared.request.Request.{Request}

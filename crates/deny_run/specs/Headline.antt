@@ -23,7 +23,7 @@ use Rattle.run_request.specs.declared.request.Request.{Request}
 use Rattle.run_request.specs.declared.request.Subcommand.TheVariants.{Check}
 use Rattle.run_overrides.specs.Levels.{HasNoOverrides}
 use Rattle.run_found.specs.Hearing.{TreeSeen}
-use Rattle.run_lists.specs.Given.{ListsGiven}
+use Rattle.run_found.specs.lists.Given.{ListsGiven}
 use Rattle.run_command.specs.Given.{CommandAsked, command_by}
 use Rattle.run_command.specs.Lawful.{CommandHearing, ComesBy, HasBegun, IsRunHeard, run_calls}
 use Rattle.run_check.specs.declared.report.Report.{Report}

@@ -3,7 +3,7 @@ use Rattle.std.specs.Prelude.{◌≡◌, ℕ, All}
 use Rattle.tree_core.specs.Content.{Content}
 use Rattle.diag_core.specs.declared.severity.LevelFilter.{LevelFilter}
 use Rattle.run_found.specs.Hearing.{TellsContent, TreeSeen}
-use Rattle.run_lists.specs.Given.{ListsGiven}
+use Rattle.run_found.specs.lists.Given.{ListsGiven}
 use Rattle.run_command.specs.Given.{CommandArguments, CommandAsked, command_by}
 use Rattle.run_command.specs.Lawful.{CommandHearing, ComesBy, HasBegun, IsRunHeard, run_calls}
 use Rattle.run_check.specs.declared.report.Report.{Report}

@@ -1,7 +1,7 @@
 -- What `run` promises.
 use Rattle.std.specs.Prelude.{◌≡◌, ℕ, Option, Some, if◌then◌else◌}
-use Rattle.tree_texts.specs.declared.fault.ReadFault.TheVariants.{Absent}
-use Rattle.tree_texts.specs.Cause.{ReadCounts}
+use Rattle.tree_core.specs.declared.texts.fault.ReadFault.TheVariants.{Absent}
+use Rattle.tree_core.specs.texts.Cause.{ReadCounts}
 use Rattle.graph_workspace.specs.declared.error.What.{What}
 use Rattle.diag_stats.specs.ExitCode.{has_errors}
 use Rattle.check_verify.specs.declared.answer.Answer.{Answer}

@@ -1,7 +1,7 @@
 -- What a run over words comes to that have no request: help and the version are shown, mistakes are told, and no call is made.
 use Rattle.std.specs.Prelude.{◌≡◌, ◌⊎◌, ℕ, true, false, List, Option, Some, None, Result, Ok, Err}
 use Rattle.tree_core.specs.Faults.{Gained}
-use Rattle.tree_texts.specs.Cause.{Cause, no_memory, refused_write}
+use Rattle.tree_core.specs.texts.Cause.{Cause, no_memory, refused_write}
 use Rattle.run_request.specs.declared.request.Request.{Request}
 use Rattle.run_request.specs.Given.{Takes, may_refuse, may_show, word_faults}
 use Rattle.run_request.specs.Request.{gate_words, request_in}

@@ -10,18 +10,18 @@ use Rattle.gather_licence.specs.declared.settling.LicenseBasis.{LicenseBasis}
 use Rattle.gather_licence.specs.declared.settling.LicenseBasis.TheVariants.{Clarified, Field, Files}
 use Rattle.gather_core.specs.Told.{answer_view, info_by, joined_info, joined_notes, notes_of, nowhere, source_view}
 use Rattle.gather_core.specs.Turns.{IsCutOut, IsTurn, TurnInput, files_behind, findings_in, info_in, located_in, notes_in, points_in, basis_in}
-use Rattle.gather_findings.specs.declared.license.LicenseInfo.{LicenseInfo}
-use Rattle.gather_findings.specs.declared.license.LicenseInfo.TheVariants.{SpdxExpression, Unlicensed}
-use Rattle.policy_valid.specs.declared.policy.ValidConfig.{ValidConfig}
-use Rattle.policy_valid.specs.Policy.{Policy}
-use Rattle.policy_valid.specs.View.{policy_of}
-use Rattle.gather_expression.specs.Scanned.{Scanner}
+use Rattle.gather_core.specs.declared.findings.license.LicenseInfo.{LicenseInfo}
+use Rattle.gather_core.specs.declared.findings.license.LicenseInfo.TheVariants.{SpdxExpression, Unlicensed}
+use Rattle.policy_core.specs.declared.valid.policy.ValidConfig.{ValidConfig}
+use Rattle.policy_core.specs.valid.Policy.{Policy}
+use Rattle.policy_core.specs.valid.View.{policy_of}
+use Rattle.gather_licence.specs.expression.Scanned.{Scanner}
 use Rattle.gather_core.specs.Calls.{CrateReads, CrateTurn, IsTurnBy}
 use Rattle.gather_core.specs.Gathered.{krate_of}
 use Rattle.gather_core.specs.declared.summary.KrateLicense.{KrateLicense}
 use Rattle.gather_core.proofs.ZipLemmas.{all_left, same_maps}
 use Rattle.check_core.specs.declared.report.CrateReport.{CrateReport}
-use Rattle.spdx_certificates.specs.declared.verdict.Verdict.{Verdict}
+use Rattle.spdx_core.specs.declared.certificates.verdict.Verdict.{Verdict}
 use Rattle.check_core.specs.Check.{AreVerdicts}
 use Rattle.check_core.specs.Reports.{license_source, reports_of}
 use Rattle.check_core.specs.Summary.{gathered_of_licenses, gathered_of_license}

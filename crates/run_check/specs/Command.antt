@@ -1,7 +1,7 @@
 -- What the command `check` promises.
 use Rattle.std.specs.Prelude.{◌≡◌, ◌≤◌, None, Some, Result, Err, IfErr, IfOk}
 use Rattle.std.specs.Option.{ForSome}
-use Rattle.tree_texts.specs.Cause.{ReadCounts}
+use Rattle.tree_core.specs.texts.Cause.{ReadCounts}
 use Rattle.graph_workspace.specs.declared.error.What.{What}
 use Rattle.run_found.specs.declared.error.Error.{Error}
 use Rattle.run_found.specs.declared.error.Error.TheVariants.{NotCarried}

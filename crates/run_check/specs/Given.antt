@@ -1,7 +1,7 @@
 -- What a check is given, but for its files: what each command is, by its own options.
 use Rattle.std.specs.Prelude.{ℕ, true, List, Option, None}
-use Rattle.spdx_catalog.specs.Catalog.{CatalogLists}
-use Rattle.spdx_catalog.specs.declared.identifier.Match.{Match}
+use Rattle.spdx_terms.specs.catalog.Catalog.{CatalogLists}
+use Rattle.spdx_terms.specs.declared.catalog.identifier.Match.{Match}
 use Rattle.diag_print.specs.declared.context.LogContext.{LogContext}
 use Rattle.graph_workspace.specs.declared.error.What.{What}
 use Rattle.run_request.specs.declared.check.Args.{Args}

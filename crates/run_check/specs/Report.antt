@@ -1,10 +1,10 @@
 -- When a report is the one that a request and the files ask for.
 use Rattle.std.specs.Prelude.{◌≡◌, List, map, Option, option_map, Result, IfOk, All}
 use Rattle.std.specs.List.{AllZip}
-use Rattle.tree_reads.specs.Read.{records_of_reads}
-use Rattle.policy_valid.specs.View.{policy_of}
-use Rattle.policy_valid.specs.declared.policy.ValidConfig.{ValidConfig}
-use Rattle.spdx_certificates.specs.declared.verdict.Verdict.{Verdict}
+use Rattle.tree_core.specs.file_reads.Read.{records_of_reads}
+use Rattle.policy_core.specs.valid.View.{policy_of}
+use Rattle.policy_core.specs.declared.valid.policy.ValidConfig.{ValidConfig}
+use Rattle.spdx_core.specs.declared.certificates.verdict.Verdict.{Verdict}
 use Rattle.diag_core.specs.File.{File}
 use Rattle.diag_stats.specs.Counts.{counts_of}
 use Rattle.gather_licence.specs.Priority.{ExpressionSource, LicenseAnswer}

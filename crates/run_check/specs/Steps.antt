@@ -2,12 +2,12 @@
 use Rattle.std.specs.Prelude.{◌≡◌, List, All}
 use Rattle.graph_core.specs.Metadata.{Graph}
 use Rattle.diag_core.specs.File.{File}
-use Rattle.graph_selection.specs.Choice.{Choice}
-use Rattle.gather_expression.specs.Scanned.{Scanner}
-use Rattle.policy_valid.specs.View.{policy_of}
-use Rattle.policy_valid.specs.declared.policy.ValidConfig.{ValidConfig}
+use Rattle.graph_core.specs.selection.Choice.{Choice}
+use Rattle.gather_licence.specs.expression.Scanned.{Scanner}
+use Rattle.policy_core.specs.valid.View.{policy_of}
+use Rattle.policy_core.specs.declared.valid.policy.ValidConfig.{ValidConfig}
 use Rattle.gather_core.specs.declared.summary.KrateLicense.{KrateLicense}
-use Rattle.spdx_certificates.specs.declared.verdict.Verdict.{Verdict}
+use Rattle.spdx_core.specs.declared.certificates.verdict.Verdict.{Verdict}
 use Rattle.check_core.specs.Check.{AreVerdicts, findings_of}
 use Rattle.check_core.specs.Labels.{VerdictPoints}
 use Rattle.check_core.specs.Reports.{reports_of}

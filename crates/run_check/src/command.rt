@@ -1,6 +1,6 @@
 //! The command `check`.
 ghost use Rattle.std.specs.Prelude.{◌≡◌, ◌≤◌, [], None, IfErr};
-ghost use Rattle.tree_texts.specs.Cause.{ReadCounts};
+ghost use Rattle.tree_core.specs.texts.Cause.{ReadCounts};
 ghost use Rattle.run_context.specs.Asked.{uncarried};
 ghost use Rattle.run_found.specs.Error.{cause_of};
 ghost use Rattle.run_found.specs.Hearing.{seen_between};

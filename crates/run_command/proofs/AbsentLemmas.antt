@@ -5,31 +5,31 @@ use Rattle.std.specs.List.{list_any}
 use Rattle.tree_core.specs.Call as call
 use Rattle.tree_core.specs.Call.{CallAnswer}
 use Rattle.tree_core.specs.Trace.{faults_after}
-use Rattle.tree_texts.specs.declared.fault.ReadFault.{ReadFault}
-use Rattle.tree_texts.specs.declared.fault.ReadFault.TheVariants.{Failed, Absent, Folder, NotUtf8}
+use Rattle.tree_core.specs.declared.texts.fault.ReadFault.{ReadFault}
+use Rattle.tree_core.specs.declared.texts.fault.ReadFault.TheVariants.{Failed, Absent, Folder, NotUtf8}
 use Rattle.diag_core.specs.File.{File}
 use Rattle.graph_core.specs.Metadata.{Graph}
-use Rattle.graph_selection.specs.Choice.{is_uncarried}
+use Rattle.graph_core.specs.selection.Choice.{is_uncarried}
 use Rattle.graph_workspace.specs.Krates.{graph_in}
 use Rattle.graph_workspace.specs.declared.error.KratesError.{KratesError}
 use Rattle.graph_workspace.specs.declared.error.KratesError.TheVariants as krates
-use Rattle.spdx_catalog.specs.Catalog.{CatalogLists}
-use Rattle.spdx_catalog.specs.declared.identifier.Match.{Match}
+use Rattle.spdx_terms.specs.catalog.Catalog.{CatalogLists}
+use Rattle.spdx_terms.specs.declared.catalog.identifier.Match.{Match}
 use Rattle.spdx_listing.specs.File.{first_fault, lines_of, lists_of}
 use Rattle.spdx_listing.specs.Folder.{StoreHeard, store_answered}
-use Rattle.policy_config.specs.Root.{root_of}
-use Rattle.policy_config.specs.declared.root.RootConfig.{RootConfig}
+use Rattle.policy_core.specs.config.Root.{root_of}
+use Rattle.policy_core.specs.declared.config.root.RootConfig.{RootConfig}
 use Rattle.policy_core.specs.declared.exceptions.ExceptionsHeard.{ExceptionsHeard}
 use Rattle.policy_core.specs.Policy.{PolicyFound}
 use Rattle.policy_load.specs.Heard.{LoadHeard, exceptions_heard}
 use Rattle.policy_load.specs.Load.{load_by_config, load_by_text, load_of, with_policy}
 use Rattle.policy_load.specs.declared.loading.PolicyPaths.{PolicyPaths}
-use Rattle.policy_text.specs.Config.{IsOfText, config_of_text, if_carried, or_shape, or_syntax, then_config}
-use Rattle.policy_text.specs.Text.{config_text_of}
-use Rattle.policy_text.specs.declared.error.ConfigError.{ConfigError}
-use Rattle.policy_text.specs.declared.error.ConfigError.TheVariants as config
-use Rattle.policy_text.specs.declared.text.ConfigText.{ConfigText}
-use Rattle.toml_shapes.specs.Shaped.{ShapeReading}
+use Rattle.policy_core.specs.text.Config.{IsOfText, config_of_text, if_carried, or_shape, or_syntax, then_config}
+use Rattle.policy_core.specs.text.Text.{config_text_of}
+use Rattle.policy_core.specs.declared.text.error.ConfigError.{ConfigError}
+use Rattle.policy_core.specs.declared.text.error.ConfigError.TheVariants as config
+use Rattle.policy_core.specs.declared.text.text.ConfigText.{ConfigText}
+use Rattle.toml_subset.specs.shapes.Shaped.{ShapeReading}
 use Rattle.toml_subset.specs.Answer.{TomlReading}
 use Rattle.toml_subset.specs.Data.{Toml}
 use Rattle.toml_subset.specs.Reading.{read_text}
@@ -42,9 +42,9 @@ use Rattle.run_found.specs.Given.{RequestArguments}
 use Rattle.run_found.specs.Hearing.{LooksResult, look_failed, nowhere, at, unended, RequestHearing, TreeSeen}
 use Rattle.run_found.specs.Steps.{◌>>=◌}
 use Rattle.run_found.specs.Written.{SinkSeen}
-use Rattle.run_lists.specs.Found.{AnswersHeard}
-use Rattle.run_lists.specs.Given.{ListsAsked, ListsGiven}
-use Rattle.run_lists.specs.Heard.{ListsHearing, catalog_by, catalog_told, count_catalog, given_by, given_heard, lists_calls, lists_heard, texts_by, texts_heard, texts_told}
+use Rattle.run_found.specs.lists.Found.{AnswersHeard}
+use Rattle.run_found.specs.lists.Given.{ListsAsked, ListsGiven}
+use Rattle.run_found.specs.lists.Heard.{ListsHearing, catalog_by, catalog_told, count_catalog, given_by, given_heard, lists_calls, lists_heard, texts_by, texts_heard, texts_told}
 use Rattle.run_command.specs.Found.{input_of, policy_asked, unless_twice}
 use Rattle.run_command.specs.Given.{CommandArguments, CommandAsked, command_by, handed_in}
 use Rattle.run_command.specs.Prelude.{ComesTo, Runs, came, from_there, lists_had, no_lists, no_manifest, stopped, uncarried}

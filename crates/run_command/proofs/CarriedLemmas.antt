@@ -2,7 +2,7 @@
 use Rattle.std.proofs.Common.{◌≡◌, ◌∙◌, refl, ap, ℕ, Bool, true, false, cond, List, [], Some, None, ◌||◌}
 use Rattle.std.specs.Prelude.{is_none}
 use Rattle.std.specs.List.{list_any}
-use Rattle.graph_selection.specs.Choice.{is_uncarried}
+use Rattle.graph_core.specs.selection.Choice.{is_uncarried}
 use Rattle.graph_workspace.specs.declared.error.What.TheVariants as what
 use Rattle.diag_print.specs.declared.context.LogContext.{LogContext}
 use Rattle.run_context.specs.Asked.{uncarried}

@@ -5,9 +5,9 @@ use Rattle.graph_workspace.specs.Krates.{krates_cause}
 use Rattle.graph_workspace.specs.declared.error.KratesError.{KratesError}
 use Rattle.graph_workspace.specs.declared.error.KratesError.TheVariants as krates
 use Rattle.policy_core.specs.Places.{PolicyStands}
-use Rattle.policy_valid.specs.declared.policy.ValidConfig.{ValidConfig}
-use Rattle.tree_texts.specs.Cause.{ReadCounts}
-use Rattle.tree_texts.specs.declared.fault.ReadFault.TheVariants.{Failed, Absent, Folder, NotUtf8}
+use Rattle.policy_core.specs.declared.valid.policy.ValidConfig.{ValidConfig}
+use Rattle.tree_core.specs.texts.Cause.{ReadCounts}
+use Rattle.tree_core.specs.declared.texts.fault.ReadFault.TheVariants.{Failed, Absent, Folder, NotUtf8}
 use Rattle.run_overrides.specs.declared.error.OverrideError.{OverrideError}
 use Rattle.run_overrides.specs.declared.error.OverrideError.TheVariants as overrides
 use Rattle.run_found.specs.Error.{cause_of, error_of_krates, error_of_override}

@@ -8,7 +8,7 @@ use Rattle.tree_core.specs.Trace.{answered, file_call}
 use Rattle.tree_core.specs.declared.tree.TreeError.{TreeError}
 use Rattle.tree_core.specs.declared.tree.TreeError.TheVariants as tree_error
 use Rattle.tree_core.proofs.MadeLemmas.{made_as, made_none}
-use Rattle.tree_texts.specs.declared.fault.ReadFault.TheVariants.{Absent}
+use Rattle.tree_core.specs.declared.texts.fault.ReadFault.TheVariants.{Absent}
 use Rattle.run_found.specs.declared.error.Error.{Error}
 use Rattle.run_found.specs.declared.error.Error.TheVariants.{Memory, ManifestPath, ManifestRead, ConfigRead}
 use Rattle.run_found.specs.Hearing.{MadeOn, TreeSeen, seen}

@@ -9,17 +9,17 @@ use Rattle.tree_core.specs.Faults.{Rose}
 use Rattle.tree_core.specs.Hearing.{MadeSome}
 use Rattle.tree_core.specs.Trace.{Says}
 use Rattle.tree_core.proofs.MadeLemmas.{made_as, made_joined, some_joined, some_made}
-use Rattle.tree_texts.specs.Cause.{Cause, no_memory, failed_read, refused_write}
-use Rattle.tree_texts.specs.Cause as causes
+use Rattle.tree_core.specs.texts.Cause.{Cause, no_memory, failed_read, refused_write}
+use Rattle.tree_core.specs.texts.Cause as causes
 use Rattle.graph_workspace.specs.declared.error.What.{What}
 use Rattle.run_found.specs.declared.error.Error.{Error}
 use Rattle.run_found.specs.declared.error.Error.TheVariants.{Memory, NotCarried}
 use Rattle.run_found.specs.Error.{MayEndLawful, cause_of}
 use Rattle.run_found.specs.Hearing.{HasMade, MadeOn, RequestHearing, TellsContent, TreeSeen}
 use Rattle.run_found.specs.Written.{SinkSeen}
-use Rattle.run_lists.specs.Found.{AnswersBy, FindsLists}
-use Rattle.run_lists.specs.Given.{ListsGiven}
-use Rattle.run_lists.specs.Heard.{ListsHearing, given_heard, lists_calls}
+use Rattle.run_found.specs.lists.Found.{AnswersBy, FindsLists}
+use Rattle.run_found.specs.lists.Given.{ListsGiven}
+use Rattle.run_found.specs.lists.Heard.{ListsHearing, given_heard, lists_calls}
 use Rattle.run_command.specs.Found.{IsHeard, calls_of}
 use Rattle.run_command.specs.Given.{CommandArguments, CommandAsked, command_by, handed_in}
 use Rattle.run_command.specs.Lawful.{CommandHearing, IsLawful, IsLawfulOver, IsLawfulRun, IsRunHeard, run_calls, there_call}

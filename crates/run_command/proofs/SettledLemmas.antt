@@ -6,11 +6,11 @@ use Rattle.tree_core.specs.Trace.{faults_after}
 use Rattle.tree_core.proofs.MadeLemmas.{made_as, made_joined}
 use Rattle.diag_core.specs.File.{File}
 use Rattle.graph_core.specs.Krate.{Record}
-use Rattle.graph_selection.specs.Listed.{IsListOf}
-use Rattle.graph_selection.specs.Walks.{Selected}
-use Rattle.tree_reads.specs.Read.{AreReads}
-use Rattle.policy_valid.specs.declared.policy.ValidConfig.{ValidConfig}
-use Rattle.gather_expression.specs.Scanned.{Scanner}
+use Rattle.graph_core.specs.selection.Listed.{IsListOf}
+use Rattle.graph_core.specs.selection.Walks.{Selected}
+use Rattle.tree_core.specs.file_reads.Read.{AreReads}
+use Rattle.policy_core.specs.declared.valid.policy.ValidConfig.{ValidConfig}
+use Rattle.gather_licence.specs.expression.Scanned.{Scanner}
 use Rattle.gather_core.specs.Calls.{AreTurnsBy, CrateReads, calls_of_all, reads_of_all}
 use Rattle.gather_core.specs.Entries.{entries_of}
 use Rattle.gather_core.specs.Gathered.{include_of, krate_of}

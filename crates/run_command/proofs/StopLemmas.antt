@@ -7,24 +7,24 @@ use Rattle.tree_core.specs.Hearing.{Made, MadeSome}
 use Rattle.tree_core.specs.Trace.{fault_behind}
 use Rattle.tree_core.proofs.MadeLemmas.{made_as, made_joined, made_these, some_made}
 use Rattle.graph_core.specs.Metadata.{Graph}
-use Rattle.graph_selection.specs.Choice.{Choice}
-use Rattle.graph_selection.specs.Listed.{Chosen, IsChosen}
-use Rattle.tree_texts.specs.Cause.{Cause, no_memory, told, failed_read, refused_write}
-use Rattle.tree_texts.specs.Heard.{text_answered}
-use Rattle.tree_texts.specs.declared.fault.ReadFault.{ReadFault}
-use Rattle.tree_texts.specs.declared.fault.ReadFault.TheVariants.{Failed, Absent, Folder, NotUtf8}
-use Rattle.graph_selection.specs.Roots.{HasRoot, LacksRoots}
+use Rattle.graph_core.specs.selection.Choice.{Choice}
+use Rattle.graph_core.specs.selection.Listed.{Chosen, IsChosen}
+use Rattle.tree_core.specs.texts.Cause.{Cause, no_memory, told, failed_read, refused_write}
+use Rattle.tree_core.specs.texts.Heard.{text_answered}
+use Rattle.tree_core.specs.declared.texts.fault.ReadFault.{ReadFault}
+use Rattle.tree_core.specs.declared.texts.fault.ReadFault.TheVariants.{Failed, Absent, Folder, NotUtf8}
+use Rattle.graph_core.specs.selection.Roots.{HasRoot, LacksRoots}
 use Rattle.graph_workspace.specs.Krates.{GathersBy, IsCarried, graph_in}
 use Rattle.graph_workspace.specs.declared.error.KratesError.{KratesError}
 use Rattle.graph_workspace.specs.declared.error.KratesError.TheVariants as krates
 use Rattle.policy_parts.specs.declared.graph.GraphConfig.{GraphConfig}
-use Rattle.policy_valid.specs.declared.policy.ValidConfig.{ValidConfig}
+use Rattle.policy_core.specs.declared.valid.policy.ValidConfig.{ValidConfig}
 use Rattle.diag_core.specs.File.{File}
 use Rattle.gather_core.specs.Calls.{CrateReads, calls_of_all}
 use Rattle.policy_core.specs.Policy.{PolicyFound}
 use Rattle.policy_core.specs.declared.load.LoadedPolicy.{LoadedPolicy}
 use Rattle.policy_load.specs.Answer.{IsPolicyOf}
-use Rattle.policy_validate.specs.Order.{PutsPolicyInOrder}
+use Rattle.policy_core.specs.validate.Order.{PutsPolicyInOrder}
 use Rattle.run_context.specs.Asked.{choice_asked}
 use Rattle.run_overrides.specs.Overrides.{IsFirstTold}
 use Rattle.run_overrides.specs.Twice.{first_twice}

@@ -1,7 +1,7 @@
 -- What of a request for a command over crates is not carried. A command with options of its own may carry less.
 use Rattle.std.specs.Prelude.{Bool, false, true, not, ◌==◌, List, [], ◌∷◌, find, length, is_none, None, Option, option_map}
 use Rattle.std.specs.List.{list_any}
-use Rattle.graph_selection.specs.Choice.{is_uncarried}
+use Rattle.graph_core.specs.selection.Choice.{is_uncarried}
 use Rattle.diag_print.specs.declared.context.LogContext.{LogContext}
 use Rattle.run_request.specs.declared.context.KrateContext.{KrateContext}
 use Rattle.run_request.specs.declared.level.LintLevels.{LintLevels}

@@ -4,8 +4,8 @@ use Rattle.tree_core.specs.Call.{CallAnswer}
 use Rattle.tree_core.specs.Faults.{Gained}
 use Rattle.diag_core.specs.File.{File}
 use Rattle.graph_core.specs.Metadata.{Graph}
-use Rattle.graph_selection.specs.Listed.{IsChosen}
-use Rattle.graph_selection.specs.Roots.{HasRoot}
+use Rattle.graph_core.specs.selection.Listed.{IsChosen}
+use Rattle.graph_core.specs.selection.Roots.{HasRoot}
 use Rattle.policy_core.specs.Policy.{PolicyFound}
 use Rattle.run_overrides.specs.Twice.{first_twice}
 use Rattle.run_found.specs.declared.error.Error.{Error}

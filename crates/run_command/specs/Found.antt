@@ -3,15 +3,15 @@ use Rattle.std.specs.Prelude.{◌≡◌, ◌&&◌, ℕ, ℤ, Bool, List, Option,
 use Rattle.tree_core.specs.Call.{Call}
 use Rattle.graph_core.specs.Krate.{Record}
 use Rattle.graph_core.specs.Metadata.{Graph}
-use Rattle.graph_selection.specs.Choice.{Choice}
-use Rattle.graph_selection.specs.Listed.{IsListOf}
-use Rattle.graph_selection.specs.Walks.{Selected}
+use Rattle.graph_core.specs.selection.Choice.{Choice}
+use Rattle.graph_core.specs.selection.Listed.{IsListOf}
+use Rattle.graph_core.specs.selection.Walks.{Selected}
 use Rattle.policy_core.specs.Policy.{PolicyFound}
 use Rattle.policy_parts.specs.declared.graph.GraphConfig.{GraphConfig}
-use Rattle.policy_valid.specs.declared.policy.ValidConfig.{ValidConfig}
-use Rattle.policy_validate.specs.Order.{PutsPolicyInOrder}
+use Rattle.policy_core.specs.declared.valid.policy.ValidConfig.{ValidConfig}
+use Rattle.policy_core.specs.validate.Order.{PutsPolicyInOrder}
 use Rattle.gather_core.specs.Calls.{CrateTurn}
-use Rattle.gather_expression.specs.Scanned.{Scanner}
+use Rattle.gather_licence.specs.expression.Scanned.{Scanner}
 use Rattle.run_context.specs.Asked.{LeavesOut, choice_asked}
 use Rattle.run_overrides.specs.Twice.{Twice, first_twice}
 use Rattle.run_found.specs.declared.error.Error.{Error}

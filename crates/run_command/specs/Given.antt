@@ -1,14 +1,14 @@
 -- What a command is given, but for its files.
 use Rattle.std.specs.Prelude.{ℕ, ℤ, Bool, List, Option}
 use Rattle.graph_workspace.specs.declared.error.What.{What}
-use Rattle.spdx_catalog.specs.Catalog.{CatalogLists}
-use Rattle.spdx_catalog.specs.declared.identifier.Match.{Match}
+use Rattle.spdx_terms.specs.catalog.Catalog.{CatalogLists}
+use Rattle.spdx_terms.specs.declared.catalog.identifier.Match.{Match}
 use Rattle.diag_print.specs.declared.context.LogContext.{LogContext}
 use Rattle.run_request.specs.declared.context.KrateContext.{KrateContext}
 use Rattle.run_request.specs.declared.level.LintLevels.{LintLevels}
 use Rattle.run_found.specs.Given.{RequestArguments, request_arguments_of}
 use Rattle.run_request.specs.declared.request.Request.{Request}
-use Rattle.run_lists.specs.Given.{ListsAsked, ListsGiven, lists_asked, lists_given}
+use Rattle.run_found.specs.lists.Given.{ListsAsked, ListsGiven, lists_asked, lists_given}
 
 -- In what commands differ before they do their own: the first part of the request that is not carried, the codes and levels that are
 -- asked for, whether the flags of the policy's graph leave crates out, and the least score of a text, where that is not the policy's.

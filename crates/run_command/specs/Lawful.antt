@@ -4,8 +4,8 @@ use Rattle.tree_core.specs.Call as call
 use Rattle.tree_core.specs.Call.{Call}
 use Rattle.tree_core.specs.Content.{Content}
 use Rattle.run_found.specs.Hearing.{MadeOn, RequestHearing, TellsContent, TreeSeen}
-use Rattle.run_lists.specs.Given.{ListsGiven}
-use Rattle.run_lists.specs.Heard.{ListsHearing, given_heard, lists_calls}
+use Rattle.run_found.specs.lists.Given.{ListsGiven}
+use Rattle.run_found.specs.lists.Heard.{ListsHearing, given_heard, lists_calls}
 use Rattle.run_command.specs.Found.{HearsAllDue, calls_of}
 use Rattle.run_command.specs.Given.{CommandAsked, command_by, handed_in}
 use Rattle.run_command.specs.Manifest.{is_manifest, manifest_call}

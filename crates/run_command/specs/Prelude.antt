@@ -7,8 +7,8 @@ use Rattle.run_found.specs.declared.error.Error.{Error}
 use Rattle.run_found.specs.declared.error.Error.TheVariants.{NotCarried}
 use Rattle.run_found.specs.Hearing.{MadeOn, TreeSeen, seen}
 use Rattle.run_found.specs.Written.{IsSilent, SinkSeen}
-use Rattle.run_lists.specs.Found.{FindsLists}
-use Rattle.run_lists.specs.Given.{ListsGiven}
+use Rattle.run_found.specs.lists.Found.{FindsLists}
+use Rattle.run_found.specs.lists.Given.{ListsGiven}
 use Rattle.run_command.specs.Given.{CommandArguments, CommandAsked, command_by, handed_in}
 use Rattle.run_command.specs.Manifest.{LooksAtManifest}
 

@@ -1,12 +1,12 @@
 -- What a command makes its answer of: the policy, and the licences of the crates that are asked for.
 use Rattle.std.specs.Prelude.{◌≡◌, ◌⊎◌, ℕ, List, Result, Ok, Err}
 use Rattle.tree_core.specs.Faults.{Gained, GainedPrefix}
-use Rattle.tree_texts.specs.Cause.{Cause, no_memory, refused_write}
-use Rattle.tree_reads.specs.Read.{AreReads, records_of_reads}
+use Rattle.tree_core.specs.texts.Cause.{Cause, no_memory, refused_write}
+use Rattle.tree_core.specs.file_reads.Read.{AreReads, records_of_reads}
 use Rattle.diag_core.specs.File.{File}
-use Rattle.policy_valid.specs.declared.policy.ValidConfig.{ValidConfig}
-use Rattle.gather_expression.specs.Scanned.{Scanner}
-use Rattle.gather_findings.specs.License.{expression_of}
+use Rattle.policy_core.specs.declared.valid.policy.ValidConfig.{ValidConfig}
+use Rattle.gather_licence.specs.expression.Scanned.{Scanner}
+use Rattle.gather_core.specs.findings.License.{expression_of}
 use Rattle.gather_core.specs.Calls.{AreTurnsBy, CrateReads, reads_of_all}
 use Rattle.gather_core.specs.Gathered.{krate_of}
 use Rattle.gather_core.specs.declared.summary.KrateLicense.{KrateLicense}

@@ -1,8 +1,8 @@
 //! The policy of a command, and the crates that it looks at.
 ghost use Rattle.std.specs.Prelude.{◌≡◌, ◌≤◌, ℕ, List, [], IfErr, IfOk, None};
 ghost use Rattle.tree_core.specs.Hearing.{MadeSome};
-ghost use Rattle.tree_texts.specs.Cause.{ReadCounts};
-ghost use Rattle.spdx_catalog.specs.declared.identifier.Match.{Match};
+ghost use Rattle.tree_core.specs.texts.Cause.{ReadCounts};
+ghost use Rattle.spdx_terms.specs.declared.catalog.identifier.Match.{Match};
 ghost use Rattle.graph_workspace.specs.Krates.{krates_cause};
 ghost use Rattle.policy_core.specs.Places.{PolicyStands};
 ghost use Rattle.run_context.specs.Asked.{IsAnswerBy, IsRefused, uncarried};
@@ -18,9 +18,9 @@ ghost use Rattle.run_command.specs.Given.{command_arguments_of};
 use diag_core::{DiagnosticOverrides, Files};
 use diag_print::LogContext;
 use graph_workspace::{Krates, KratesError};
+use policy_core::valid::ValidConfig;
 use policy_load::LoadedPolicy;
 use policy_parts::GraphConfig;
-use policy_valid::ValidConfig;
 use run_context::{LeftOut, gather_krates_since};
 use run_found::{Error, policy_found};
 use run_overrides::overrides_of;

@@ -4,10 +4,10 @@ use Rattle.std.specs.Prelude.{◌≡◌, ℕ, List, [], ◌∷◌, Option, Some,
 use Rattle.tree_core.specs.Call.{CallAnswer}
 use Rattle.tree_core.specs.Trace.{fault_behind}
 use Rattle.graph_core.specs.Metadata.{Graph}
-use Rattle.tree_texts.specs.Heard.{read_of, text_answered}
-use Rattle.tree_texts.specs.declared.fault.ReadFault.{ReadFault}
-use Rattle.graph_selection.specs.Choice.{Choice}
-use Rattle.graph_selection.specs.Roots.{HasRoot}
+use Rattle.tree_core.specs.texts.Heard.{read_of, text_answered}
+use Rattle.tree_core.specs.declared.texts.fault.ReadFault.{ReadFault}
+use Rattle.graph_core.specs.selection.Choice.{Choice}
+use Rattle.graph_core.specs.selection.Roots.{HasRoot}
 use Rattle.graph_workspace.specs.Krates.{AreFrom, graph_in}
 use Rattle.graph_workspace.specs.declared.error.KratesError.{KratesError}
 use Rattle.graph_workspace.specs.declared.error.KratesError.TheVariants as krates

@@ -3,7 +3,7 @@ use Rattle.std.proofs.Common.{◌≡◌, ◌≤◌, ◌∙◌, arith, refl, sym,
 use Rattle.tree_core.specs.Call.{Call}
 use Rattle.tree_core.specs.Content.{Content}
 use Rattle.tree_core.proofs.MadeLemmas.{made_none}
-use Rattle.tree_texts.specs.Cause.{ReadCounts}
+use Rattle.tree_core.specs.texts.Cause.{ReadCounts}
 use Rattle.graph_workspace.specs.declared.error.What.{What}
 use Rattle.run_found.specs.declared.error.Error.{Error}
 use Rattle.run_found.specs.declared.error.Error.TheVariants.{NotCarried}

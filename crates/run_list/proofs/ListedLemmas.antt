@@ -3,11 +3,11 @@ use Rattle.std.proofs.Common.{◌≡◌, ◌∙◌, refl, ap, ap₂, List, [], �
 use Rattle.std.specs.List.{AllZip}
 use Rattle.gather_core.specs.Calls.{CrateReads}
 use Rattle.gather_core.specs.declared.summary.KrateLicense.{KrateLicense}
-use Rattle.gather_expression.specs.Scanned.{Scanner}
-use Rattle.gather_findings.specs.License.{expression_of}
-use Rattle.gather_findings.specs.declared.license.LicenseInfo.{LicenseInfo}
-use Rattle.gather_findings.specs.declared.license.LicenseInfo.TheVariants.{SpdxExpression, Unlicensed}
-use Rattle.policy_valid.specs.declared.policy.ValidConfig.{ValidConfig}
+use Rattle.gather_licence.specs.expression.Scanned.{Scanner}
+use Rattle.gather_core.specs.findings.License.{expression_of}
+use Rattle.gather_core.specs.declared.findings.license.LicenseInfo.{LicenseInfo}
+use Rattle.gather_core.specs.declared.findings.license.LicenseInfo.TheVariants.{SpdxExpression, Unlicensed}
+use Rattle.policy_core.specs.declared.valid.policy.ValidConfig.{ValidConfig}
 use Rattle.run_found.specs.Reads.{read_gathered}
 use Rattle.run_listing.specs.declared.listed.ListedCrate.{ListedCrate}
 use Rattle.run_listing.specs.Listed.{crate_name, licences_of, listed_of}

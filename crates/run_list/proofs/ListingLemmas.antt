@@ -4,10 +4,10 @@ use Rattle.std.specs.List.{AllZip}
 use Rattle.tree_core.specs.Call.{Call}
 use Rattle.tree_core.specs.Content.{Content}
 use Rattle.tree_core.specs.Faults.{Gained}
-use Rattle.tree_texts.specs.Cause.{Cause, ReadCounts, no_memory, told, failed_read, refused_write}
+use Rattle.tree_core.specs.texts.Cause.{Cause, ReadCounts, no_memory, told, failed_read, refused_write}
 use Rattle.diag_core.specs.File.{File}
 use Rattle.diag_print.specs.declared.context.LogContext.{LogContext}
-use Rattle.policy_valid.specs.declared.policy.ValidConfig.{ValidConfig}
+use Rattle.policy_core.specs.declared.valid.policy.ValidConfig.{ValidConfig}
 use Rattle.gather_core.specs.declared.summary.KrateLicense.{KrateLicense}
 use Rattle.run_request.specs.declared.context.KrateContext.{KrateContext}
 use Rattle.run_request.specs.declared.level.LintLevels.{LintLevels}

@@ -2,7 +2,7 @@
 use Rattle.std.specs.Prelude.{◌≡◌, ◌≤◌, List, None, Some, Result, Err, IfErr}
 use Rattle.std.specs.Option.{ForSome}
 use Rattle.tree_core.specs.Call.{Call}
-use Rattle.tree_texts.specs.Cause.{ReadCounts}
+use Rattle.tree_core.specs.texts.Cause.{ReadCounts}
 use Rattle.graph_workspace.specs.declared.error.What.{What}
 use Rattle.run_found.specs.declared.error.Error.{Error}
 use Rattle.run_found.specs.declared.error.Error.TheVariants.{NotCarried}

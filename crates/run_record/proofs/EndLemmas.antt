@@ -1,6 +1,6 @@
 -- What the two commands share: their options, and what a refused write comes of.
 use Rattle.std.proofs.Common.{◌≡◌, ◌∙◌, ap, sym, ℕ, true, Option, None}
-use Rattle.tree_texts.specs.Cause.{ReadCounts}
+use Rattle.tree_core.specs.texts.Cause.{ReadCounts}
 use Rattle.diag_print.specs.declared.context.LogContext.{LogContext}
 use Rattle.graph_workspace.specs.declared.error.What.{What}
 use Rattle.run_request.specs.declared.context.KrateContext.{KrateContext}

@@ -4,11 +4,11 @@ use Rattle.tree_core.specs.Call.{CallAnswer, Call}
 use Rattle.tree_core.specs.Content.{Content}
 use Rattle.tree_core.specs.Hearing.{MadeSome}
 use Rattle.tree_core.proofs.MadeLemmas.{made_joined, made_these}
-use Rattle.tree_texts.specs.Cause.{ReadCounts}
-use Rattle.tree_texts.specs.Heard.{IsTextRead, read_of, text_answered}
-use Rattle.tree_texts.specs.declared.fault.ReadFault.{ReadFault}
+use Rattle.tree_core.specs.texts.Cause.{ReadCounts}
+use Rattle.tree_core.specs.texts.Heard.{IsTextRead, read_of, text_answered}
+use Rattle.tree_core.specs.declared.texts.fault.ReadFault.{ReadFault}
 use Rattle.diag_core.specs.File.{File}
-use Rattle.policy_valid.specs.declared.policy.ValidConfig.{ValidConfig}
+use Rattle.policy_core.specs.declared.valid.policy.ValidConfig.{ValidConfig}
 use Rattle.gather_core.specs.declared.summary.KrateLicense.{KrateLicense}
 use Rattle.run_found.specs.declared.error.Error.{Error}
 use Rattle.run_found.specs.declared.error.Error.TheVariants.{Memory, RecordRead, RecordSyntax}

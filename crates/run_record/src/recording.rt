@@ -2,7 +2,7 @@
 ghost use Rattle.std.specs.Prelude.{◌≡◌, ◌≤◌, Err, IfErr, IfOk, IfSome, None, map};
 ghost use Rattle.std.specs.List.{AllByRecursion};
 ghost use Rattle.spdx_core.specs.Expressions.{IsExpression};
-ghost use Rattle.tree_texts.specs.Cause.{ReadCounts};
+ghost use Rattle.tree_core.specs.texts.Cause.{ReadCounts};
 ghost use Rattle.check_record.specs.Items.{IsRecord, IsRecordItem};
 ghost use Rattle.check_record.specs.Spelling.{spelled_of};
 ghost use Rattle.run_found.specs.Error.{cause_of};

@@ -1,7 +1,7 @@
 //! The command `verify`.
 ghost use Rattle.std.specs.Prelude.{◌≡◌, ◌≤◌, ◌<◌, IfErr, IfOk, None, Ok};
-ghost use Rattle.tree_texts.specs.Cause.{ReadCounts};
-ghost use Rattle.policy_valid.specs.View.{policy_of};
+ghost use Rattle.tree_core.specs.texts.Cause.{ReadCounts};
+ghost use Rattle.policy_core.specs.valid.View.{policy_of};
 ghost use Rattle.check_verify.specs.Verified.{IsVerified};
 ghost use Rattle.run_found.specs.Error.{cause_of};
 ghost use Rattle.run_found.specs.Hearing.{seen_between};
@@ -18,7 +18,7 @@ use deny_text::Steps;
 use diag_core::Files;
 use diag_print::LogContext;
 use gather_core::Summary;
-use policy_valid::ValidConfig;
+use policy_core::valid::ValidConfig;
 use run_command::{PolicyUse, crates_found, no_levels, write_answer};
 use run_found::{Error, licences_found, reads_of_licenses};
 use run_request::KrateContext;
@@ -26,8 +26,8 @@ use spdx_core::{Catalog, Identifier};
 use std::alloc::{AllocError, Global};
 use std::marker::Brand;
 use std::sync::ledger::{Blank, Ledger};
+use tree_core::texts::read_file_text;
 use tree_core::{Sink, Tree};
-use tree_texts::read_file_text;
 
 /// Whether a record is right, with its steps counted in a ledger that is handed in.
 fn verify_by_ledger<L: Ledger>(

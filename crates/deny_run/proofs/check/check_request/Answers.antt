@@ -1,10 +1,10 @@
 -- The command is refused before it begins, or it runs by the names and texts that are had.
 use Rattle.std.proofs.Common.{refl, sym, subst, ℕ, IfErr}
-use Rattle.tree_texts.specs.Cause.{ReadCounts}
+use Rattle.tree_core.specs.texts.Cause.{ReadCounts}
 use Rattle.run_found.specs.Error.{cause_of}
 use Rattle.run_found.specs.Hearing.{seen}
-use Rattle.run_lists.specs.Chosen.{lists_chosen, texts_chosen}
-use Rattle.run_lists.specs.Given.{lists_given}
+use Rattle.run_found.specs.lists.Chosen.{lists_chosen, texts_chosen}
+use Rattle.run_found.specs.lists.Given.{lists_given}
 use Rattle.run_command.specs.Given.{command_asked}
 use Rattle.run_command.specs.Prelude.{came, stopped}
 use Rattle.run_command.proofs.PreludeLemmas.{comes_carried, comes_still}

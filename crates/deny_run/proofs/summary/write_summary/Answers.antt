@@ -21,7 +21,7 @@ returns-in-Err-WriteFault-clause-err g c =
     c.in-Err-WriteFault.field-0-is c.in-Err-WriteFault.ensures.err in
     let behind = subst (λ (refused : PrintError). HasCountBehind (target_of log.format) out_after err_after refused) c.in-Err-WriteFault.field-0-is c.in-Err-WriteFault.ensures.behind in (
       subst (λ begun. IsCutShort (sink_counts out_before out_after c.args.begun err_after) begun c.in-Err-WriteFault.after old new (summary_of log.format log.log_level show stats)) (sym c.begun_of.ensures)
-      (since_begun (target_of log.format) (summary_text log.format log.log_level show stats) out_before out_after c.args.begun err_before err_after c.in-Err-WriteFault.before c.in-Err-WriteFault.after
-      old new c.requires short),
+          (since_begun (target_of log.format) (summary_text log.format log.log_level show stats) out_before out_after c.args.begun err_before err_after c.in-Err-WriteFault.before c.in-Err-WriteFault.after
+          old new c.requires short),
       behind,
     )

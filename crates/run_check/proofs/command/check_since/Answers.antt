@@ -1,7 +1,7 @@
 -- Each end of `check_since`: a refusal before what was found, findings that were not all printed, and the report.
 use Rattle.std.proofs.Common.{Err, Ok, inl, sym, subst}
 use Rattle.tree_core.specs.Faults.{Gained, GainedPrefix}
-use Rattle.tree_texts.specs.Cause.{ReadCounts}
+use Rattle.tree_core.specs.texts.Cause.{ReadCounts}
 use Rattle.diag_print.specs.Findings.{HasReasonSince, PacksAreInside, printed_packs}
 use Rattle.run_found.specs.Error.{cause_of}
 use Rattle.run_found.specs.Hearing.{seen}

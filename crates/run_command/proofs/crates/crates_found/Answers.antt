@@ -4,7 +4,7 @@ use Rattle.std.proofs.lemmas.Result.{err_from_is_err_and}
 use Rattle.tree_core.proofs.MadeLemmas.{some-later}
 use Rattle.graph_workspace.specs.Krates.{GathersBy}
 use Rattle.policy_core.specs.Places.{PolicyStands}
-use Rattle.policy_valid.specs.declared.policy.ValidConfig.{ValidConfig}
+use Rattle.policy_core.specs.declared.valid.policy.ValidConfig.{ValidConfig}
 use Rattle.run_context.specs.Asked.{choice_asked}
 use Rattle.run_found.specs.Error.{cause_of, error_of_krates}
 use Rattle.run_found.specs.Finds.{alone}

@@ -1,11 +1,11 @@
 -- A part is not carried, the manifest is not there, names and texts are not had, or they are.
 use Rattle.std.proofs.Common.{◌∙◌, refl, sym, subst, ℕ, List, Ok, Err}
 use Rattle.tree_core.proofs.MadeLemmas.{made_none}
-use Rattle.tree_texts.specs.Cause.{ReadCounts}
+use Rattle.tree_core.specs.texts.Cause.{ReadCounts}
 use Rattle.run_found.specs.Error.{cause_of}
 use Rattle.run_found.specs.Hearing.{seen}
-use Rattle.run_lists.specs.Chosen.{lists_chosen, texts_chosen}
-use Rattle.run_lists.specs.Given.{lists_given}
+use Rattle.run_found.specs.lists.Chosen.{lists_chosen, texts_chosen}
+use Rattle.run_found.specs.lists.Given.{lists_given}
 use Rattle.run_command.specs.Manifest.{LooksAtManifest}
 use Rattle.run_command.specs.Prelude.{lists_had, no_lists, no_manifest, uncarried}
 use Rattle.run_command.proofs.ManifestLemmas.{looked_count}

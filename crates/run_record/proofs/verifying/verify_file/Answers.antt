@@ -1,7 +1,7 @@
 use Rattle.std.proofs.Common.{◌∙◌, ap, subst, sym, Ok, Err}
 use Rattle.std.proofs.lemmas.Result.{err_from_is_err_and}
 use Rattle.tree_core.specs.Call.{no_memory}
-use Rattle.tree_texts.specs.Heard.{IsTextRead}
+use Rattle.tree_core.specs.texts.Heard.{IsTextRead}
 use Rattle.run_found.specs.declared.error.Error.TheVariants.{Memory, RecordRead}
 use Rattle.run_record.proofs.VerifyLemmas.{heard_read, none_read}
 use Rattle.run_record.proofs.verifying.verify_file.Goals as goal
