@@ -112,8 +112,8 @@ module _ (lists : CatalogLists) (match_of : List ℕ → Match) (request : Reque
   request_ends (Sample size) ends = value_ends ends.value ends.is
     where
       value_ends : (value : Result Report Error) → answer ≡ as_end Sampled value → (own : RunEnd) (error : Error) → answer ≡ Ok own → own ≡ Refused error → ⊥
-      value_ends (Ok report) as own error is own_is = absurd (cc)
-      value_ends (Err refusal) as own error is own_is = absurd (cc)
+      value_ends (Ok report) found own error is own_is = absurd (cc)
+      value_ends (Err refusal) found own error is own_is = absurd (cc)
   request_ends Record runs = run_ends Recorded _ RecordsAs seen answer runs recorded_apart
   request_ends (Verify path) runs = run_ends Verified _ (VerifiesAs path) seen answer runs verified_apart
 
@@ -143,10 +143,10 @@ none_never given seen answer (mistaken may text line silent is) e = absurd (cc)
 none_never given seen answer (lost silent still is) e = absurd (cc)
 
 none_ends : (given : RunArguments) (seen : RunSeen) (answer : Result RunEnd Error) → AnswersNone given seen answer → (own : RunEnd) (error : Error) → answer ≡ Ok own → own ≡ Refused error → ⊥
-none_ends given seen answer (shown may text gained still as) own error is own_is = absurd (cc)
-none_ends given seen answer (unshown may text refusal cut still as) own error is own_is = absurd (cc)
-none_ends given seen answer (mistaken may text line silent as) own error is own_is = absurd (cc)
-none_ends given seen answer (lost silent still as) own error is own_is = absurd (cc)
+none_ends given seen answer (shown may text gained still found) own error is own_is = absurd (cc)
+none_ends given seen answer (unshown may text refusal cut still found) own error is own_is = absurd (cc)
+none_ends given seen answer (mistaken may text line silent found) own error is own_is = absurd (cc)
+none_ends given seen answer (lost silent still found) own error is own_is = absurd (cc)
 
 module _ (given : RunArguments) (seen : RunSeen) (answer : Result RunEnd Error) where
   pub answer_made : (request : Option Request) → AnswersOf given request seen answer → HasMade seen.tree

@@ -1,24 +1,19 @@
 -- Parts of what a check answers, by name.
-use Rattle.std.proofs.Common.{◌≡◌, ◌∙◌, refl, sym, ap, ap₂, subst, ◌≤◌, List, [], ◌∷◌, ◌++◌, arith}
+use Rattle.std.proofs.Common.{◌≡◌, ◌∙◌, refl, sym, ap₂, subst, List, [], ◌∷◌, ◌++◌}
 use Rattle.std.specs.List.{AllZip, flat_map}
-use Rattle.tree_core.specs.Trace.{faults_after}
-use Rattle.tree_core.proofs.MadeLemmas.{faults_after-append, faults_after-later}
 use Rattle.tree_core.specs.declared.reads.ReadRecord.{ReadRecord}
 use Rattle.tree_core.specs.file_reads.Read.{records_of_reads}
 use Rattle.tree_core.specs.file_reads.Rising.{RiseInOrder}
-use Rattle.tree_core.proofs.file_reads.ReadLemmas.{reads_rise, records_in-append}
-use Rattle.tree_core.proofs.file_reads.RisingLemmas.{rises_widen}
-use Rattle.gather_core.specs.Calls.{CrateReads, calls_of_all, reads_of_all}
-use Rattle.gather_core.proofs.TurnCalls.{counts_of_all}
+use Rattle.tree_core.proofs.file_reads.ReadLemmas.{records_in-append}
+use Rattle.gather_core.specs.Calls.{CrateReads, reads_of_all}
 use Rattle.gather_core.proofs.ZipLemmas.{zip_weaker}
 use Rattle.policy_core.specs.valid.View.{policy_of}
 use Rattle.check_core.specs.Verdicts.{IsVerdictShown, is_skipped}
 use Rattle.check_core.proofs.HitLemmas.{tells_the_unneeded}
-use Rattle.run_found.specs.Found.{count_metadata, policy_calls}
-use Rattle.run_found.specs.Hearing.{RequestHearing, TreeSeen, read_calls}
-use Rattle.run_command.specs.Found.{IsHeard, metadata_due, turns_in}
+use Rattle.run_found.specs.Hearing.{RequestHearing, TreeSeen}
+use Rattle.run_command.specs.Found.{IsHeard, turns_in}
 use Rattle.run_command.specs.Given.{CommandArguments}
-use Rattle.run_command.proofs.FoundLemmas.{count_is}
+use Rattle.run_command.proofs.RiseLemmas.{reads_rise_between}
 use Rattle.check_core.specs.declared.report.CrateReport.{CrateReport}
 use Rattle.run_check.specs.declared.report.Report.{Report}
 use Rattle.run_check.specs.Found.{all_gathered}
@@ -76,16 +71,5 @@ module _ (given : CommandArguments) (tree : TreeSeen) (hearing : RequestHearing)
 
   pub rises_of : FailedReadsRise tree report
   rises_of =
-      let before = policy_calls given.request hearing ++ read_calls (metadata_due given hearing) hearing.metadata in
-      let crates = calls_of_all hearing.crates in
-      let low = count_metadata given.request hearing in
-      let low_is : faults_after tree.count_before before ≡ low = ap (λ n. faults_after n before) (sym heard.begun) ∙ count_is given hearing is.verdicts.settled.due in
-      let high_is : tree.count_after ≡ faults_after low crates =
-      heard.made.counts ∙ faults_after-append tree.count_before before crates ∙ ap (λ n. faults_after n crates) low_is in
-      let high = faults_after low crates in
-      let rises : RiseInOrder low (records_of_reads (reads_of_all hearing.crates)) high =
-      subst (RiseInOrder low (records_of_reads (reads_of_all hearing.crates))) (sym (counts_of_all low hearing.crates))
-      (reads_rise [] low (reads_of_all hearing.crates) is.verdicts.settled.records) in
-      let listed_rise : RiseInOrder low (reads_in report) high = subst (λ (reads : List ReadRecord). RiseInOrder low reads high) (reads_listed hearing.crates report.crates listed) rises in
-      let first : tree.count_before ≤ low = subst (λ n. tree.count_before ≤ n) low_is (faults_after-later tree.count_before before) in
-      subst (RiseInOrder tree.count_before (reads_in report)) (sym high_is) (rises_widen tree.count_before low high high (reads_in report) first listed_rise (omega arith))
+      subst (λ (reads : List ReadRecord). RiseInOrder tree.count_before reads tree.count_after) (reads_listed hearing.crates report.crates listed)
+      (reads_rise_between given tree hearing heard is.verdicts.settled.due is.verdicts.settled.records)

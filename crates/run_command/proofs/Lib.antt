@@ -8,6 +8,7 @@ pub mod LawfulLemmas
 pub mod ManifestLemmas
 pub mod OwnLemmas
 pub mod PreludeLemmas
+pub mod RiseLemmas
 pub mod SettledLemmas
 pub mod StopLemmas
 pub mod TurnLemmas

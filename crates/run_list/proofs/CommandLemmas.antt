@@ -18,6 +18,7 @@ use Rattle.run_list.specs.Command.{IsListRun}
 use Rattle.run_list.specs.Given.{ListArguments}
 use Rattle.run_list.specs.Listed.{listing_text}
 use Rattle.run_list.specs.Listing.{IsListing, Lists}
+use Rattle.run_list.proofs.RiseLemmas.{lists_rise}
 
 apart : (own : Option What) (what : What) → own ≡ Some what → own ≡ None → ⊥
 apart own what some none = let both : Some what ≡ None = sym some ∙ none in cc
@@ -40,6 +41,7 @@ module _ (given : ListArguments) (told : Option Content) (count : ℕ) (calls : 
     uncarried = λ other is_other. (same_refusal what other given.command.options.uncarried is is_other, made_none told count calls, refl, refl);
     lists = λ carried. absurd (apart given.command.options.uncarried what is carried);
     counts = tt;
+    rises = tt;
     later = omega arith;
     out_later = omega arith;
     complete_read = λ hearing behind asked lawful quiet. absurd (apart given.command.options.uncarried what is lawful.asks.carried);
@@ -59,6 +61,7 @@ module _ (given : ListArguments) (tree : TreeSeen) (err out : SinkSeen) (result 
     uncarried = λ what is. absurd (apart given.command.options.uncarried what is carried);
     lists = λ none. lists;
     counts = counts;
+    rises = lists_rise given tree err out result lists;
     later = later;
     out_later = out_later;
     complete_read = λ hearing behind asked lawful quiet. ends_lawful (no_refusal_read given.command tree hearing behind asked lawful) quiet;

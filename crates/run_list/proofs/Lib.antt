@@ -1,3 +1,4 @@
 pub mod CommandLemmas
 pub mod ListedLemmas
 pub mod ListingLemmas
+pub mod RiseLemmas

@@ -1,7 +1,10 @@
 -- What the command `list` promises.
-use Rattle.std.specs.Prelude.{◌≡◌, ◌≤◌, List, None, Some, Result, Err, IfErr}
+use Rattle.std.specs.Prelude.{◌≡◌, ◌≤◌, List, None, Some, Result, Err, IfErr, IfOk}
+use Rattle.std.specs.List.{flat_map}
 use Rattle.std.specs.Option.{ForSome}
 use Rattle.tree_core.specs.Call.{Call}
+use Rattle.tree_core.specs.declared.reads.ReadRecord.{ReadRecord}
+use Rattle.tree_core.specs.file_reads.Rising.{RiseInOrder}
 use Rattle.tree_core.specs.texts.Cause.{ReadCounts}
 use Rattle.graph_workspace.specs.declared.error.What.{What}
 use Rattle.run_found.specs.declared.error.Error.{Error}
@@ -16,14 +19,23 @@ use Rattle.run_command.specs.Stops.{RequestInput}
 use Rattle.run_list.specs.Given.{ListArguments}
 use Rattle.run_list.specs.Listing.{Lists}
 
+-- the reads that are answered, crate after crate
+abbrev pub reads_in : List CrateRead → List ReadRecord
+reads_in crates = flat_map (λ crate. crate.reads) crates
+
+-- the failed reads that are answered rise one after another, between the tree's counts at the start and at the end
+abbrev pub FailedReadsRise : TreeSeen → List CrateRead → Type 0
+FailedReadsRise tree crates = RiseInOrder tree.count_before (reads_in crates) tree.count_after
+
 pub record IsListRun (given : ListArguments) (tree : TreeSeen) (err out : SinkSeen) (result : Result (List CrateRead) Error) : Type 0 where
   -- Where a part of the request is not carried, that is the refusal; no call is made, and nothing is written.
   pub uncarried : (what : What) → given.command.options.uncarried ≡ Some what → (result ≡ Err (NotCarried what)) × IsUntouched tree × IsSilent err × IsSilent out
   -- Else the listing that is asked for by what was heard is written, whatever the tree tells of its content, and nothing else was read;
   -- each refusal is the first one, by its cause.
   pub lists : given.command.options.uncarried ≡ None → Lists given tree err out result
-  -- A failed read has a cause.
+  -- A failed read has a cause, and failed reads that are answered rise.
   pub counts : IfErr result (λ error. ReadCounts tree.count_before tree.count_before tree.count_after (cause_of error))
+  pub rises : IfOk result (FailedReadsRise tree)
   -- The counts of faults of the sinks never fall.
   pub later : err.before ≤ err.after
   pub out_later : out.before ≤ out.after
