@@ -1,8 +1,8 @@
 //! Why nothing was measured.
 use diag_core::{AddError, FilesErr};
 use diag_print::PrintError;
+use graph_core::selection::BuildError;
 use graph_metadata::MetaError;
-use graph_selection::BuildError;
 use graph_workspace::KratesError;
 use policy_load::LoadError;
 use spdx_core::ExprError;

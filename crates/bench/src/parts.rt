@@ -4,14 +4,14 @@ use crate::meter::Meter;
 use crate::{files, recipes};
 use deny_text::hash::hash;
 use deny_text::normal::normalize;
-use diag_texts::license_span;
+use diag_core::texts::license_span;
+use graph_core::selection::{ExcludeSpecs, Include, Krates, Selection};
 use graph_metadata::{Metadata, records};
-use graph_selection::{ExcludeSpecs, Include, Krates, Selection};
 use run_request::read::{CliAnswer, read};
 use run_request::{Request, Subcommand};
-use spdx_catalog::{Catalog, Identifier, LicenseStore, Table};
 use spdx_core::Expression;
 use spdx_terms::ParseMode;
+use spdx_terms::catalog::{Catalog, Identifier, LicenseStore, Table};
 use std::alloc::{AllocError, Global};
 use toml_value::parse;
 

@@ -4,23 +4,23 @@ ghost use Rattle.std.specs.Prelude.{◌≡◌, [], All, IfOk, OnOk};
 ghost use Rattle.std.specs.Option.{ForSome};
 ghost use Rattle.policy_core.specs.Places.{PolicyStands};
 ghost use Rattle.gather_core.specs.Premises.{IsPlacedAt};
-ghost use Rattle.check_unused.specs.Laws.{EntriesLie};
+ghost use Rattle.check_core.specs.unused.Laws.{EntriesLie};
 ghost use Rattle.check_core.specs.Labels.{PackLies};
 
 use crate::failed::BenchFailure;
 use crate::meter::Meter;
 use crate::parts::from_root;
+use check_core::evaluate::Verdict;
 use check_core::{CheckCtx, CrateReport, judge_all};
-use check_evaluate::Verdict;
 use deny_text::PathBuf;
 use diag_core::{ErrorSink, Files, LevelFilter, Pack, Packs};
 use diag_print::{Color, Format, LogContext, index_packs, print_packs};
 use gather_core::{Gatherer, LicenseInfo, Summary};
-use graph_selection::Krates;
+use graph_core::selection::Krates;
 use graph_workspace::krates_at;
 use policy_load::{PolicyPaths, ValidConfig, load};
-use spdx_catalog::LicenseStore;
 use spdx_core::Table;
+use spdx_terms::catalog::LicenseStore;
 use std::alloc::{AllocError, Global};
 use tree_core::{MemSink, MemTree, Sink, Tree};
 

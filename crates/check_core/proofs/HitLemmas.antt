@@ -4,16 +4,16 @@ use Rattle.std.specs.Prelude.{Any, slice_index_or}
 use Rattle.std.specs.Option.{option_to_list}
 use Rattle.spdx_terms.specs.declared.term.ExpressionReq.{ExpressionReq}
 use Rattle.graph_core.specs.Krate.{Record}
-use Rattle.spdx_certificates.specs.declared.verdict.Hit.{Hit}
-use Rattle.spdx_certificates.specs.declared.verdict.Hit.TheVariants.{Allowed, Exception}
-use Rattle.spdx_certificates.specs.declared.verdict.Verdict.{Verdict}
-use Rattle.gather_findings.specs.declared.license.LicenseInfo.{LicenseInfo}
-use Rattle.gather_findings.specs.declared.license.LicenseInfo.TheVariants.{SpdxExpression, Unlicensed}
-use Rattle.policy_valid.specs.Policy.{Policy, hit_of}
-use Rattle.policy_valid.specs.View.{policy_of}
-use Rattle.check_evaluate.specs.Evaluation.{term_hits}
-use Rattle.check_unused.specs.Unused.{hits_in}
-use Rattle.check_unused.proofs.LawLemmas.{tells_the_unused}
+use Rattle.spdx_core.specs.declared.certificates.verdict.Hit.{Hit}
+use Rattle.spdx_core.specs.declared.certificates.verdict.Hit.TheVariants.{Allowed, Exception}
+use Rattle.spdx_core.specs.declared.certificates.verdict.Verdict.{Verdict}
+use Rattle.gather_core.specs.declared.findings.license.LicenseInfo.{LicenseInfo}
+use Rattle.gather_core.specs.declared.findings.license.LicenseInfo.TheVariants.{SpdxExpression, Unlicensed}
+use Rattle.policy_core.specs.valid.Policy.{Policy, hit_of}
+use Rattle.policy_core.specs.valid.View.{policy_of}
+use Rattle.check_core.specs.evaluate.Evaluation.{term_hits}
+use Rattle.check_core.specs.unused.Unused.{hits_in}
+use Rattle.check_core.proofs.unused.LawLemmas.{tells_the_unused}
 use Rattle.check_core.specs.Check.{all_hits}
 use Rattle.check_core.specs.Hits.{HasTerm, IsNeeded, Needs, TellsTheUnneeded, TermsAreTold}
 use Rattle.check_core.specs.Turns.{GatheredCrate, hits_by, hits_of}

@@ -8,7 +8,7 @@ use Rattle.std.proofs.lemmas.List.Elements.{All-from_recursion, All-map, All-nil
 use Rattle.deny_text.specs.declared.span.Span.{Span}
 use Rattle.spdx_terms.specs.declared.term.ExpressionReq.{ExpressionReq}
 use Rattle.graph_core.specs.Krate.{Record}
-use Rattle.spdx_certificates.specs.declared.verdict.Verdict.{Verdict}
+use Rattle.spdx_core.specs.declared.certificates.verdict.Verdict.{Verdict}
 use Rattle.diag_core.specs.declared.label.Label.{Label}
 use Rattle.diag_core.specs.declared.overrides.DiagnosticOverrides.{DiagnosticOverrides}
 use Rattle.diag_core.specs.declared.overrides.ErrorSink.{ErrorSink}
@@ -16,24 +16,24 @@ use Rattle.diag_core.specs.declared.pack.Diag.{Diag}
 use Rattle.diag_core.specs.File.{File, source_of_file}
 use Rattle.diag_core.specs.Overrides.{overridden, pack_overridden}
 use Rattle.diag_core.specs.Pack.{PackOf, with_crate}
-use Rattle.gather_findings.specs.Cuts.{LabelLies, labels_of}
-use Rattle.gather_findings.specs.License.{InfoStands, PlaceLies}
-use Rattle.gather_findings.specs.declared.license.LicenseExprInfo.{LicenseExprInfo}
-use Rattle.gather_findings.specs.declared.license.LicenseInfo.{LicenseInfo}
-use Rattle.gather_findings.specs.declared.license.LicenseInfo.TheVariants.{SpdxExpression, Unlicensed}
+use Rattle.gather_core.specs.findings.Cuts.{LabelLies, labels_of}
+use Rattle.gather_core.specs.findings.License.{InfoStands, PlaceLies}
+use Rattle.gather_core.specs.declared.findings.license.LicenseExprInfo.{LicenseExprInfo}
+use Rattle.gather_core.specs.declared.findings.license.LicenseInfo.{LicenseInfo}
+use Rattle.gather_core.specs.declared.findings.license.LicenseInfo.TheVariants.{SpdxExpression, Unlicensed}
 use Rattle.gather_core.specs.declared.summary.KrateLicense.{KrateLicense}
 use Rattle.gather_core.specs.Premises.{IsPlacedAt}
-use Rattle.policy_valid.specs.declared.policy.ValidConfig.{ValidConfig}
-use Rattle.policy_valid.specs.Policy.{Policy}
-use Rattle.policy_valid.specs.View.{policy_of}
-use Rattle.check_evaluate.specs.Evaluation.{is_allowed, term_hits}
-use Rattle.check_unused.specs.Laws.{EntriesLie, EntryLabelsLie}
-use Rattle.check_unused.specs.Unused.{last_pack, unused_findings}
-use Rattle.check_unused.proofs.LawLemmas.{labels_lie}
-use Rattle.check_verdicts.specs.Findings as findings
-use Rattle.check_verdicts.specs.Laws.{term_text}
-use Rattle.check_verdicts.specs.Places.{LabelPoints, PointsBy}
-use Rattle.check_verdicts.proofs.PointLemmas.{labels_point}
+use Rattle.policy_core.specs.declared.valid.policy.ValidConfig.{ValidConfig}
+use Rattle.policy_core.specs.valid.Policy.{Policy}
+use Rattle.policy_core.specs.valid.View.{policy_of}
+use Rattle.check_core.specs.evaluate.Evaluation.{is_allowed, term_hits}
+use Rattle.check_core.specs.unused.Laws.{EntriesLie, EntryLabelsLie}
+use Rattle.check_core.specs.unused.Unused.{last_pack, unused_findings}
+use Rattle.check_core.proofs.unused.LawLemmas.{labels_lie}
+use Rattle.check_core.specs.verdicts.Findings as findings
+use Rattle.check_core.specs.verdicts.Laws.{term_text}
+use Rattle.check_core.specs.verdicts.Places.{LabelPoints, PointsBy}
+use Rattle.check_core.proofs.verdicts.PointLemmas.{labels_point}
 use Rattle.check_core.specs.Check.{HasFront, all_hits, findings_of, gained, packs_of}
 use Rattle.check_core.specs.Labels.{FindingLies, GainLies, InfoPoints, PackLies, VerdictPoints}
 use Rattle.check_core.specs.declared.report.CrateReport.{CrateReport}

@@ -7,10 +7,10 @@ use Rattle.spdx_terms.specs.declared.term.LicenseReq.{LicenseReq}
 use Rattle.spdx_core.specs.Grammar.{ExpressionTree}
 use Rattle.spdx_core.specs.Reading.{ExpressionView}
 use Rattle.graph_core.specs.Krate.{Record}
-use Rattle.policy_valid.specs.Policy.{Grant, IsPrivate, Policy}
-use Rattle.check_evaluate.specs.Evaluation.{is_allowed}
-use Rattle.check_evaluate.specs.Laws.{with_allowed, with_exception}
-use Rattle.check_evaluate.proofs.MoreLemmas.{more_allowed, more_exceptions}
+use Rattle.policy_core.specs.valid.Policy.{Grant, IsPrivate, Policy}
+use Rattle.check_core.specs.evaluate.Evaluation.{is_allowed}
+use Rattle.check_core.specs.evaluate.Laws.{with_allowed, with_exception}
+use Rattle.check_core.proofs.evaluate.MoreLemmas.{more_allowed, more_exceptions}
 use Rattle.check_core.specs.Laws.{IsAsGood}
 use Rattle.check_core.specs.Verdicts.{Judgement, accepted, rejected, IsJudged, judgement_of, verdict_of}
 

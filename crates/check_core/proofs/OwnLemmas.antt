@@ -7,22 +7,22 @@ use Rattle.std.proofs.lemmas.List.Elements.{recursion_from_All}
 use Rattle.deny_text.specs.Path.{components_of, path_order}
 use Rattle.spdx_core.specs.Reading.{ExpressionView}
 use Rattle.graph_core.specs.Krate.{Record}
-use Rattle.spdx_certificates.specs.declared.verdict.Hit.{Hit}
-use Rattle.spdx_certificates.specs.declared.verdict.Verdict.{Verdict}
-use Rattle.spdx_certificates.specs.declared.verdict.Verdict.TheVariants.{Skipped, Unlicensed, Accepted, Rejected}
-use Rattle.spdx_certificates.specs.Certificates.{hit_at}
-use Rattle.tree_reads.specs.Heard.{ReadResult}
-use Rattle.gather_files.specs.Ears.{FolderReads, has_hash, holds, looked_of, matches, tried_of}
-use Rattle.gather_files.specs.NamedFile.{NamedFileView}
-use Rattle.gather_files.specs.Pack.{first_spellings, license_files_in, in_path_order, pack_paths, placed, same_path, wanted_of}
-use Rattle.gather_files.specs.View.{normal_heard}
-use Rattle.gather_expression.specs.Scanned.{Scanner, file_scanned}
+use Rattle.spdx_core.specs.declared.certificates.verdict.Hit.{Hit}
+use Rattle.spdx_core.specs.declared.certificates.verdict.Verdict.{Verdict}
+use Rattle.spdx_core.specs.declared.certificates.verdict.Verdict.TheVariants.{Skipped, Unlicensed, Accepted, Rejected}
+use Rattle.spdx_core.specs.certificates.Certificates.{hit_at}
+use Rattle.tree_core.specs.file_reads.Heard.{ReadResult}
+use Rattle.gather_licence.specs.files.Ears.{FolderReads, has_hash, holds, looked_of, matches, tried_of}
+use Rattle.gather_licence.specs.files.NamedFile.{NamedFileView}
+use Rattle.gather_licence.specs.files.Pack.{first_spellings, license_files_in, in_path_order, pack_paths, placed, same_path, wanted_of}
+use Rattle.gather_licence.specs.files.View.{normal_heard}
+use Rattle.gather_licence.specs.expression.Scanned.{Scanner, file_scanned}
 use Rattle.gather_licence.specs.Clarification.{ClarificationView, named_files, held_in, named_in}
 use Rattle.gather_licence.specs.Priority.{LicenseAnswer, answer_in, by_seen, field_of, files_scanned, holding, priority_of, seen_by, settling_by}
 use Rattle.gather_core.specs.Entries.{clarifications_of, entries_of}
-use Rattle.policy_valid.specs.Policy.{Policy}
-use Rattle.policy_valid.specs.View.{policy_of}
-use Rattle.check_evaluate.specs.Evaluation.{term_hits}
+use Rattle.policy_core.specs.valid.Policy.{Policy}
+use Rattle.policy_core.specs.valid.View.{policy_of}
+use Rattle.check_core.specs.evaluate.Evaluation.{term_hits}
 use Rattle.check_core.proofs.LawLemmas.{same_test}
 use Rattle.check_core.specs.Own.{HearTheSame, VerdictIsByEars, VerdictIsOwn, ears_there, expression_by, paths_around, clarified_paths}
 use Rattle.check_core.specs.Verdicts.{skipped, unlicensed, accepted, rejected, IsCertifiedOrUnlicensed, IsVerdictShown, IsVerdict, is_skipped, judgement_in, verdict_of}

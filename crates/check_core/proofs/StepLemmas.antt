@@ -3,7 +3,7 @@ use Rattle.std.proofs.Common.{◌≡◌, ◌∙◌, refl, sym, subst, ℕ, zero,
 use Rattle.std.specs.Prelude.{◌↔◌}
 use Rattle.std.proofs.lemmas.List.{length_push}
 use Rattle.gather_core.specs.declared.summary.KrateLicense.{KrateLicense}
-use Rattle.policy_valid.specs.Policy.{IsPrivate, Policy}
+use Rattle.policy_core.specs.valid.Policy.{IsPrivate, Policy}
 use Rattle.check_core.specs.Steps.{ArePassedOver, entries_for, entries_of_all, entries_of_info}
 use Rattle.check_core.specs.Summary.{gathered_of_license, gathered_of_licenses}
 use Rattle.check_core.specs.Turns.{GatheredCrate}

@@ -6,14 +6,14 @@ use Rattle.std.specs.declared.alloc.AllocError.{AllocError}
 use Rattle.spdx_core.specs.Grammar.{ExpressionTree}
 use Rattle.spdx_core.specs.Reading.{ExpressionView}
 use Rattle.graph_core.specs.Krate.{Record}
-use Rattle.spdx_certificates.specs.declared.verdict.Hit.{Hit}
-use Rattle.spdx_certificates.specs.declared.verdict.Verdict.{Verdict}
-use Rattle.spdx_certificates.specs.declared.verdict.Verdict.TheVariants.{Skipped, Unlicensed, Accepted, Rejected}
-use Rattle.spdx_certificates.specs.Certificates.{CertificateAnswers, has_hit}
-use Rattle.spdx_certificates.specs.Choices.{first_choice, is_accepted}
-use Rattle.spdx_certificates.proofs.LawLemmas.{no_choice}
-use Rattle.policy_valid.specs.Policy.{IsPrivate, Policy}
-use Rattle.check_evaluate.specs.Evaluation.{is_allowed, term_hits}
+use Rattle.spdx_core.specs.declared.certificates.verdict.Hit.{Hit}
+use Rattle.spdx_core.specs.declared.certificates.verdict.Verdict.{Verdict}
+use Rattle.spdx_core.specs.declared.certificates.verdict.Verdict.TheVariants.{Skipped, Unlicensed, Accepted, Rejected}
+use Rattle.spdx_core.specs.certificates.Certificates.{CertificateAnswers, has_hit}
+use Rattle.spdx_core.specs.certificates.Choices.{first_choice, is_accepted}
+use Rattle.spdx_core.proofs.certificates.LawLemmas.{no_choice}
+use Rattle.policy_core.specs.valid.Policy.{IsPrivate, Policy}
+use Rattle.check_core.specs.evaluate.Evaluation.{is_allowed, term_hits}
 use Rattle.check_core.specs.declared.crate_check.JudgedCrate.{JudgedCrate}
 use Rattle.check_core.specs.Verdicts.{accepted, rejected, IsCertifiedOrUnlicensed, IsCertified, IsVerdictShown, IsVerdict, is_skipped, judgement_in, judgement_of, verdict_of}
 

@@ -1,16 +1,16 @@
 -- What the check tells of all crates, and then of the policy.
 use Rattle.std.specs.Prelude.{◌≡◌, ℕ, List, [], ◌∷◌, ◌++◌, map, take}
 use Rattle.std.specs.List.{AllZip}
-use Rattle.spdx_certificates.specs.declared.verdict.Hit.{Hit}
-use Rattle.spdx_certificates.specs.declared.verdict.Verdict.{Verdict}
+use Rattle.spdx_core.specs.declared.certificates.verdict.Hit.{Hit}
+use Rattle.spdx_core.specs.declared.certificates.verdict.Verdict.{Verdict}
 use Rattle.diag_core.specs.declared.overrides.ErrorSink.{ErrorSink}
 use Rattle.diag_core.specs.Overrides.{pack_overridden}
 use Rattle.diag_core.specs.Pack.{PackOf}
 use Rattle.gather_core.specs.declared.summary.KrateLicense.{KrateLicense}
-use Rattle.check_unused.specs.Unused.{last_pack}
-use Rattle.policy_valid.specs.declared.policy.ValidConfig.{ValidConfig}
-use Rattle.policy_valid.specs.Policy.{Policy}
-use Rattle.policy_valid.specs.View.{policy_of}
+use Rattle.check_core.specs.unused.Unused.{last_pack}
+use Rattle.policy_core.specs.declared.valid.policy.ValidConfig.{ValidConfig}
+use Rattle.policy_core.specs.valid.Policy.{Policy}
+use Rattle.policy_core.specs.valid.View.{policy_of}
 use Rattle.check_core.specs.Summary.{gathered_of_licenses}
 use Rattle.check_core.specs.Turns.{GatheredCrate, expression_of, hits_by, pack_by}
 use Rattle.check_core.specs.Verdicts.{IsVerdict, is_skipped}

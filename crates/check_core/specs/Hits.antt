@@ -3,19 +3,19 @@ use Rattle.std.specs.Prelude.{◌≡◌, ◌↔◌, ◌⊎◌, ℕ, false, List,
 use Rattle.std.specs.List.{AllZip}
 use Rattle.spdx_terms.specs.declared.term.ExpressionReq.{ExpressionReq}
 use Rattle.graph_core.specs.Krate.{Record}
-use Rattle.spdx_certificates.specs.declared.verdict.Hit.{Hit}
-use Rattle.spdx_certificates.specs.declared.verdict.Hit.TheVariants.{Allowed, Exception}
-use Rattle.spdx_certificates.specs.declared.verdict.Verdict.{Verdict}
-use Rattle.gather_findings.specs.declared.license.LicenseExprInfo.{LicenseExprInfo}
-use Rattle.gather_findings.specs.declared.license.LicenseInfo.{LicenseInfo}
-use Rattle.gather_findings.specs.declared.license.LicenseInfo.TheVariants.{SpdxExpression, Unlicensed}
-use Rattle.policy_valid.specs.declared.policy.ValidConfig.{ValidConfig}
-use Rattle.policy_valid.specs.Policy.{Policy, hit_of}
-use Rattle.policy_valid.specs.View.{policy_of}
-use Rattle.check_evaluate.specs.Evaluation.{term_hits}
-use Rattle.check_verdicts.specs.Findings.{term_label, term_labels}
-use Rattle.check_unused.specs.Laws.{ExceptionIsHit, LicenseIsHit, TellUnused}
-use Rattle.check_unused.specs.Unused.{unused_findings}
+use Rattle.spdx_core.specs.declared.certificates.verdict.Hit.{Hit}
+use Rattle.spdx_core.specs.declared.certificates.verdict.Hit.TheVariants.{Allowed, Exception}
+use Rattle.spdx_core.specs.declared.certificates.verdict.Verdict.{Verdict}
+use Rattle.gather_core.specs.declared.findings.license.LicenseExprInfo.{LicenseExprInfo}
+use Rattle.gather_core.specs.declared.findings.license.LicenseInfo.{LicenseInfo}
+use Rattle.gather_core.specs.declared.findings.license.LicenseInfo.TheVariants.{SpdxExpression, Unlicensed}
+use Rattle.policy_core.specs.declared.valid.policy.ValidConfig.{ValidConfig}
+use Rattle.policy_core.specs.valid.Policy.{Policy, hit_of}
+use Rattle.policy_core.specs.valid.View.{policy_of}
+use Rattle.check_core.specs.evaluate.Evaluation.{term_hits}
+use Rattle.check_core.specs.verdicts.Findings.{term_label, term_labels}
+use Rattle.check_core.specs.unused.Laws.{ExceptionIsHit, LicenseIsHit, TellUnused}
+use Rattle.check_core.specs.unused.Unused.{unused_findings}
 use Rattle.check_core.specs.Check.{all_hits}
 use Rattle.check_core.specs.Turns.{GatheredCrate}
 use Rattle.check_core.specs.Verdicts.{is_skipped}

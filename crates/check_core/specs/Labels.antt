@@ -5,12 +5,12 @@ use Rattle.diag_core.specs.declared.overrides.ErrorSink.{ErrorSink}
 use Rattle.diag_core.specs.declared.pack.Diag.{Diag}
 use Rattle.diag_core.specs.File.{File}
 use Rattle.diag_core.specs.Pack.{PackOf}
-use Rattle.gather_findings.specs.Cuts.{LabelLies}
-use Rattle.gather_findings.specs.declared.license.LicenseInfo.{LicenseInfo}
-use Rattle.gather_findings.specs.declared.license.LicenseInfo.TheVariants.{SpdxExpression, Unlicensed}
-use Rattle.policy_valid.specs.Policy.{Policy}
-use Rattle.check_evaluate.specs.Evaluation.{term_hits}
-use Rattle.check_verdicts.specs.Laws.{LabelsPoint}
+use Rattle.gather_core.specs.findings.Cuts.{LabelLies}
+use Rattle.gather_core.specs.declared.findings.license.LicenseInfo.{LicenseInfo}
+use Rattle.gather_core.specs.declared.findings.license.LicenseInfo.TheVariants.{SpdxExpression, Unlicensed}
+use Rattle.policy_core.specs.valid.Policy.{Policy}
+use Rattle.check_core.specs.evaluate.Evaluation.{term_hits}
+use Rattle.check_core.specs.verdicts.Laws.{LabelsPoint}
 use Rattle.check_core.specs.Turns.{GatheredCrate}
 
 -- each label of each finding lies in its file, between characters

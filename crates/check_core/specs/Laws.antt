@@ -3,8 +3,8 @@ use Rattle.std.specs.Prelude.{◌≡◌, ◌⊎◌, ℕ, Option}
 use Rattle.spdx_terms.specs.declared.term.LicenseReq.{LicenseReq}
 use Rattle.spdx_core.specs.Reading.{ExpressionView}
 use Rattle.graph_core.specs.Krate.{Record}
-use Rattle.policy_valid.specs.Policy.{Grant, Policy}
-use Rattle.check_evaluate.specs.Laws.{with_allowed, with_exception}
+use Rattle.policy_core.specs.valid.Policy.{Grant, Policy}
+use Rattle.check_core.specs.evaluate.Laws.{with_allowed, with_exception}
 use Rattle.check_core.specs.Verdicts.{Judgement, skipped, unlicensed, accepted, rejected, IsJudged}
 
 -- a judgement stays what it is, but that a rejected crate may come to be accepted

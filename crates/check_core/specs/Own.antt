@@ -6,16 +6,16 @@ use Rattle.tree_core.specs.Content.{Content, resolve}
 use Rattle.tree_core.specs.declared.reads.ReadKind.TheVariants.{LicenseFile}
 use Rattle.spdx_core.specs.Reading.{ExpressionView}
 use Rattle.graph_core.specs.Krate.{Record}
-use Rattle.spdx_certificates.specs.declared.verdict.Verdict.{Verdict}
-use Rattle.tree_reads.specs.Heard.{ReadResult, listing_heard, read_place, there_heard}
-use Rattle.gather_files.specs.Ears.{FolderReads}
-use Rattle.gather_files.specs.Pack.{license_files_in}
-use Rattle.gather_expression.specs.Scanned.{Scanner}
+use Rattle.spdx_core.specs.declared.certificates.verdict.Verdict.{Verdict}
+use Rattle.tree_core.specs.file_reads.Heard.{ReadResult, listing_heard, read_place, there_heard}
+use Rattle.gather_licence.specs.files.Ears.{FolderReads}
+use Rattle.gather_licence.specs.files.Pack.{license_files_in}
+use Rattle.gather_licence.specs.expression.Scanned.{Scanner}
 use Rattle.gather_licence.specs.Clarification.{ClarificationView, named_in}
 use Rattle.gather_licence.specs.Priority.{folder_of, priority_of}
 use Rattle.gather_core.specs.Entries.{clarifications_of, entries_of}
-use Rattle.policy_valid.specs.declared.policy.ValidConfig.{ValidConfig}
-use Rattle.policy_valid.specs.View.{policy_of}
+use Rattle.policy_core.specs.declared.valid.policy.ValidConfig.{ValidConfig}
+use Rattle.policy_core.specs.valid.View.{policy_of}
 use Rattle.check_core.specs.Verdicts.{IsVerdict}
 
 -- the expression of a crate, by what is heard

@@ -4,17 +4,17 @@ use Rattle.spdx_terms.specs.declared.term.ExpressionReq.{ExpressionReq}
 use Rattle.spdx_terms.specs.declared.term.LicenseReq.{LicenseReq}
 use Rattle.spdx_core.specs.Grammar.{leaf, both, either}
 use Rattle.spdx_core.specs.Reading.{ExpressionView}
-use Rattle.spdx_certificates.specs.declared.verdict.Hit.{Hit}
-use Rattle.spdx_certificates.specs.declared.verdict.Hit.TheVariants.{Allowed, Exception}
+use Rattle.spdx_core.specs.declared.certificates.verdict.Hit.{Hit}
+use Rattle.spdx_core.specs.declared.certificates.verdict.Hit.TheVariants.{Allowed, Exception}
 use Rattle.diag_core.specs.declared.licenses.Code.TheVariants.{GatherFailure}
 use Rattle.diag_core.specs.declared.pack.Diag.{Diag}
 use Rattle.diag_core.specs.declared.severity.Severity.TheVariants.{Warning}
-use Rattle.gather_findings.specs.declared.license.LicenseExprSource.TheVariants.{UserOverride}
-use Rattle.gather_findings.specs.declared.license.LicenseInfo.{LicenseInfo}
-use Rattle.gather_findings.specs.declared.license.LicenseInfo.TheVariants.{SpdxExpression, Unlicensed}
-use Rattle.policy_valid.specs.Policy.{Grant, Policy}
-use Rattle.policy_valid.specs.Rows.{crate_a, grant, isc, mit, policy, zlib}
-use Rattle.check_verdicts.specs.Findings.{finding}
+use Rattle.gather_core.specs.declared.findings.license.LicenseExprSource.TheVariants.{UserOverride}
+use Rattle.gather_core.specs.declared.findings.license.LicenseInfo.{LicenseInfo}
+use Rattle.gather_core.specs.declared.findings.license.LicenseInfo.TheVariants.{SpdxExpression, Unlicensed}
+use Rattle.policy_core.specs.valid.Policy.{Grant, Policy}
+use Rattle.policy_core.specs.valid.Rows.{crate_a, grant, isc, mit, policy, zlib}
+use Rattle.check_core.specs.verdicts.Findings.{finding}
 use Rattle.check_core.specs.Turns.{GatheredCrate, expression_of, findings_by, hits_by}
 use Rattle.check_core.specs.Verdicts.{Judgement, skipped, unlicensed, accepted, rejected, verdict_of}
 

@@ -2,10 +2,10 @@
 use Rattle.std.specs.Prelude.{◌↔◌, ℕ, ◌+◌, Bool, true, false, IsTrue, List, [], ◌∷◌}
 use Rattle.std.specs.List.{AllZip}
 use Rattle.graph_core.specs.Krate.{Record}
-use Rattle.gather_findings.specs.declared.license.LicenseInfo.{LicenseInfo}
-use Rattle.gather_findings.specs.declared.license.LicenseInfo.TheVariants.{SpdxExpression, Unlicensed}
-use Rattle.policy_valid.specs.Policy.{IsPrivate, Policy}
-use Rattle.check_evaluate.specs.Entries.{entries_of_terms}
+use Rattle.gather_core.specs.declared.findings.license.LicenseInfo.{LicenseInfo}
+use Rattle.gather_core.specs.declared.findings.license.LicenseInfo.TheVariants.{SpdxExpression, Unlicensed}
+use Rattle.policy_core.specs.valid.Policy.{IsPrivate, Policy}
+use Rattle.check_core.specs.evaluate.Entries.{entries_of_terms}
 use Rattle.check_core.specs.Turns.{GatheredCrate}
 
 -- those for the terms of a crate's expression; none where it has no expression

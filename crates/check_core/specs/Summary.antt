@@ -2,11 +2,11 @@
 use Rattle.std.specs.Prelude.{ℕ, List, length, map, ⊤}
 use Rattle.spdx_core.specs.Expressions.{IsExpression}
 use Rattle.spdx_core.specs.Reading.{postfix}
-use Rattle.gather_findings.specs.declared.license.LicenseInfo.{LicenseInfo}
-use Rattle.gather_findings.specs.declared.license.LicenseInfo.TheVariants.{SpdxExpression, Unlicensed}
+use Rattle.gather_core.specs.declared.findings.license.LicenseInfo.{LicenseInfo}
+use Rattle.gather_core.specs.declared.findings.license.LicenseInfo.TheVariants.{SpdxExpression, Unlicensed}
 use Rattle.gather_core.specs.Gathered.{krate_of}
 use Rattle.gather_core.specs.declared.summary.KrateLicense.{KrateLicense}
-use Rattle.check_verdicts.specs.Places.{PlaceFits}
+use Rattle.check_core.specs.verdicts.Places.{PlaceFits}
 use Rattle.check_core.specs.Turns.{GatheredCrate}
 
 abbrev pub gathered_of_license : KrateLicense → GatheredCrate

@@ -1,20 +1,20 @@
 -- What is told of each crate, and after all of them.
 use Rattle.std.specs.Prelude.{ℕ, Bool, true, false, List, [], ◌∷◌, ◌++◌}
 use Rattle.graph_core.specs.Krate.{Record}
-use Rattle.spdx_certificates.specs.declared.verdict.Hit.{Hit}
+use Rattle.spdx_core.specs.declared.certificates.verdict.Hit.{Hit}
 use Rattle.diag_core.specs.declared.pack.Diag.{Diag}
 use Rattle.diag_core.specs.Pack.{PackOf}
-pub use Rattle.gather_findings.specs.License.{expression_of}
-use Rattle.gather_findings.specs.declared.license.LicenseInfo.{LicenseInfo}
-use Rattle.gather_findings.specs.declared.license.LicenseInfo.TheVariants.{SpdxExpression, Unlicensed}
-use Rattle.policy_valid.specs.Policy.{Policy}
-use Rattle.check_evaluate.specs.Private.{PrivateNumbers}
-use Rattle.check_evaluate.specs.Entries.{EntryFamilies}
-use Rattle.check_evaluate.specs.Evaluation.{is_allowed, term_hits}
-use Rattle.check_unused.specs.Flags.{Flags}
-use Rattle.check_unused.specs.Unused.{hits_in}
-use Rattle.check_verdicts.specs.Findings as findings
-use Rattle.check_verdicts.specs.Findings.{verdict_labels, judged, pack_of}
+pub use Rattle.gather_core.specs.findings.License.{expression_of}
+use Rattle.gather_core.specs.declared.findings.license.LicenseInfo.{LicenseInfo}
+use Rattle.gather_core.specs.declared.findings.license.LicenseInfo.TheVariants.{SpdxExpression, Unlicensed}
+use Rattle.policy_core.specs.valid.Policy.{Policy}
+use Rattle.check_core.specs.evaluate.Private.{PrivateNumbers}
+use Rattle.check_core.specs.evaluate.Entries.{EntryFamilies}
+use Rattle.check_core.specs.evaluate.Evaluation.{is_allowed, term_hits}
+use Rattle.check_core.specs.unused.Flags.{Flags}
+use Rattle.check_core.specs.unused.Unused.{hits_in}
+use Rattle.check_core.specs.verdicts.Findings as findings
+use Rattle.check_core.specs.verdicts.Findings.{verdict_labels, judged, pack_of}
 
 -- a crate, its licence, what was found on the way to that, and what is noted
 pub record GatheredCrate : Type 0 where

@@ -2,11 +2,11 @@
 use Rattle.std.specs.Prelude.{◌≡◌, ◌↔◌, Bool, true, false, IsTrue, Option, Some, None, if◌then◌else◌}
 use Rattle.spdx_core.specs.Reading.{ExpressionView}
 use Rattle.graph_core.specs.Krate.{Record}
-use Rattle.spdx_certificates.specs.declared.verdict.Verdict.{Verdict}
-use Rattle.spdx_certificates.specs.declared.verdict.Verdict.TheVariants.{Skipped, Unlicensed, Accepted, Rejected}
-use Rattle.spdx_certificates.specs.Certificates.{ShowsAccepted, ShowsRejected}
-use Rattle.policy_valid.specs.Policy.{IsPrivate, Policy}
-use Rattle.check_evaluate.specs.Evaluation.{is_allowed, term_hits}
+use Rattle.spdx_core.specs.declared.certificates.verdict.Verdict.{Verdict}
+use Rattle.spdx_core.specs.declared.certificates.verdict.Verdict.TheVariants.{Skipped, Unlicensed, Accepted, Rejected}
+use Rattle.spdx_core.specs.certificates.Certificates.{ShowsAccepted, ShowsRejected}
+use Rattle.policy_core.specs.valid.Policy.{IsPrivate, Policy}
+use Rattle.check_core.specs.evaluate.Evaluation.{is_allowed, term_hits}
 
 -- a verdict without what shows it
 pub data Judgement : Type 0 where

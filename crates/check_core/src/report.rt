@@ -3,7 +3,7 @@ ghost use Rattle.std.specs.Prelude.{◌≡◌, IfOk};
 ghost use Rattle.check_core.specs.Reports.{license_source, report_of};
 ghost use Rattle.check_core.specs.Turns.{expression_of};
 
-use check_evaluate::Verdict;
+use crate::evaluate::Verdict;
 use deny_text::{ListOf, Text};
 use diag_core::Notes;
 use gather_core::{Diags, KrateLicense, LicenseExprSource, LicenseInfo};

@@ -1,8 +1,8 @@
 -- Hits, and places with their hits.
 use Rattle.std.proofs.Common.{◌≡◌, ◌∙◌, refl, sym, ap, ap₂, subst, inl, inr, ℕ, zero, suc, ◌+◌, ◌<◌, ◌≤◌, Bool, true, false, List, [], ◌∷◌, ◌++◌, append_assoc, append-nil, length, length-append, drop, Option, Some, None, decimal, flat_map, arith}
 use Rattle.std.specs.List.{AllByRecursion}
-use Rattle.spdx_certificates.specs.declared.verdict.Hit.{Hit}
-use Rattle.spdx_certificates.specs.declared.verdict.Hit.TheVariants.{Allowed, Exception}
+use Rattle.spdx_core.specs.declared.certificates.verdict.Hit.{Hit}
+use Rattle.spdx_core.specs.declared.certificates.verdict.Hit.TheVariants.{Allowed, Exception}
 use Rattle.check_record.specs.declared.decode_parts.Chosen.{Chosen}
 use Rattle.check_record.specs.declared.decode_parts.PlaceHit.{PlaceHit}
 use Rattle.check_record.specs.Items.{IsHit, IsNumber}

@@ -2,7 +2,7 @@
 use Rattle.std.proofs.Common.{◌≡◌, ◌∙◌, refl, sym, ap, ℕ, zero, suc, ◌+◌, ◌-◌, ◌*◌, ◌^◌, ◌<◌, ◌≤◌, Bool, true, false, true≢false, ltb, lt-ltb, le-ltb, ltb-true, ltb-false, List, [], ◌∷◌, ◌++◌, length, length-append, get_or, drop, Option, Some, None, decimal, IsUtf8, arith}
 use Rattle.std.specs.Str.{is_utf8}
 use Rattle.std.proofs.lemmas.Str.{IsUtf8-from_is_utf8, is_utf8-from_IsUtf8}
-use Rattle.spdx_certificates.specs.declared.verdict.Hit.{Hit}
+use Rattle.spdx_core.specs.declared.certificates.verdict.Hit.{Hit}
 use Rattle.check_record.specs.declared.decode_parts.Chosen.{Chosen}
 use Rattle.check_record.specs.declared.decode_parts.PlaceHit.{PlaceHit}
 use Rattle.check_record.specs.declared.error.RecordError.{RecordError}

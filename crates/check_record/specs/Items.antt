@@ -4,8 +4,8 @@ use Rattle.std.specs.List.{AllByRecursion}
 use Rattle.std.specs.Ordering.{is_lt, nat_cmp}
 use Rattle.std.specs.Cmp.Lexicographic.{slice_cmp}
 use Rattle.std.specs.Str.{IsUtf8}
-use Rattle.spdx_certificates.specs.declared.verdict.Hit.{Hit}
-use Rattle.spdx_certificates.specs.declared.verdict.Hit.TheVariants.{Allowed, Exception}
+use Rattle.spdx_core.specs.declared.certificates.verdict.Hit.{Hit}
+use Rattle.spdx_core.specs.declared.certificates.verdict.Hit.TheVariants.{Allowed, Exception}
 use Rattle.check_record.specs.declared.items.RecordItem.{RecordItem}
 use Rattle.check_record.specs.declared.items.RecordVerdict.{RecordVerdict}
 use Rattle.check_record.specs.declared.items.RecordVerdict.TheVariants.{Skipped, Unlicensed, Accepted, Rejected}

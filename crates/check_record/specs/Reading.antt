@@ -3,8 +3,8 @@ use Rattle.std.specs.Prelude.{◌≡◌, ℕ, zero, suc, ◌+◌, ◌-◌, ◌*�
 use Rattle.std.specs.Char.{is_ascii_digit}
 use Rattle.std.specs.List.{starts_with}
 use Rattle.std.specs.Str.{is_utf8}
-use Rattle.spdx_certificates.specs.declared.verdict.Hit.{Hit}
-use Rattle.spdx_certificates.specs.declared.verdict.Hit.TheVariants.{Allowed, Exception}
+use Rattle.spdx_core.specs.declared.certificates.verdict.Hit.{Hit}
+use Rattle.spdx_core.specs.declared.certificates.verdict.Hit.TheVariants.{Allowed, Exception}
 use Rattle.check_record.specs.declared.decode_parts.Chosen.{Chosen}
 use Rattle.check_record.specs.declared.decode_parts.PlaceHit.{PlaceHit}
 use Rattle.check_record.specs.declared.error.RecordError.{RecordError}

@@ -9,7 +9,7 @@ use crate::digits::{begins, behind, behind_first, read_number};
 use crate::error::RecordError;
 use crate::items::{RecordItem, RecordItems, RecordVerdict};
 use deny_text::Text;
-use spdx_certificates::{Hit, Hits, TermPlaces};
+use spdx_core::certificates::{Hit, Hits, TermPlaces};
 use std::alloc::Global;
 use std::str;
 

@@ -6,7 +6,7 @@ ghost use Rattle.deny_text.specs.Fronts.{StandsInFront};
 
 use crate::items::{RecordItem, RecordVerdict};
 use itoa::Buffer;
-use spdx_certificates::Hit;
+use spdx_core::certificates::Hit;
 use std::alloc::AllocError;
 
 fn put_number(out: &mut Vec<u8>, number: usize) -> Result<(), AllocError>

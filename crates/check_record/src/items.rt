@@ -3,7 +3,7 @@ ghost use Rattle.std.specs.Prelude.{◌≡◌};
 ghost use Rattle.check_record.specs.Items.{IsRecord};
 
 use deny_text::{ListOf, Text};
-use spdx_certificates::{Hits, TermPlaces};
+use spdx_core::certificates::{Hits, TermPlaces};
 use std::marker::Model;
 
 /// The verdict on a crate with what shows it.

@@ -4,7 +4,7 @@ use Rattle.std.specs.List.{list_all, list_any}
 use Rattle.std.proofs.lemmas.Slice.Eq.{bytes_eq-Decides}
 use Rattle.spdx_core.specs.Grammar.{ExpressionTree, leaf, both, either}
 use Rattle.spdx_core.specs.Reading.{numbered_from}
-use Rattle.spdx_certificates.specs.Choices.{choices_of, is_accepted}
+use Rattle.spdx_core.specs.certificates.Choices.{choices_of, is_accepted}
 use Rattle.check_verify.specs.Terms.{is_among, is_choice, meet_each}
 
 -- ---- lists

@@ -6,10 +6,10 @@ use Rattle.spdx_terms.specs.declared.term.LicenseItem.TheVariants.{Spdx}
 use Rattle.spdx_terms.specs.declared.term.LicenseReq.{LicenseReq}
 use Rattle.spdx_core.specs.Grammar.{ExpressionTree, leaf, both, either}
 use Rattle.spdx_core.specs.Reading.{ExpressionView}
-use Rattle.spdx_certificates.specs.declared.verdict.Hit.TheVariants.{Allowed, Exception}
-use Rattle.spdx_certificates.specs.declared.verdict.Verdict.TheVariants as verdict
-use Rattle.policy_valid.specs.Policy.{Policy}
-use Rattle.policy_valid.specs.Rows.{crate_a, grant, isc, mit, policy, zlib}
+use Rattle.spdx_core.specs.declared.certificates.verdict.Hit.TheVariants.{Allowed, Exception}
+use Rattle.spdx_core.specs.declared.certificates.verdict.Verdict.TheVariants as verdict
+use Rattle.policy_core.specs.valid.Policy.{Policy}
+use Rattle.policy_core.specs.valid.Rows.{crate_a, grant, isc, mit, policy, zlib}
 use Rattle.check_record.specs.declared.items.RecordItem.{RecordItem}
 use Rattle.check_record.specs.declared.items.RecordVerdict.{RecordVerdict}
 use Rattle.check_record.specs.declared.items.RecordVerdict.TheVariants.{Skipped, Unlicensed, Accepted, Rejected}

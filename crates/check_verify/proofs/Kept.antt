@@ -1,7 +1,7 @@
 -- Lists that keep something at some places.
 use Rattle.std.proofs.Common.{◌≡◌, ◌⊎◌, ◌∙◌, refl, sym, ap, subst, inl, inr, ℕ, zero, suc, ◌<◌, Bool, true, false, not, List, [], ◌∷◌, length, set, replicate, Option, Some, None, is_some, slice_get, option_and_then, arith}
-use Rattle.spdx_certificates.specs.declared.verdict.Hit.{Hit}
-use Rattle.spdx_certificates.specs.Certificates.{has_hit}
+use Rattle.spdx_core.specs.declared.certificates.verdict.Hit.{Hit}
+use Rattle.spdx_core.specs.certificates.Certificates.{has_hit}
 use Rattle.check_verify.specs.Terms.{is_among, kept_at}
 use Rattle.check_verify.proofs.Choices.{Has, among_has, has_among}
 

@@ -4,7 +4,7 @@ use Rattle.std.specs.Prelude.{All, Any, Contains, IsTrue}
 use Rattle.std.specs.List.{list_any}
 use Rattle.std.proofs.lemmas.List.Elements.{All-nil, All-cons, All-contains, Contains-append_cases, Contains-append_left, Contains-append_right, Contains-push, Contains-push_cases}
 use Rattle.spdx_core.specs.Grammar.{ExpressionTree}
-use Rattle.spdx_certificates.specs.Choices.{MeetEach, choices_of}
+use Rattle.spdx_core.specs.certificates.Choices.{MeetEach, choices_of}
 use Rattle.check_verify.specs.Terms.{is_among, is_choice, meet_each}
 use Rattle.check_verify.proofs.Choices.{Has, all_at, all_from, among_has, any_from, any_has, choice_has, has_among, has_choice}
 

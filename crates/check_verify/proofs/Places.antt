@@ -3,10 +3,10 @@ use Rattle.std.proofs.Common.{◌≡◌, ◌∙◌, refl, sym, ap, subst, ℕ, B
 use Rattle.std.proofs.lemmas.Slice.Eq.{bytes_eq-Decides}
 use Rattle.spdx_core.specs.Grammar.{ExpressionTree}
 use Rattle.spdx_core.specs.Reading.{numbered_from}
-use Rattle.spdx_certificates.specs.declared.verdict.Hit.{Hit}
-use Rattle.spdx_certificates.specs.declared.verdict.Verdict.{Verdict}
-use Rattle.spdx_certificates.specs.declared.verdict.Verdict.TheVariants.{Skipped, Unlicensed, Accepted, Rejected}
-use Rattle.spdx_certificates.specs.Certificates.{CertificateAnswers, has_hit}
+use Rattle.spdx_core.specs.declared.certificates.verdict.Hit.{Hit}
+use Rattle.spdx_core.specs.declared.certificates.verdict.Verdict.{Verdict}
+use Rattle.spdx_core.specs.declared.certificates.verdict.Verdict.TheVariants.{Skipped, Unlicensed, Accepted, Rejected}
+use Rattle.spdx_core.specs.certificates.Certificates.{CertificateAnswers, has_hit}
 use Rattle.check_verify.specs.Terms.{is_choice, kept_at, meet_each}
 use Rattle.check_verify.proofs.Choices.{choice_by_first, meets_by_refusal, no_choice, not_met}
 use Rattle.check_verify.proofs.Kept.{hits_given, hits_inside, hits_outside}

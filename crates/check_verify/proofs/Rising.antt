@@ -4,10 +4,10 @@ use Rattle.std.specs.List.{list_all}
 use Rattle.std.specs.Prelude.{nat_lt}
 use Rattle.spdx_core.specs.Grammar.{ExpressionTree, leaf, both, either}
 use Rattle.spdx_core.specs.Reading.{numbered_from}
-use Rattle.spdx_certificates.specs.declared.verdict.Hit.{Hit}
-use Rattle.spdx_certificates.specs.declared.verdict.Verdict.TheVariants.{Accepted, Rejected}
-use Rattle.spdx_certificates.specs.Certificates.{ShowsAccepted, ShowsRejected, has_hit, hit_at}
-use Rattle.spdx_certificates.specs.Choices.{blocks_of, choices_of, is_accepted}
+use Rattle.spdx_core.specs.declared.certificates.verdict.Hit.{Hit}
+use Rattle.spdx_core.specs.declared.certificates.verdict.Verdict.TheVariants.{Accepted, Rejected}
+use Rattle.spdx_core.specs.certificates.Certificates.{ShowsAccepted, ShowsRejected, has_hit, hit_at}
+use Rattle.spdx_core.specs.certificates.Choices.{blocks_of, choices_of, is_accepted}
 use Rattle.check_record.specs.Items.{rise_from, some_rise}
 use Rattle.check_verify.specs.Recorded.{IsRecordable}
 use Rattle.check_verify.proofs.Choices.{Has, and_parts, both_parts, find_at, has_cases, numbered_leaf, rises, sides_at, within}

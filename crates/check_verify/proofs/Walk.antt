@@ -8,16 +8,16 @@ use Rattle.std.specs.Slice.{IsItemAt}
 use Rattle.std.specs.Cmp.Lexicographic.{pointwise}
 use Rattle.std.proofs.lemmas.List.{drop_all, drop_more, take_more}
 use Rattle.spdx_terms.specs.declared.term.ExpressionReq.{ExpressionReq}
-use Rattle.spdx_certificates.specs.declared.verdict.Hit.{Hit}
+use Rattle.spdx_core.specs.declared.certificates.verdict.Hit.{Hit}
 use Rattle.gather_core.specs.declared.summary.KrateLicense.{KrateLicense}
 use Rattle.gather_core.specs.Gathered.{krate_of}
-use Rattle.policy_spec.specs.Index.{spec_numbers}
-use Rattle.policy_valid.specs.declared.policy.ValidConfig.{ValidConfig}
-use Rattle.policy_valid.specs.declared.policy.ValidException.{ValidException}
-use Rattle.policy_valid.specs.Policy.{Policy}
-use Rattle.policy_valid.specs.View.{policy_of}
-use Rattle.check_evaluate.specs.Evaluation.{exception_numbers}
-use Rattle.check_evaluate.proofs.EvaluationLemmas.{spec_of, specs_are}
+use Rattle.policy_parts.specs.spec.Index.{spec_numbers}
+use Rattle.policy_core.specs.declared.valid.policy.ValidConfig.{ValidConfig}
+use Rattle.policy_core.specs.declared.valid.policy.ValidException.{ValidException}
+use Rattle.policy_core.specs.valid.Policy.{Policy}
+use Rattle.policy_core.specs.valid.View.{policy_of}
+use Rattle.check_core.specs.evaluate.Evaluation.{exception_numbers}
+use Rattle.check_core.proofs.evaluate.EvaluationLemmas.{spec_of, specs_are}
 use Rattle.check_record.specs.declared.items.RecordItem.{RecordItem}
 use Rattle.check_record.specs.Items.{ids_of}
 use Rattle.check_verify.specs.declared.answer.Answer.TheVariants.{No}

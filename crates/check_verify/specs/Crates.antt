@@ -3,8 +3,8 @@ use Rattle.std.specs.Prelude.{ℕ, Bool, List, Option, Some, None, if◌then◌e
 use Rattle.std.specs.List.{list_any}
 use Rattle.graph_core.specs.Krate.{Record}
 use Rattle.spdx_core.specs.Reading.{ExpressionView}
-use Rattle.spdx_certificates.specs.declared.verdict.Hit.{Hit}
-use Rattle.policy_valid.specs.Policy.{Policy, first_exception}
+use Rattle.spdx_core.specs.declared.certificates.verdict.Hit.{Hit}
+use Rattle.policy_core.specs.valid.Policy.{Policy, first_exception}
 use Rattle.check_record.specs.declared.items.RecordVerdict.{RecordVerdict}
 use Rattle.check_record.specs.declared.items.RecordVerdict.TheVariants.{Skipped, Unlicensed, Accepted, Rejected}
 use Rattle.check_verify.specs.declared.answer.Fault.{Fault}

@@ -1,7 +1,7 @@
 -- What the tests of places mean.
 use Rattle.std.specs.Prelude.{◌↔◌, ℕ, IsTrue, List, Contains}
 use Rattle.spdx_core.specs.Grammar.{ExpressionTree}
-use Rattle.spdx_certificates.specs.Choices.{MeetEach, choices_of}
+use Rattle.spdx_core.specs.certificates.Choices.{MeetEach, choices_of}
 use Rattle.check_verify.specs.Terms.{is_choice, meet_each}
 
 -- places are a choice exactly where they are one of the choices

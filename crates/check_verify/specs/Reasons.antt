@@ -3,7 +3,7 @@ use Rattle.std.specs.Prelude.{ℕ, List, [], ◌∷◌, map, Option, Some, None,
 use Rattle.std.specs.Option.{option_or}
 use Rattle.std.specs.Cmp.Lexicographic.{pointwise}
 use Rattle.std.specs.Str.{bytes_eq}
-use Rattle.policy_valid.specs.Policy.{Policy}
+use Rattle.policy_core.specs.valid.Policy.{Policy}
 use Rattle.check_record.specs.declared.items.RecordItem.{RecordItem}
 use Rattle.check_record.specs.Items.{ids_of}
 use Rattle.check_verify.specs.declared.answer.Answer.{Answer}

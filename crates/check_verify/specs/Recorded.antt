@@ -1,7 +1,7 @@
 -- What is recorded of a verdict.
 use Rattle.std.specs.Prelude.{◌≡◌, nat_lt, IsTrue, length, ⊤}
-use Rattle.spdx_certificates.specs.declared.verdict.Verdict.{Verdict}
-use Rattle.spdx_certificates.specs.declared.verdict.Verdict.TheVariants as verdict
+use Rattle.spdx_core.specs.declared.certificates.verdict.Verdict.{Verdict}
+use Rattle.spdx_core.specs.declared.certificates.verdict.Verdict.TheVariants as verdict
 use Rattle.check_record.specs.declared.items.RecordVerdict.{RecordVerdict}
 use Rattle.check_record.specs.declared.items.RecordVerdict.TheVariants.{Skipped, Unlicensed, Accepted, Rejected}
 use Rattle.check_record.specs.Items.{some_rise}

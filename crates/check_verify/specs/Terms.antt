@@ -7,12 +7,12 @@ use Rattle.spdx_terms.specs.declared.term.ExpressionReq.{ExpressionReq}
 use Rattle.spdx_terms.specs.declared.term.LicenseReq.{LicenseReq}
 use Rattle.spdx_core.specs.Grammar.{ExpressionTree}
 use Rattle.graph_core.specs.Krate.{Record}
-use Rattle.spdx_certificates.specs.declared.verdict.Hit.{Hit}
-use Rattle.spdx_certificates.specs.declared.verdict.Hit.TheVariants.{Allowed, Exception}
-use Rattle.spdx_certificates.specs.Choices.{choices_of}
-use Rattle.policy_valid.specs.Policy.{Policy, first_exception, granted, hit_by}
-use Rattle.policy_valid.specs.Satisfied.{satisfies}
-use Rattle.check_evaluate.specs.Entries.{entries_by}
+use Rattle.spdx_core.specs.declared.certificates.verdict.Hit.{Hit}
+use Rattle.spdx_core.specs.declared.certificates.verdict.Hit.TheVariants.{Allowed, Exception}
+use Rattle.spdx_core.specs.certificates.Choices.{choices_of}
+use Rattle.policy_core.specs.valid.Policy.{Policy, first_exception, granted, hit_by}
+use Rattle.policy_core.specs.valid.Satisfied.{satisfies}
+use Rattle.check_core.specs.evaluate.Entries.{entries_by}
 
 -- a number stands in a list
 abbrev pub is_among : List ℕ → ℕ → Bool

@@ -4,11 +4,11 @@ use Rattle.std.specs.List.{AllZip}
 use Rattle.std.specs.Option.{option_map_or}
 use Rattle.spdx_terms.specs.declared.term.ExpressionReq.{ExpressionReq}
 use Rattle.spdx_core.specs.Reading.{ExpressionView}
-use Rattle.gather_findings.specs.License.{expression_of}
+use Rattle.gather_core.specs.findings.License.{expression_of}
 use Rattle.gather_core.specs.declared.summary.KrateLicense.{KrateLicense}
 use Rattle.gather_core.specs.Gathered.{krate_of}
 use Rattle.graph_core.specs.Krate.{Record}
-use Rattle.policy_valid.specs.Policy.{IsPrivate, Policy, first_exception}
+use Rattle.policy_core.specs.valid.Policy.{IsPrivate, Policy, first_exception}
 use Rattle.check_record.specs.declared.items.RecordItem.{RecordItem}
 use Rattle.check_record.specs.declared.items.RecordVerdict.{RecordVerdict}
 use Rattle.check_record.specs.declared.items.RecordVerdict.TheVariants.{Skipped, Unlicensed, Accepted, Rejected}

@@ -1,12 +1,12 @@
 //! Whether places are a choice of an expression, and whether places meet each choice. Both are told by the
 //! certificate on the expression where just some terms have a hit.
 ghost use Rattle.std.specs.Prelude.{◌≡◌, ◌&&◌, ℕ, IfOk, not, length, nat_lt};
-ghost use Rattle.spdx_certificates.specs.Certificates.{has_hit};
+ghost use Rattle.spdx_core.specs.certificates.Certificates.{has_hit};
 ghost use Rattle.check_verify.specs.Terms as spec;
 ghost use Rattle.check_verify.specs.Terms.{is_among};
 
-use spdx_certificates::{Hit, Verdict, certificate};
 use spdx_core::Expression;
+use spdx_core::certificates::{Hit, Verdict, certificate};
 use std::alloc::{AllocError, Global};
 
 /// For each of so many places the same.

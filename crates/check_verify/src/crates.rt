@@ -1,26 +1,26 @@
 //! What is wrong with a crate's recorded verdict.
 ghost use Rattle.std.specs.Prelude.{◌≡◌, ◌+◌, ◌≤◌, IfOk, None, Some, length, map, sum_by};
 ghost use Rattle.graph_core.specs.Krate.{record_of};
-ghost use Rattle.policy_valid.specs.Policy.{first_exception};
-ghost use Rattle.policy_valid.specs.View.{policy_of};
-ghost use Rattle.gather_findings.specs.License.{expression_of};
+ghost use Rattle.policy_core.specs.valid.Policy.{first_exception};
+ghost use Rattle.policy_core.specs.valid.View.{policy_of};
+ghost use Rattle.gather_core.specs.findings.License.{expression_of};
 ghost use Rattle.check_verify.specs.Crates as spec;
 ghost use Rattle.check_verify.specs.Crates.{SeenCrate};
-ghost use Rattle.check_evaluate.specs.Entries.{entry_families};
+ghost use Rattle.check_core.specs.evaluate.Entries.{entry_families};
 ghost use Rattle.check_verify.specs.Terms.{entries_at};
 ghost use Rattle.check_verify.specs.Verified.{steps_for};
 
 use crate::answer::Fault;
 use crate::certificates::{is_choice, meet_each};
 use crate::entries::{any_has_hit, are_allowed};
-use check_evaluate::EntryIndex;
+use check_core::evaluate::EntryIndex;
 use check_record::RecordVerdict;
 use deny_text::Steps;
 use gather_core::LicenseInfo;
 use graph_core::Krate;
-use policy_valid::ValidConfig;
-use spdx_certificates::Hit;
+use policy_core::valid::ValidConfig;
 use spdx_core::Expression;
+use spdx_core::certificates::Hit;
 use std::alloc::{AllocError, Global};
 use std::sync::ledger::Ledger;
 

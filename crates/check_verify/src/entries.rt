@@ -2,15 +2,15 @@
 ghost use Rattle.std.specs.Prelude.{◌≡◌, ◌+◌, ◌≤◌, false, true, map, length, is_some, slice_get, sum_by};
 ghost use Rattle.std.specs.List.{list_any};
 ghost use Rattle.std.specs.Option.{option_map_or, option_to_list};
-ghost use Rattle.policy_valid.specs.View.{policy_of};
-ghost use Rattle.check_evaluate.specs.Entries.{entry_families};
+ghost use Rattle.policy_core.specs.valid.View.{policy_of};
+ghost use Rattle.check_core.specs.evaluate.Entries.{entry_families};
 ghost use Rattle.check_verify.specs.Terms as spec;
 ghost use Rattle.check_verify.specs.Terms.{entries_at};
 
-use check_evaluate::{EntryIndex, granted, hit_by, satisfies_at};
+use check_core::evaluate::{EntryIndex, granted, hit_by, satisfies_at};
 use deny_text::Steps;
-use policy_valid::ValidConfig;
-use spdx_certificates::Hit;
+use policy_core::valid::ValidConfig;
+use spdx_core::certificates::Hit;
 use spdx_core::{ExpressionReq, LicenseReq};
 use std::sync::ledger::Ledger;
 

@@ -5,7 +5,7 @@ ghost use Rattle.check_record.specs.Items.{IsHit, IsNumber, IsRecordVerdict};
 ghost use Rattle.check_verify.specs.Recorded.{IsRecordable, recorded_of};
 
 use check_record::RecordVerdict;
-use spdx_certificates::{Hit, Hits, TermPlaces, Verdict};
+use spdx_core::certificates::{Hit, Hits, TermPlaces, Verdict};
 use std::alloc::{AllocError, Global};
 
 fn copied_places(alloc: Global, places: &[usize]) -> Result<TermPlaces, AllocError>

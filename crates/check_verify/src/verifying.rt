@@ -4,21 +4,21 @@ ghost use Rattle.std.specs.List.{AllZip};
 ghost use Rattle.std.specs.Cmp.Lexicographic.{pointwise};
 ghost use Rattle.std.specs.Str.{bytes_eq};
 ghost use Rattle.gather_core.specs.Gathered.{krate_of};
-ghost use Rattle.policy_valid.specs.Policy.{IsPrivate};
-ghost use Rattle.policy_valid.specs.View.{policy_of};
-ghost use Rattle.check_evaluate.specs.Entries.{entry_families};
-ghost use Rattle.check_evaluate.specs.Evaluation.{exception_numbers};
+ghost use Rattle.policy_core.specs.valid.Policy.{IsPrivate};
+ghost use Rattle.policy_core.specs.valid.View.{policy_of};
+ghost use Rattle.check_core.specs.evaluate.Entries.{entry_families};
+ghost use Rattle.check_core.specs.evaluate.Evaluation.{exception_numbers};
 ghost use Rattle.check_record.specs.Items.{ids_of};
 ghost use Rattle.check_verify.specs.Verified.{IsFirst, IsFlagged, IsVerified, all_steps, ids_gathered};
 
 use crate::answer::{Answer, NoReason, with_id};
 use crate::crates::{Asked, fault_of};
-use check_evaluate::EntryIndex;
+use check_core::evaluate::EntryIndex;
 use check_record::{Record, RecordItem};
 use deny_text::{Steps, Text};
 use gather_core::{KrateLicense, Summary};
-use policy_spec::SpecIndex;
-use policy_valid::ValidConfig;
+use policy_core::valid::ValidConfig;
+use policy_parts::spec::SpecIndex;
 use std::alloc::{AllocError, Global};
 use std::sync::ledger::Ledger;
 

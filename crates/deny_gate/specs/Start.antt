@@ -4,9 +4,9 @@ use Rattle.std.specs.Option.{ForSome}
 use Rattle.tree_core.specs.Call.{Call}
 use Rattle.tree_core.specs.Content.{Content}
 use Rattle.tree_core.specs.Script.{FaultCounts, SinkTexts}
-use Rattle.spdx_catalog.specs.BuiltIn.{built_in}
-use Rattle.spdx_catalog.specs.Store.{match_of}
-use Rattle.spdx_catalog.specs.Table.{table_lists}
+use Rattle.spdx_terms.specs.catalog.BuiltIn.{built_in}
+use Rattle.spdx_terms.specs.catalog.Store.{match_of}
+use Rattle.spdx_terms.specs.catalog.Table.{table_lists}
 use Rattle.run_found.specs.Hearing.{HasMade, TreeSeen, seen}
 use Rattle.deny_run.specs.declared.outcome.Outcome.{Outcome}
 use Rattle.deny_run.specs.Given.{RunArguments}

@@ -4,7 +4,7 @@
 ghost use Rattle.std.specs.Prelude.{◌≡◌, ◌≤◌, IfOk, IfErr, OnOk, OnErr};
 ghost use Rattle.std.specs.Path.{path_buf_bytes};
 ghost use Rattle.std.specs.Process.{exit_status};
-ghost use Rattle.spdx_catalog.specs.BuiltIn.{built_in};
+ghost use Rattle.spdx_terms.specs.catalog.BuiltIn.{built_in};
 ghost use Rattle.tree_core.specs.Script.{LineWritten};
 ghost use Rattle.run_request.specs.Given.{texts};
 ghost use Rattle.deny_run.specs.Run as run;

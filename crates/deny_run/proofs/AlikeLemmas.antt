@@ -8,12 +8,12 @@ use Rattle.tree_core.specs.Content.{Content}
 use Rattle.tree_core.specs.Faults.{Rose, counted}
 use Rattle.tree_core.specs.Trace.{IsUnlessLost, Says, content_answer, fault_behind, faults_after}
 use Rattle.tree_core.proofs.MadeLemmas.{faults_after-later}
-use Rattle.tree_reads.proofs.ReadLemmas.{rose_counted}
+use Rattle.tree_core.proofs.file_reads.ReadLemmas.{rose_counted}
 use Rattle.run_found.specs.declared.error.Error.{Error}
 use Rattle.run_found.specs.Hearing.{TreeSeen}
-use Rattle.run_lists.specs.Found.{FindsLists}
-use Rattle.run_lists.specs.Given.{ListsAsked, ListsGiven}
-use Rattle.run_lists.specs.Heard.{given_heard, lists_calls}
+use Rattle.run_found.specs.lists.Found.{FindsLists}
+use Rattle.run_found.specs.lists.Given.{ListsAsked, ListsGiven}
+use Rattle.run_found.specs.lists.Heard.{given_heard, lists_calls}
 use Rattle.run_check.specs.Headline.{TellsContent}
 use Rattle.deny_run.specs.Lawful.{HasLists}
 use Rattle.deny_run.proofs.OwnLemmas.{lists_same}

@@ -4,15 +4,15 @@ use Rattle.tree_core.specs.Call as call
 use Rattle.tree_core.specs.Call.{Call}
 use Rattle.tree_core.specs.Content.{Content}
 use Rattle.tree_core.proofs.MadeLemmas.{made_as, made_joined}
-use Rattle.tree_texts.specs.Cause.{Cause, no_memory, failed_read, refused_write}
-use Rattle.tree_texts.specs.Cause as causes
+use Rattle.tree_core.specs.texts.Cause.{Cause, no_memory, failed_read, refused_write}
+use Rattle.tree_core.specs.texts.Cause as causes
 use Rattle.run_found.specs.declared.error.Error.{Error}
 use Rattle.run_found.specs.Error.{cause_of}
 use Rattle.run_found.specs.Found.{load_text, loaded_of}
 use Rattle.run_found.specs.Hearing.{MadeOn, RequestHearing, TreeSeen, count_behind, seen}
 use Rattle.run_found.proofs.FoundLemmas.{bind-Ok}
-use Rattle.run_lists.specs.Given.{ListsGiven}
-use Rattle.run_lists.specs.Heard.{ListsHearing, given_heard, lists_calls}
+use Rattle.run_found.specs.lists.Given.{ListsGiven}
+use Rattle.run_found.specs.lists.Heard.{ListsHearing, given_heard, lists_calls}
 use Rattle.run_check.specs.declared.report.Report.{Report}
 use Rattle.run_check.specs.Carried.{uncarried_in}
 use Rattle.run_check.specs.Found as check

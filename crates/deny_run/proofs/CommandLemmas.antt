@@ -13,7 +13,7 @@ use Rattle.run_found.specs.declared.error.Error.TheVariants.{NotCarried}
 use Rattle.run_found.specs.declared.reads.CrateRead.{CrateRead}
 use Rattle.run_found.specs.Error.{fault_line}
 use Rattle.run_found.specs.Hearing.{TreeSeen}
-use Rattle.run_lists.specs.Given.{ListsGiven}
+use Rattle.run_found.specs.lists.Given.{ListsGiven}
 use Rattle.run_check.specs.declared.report.Report.{Report}
 use Rattle.run_list.specs.Carried.{uncarried_of}
 use Rattle.run_list.specs.Script.{SinkSeen}

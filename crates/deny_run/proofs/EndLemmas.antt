@@ -3,8 +3,8 @@ use Rattle.std.proofs.Common.{◌≡◌, refl, sym, subst, ℕ, ◌≤◌, List,
 use Rattle.tree_core.specs.Hearing.{MadeSome}
 use Rattle.tree_core.specs.Script.{FaultCounts, LineWritten, SinkTexts}
 use Rattle.tree_core.proofs.MadeLemmas.{some_made}
-use Rattle.tree_texts.specs.Cause.{Cause, no_memory, failed_read, refused_write}
-use Rattle.tree_texts.specs.Cause as causes
+use Rattle.tree_core.specs.texts.Cause.{Cause, no_memory, failed_read, refused_write}
+use Rattle.tree_core.specs.texts.Cause as causes
 use Rattle.check_core.specs.Labels.{PackLies}
 use Rattle.run_found.specs.declared.error.Error.{Error}
 use Rattle.run_found.specs.Error.{cause_of, fault_line}

@@ -10,8 +10,8 @@ use Rattle.tree_core.specs.Faults.{Rose}
 use Rattle.tree_core.specs.Script.{OutputSink, to_out, to_err, Script, FaultCounts, IsWithoutFault, RefusedBy, SinkTexts}
 use Rattle.tree_core.specs.Trace.{Says, faults_after}
 use Rattle.tree_core.proofs.MadeLemmas.{faults_after-append, made_as}
-use Rattle.tree_texts.specs.Cause.{Cause, no_memory, failed_read, refused_write}
-use Rattle.tree_texts.specs.Cause as causes
+use Rattle.tree_core.specs.texts.Cause.{Cause, no_memory, failed_read, refused_write}
+use Rattle.tree_core.specs.texts.Cause as causes
 use Rattle.diag_stats.specs.ExitCode.{has_errors}
 use Rattle.run_request.specs.declared.check.Args.{Args}
 use Rattle.run_request.specs.declared.request.Request.{Request}
@@ -24,8 +24,8 @@ use Rattle.run_found.specs.declared.error.Error.{Error}
 use Rattle.run_found.specs.declared.error.Error.TheVariants.{NotCarried}
 use Rattle.run_found.specs.Error.{MayEndLawful, cause_of}
 use Rattle.run_found.specs.Hearing.{MadeOn, TreeSeen, count_behind, seen}
-use Rattle.run_lists.specs.Given.{ListsGiven}
-use Rattle.run_lists.specs.Heard.{ListsHearing, given_heard, lists_calls}
+use Rattle.run_found.specs.lists.Given.{ListsGiven}
+use Rattle.run_found.specs.lists.Heard.{ListsHearing, given_heard, lists_calls}
 use Rattle.run_check.specs.declared.report.Report.{Report}
 use Rattle.run_check.specs.Carried.{uncarried_in}
 use Rattle.run_check.specs.Found as found

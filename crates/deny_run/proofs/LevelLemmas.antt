@@ -13,8 +13,8 @@ use Rattle.run_found.specs.declared.error.Error.{Error}
 use Rattle.run_found.specs.Finds.{HearsPolicy}
 use Rattle.run_found.specs.Found.{LooksEnd}
 use Rattle.run_found.specs.Hearing.{RequestHearing}
-use Rattle.run_lists.specs.Given.{ListsGiven}
-use Rattle.run_lists.specs.Heard.{lists_calls}
+use Rattle.run_found.specs.lists.Given.{ListsGiven}
+use Rattle.run_found.specs.lists.Heard.{lists_calls}
 use Rattle.check_core.specs.declared.report.CrateReport.{CrateReport}
 use Rattle.run_check.specs.declared.report.Report.{Report}
 use Rattle.run_check.specs.Found as check

@@ -3,8 +3,8 @@ use Rattle.std.proofs.Common.{◌≡◌, ◌≤◌, refl, sym, subst, ℕ, List,
 use Rattle.tree_core.specs.Hearing.{MadeSome}
 use Rattle.tree_core.specs.Script.{FaultCounts, LineWritten, SinkTexts}
 use Rattle.tree_core.proofs.MadeLemmas.{some_joined, some_made}
-use Rattle.spdx_catalog.specs.Catalog.{CatalogLists}
-use Rattle.spdx_catalog.specs.declared.identifier.Match.{Match}
+use Rattle.spdx_terms.specs.catalog.Catalog.{CatalogLists}
+use Rattle.spdx_terms.specs.declared.catalog.identifier.Match.{Match}
 use Rattle.run_request.specs.declared.request.Subcommand.{Subcommand}
 use Rattle.run_request.specs.declared.request.Subcommand.TheVariants.{Check, List as Listing, Sample}
 use Rattle.run_request.specs.declared.check.Args.{Args as CheckArgs}

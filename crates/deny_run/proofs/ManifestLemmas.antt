@@ -9,9 +9,9 @@ use Rattle.tree_core.specs.Trace.{IsUnlessLost, Says, answered, content_answer, 
 use Rattle.tree_core.specs.declared.tree.TreeError.{TreeError}
 use Rattle.tree_core.specs.declared.tree.TreeError.TheVariants as tree_error
 use Rattle.tree_core.proofs.MadeLemmas.{faults_after-later, made_as, made_none}
-use Rattle.tree_reads.proofs.ReadLemmas.{rose_counted}
+use Rattle.tree_core.proofs.file_reads.ReadLemmas.{rose_counted}
 use Rattle.std.proofs.lemmas.List.Elements.{recursion_from_All}
-use Rattle.tree_texts.specs.declared.fault.ReadFault.TheVariants.{Absent}
+use Rattle.tree_core.specs.declared.texts.fault.ReadFault.TheVariants.{Absent}
 use Rattle.run_found.specs.declared.error.Error.{Error}
 use Rattle.run_found.specs.declared.error.Error.TheVariants.{Memory, ManifestPath, ManifestRead, ConfigRead}
 use Rattle.run_found.specs.Hearing.{MadeOn, TreeSeen, seen}

@@ -5,21 +5,21 @@ use Rattle.tree_core.specs.Call as call
 use Rattle.tree_core.specs.Call.{CallAnswer, Call}
 use Rattle.tree_core.specs.Trace.{fault_behind, faults_after}
 use Rattle.tree_core.proofs.MadeLemmas.{faults_after-append}
-use Rattle.tree_texts.specs.Heard.{read_of, text_answered}
-use Rattle.tree_texts.specs.declared.fault.ReadFault.{ReadFault}
+use Rattle.tree_core.specs.texts.Heard.{read_of, text_answered}
+use Rattle.tree_core.specs.declared.texts.fault.ReadFault.{ReadFault}
 use Rattle.deny_text.specs.Path.{join_of}
-use Rattle.spdx_catalog.specs.Catalog.{CatalogLists}
-use Rattle.spdx_catalog.specs.Store.{match_of}
-use Rattle.spdx_catalog.specs.declared.identifier.Match.{Match}
-use Rattle.spdx_catalog.specs.declared.store.StoreText.{StoreText}
+use Rattle.spdx_terms.specs.catalog.Catalog.{CatalogLists}
+use Rattle.spdx_terms.specs.catalog.Store.{match_of}
+use Rattle.spdx_terms.specs.declared.catalog.identifier.Match.{Match}
+use Rattle.spdx_terms.specs.declared.catalog.store.StoreText.{StoreText}
 use Rattle.spdx_listing.specs.Folder.{StoreHeard, TextFile, heard_with, if_unread, list_of, reads_answered, reads_of, store_answered, texts_due, texts_of, with_text}
 use Rattle.spdx_listing.specs.declared.error.StoreFault.{StoreFault}
 use Rattle.spdx_listing.specs.declared.error.StoreFault.TheVariants as fault
 use Rattle.run_found.specs.declared.error.Error.{Error}
 use Rattle.run_found.specs.Hearing.{TreeSeen, read_calls}
-use Rattle.run_lists.specs.Found.{FindsLists}
-use Rattle.run_lists.specs.Given.{ListsAsked, ListsGiven, lists_given}
-use Rattle.run_lists.specs.Heard.{ListsHearing, catalog_answered, catalog_by, count_catalog, due_behind, given_behind, given_by, given_heard, lists_calls, lists_heard, store_calls, store_due, texts_by, texts_heard, texts_told}
+use Rattle.run_found.specs.lists.Found.{FindsLists}
+use Rattle.run_found.specs.lists.Given.{ListsAsked, ListsGiven, lists_given}
+use Rattle.run_found.specs.lists.Heard.{ListsHearing, catalog_answered, catalog_by, count_catalog, due_behind, given_behind, given_by, given_heard, lists_calls, lists_heard, store_calls, store_due, texts_by, texts_heard, texts_told}
 
 -- ---- no call
 

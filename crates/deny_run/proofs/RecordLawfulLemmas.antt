@@ -5,8 +5,8 @@ use Rattle.tree_core.specs.Content.{Content}
 use Rattle.tree_core.specs.Faults.{Rose}
 use Rattle.tree_core.specs.Script.{FaultCounts, IsWithoutFault, SinkTexts}
 use Rattle.tree_core.proofs.MadeLemmas.{some-later}
-use Rattle.tree_texts.specs.Cause.{Cause, no_memory, failed_read, refused_write}
-use Rattle.tree_texts.specs.Cause as causes
+use Rattle.tree_core.specs.texts.Cause.{Cause, no_memory, failed_read, refused_write}
+use Rattle.tree_core.specs.texts.Cause as causes
 use Rattle.graph_workspace.specs.declared.error.What.{What}
 use Rattle.run_request.specs.declared.request.Request.{Request}
 use Rattle.run_request.specs.declared.request.Subcommand.{Subcommand}
@@ -16,9 +16,9 @@ use Rattle.run_found.specs.declared.error.Error.TheVariants.{Memory, NotCarried}
 use Rattle.run_found.specs.declared.reads.CrateRead.{CrateRead}
 use Rattle.run_found.specs.Error.{MayEndLawful, cause_of}
 use Rattle.run_found.specs.Hearing.{RequestHearing, TreeSeen}
-use Rattle.run_lists.specs.Found.{AnswersBy, FindsLists}
-use Rattle.run_lists.specs.Given.{ListsGiven}
-use Rattle.run_lists.specs.Heard.{given_heard}
+use Rattle.run_found.specs.lists.Found.{AnswersBy, FindsLists}
+use Rattle.run_found.specs.lists.Given.{ListsGiven}
+use Rattle.run_found.specs.lists.Heard.{given_heard}
 use Rattle.run_check.specs.Headline.{IsHeardOf}
 use Rattle.run_check.specs.Report.{Asks, RequestInput}
 use Rattle.run_list.specs.Script.{SinkSeen, sink_seen}

@@ -6,13 +6,13 @@ use Rattle.tree_core.specs.Content.{Content}
 use Rattle.tree_core.specs.Faults.{Rose, Gained}
 use Rattle.tree_core.specs.Script.{OutputSink, to_out, to_err, Script, FaultCounts, SinkTexts, Gains, IsCut, LineWritten, RefusedBy, is_target, text_for}
 use Rattle.tree_core.proofs.GainedLemmas.{Gained-then}
-use Rattle.tree_texts.specs.Cause.{Cause, no_memory, failed_read, refused_write, ReadCounts}
-use Rattle.tree_texts.specs.Cause as causes
+use Rattle.tree_core.specs.texts.Cause.{Cause, no_memory, failed_read, refused_write, ReadCounts}
+use Rattle.tree_core.specs.texts.Cause as causes
 use Rattle.run_found.specs.declared.error.Error.{Error}
 use Rattle.run_found.specs.Error.{cause_of, fault_line}
 use Rattle.run_found.specs.Hearing.{MadeOn, RequestHearing, TreeSeen, crates_heard, seen}
-use Rattle.run_lists.specs.Given.{ListsGiven}
-use Rattle.run_lists.specs.Heard.{ListsHearing, given_heard}
+use Rattle.run_found.specs.lists.Given.{ListsGiven}
+use Rattle.run_found.specs.lists.Heard.{ListsHearing, given_heard}
 use Rattle.run_found.proofs.SearchLemmas.{gained-nil}
 use Rattle.run_check.specs.declared.report.Report.{Report}
 use Rattle.run_check.specs.Carried.{uncarried_in}

@@ -7,12 +7,12 @@ use Rattle.tree_core.specs.Trace.{faults_after}
 use Rattle.tree_core.specs.Content.{Content}
 use Rattle.tree_core.specs.Script.{FaultCounts, SinkTexts, Gains}
 use Rattle.tree_core.proofs.MadeLemmas.{made_as, made_joined, made_none}
-use Rattle.tree_texts.specs.Cause.{Cause, no_memory, failed_read, refused_write}
-use Rattle.tree_texts.specs.Cause as causes
-use Rattle.tree_texts.specs.declared.fault.ReadFault.{ReadFault}
-use Rattle.tree_texts.specs.declared.fault.ReadFault.TheVariants as read
-use Rattle.spdx_catalog.specs.Catalog.{CatalogLists}
-use Rattle.spdx_catalog.specs.declared.identifier.Match.{Match}
+use Rattle.tree_core.specs.texts.Cause.{Cause, no_memory, failed_read, refused_write}
+use Rattle.tree_core.specs.texts.Cause as causes
+use Rattle.tree_core.specs.declared.texts.fault.ReadFault.{ReadFault}
+use Rattle.tree_core.specs.declared.texts.fault.ReadFault.TheVariants as read
+use Rattle.spdx_terms.specs.catalog.Catalog.{CatalogLists}
+use Rattle.spdx_terms.specs.declared.catalog.identifier.Match.{Match}
 use Rattle.spdx_listing.specs.File.{first_fault, lines_of, lists_of}
 use Rattle.spdx_listing.specs.Folder.{StoreHeard, store_answered}
 use Rattle.spdx_listing.specs.declared.error.StoreFault.{StoreFault}
@@ -27,9 +27,9 @@ use Rattle.run_found.proofs.CallLemmas.{no_looks, no_read}
 use Rattle.run_found.proofs.CarriedLemmas.{hears_nothing, nothing_heard}
 use Rattle.run_found.proofs.FoundLemmas.{bind-Err, bind-Ok}
 use Rattle.run_found.proofs.SearchLemmas.{gained-nil}
-use Rattle.run_lists.specs.Found.{AnswersBy, FindsLists}
-use Rattle.run_lists.specs.Given.{ListsAsked, ListsGiven}
-use Rattle.run_lists.specs.Heard.{ListsHearing, catalog_by, catalog_told, count_catalog, given_by, given_heard, lists_calls, lists_heard, texts_by, texts_heard, texts_told}
+use Rattle.run_found.specs.lists.Found.{AnswersBy, FindsLists}
+use Rattle.run_found.specs.lists.Given.{ListsAsked, ListsGiven}
+use Rattle.run_found.specs.lists.Heard.{ListsHearing, catalog_by, catalog_told, count_catalog, given_by, given_heard, lists_calls, lists_heard, texts_by, texts_heard, texts_told}
 use Rattle.run_check.specs.declared.report.Report.{Report}
 use Rattle.run_check.specs.Carried.{uncarried_in}
 use Rattle.run_check.specs.Found as check

@@ -9,8 +9,8 @@ use Rattle.run_found.specs.declared.error.Error.TheVariants.{NotCarried}
 use Rattle.run_found.specs.declared.reads.CrateRead.{CrateRead}
 use Rattle.run_found.specs.Error.{fault_line}
 use Rattle.run_found.specs.Hearing.{TreeSeen}
-use Rattle.run_lists.specs.Found.{FindsLists}
-use Rattle.run_lists.specs.Given.{ListsGiven}
+use Rattle.run_found.specs.lists.Found.{FindsLists}
+use Rattle.run_found.specs.lists.Given.{ListsGiven}
 use Rattle.run_list.specs.Carried.{uncarried_of}
 use Rattle.run_list.specs.Script.{SinkSeen, sink_seen}
 use Rattle.run_record.specs.declared.verdicts.VerifiedCrates.{VerifiedCrates}

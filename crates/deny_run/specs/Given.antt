@@ -1,12 +1,12 @@
 -- What a run is given, but for its files.
 use Rattle.std.specs.Prelude.{ℕ, List}
 use Rattle.std.specs.declared.string.String.{String}
-use Rattle.spdx_catalog.specs.Catalog.{CatalogLists}
-use Rattle.spdx_catalog.specs.declared.identifier.Match.{Match}
+use Rattle.spdx_terms.specs.catalog.Catalog.{CatalogLists}
+use Rattle.spdx_terms.specs.declared.catalog.identifier.Match.{Match}
 use Rattle.run_request.specs.declared.check.Args.{Args}
 use Rattle.run_request.specs.declared.request.Request.{Request}
 use Rattle.run_request.specs.Given.{texts}
-use Rattle.run_lists.specs.Given.{lists_asked, lists_given}
+use Rattle.run_found.specs.lists.Given.{lists_asked, lists_given}
 use Rattle.run_check.specs.Given.{check_arguments_of}
 use Rattle.run_list.specs.Given.{list_arguments_of}
 use Rattle.run_request.specs.declared.list.Args.{Args as ListArgs}

@@ -6,8 +6,8 @@ use Rattle.run_request.specs.declared.context.KrateContext.{KrateContext}
 use Rattle.run_found.specs.declared.error.Error.{Error}
 use Rattle.run_found.specs.Hearing.{RequestHearing, MadeOn, TreeSeen, count_behind}
 use Rattle.run_found.specs.Steps.{◌>>=◌}
-use Rattle.run_lists.specs.Given.{ListsGiven}
-use Rattle.run_lists.specs.Heard.{ListsHearing, given_heard, lists_calls}
+use Rattle.run_found.specs.lists.Given.{ListsGiven}
+use Rattle.run_found.specs.lists.Heard.{ListsHearing, given_heard, lists_calls}
 use Rattle.run_check.specs.Carried.{uncarried_in}
 use Rattle.run_check.specs.Found as check
 use Rattle.run_check.specs.Found.{HearsNothing, unless_uncarried}

@@ -10,8 +10,8 @@ use Rattle.run_request.specs.declared.request.Request.{Request}
 use Rattle.run_request.specs.declared.request.Subcommand.TheVariants.{List as Listing}
 use Rattle.run_found.specs.Error.{MayEndLawful, cause_of}
 use Rattle.run_found.specs.Hearing.{RequestHearing}
-use Rattle.run_lists.specs.Given.{ListsAsked, ListsGiven}
-use Rattle.run_lists.specs.Heard.{ListsHearing, given_heard, lists_calls}
+use Rattle.run_found.specs.lists.Given.{ListsAsked, ListsGiven}
+use Rattle.run_found.specs.lists.Heard.{ListsHearing, given_heard, lists_calls}
 use Rattle.run_list.specs.Answer.{Asks, RequestInput}
 use Rattle.run_list.specs.Complete.{IsHeardOf, TellsContent}
 use Rattle.deny_run.specs.declared.outcome.Outcome.{Outcome}

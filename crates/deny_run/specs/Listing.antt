@@ -8,8 +8,8 @@ use Rattle.run_found.specs.declared.error.Error.{Error}
 use Rattle.run_found.specs.declared.error.Error.TheVariants.{NotCarried}
 use Rattle.run_found.specs.Error.{fault_line}
 use Rattle.run_found.specs.Hearing.{TreeSeen, seen}
-use Rattle.run_lists.specs.Found.{FindsLists}
-use Rattle.run_lists.specs.Given.{ListsGiven}
+use Rattle.run_found.specs.lists.Found.{FindsLists}
+use Rattle.run_found.specs.lists.Given.{ListsGiven}
 use Rattle.run_found.specs.declared.reads.CrateRead.{CrateRead}
 use Rattle.run_list.specs.Carried.{uncarried_in}
 use Rattle.run_list.specs.Script.{SinkSeen, WritesList, sink_seen}

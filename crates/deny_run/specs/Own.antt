@@ -5,8 +5,8 @@ use Rattle.diag_print.specs.declared.context.LogContext.{LogContext}
 use Rattle.run_request.specs.declared.context.KrateContext.{KrateContext}
 use Rattle.run_check.specs.Given.{CheckArguments, check_arguments_of}
 use Rattle.run_list.specs.Given.{ListArguments, list_arguments_of}
-use Rattle.run_lists.specs.Given.{ListsAsked, ListsGiven, lists_given}
-use Rattle.run_lists.specs.Heard.{ListsHearing}
+use Rattle.run_found.specs.lists.Given.{ListsAsked, ListsGiven, lists_given}
+use Rattle.run_found.specs.lists.Heard.{ListsHearing}
 use Rattle.run_record.specs.Given.{command_arguments_of}
 
 -- ---- of a check

@@ -9,7 +9,7 @@ use Rattle.run_request.specs.declared.request.Subcommand.{Subcommand}
 use Rattle.run_request.specs.declared.request.Subcommand.TheVariants.{Record, Verify}
 use Rattle.run_found.specs.Error.{MayEndLawful, cause_of}
 use Rattle.run_found.specs.Hearing.{RequestHearing}
-use Rattle.run_lists.specs.Given.{ListsGiven}
+use Rattle.run_found.specs.lists.Given.{ListsGiven}
 use Rattle.run_check.specs.Headline.{IsHeardOf}
 use Rattle.run_check.specs.Report.{Asks, RequestInput}
 use Rattle.run_record.specs.Complete.{MayEndVerify}

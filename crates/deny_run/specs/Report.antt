@@ -1,7 +1,7 @@
 -- What a run over a request for a check answers.
 use Rattle.std.specs.Prelude.{◌≡◌, List, [], ◌++◌, Result, Ok, Err}
 use Rattle.tree_core.specs.Call.{Call}
-use Rattle.tree_texts.specs.Cause.{Cause, no_memory, refused_write}
+use Rattle.tree_core.specs.texts.Cause.{Cause, no_memory, refused_write}
 use Rattle.run_found.specs.declared.error.Error.{Error}
 use Rattle.run_found.specs.Error.{cause_of}
 use Rattle.run_found.specs.Hearing.{MadeOn, RequestHearing, TreeSeen}

@@ -1,9 +1,9 @@
 -- What a run over words comes to, and its status.
 use Rattle.std.specs.Prelude.{◌≡◌, ◌⊎◌, ℕ, true, false, List, Option, Some, None, Result, Ok, Err, ⊤, if◌then◌else◌}
 use Rattle.tree_core.specs.Script.{FaultCounts, SinkTexts}
-use Rattle.spdx_catalog.specs.Catalog.{CatalogLists}
-use Rattle.spdx_catalog.specs.declared.identifier.Match.{Match}
-use Rattle.tree_texts.specs.Cause.{Cause, no_memory, refused_write}
+use Rattle.spdx_terms.specs.catalog.Catalog.{CatalogLists}
+use Rattle.spdx_terms.specs.declared.catalog.identifier.Match.{Match}
+use Rattle.tree_core.specs.texts.Cause.{Cause, no_memory, refused_write}
 use Rattle.graph_workspace.specs.declared.error.What.{What}
 use Rattle.diag_stats.specs.ExitCode.{has_errors}
 use Rattle.diag_stats.specs.declared.stats.AllStats.{AllStats}

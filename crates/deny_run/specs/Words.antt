@@ -2,7 +2,7 @@
 use Rattle.std.specs.Prelude.{◌≡◌, ◌⊎◌, ℕ, true, List, [], Some, None}
 use Rattle.tree_core.specs.Faults.{Rose, Gained, GainedPrefix}
 use Rattle.tree_core.specs.Script.{FaultCounts, LineWritten, SinkTexts}
-use Rattle.tree_texts.specs.Cause.{Cause, no_memory, refused_write}
+use Rattle.tree_core.specs.texts.Cause.{Cause, no_memory, refused_write}
 use Rattle.run_request.specs.declared.request.Request.{Request}
 use Rattle.run_request.specs.Given.{Takes, may_refuse, may_show, word_faults}
 use Rattle.run_request.specs.Request.{gate_words, request_in}

@@ -1,10 +1,10 @@
 //! The commands without options of their own: what comes before them, and the two commands of a verdict file.
 ghost use Rattle.std.specs.Prelude.{◌≡◌, ◌≢◌, ◌≤◌, Err, IfErr, None, Some};
-ghost use Rattle.tree_texts.specs.declared.fault.ReadFault.{ReadFault};
-ghost use Rattle.tree_texts.specs.Cause.{ReadCounts};
+ghost use Rattle.tree_core.specs.declared.texts.fault.ReadFault.{ReadFault};
+ghost use Rattle.tree_core.specs.texts.Cause.{ReadCounts};
 ghost use Rattle.graph_workspace.specs.declared.error.What.{What};
 ghost use Rattle.run_found.specs.Error.{cause_of};
-ghost use Rattle.run_lists.specs.Found.{found_answer};
+ghost use Rattle.run_found.specs.lists.Found.{found_answer};
 ghost use Rattle.run_list.specs.Carried.{uncarried_of};
 ghost use Rattle.deny_run.specs.Commands.{ComesTo, RecordsRun, VerifiesRun};
 ghost use Rattle.deny_run.specs.Given.{command_asked};
@@ -14,9 +14,9 @@ ghost use Rattle.run_list.specs.Script.{sink_between};
 
 use crate::manifest::look_at_manifest;
 use crate::own::own_lists;
+use run_found::lists::ListsFound;
 use run_found::{CrateReads, Error};
 use run_list::uncarried_in;
-use run_lists::ListsFound;
 use run_record::{VerifiedCrates, record_since, verify_since};
 use run_request::Request;
 use spdx_core::{Catalog, Identifier};

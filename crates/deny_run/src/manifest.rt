@@ -1,6 +1,6 @@
 //! The look at the manifest.
 ghost use Rattle.std.specs.Prelude.{◌≡◌, ◌≤◌, ◌⊎◌, IfErr};
-ghost use Rattle.tree_texts.specs.Cause.{ReadCounts};
+ghost use Rattle.tree_core.specs.texts.Cause.{ReadCounts};
 ghost use Rattle.run_found.specs.declared.error.Error.TheVariants.{Memory, ManifestPath};
 ghost use Rattle.run_found.specs.Error.{cause_of};
 ghost use Rattle.deny_run.specs.Manifest as spec;

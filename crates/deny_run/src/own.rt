@@ -1,13 +1,13 @@
 //! An organisation's own names and texts.
 ghost use Rattle.std.specs.Prelude.{IfErr};
-ghost use Rattle.tree_texts.specs.Cause.{ReadCounts};
+ghost use Rattle.tree_core.specs.texts.Cause.{ReadCounts};
 ghost use Rattle.run_found.specs.Error.{cause_of};
-ghost use Rattle.run_lists.specs.Found.{FindsLists, found_answer};
-ghost use Rattle.run_lists.specs.Given.{lists_asked, lists_given};
+ghost use Rattle.run_found.specs.lists.Found.{FindsLists, found_answer};
+ghost use Rattle.run_found.specs.lists.Given.{lists_asked, lists_given};
 ghost use Rattle.run_found.specs.Hearing.{seen_between};
 
 use run_found::Error;
-use run_lists::{ListsFound, lists_found};
+use run_found::lists::{ListsFound, lists_found};
 use run_request::Request;
 use spdx_core::{Catalog, Identifier};
 use std::alloc::Global;

@@ -2,8 +2,8 @@
 ghost use Rattle.std.specs.Prelude.{◌≡◌, ◌≢◌, ◌≤◌, All, IfErr, IfSome, OnOk};
 ghost use Rattle.std.specs.Option.{ForSome};
 ghost use Rattle.tree_core.specs.Script.{LineWritten};
-ghost use Rattle.tree_texts.specs.declared.fault.ReadFault.{ReadFault};
-ghost use Rattle.tree_texts.specs.Cause.{ReadCounts};
+ghost use Rattle.tree_core.specs.declared.texts.fault.ReadFault.{ReadFault};
+ghost use Rattle.tree_core.specs.texts.Cause.{ReadCounts};
 ghost use Rattle.check_core.specs.Labels.{PackLies};
 ghost use Rattle.run_found.specs.Error.{cause_of, fault_line};
 ghost use Rattle.deny_run.specs.Given.{run_arguments_of};

@@ -3,7 +3,7 @@ use Rattle.std.specs.Prelude.{◌≡◌, ℕ, List, Option, IfSome}
 use Rattle.std.specs.Option.{ForSome}
 use Rattle.deny_text.specs.declared.span.Span.{Span}
 use Rattle.deny_text.specs.Spans.{LiesIn}
-use Rattle.diag_texts.specs.SpanSearch.{license_span_of}
+use Rattle.diag_core.specs.texts.SpanSearch.{license_span_of}
 use Rattle.diag_core.specs.declared.line_index.LineIndex.{LineIndex}
 use Rattle.diag_core.specs.Blocks.{IsIndexed}
 

@@ -16,3 +16,5 @@ pub mod Pack
 pub mod PathIds
 pub mod Position
 pub mod Severity
+pub mod texts
+pub mod lists

@@ -12,11 +12,13 @@ pub mod label;
 pub mod licenses;
 mod line_index;
 mod line_scan;
+pub mod lists;
 pub mod overrides;
 pub mod pack;
 pub mod position;
 pub mod severity;
 mod source_file;
+pub mod texts;
 
 pub use code::{DiagnosticCode, DiagnosticCodeIter};
 pub use code_table::Unknown;

@@ -10,9 +10,9 @@ use crate::characters::begins_character;
 use crate::line_index::LineIndex;
 use crate::line_scan;
 use crate::position::{FilesErr, Location};
+use crate::texts::license_span;
 use deny_text::path::compare;
 use deny_text::{PathBuf, Span, Text};
-use diag_texts::license_span;
 use std::alloc::Global;
 use std::marker::Model;
 

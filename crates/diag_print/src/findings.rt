@@ -9,8 +9,8 @@ ghost use Rattle.diag_print.specs.Findings.{printed_findings, printed_packs};
 
 use crate::context::LogContext;
 use crate::printer::{DiagPrinter, PrintError};
+use diag_core::lists::Diagnostics;
 use diag_core::{Diagnostic, Files, Pack, Severity};
-use diag_lists::Diagnostics;
 use std::alloc::Global;
 use tree_core::{Sink, SinkFailed, write_all};
 

@@ -10,19 +10,19 @@ use Rattle.tree_core.specs.declared.reads.ReadKind.TheVariants.{Manifest, Listin
 use Rattle.tree_core.specs.declared.reads.ReadRecord.{ReadRecord}
 use Rattle.diag_core.specs.File.{File, Grows, file_id_at}
 use Rattle.graph_core.specs.Krate.{Record}
-use Rattle.tree_reads.specs.Heard.{ReadResult, absent, is_kind, is_read}
-use Rattle.tree_reads.specs.Read.{AnsweredRead, first_heard, read_heard, records_of_reads}
-use Rattle.tree_reads.proofs.ReadLemmas.{lacked_behind, no_reads, reads_joined, reads_lacking, records_in-append}
-use Rattle.gather_files.specs.Calls.{IsFront, StarvesAmong}
-use Rattle.gather_files.specs.Ears.{FolderReads, ears_by}
-use Rattle.gather_files.specs.Pack.{reads_of}
-use Rattle.gather_files.specs.Steps.{file_record, records_by}
-use Rattle.gather_files.proofs.CallLemmas.{first_false, front_then, second_false}
-use Rattle.gather_expression.specs.Scanned.{Scanner}
-use Rattle.gather_findings.proofs.GrowLemmas.{grows_same}
-use Rattle.gather_location.specs.declared.location.LocatedField.{LocatedField}
-use Rattle.gather_location.specs.Calls.{IsLocatedBy, StarvesLocating, manifest_by}
-use Rattle.gather_location.specs.Location.{located_by, located_of}
+use Rattle.tree_core.specs.file_reads.Heard.{ReadResult, absent, is_kind, is_read}
+use Rattle.tree_core.specs.file_reads.Read.{AnsweredRead, first_heard, read_heard, records_of_reads}
+use Rattle.tree_core.proofs.file_reads.ReadLemmas.{lacked_behind, no_reads, reads_joined, reads_lacking, records_in-append}
+use Rattle.gather_licence.specs.files.Calls.{IsFront, StarvesAmong}
+use Rattle.gather_licence.specs.files.Ears.{FolderReads, ears_by}
+use Rattle.gather_licence.specs.files.Pack.{reads_of}
+use Rattle.gather_licence.specs.files.Steps.{file_record, records_by}
+use Rattle.gather_licence.proofs.files.CallLemmas.{first_false, front_then, second_false}
+use Rattle.gather_licence.specs.expression.Scanned.{Scanner}
+use Rattle.gather_core.proofs.findings.GrowLemmas.{grows_same}
+use Rattle.gather_licence.specs.declared.location.location.LocatedField.{LocatedField}
+use Rattle.gather_licence.specs.location.Calls.{IsLocatedBy, StarvesLocating, manifest_by}
+use Rattle.gather_licence.specs.location.Location.{located_by, located_of}
 use Rattle.gather_licence.specs.declared.settle.SettledLicense.{SettledLicense}
 use Rattle.gather_licence.specs.Calls.{IsByReads}
 use Rattle.gather_licence.specs.Clarification.{ClarificationView, named_files}

@@ -6,7 +6,7 @@ use Rattle.diag_core.specs.File.{File}
 use Rattle.gather_licence.specs.declared.settling.LicenseBasis.{LicenseBasis}
 use Rattle.gather_licence.specs.declared.settling.LicenseBasis.TheVariants.{Clarified, Field, Files}
 use Rattle.gather_licence.specs.Priority.{answer_in, priority_of}
-use Rattle.gather_findings.specs.declared.license.LicenseInfo.{LicenseInfo}
+use Rattle.gather_core.specs.declared.findings.license.LicenseInfo.{LicenseInfo}
 use Rattle.gather_core.specs.declared.summary.KrateLicense.{KrateLicense}
 use Rattle.gather_core.specs.Told.{answer_view, info_by, notes_of, nowhere}
 use Rattle.gather_core.specs.Turns.{IsTurn, TurnInput, info_in, located_in, points_in, basis_in}

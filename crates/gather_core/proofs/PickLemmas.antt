@@ -8,8 +8,8 @@ use Rattle.std.specs.Option.{option_to_list}
 use Rattle.std.proofs.lemmas.List.{map-append, take_more}
 use Rattle.std.proofs.lemmas.List.Elements.{filter_map-append}
 use Rattle.graph_core.specs.Krate.{Record}
-use Rattle.policy_spec.specs.Index.{matching, places_from}
-use Rattle.policy_spec.specs.Matching.{spec_matches}
+use Rattle.policy_parts.specs.spec.Index.{matching, places_from}
+use Rattle.policy_parts.specs.spec.Matching.{spec_matches}
 use Rattle.gather_licence.specs.Clarification.{ClarificationView, behind}
 use Rattle.gather_core.specs.Entries.{ClarificationEntry, clarifications_of, clarification_at, clarifications_at, specs_of}
 

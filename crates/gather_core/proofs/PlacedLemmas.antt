@@ -6,21 +6,21 @@ use Rattle.std.specs.Option.{option_to_list}
 use Rattle.std.specs.Str.{IsCharBoundary}
 use Rattle.std.proofs.lemmas.List.Elements.{All-append, All-cons, All-filter, All-head, All-map, All-nil, All-tail, All-weaker}
 use Rattle.deny_text.specs.declared.span.Span.{Span}
-use Rattle.spdx_catalog.specs.Catalog.{CatalogLists}
+use Rattle.spdx_terms.specs.catalog.Catalog.{CatalogLists}
 use Rattle.spdx_terms.specs.declared.error.ParseError.{ParseError}
 use Rattle.spdx_core.specs.Reading.{ExpressionView}
 use Rattle.diag_core.specs.declared.label.Coord.{Coord}
 use Rattle.diag_core.specs.declared.label.Label.{Label}
 use Rattle.diag_core.specs.File.{File, file_id_at, source_of_file}
 use Rattle.graph_core.specs.Krate.{Record}
-use Rattle.tree_reads.specs.Heard.{ReadResult, failed, absent, wrong_kind, not_utf8, text, entries}
-use Rattle.gather_files.specs.Ears.{FolderReads, holds, missing_from}
-use Rattle.policy_spec.specs.Matching.{spec_matches}
-use Rattle.gather_location.specs.Location.{files_by, files_with_manifest, joined_by, span_in}
-use Rattle.diag_texts.specs.Synthetic.{cut}
-use Rattle.gather_findings.specs.Cuts.{LabelLies, labels_of, text_under}
-use Rattle.gather_findings.proofs.GrowLemmas.{grows_itself}
-use Rattle.gather_findings.proofs.LicenseLemmas.{info_grown, place_grown, stands_grown}
+use Rattle.tree_core.specs.file_reads.Heard.{ReadResult, failed, absent, wrong_kind, not_utf8, text, entries}
+use Rattle.gather_licence.specs.files.Ears.{FolderReads, holds, missing_from}
+use Rattle.policy_parts.specs.spec.Matching.{spec_matches}
+use Rattle.gather_licence.specs.location.Location.{files_by, files_with_manifest, joined_by, span_in}
+use Rattle.diag_core.specs.texts.Synthetic.{cut}
+use Rattle.gather_core.specs.findings.Cuts.{LabelLies, labels_of, text_under}
+use Rattle.gather_core.proofs.findings.GrowLemmas.{grows_itself}
+use Rattle.gather_core.proofs.findings.LicenseLemmas.{info_grown, place_grown, stands_grown}
 use Rattle.gather_licence.specs.declared.settling.FilesSeen.{FilesSeen}
 use Rattle.gather_licence.specs.declared.settling.LicenseBasis.{LicenseBasis}
 use Rattle.gather_licence.specs.declared.settling.LicenseBasis.TheVariants.{Clarified, Field, Files}

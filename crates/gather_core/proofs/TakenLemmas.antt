@@ -2,16 +2,16 @@
 use Rattle.std.proofs.Common.{◌≡◌, ◌∙◌, ℕ, true, false, not, ◌&&◌, cond, List, [], ◌∷◌, ◌++◌, Option, None, Some, is_some, is_none, refl, sym, ap}
 use Rattle.std.specs.Option.{option_to_list}
 use Rattle.std.specs.Prelude.{option_map, unwrap_or}
-use Rattle.spdx_catalog.specs.Catalog.{CatalogLists}
+use Rattle.spdx_terms.specs.catalog.Catalog.{CatalogLists}
 use Rattle.tree_core.specs.declared.reads.ReadRecord.{ReadRecord}
 use Rattle.spdx_core.specs.Reading.{ExpressionView}
 use Rattle.diag_core.specs.File.{File}
 use Rattle.graph_core.specs.Krate.{Record}
-use Rattle.tree_reads.specs.Heard.{ReadResult}
-use Rattle.gather_files.specs.Ears.{FolderReads}
-use Rattle.gather_expression.specs.Scanned.{Scanner}
-use Rattle.gather_location.specs.declared.location.LocatedField.{LocatedField}
-use Rattle.gather_location.specs.Location.{IsLocated, files_after, located_of}
+use Rattle.tree_core.specs.file_reads.Heard.{ReadResult}
+use Rattle.gather_licence.specs.files.Ears.{FolderReads}
+use Rattle.gather_licence.specs.expression.Scanned.{Scanner}
+use Rattle.gather_licence.specs.declared.location.location.LocatedField.{LocatedField}
+use Rattle.gather_licence.specs.location.Location.{IsLocated, files_after, located_of}
 use Rattle.gather_licence.specs.declared.settle.SettledLicense.{SettledLicense}
 use Rattle.gather_licence.specs.declared.settling.FilesSeen.{FilesSeen}
 use Rattle.gather_licence.specs.declared.settling.LicenseBasis.{LicenseBasis}

@@ -7,7 +7,7 @@ use Rattle.std.specs.Str.{IsCharBoundary}
 use Rattle.std.proofs.lemmas.List.{length-take-le}
 use Rattle.std.proofs.lemmas.List.Elements.{All-cons, All-head, All-nil, All-tail}
 use Rattle.deny_text.specs.declared.span.Span.{Span}
-use Rattle.spdx_catalog.specs.Catalog.{CatalogLists}
+use Rattle.spdx_terms.specs.catalog.Catalog.{CatalogLists}
 use Rattle.spdx_terms.specs.declared.mode.ParseMode.{ParseMode}
 use Rattle.spdx_terms.specs.Faults.{first_fault}
 use Rattle.spdx_terms.specs.Items.{items_of}
@@ -16,9 +16,9 @@ use Rattle.spdx_core.specs.Reading.{ExpressionView, ReaderState, after_items, ex
 use Rattle.graph_core.specs.Krate.{Record}
 use Rattle.diag_core.specs.declared.label.Coord.{Coord}
 use Rattle.diag_core.specs.File.{File, source_of_file}
-use Rattle.gather_expression.specs.Taken.{field_read, lax, strict_with_slash}
-use Rattle.gather_location.specs.Location.{PointsAt}
-use Rattle.gather_findings.specs.Cuts.{LabelLies, StandsAtCoord, labels_of}
+use Rattle.gather_licence.specs.expression.Taken.{field_read, lax, strict_with_slash}
+use Rattle.gather_licence.specs.location.Location.{PointsAt}
+use Rattle.gather_core.specs.findings.Cuts.{LabelLies, StandsAtCoord, labels_of}
 use Rattle.gather_licence.specs.declared.settling.FilesSeen.{FilesSeen}
 use Rattle.gather_licence.specs.declared.settling.LicenseBasis.{LicenseBasis}
 use Rattle.gather_licence.specs.declared.settling.LicenseBasis.TheVariants.{Clarified, Field, Files}

@@ -12,13 +12,13 @@ use Rattle.tree_core.specs.Trace.{fault_behind, faults_after}
 use Rattle.tree_core.specs.declared.reads.ReadRecord.{ReadRecord}
 use Rattle.tree_core.proofs.MadeLemmas.{faults_after-append, made_as, made_joined, made_none}
 use Rattle.graph_core.specs.Krate.{Record}
-use Rattle.tree_reads.specs.Read.{AreReads, MadeReads, AnsweredRead, calls_in, records_of_reads}
-use Rattle.tree_reads.proofs.ReadLemmas.{are_joined, calls_in-append}
-use Rattle.gather_files.specs.Calls.{IsFront}
-use Rattle.gather_files.specs.Ears.{ears_by}
-use Rattle.gather_expression.specs.Scanned.{Scanner}
+use Rattle.tree_core.specs.file_reads.Read.{AreReads, MadeReads, AnsweredRead, calls_in, records_of_reads}
+use Rattle.tree_core.proofs.file_reads.ReadLemmas.{are_joined, calls_in-append}
+use Rattle.gather_licence.specs.files.Calls.{IsFront}
+use Rattle.gather_licence.specs.files.Ears.{ears_by}
+use Rattle.gather_licence.specs.expression.Scanned.{Scanner}
 use Rattle.diag_core.specs.File.{File}
-use Rattle.gather_location.specs.Calls.{manifest_by}
+use Rattle.gather_licence.specs.location.Calls.{manifest_by}
 use Rattle.gather_licence.specs.Priority.{folder_of}
 use Rattle.gather_core.specs.declared.summary.KrateLicense.{KrateLicense}
 use Rattle.gather_core.specs.Calls.{AreTurnsByReads, CrateReads, IsByOwnReads, IsTurnHeard, StarvesGathering, StarvesTaking}

@@ -9,8 +9,8 @@ use Rattle.diag_core.specs.File.{File}
 use Rattle.gather_licence.specs.declared.settling.LicenseBasis.{LicenseBasis}
 use Rattle.gather_licence.specs.Priority.{answer_in}
 use Rattle.gather_licence.specs.Settled.{missing_of}
-use Rattle.gather_findings.specs.declared.outcome.PlacedFindings.{PlacedFindings}
-use Rattle.gather_findings.specs.Cuts.{LabelLies, labels_of, text_under}
+use Rattle.gather_core.specs.declared.findings.outcome.PlacedFindings.{PlacedFindings}
+use Rattle.gather_core.specs.findings.Cuts.{LabelLies, labels_of, text_under}
 use Rattle.gather_core.specs.declared.summary.KrateLicense.{KrateLicense}
 use Rattle.gather_core.specs.declared.turn.LocatedLicense.{LocatedLicense}
 use Rattle.gather_core.specs.Taken.{IsTaken}

@@ -8,13 +8,13 @@ use Rattle.tree_core.specs.Content.{Content}
 use Rattle.tree_core.specs.Hearing.{Made}
 use Rattle.tree_core.specs.declared.reads.ReadRecord.{ReadRecord}
 use Rattle.graph_core.specs.Krate.{Record}
-use Rattle.tree_reads.specs.Heard.{ReadResult}
-use Rattle.tree_reads.specs.Read.{AreReads, LackedMemory, MadeReads, AnsweredRead, call_lost, calls_in, records_of_reads}
-use Rattle.gather_files.specs.Calls.{IsFront}
-use Rattle.gather_files.specs.Ears.{FolderReads, ears_by}
-use Rattle.gather_expression.specs.Scanned.{Scanner}
+use Rattle.tree_core.specs.file_reads.Heard.{ReadResult}
+use Rattle.tree_core.specs.file_reads.Read.{AreReads, LackedMemory, MadeReads, AnsweredRead, call_lost, calls_in, records_of_reads}
+use Rattle.gather_licence.specs.files.Calls.{IsFront}
+use Rattle.gather_licence.specs.files.Ears.{FolderReads, ears_by}
+use Rattle.gather_licence.specs.expression.Scanned.{Scanner}
 use Rattle.diag_core.specs.File.{File}
-use Rattle.gather_location.specs.Calls.{manifest_by}
+use Rattle.gather_licence.specs.location.Calls.{manifest_by}
 use Rattle.gather_licence.specs.Priority.{folder_of, priority_of}
 use Rattle.gather_core.specs.Entries.{ClarificationEntry, clarifications_of}
 use Rattle.gather_core.specs.declared.summary.KrateLicense.{KrateLicense}

@@ -3,10 +3,10 @@ use Rattle.std.specs.Prelude.{ℕ, List, map, filter, slice_get, Option, option_
 use Rattle.std.specs.List.{filter_map}
 use Rattle.graph_core.specs.Krate.{Record}
 use Rattle.policy_parts.specs.declared.file_source.FileSource.{FileSource}
-use Rattle.policy_spec.specs.Matching.{spec_matches}
-use Rattle.policy_spec.specs.Spec.{Spec}
-use Rattle.policy_valid.specs.declared.policy.ValidClarification.{ValidClarification}
-use Rattle.policy_valid.specs.declared.policy.ValidConfig.{ValidConfig}
+use Rattle.policy_parts.specs.spec.Matching.{spec_matches}
+use Rattle.policy_parts.specs.spec.Spec.{Spec}
+use Rattle.policy_core.specs.declared.valid.policy.ValidClarification.{ValidClarification}
+use Rattle.policy_core.specs.declared.valid.policy.ValidConfig.{ValidConfig}
 use Rattle.gather_licence.specs.Clarification.{ClarificationView, PlacedFile}
 
 -- a clarification, and the crates that it is for

@@ -1,15 +1,15 @@
 -- The licences of all crates that are selected.
 use Rattle.std.specs.Prelude.{◌≡◌, ℕ, ℤ, pos, negsuc, nat_le, List, None, option_copied, if◌then◌else◌}
 use Rattle.std.specs.List.{flat_map}
-use Rattle.spdx_catalog.specs.Catalog.{CatalogLists}
-use Rattle.spdx_catalog.specs.declared.identifier.Match.{Match}
+use Rattle.spdx_terms.specs.catalog.Catalog.{CatalogLists}
+use Rattle.spdx_terms.specs.declared.catalog.identifier.Match.{Match}
 use Rattle.tree_core.specs.declared.reads.ReadRecord.{ReadRecord}
 use Rattle.graph_core.specs.Krate.{Record, record_of}
-use Rattle.gather_files.specs.Ears.{FolderReads}
-use Rattle.gather_expression.specs.Scanned.{Scanner, match_by}
-use Rattle.graph_selection.specs.declared.selection.Include.{Include}
-use Rattle.policy_valid.specs.declared.policy.ValidConfig.{ValidConfig}
-use Rattle.tree_reads.specs.Heard.{ReadResult}
+use Rattle.gather_licence.specs.files.Ears.{FolderReads}
+use Rattle.gather_licence.specs.expression.Scanned.{Scanner, match_by}
+use Rattle.graph_core.specs.declared.selection.selection.Include.{Include}
+use Rattle.policy_core.specs.declared.valid.policy.ValidConfig.{ValidConfig}
+use Rattle.tree_core.specs.file_reads.Heard.{ReadResult}
 use Rattle.diag_core.specs.File.{File}
 use Rattle.gather_core.specs.Entries.{ClarificationEntry, clarifications_of}
 use Rattle.gather_core.specs.declared.gatherer.Gatherer.{Gatherer}

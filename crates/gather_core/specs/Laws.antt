@@ -2,8 +2,8 @@
 use Rattle.std.specs.Prelude.{ℕ, List, Option}
 use Rattle.tree_core.specs.Call.{Call}
 use Rattle.tree_core.specs.Content.{Content}
-use Rattle.tree_reads.specs.Rising.{RiseInOrder}
-use Rattle.gather_expression.specs.Scanned.{Scanner}
+use Rattle.tree_core.specs.file_reads.Rising.{RiseInOrder}
+use Rattle.gather_licence.specs.expression.Scanned.{Scanner}
 use Rattle.diag_core.specs.File.{File}
 use Rattle.gather_core.specs.declared.summary.KrateLicense.{KrateLicense}
 use Rattle.gather_core.specs.Calls.{AreTurnsByReads}

@@ -6,3 +6,4 @@ pub mod Premises
 pub mod Taken
 pub mod Told
 pub mod Turns
+pub mod findings

@@ -2,8 +2,8 @@
 use Rattle.std.specs.Prelude.{◌≡◌, ℕ, List, All, ⊤}
 use Rattle.diag_core.specs.File.{File}
 pub use Rattle.diag_core.specs.File.{Grows}
-use Rattle.gather_findings.specs.Cuts.{LabelLies, labels_of}
-pub use Rattle.gather_findings.specs.License.{InfoStands, PlaceLies, StandsIn}
+use Rattle.gather_core.specs.findings.Cuts.{LabelLies, labels_of}
+pub use Rattle.gather_core.specs.findings.License.{InfoStands, PlaceLies, StandsIn}
 use Rattle.gather_licence.specs.declared.settling.LicenseBasis.{LicenseBasis}
 use Rattle.gather_licence.specs.declared.settling.LicenseBasis.TheVariants.{Clarified, Field, Files}
 use Rattle.gather_licence.specs.Clarification.{ClarificationView, PlacedFile}

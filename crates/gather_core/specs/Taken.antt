@@ -1,11 +1,11 @@
 -- What is taken at a crate's turn.
 use Rattle.std.specs.Prelude.{◌≡◌, ℕ, Bool, true, false, List}
 use Rattle.graph_core.specs.Krate.{Record}
-use Rattle.tree_reads.specs.Heard.{ReadResult}
-use Rattle.gather_files.specs.Ears.{FolderReads}
-use Rattle.gather_expression.specs.Scanned.{Scanner}
+use Rattle.tree_core.specs.file_reads.Heard.{ReadResult}
+use Rattle.gather_licence.specs.files.Ears.{FolderReads}
+use Rattle.gather_licence.specs.expression.Scanned.{Scanner}
 use Rattle.diag_core.specs.File.{File}
-use Rattle.gather_location.specs.declared.location.LocatedField.{LocatedField}
+use Rattle.gather_licence.specs.declared.location.location.LocatedField.{LocatedField}
 use Rattle.gather_licence.specs.Clarification.{ClarificationView}
 use Rattle.gather_licence.specs.Settled.{missing_of}
 use Rattle.gather_licence.specs.declared.settling.LicenseBasis.{LicenseBasis}

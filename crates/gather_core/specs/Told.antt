@@ -6,11 +6,11 @@ use Rattle.gather_licence.specs.declared.settling.LicenseBasis.{LicenseBasis}
 use Rattle.gather_licence.specs.declared.settling.LicenseBasis.TheVariants.{Clarified, Field, Files}
 use Rattle.gather_licence.specs.declared.settling.JoinedNames.{JoinedNames}
 use Rattle.gather_licence.specs.Priority.{LicenseAnswer, ExpressionSource, metadata, user_override, license_files}
-use Rattle.gather_findings.specs.declared.license.LicenseExprInfo.{LicenseExprInfo}
-use Rattle.gather_findings.specs.declared.license.LicenseExprSource.{LicenseExprSource}
-use Rattle.gather_findings.specs.declared.license.LicenseExprSource.TheVariants.{Metadata, UserOverride, LicenseFiles}
-use Rattle.gather_findings.specs.declared.license.LicenseInfo.{LicenseInfo}
-use Rattle.gather_findings.specs.declared.license.LicenseInfo.TheVariants.{SpdxExpression, Unlicensed}
+use Rattle.gather_core.specs.declared.findings.license.LicenseExprInfo.{LicenseExprInfo}
+use Rattle.gather_core.specs.declared.findings.license.LicenseExprSource.{LicenseExprSource}
+use Rattle.gather_core.specs.declared.findings.license.LicenseExprSource.TheVariants.{Metadata, UserOverride, LicenseFiles}
+use Rattle.gather_core.specs.declared.findings.license.LicenseInfo.{LicenseInfo}
+use Rattle.gather_core.specs.declared.findings.license.LicenseInfo.TheVariants.{SpdxExpression, Unlicensed}
 
 -- ---- where an expression's text stands
 

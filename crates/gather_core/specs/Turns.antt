@@ -6,9 +6,9 @@ use Rattle.tree_core.specs.declared.reads.ReadRecord.{ReadRecord}
 use Rattle.deny_text.specs.declared.span.Span.{Span}
 use Rattle.spdx_terms.specs.declared.error.ParseError.{ParseError}
 use Rattle.graph_core.specs.Krate.{Record}
-use Rattle.tree_reads.specs.Heard.{ReadResult}
-use Rattle.gather_files.specs.Ears.{FolderReads}
-use Rattle.gather_expression.specs.Scanned.{Scanner}
+use Rattle.tree_core.specs.file_reads.Heard.{ReadResult}
+use Rattle.gather_licence.specs.files.Ears.{FolderReads}
+use Rattle.gather_licence.specs.expression.Scanned.{Scanner}
 use Rattle.diag_core.specs.declared.label.Coord.{Coord}
 use Rattle.diag_core.specs.declared.pack.Diag.{Diag}
 use Rattle.diag_core.specs.File.{File}
@@ -20,14 +20,14 @@ use Rattle.gather_licence.specs.declared.settling.LicenseBasis.TheVariants.{Clar
 use Rattle.gather_licence.specs.Clarification.{ClarificationView}
 use Rattle.gather_licence.specs.Priority.{answer_in, folder_of, holding, is_nothing, records_of, basis_of}
 use Rattle.gather_licence.specs.Settled.{missing_of}
-use Rattle.gather_location.specs.declared.location.LocatedField.{LocatedField}
-use Rattle.gather_location.specs.Location.{files_after, located_of}
-use Rattle.gather_findings.specs.declared.outcome.PlacedFindings.{PlacedFindings}
-use Rattle.gather_findings.specs.Cuts.{LabelLies, labels_of, text_under, texts_by}
-use Rattle.gather_findings.specs.Faults.{field_faults}
-use Rattle.gather_findings.specs.Findings.{UnclarifiedCrateView, ExpressionBasisView, by_field, by_files, files_with, missing_file, points_of}
-use Rattle.gather_findings.specs.Pieces.{SeenFilesView, unlisted, listed}
-use Rattle.gather_findings.specs.declared.license.LicenseInfo.{LicenseInfo}
+use Rattle.gather_licence.specs.declared.location.location.LocatedField.{LocatedField}
+use Rattle.gather_licence.specs.location.Location.{files_after, located_of}
+use Rattle.gather_core.specs.declared.findings.outcome.PlacedFindings.{PlacedFindings}
+use Rattle.gather_core.specs.findings.Cuts.{LabelLies, labels_of, text_under, texts_by}
+use Rattle.gather_core.specs.findings.Faults.{field_faults}
+use Rattle.gather_core.specs.findings.Findings.{UnclarifiedCrateView, ExpressionBasisView, by_field, by_files, files_with, missing_file, points_of}
+use Rattle.gather_core.specs.findings.Pieces.{SeenFilesView, unlisted, listed}
+use Rattle.gather_core.specs.declared.findings.license.LicenseInfo.{LicenseInfo}
 use Rattle.gather_core.specs.declared.summary.KrateLicense.{KrateLicense}
 use Rattle.gather_core.specs.Told.{info_by, notes_of, nowhere}
 

@@ -7,9 +7,9 @@ ghost use Rattle.gather_core.specs.Entries.{clarifications_of, clarification_ent
 
 use gather_licence::{ClarificationRef, FileRef};
 use graph_core::Krate;
+use policy_core::valid::ValidClarification;
 use policy_parts::FileSource;
-use policy_spec::{HasSpec, PackageSpec, SpecIndex};
-use policy_valid::ValidClarification;
+use policy_parts::spec::{HasSpec, PackageSpec, SpecIndex};
 use std::alloc::{AllocError, Global};
 use std::marker::Model;
 
@@ -53,7 +53,7 @@ pub(crate) struct ClarificationIndex<'p> {
 impl<'p> Model for ClarificationIndex<'p> {
     ghost use Rattle.std.specs.Prelude.{◌≡◌, List};
     ghost use Rattle.std.specs.Coded.{codes};
-    ghost use Rattle.policy_spec.specs.Index.{spec_numbers};
+    ghost use Rattle.policy_parts.specs.spec.Index.{spec_numbers};
     ghost use Rattle.gather_licence.specs.Clarification.{clarification_code};
     ghost use Rattle.gather_core.specs.Entries.{ClarificationEntry, specs_of};
 

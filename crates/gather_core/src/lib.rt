@@ -2,6 +2,7 @@
 #![tactic(auto)]
 
 mod clarifications;
+pub mod findings;
 pub mod gatherer;
 pub mod laws;
 pub mod summary;
@@ -9,6 +10,6 @@ mod tell;
 mod told;
 mod turn;
 
-pub use gather_findings::{Diags, LicenseExprInfo, LicenseExprSource, LicenseInfo};
+pub use crate::findings::{Diags, LicenseExprInfo, LicenseExprSource, LicenseInfo};
 pub use gatherer::Gatherer;
 pub use summary::{KrateLicense, KrateLicenses, Summary};

@@ -1,7 +1,7 @@
 //! What was gathered.
+use crate::findings::{Diags, LicenseInfo};
 use deny_text::ListOf;
 use diag_core::Notes;
-use gather_findings::{Diags, LicenseInfo};
 use graph_core::Krate;
 use tree_core::Reads;
 

@@ -2,10 +2,10 @@
 ghost use Rattle.std.specs.Prelude.{◌≡◌, IfOk, OnOk, IfSome, All, map, option_copied};
 ghost use Rattle.std.specs.Prelude.{option_map};
 ghost use Rattle.graph_core.specs.Krate.{record_of};
-ghost use Rattle.gather_location.specs.Location.{PointsAt};
-ghost use Rattle.gather_findings.specs.Cuts.{LabelLies, StandsAtCoord, labels_of, text_under};
-ghost use Rattle.gather_findings.specs.Premises.{FaultsLie};
-ghost use Rattle.gather_findings.specs.Views.{outcome_view, seen_view};
+ghost use Rattle.gather_licence.specs.location.Location.{PointsAt};
+ghost use Rattle.gather_core.specs.findings.Cuts.{LabelLies, StandsAtCoord, labels_of, text_under};
+ghost use Rattle.gather_core.specs.findings.Premises.{FaultsLie};
+ghost use Rattle.gather_core.specs.findings.Views.{outcome_view, seen_view};
 ghost use Rattle.gather_core.specs.Gathered.{krate_of};
 ghost use Rattle.gather_core.specs.Premises.{ByStands, Grows, IsPlacedAt, PlaceLies, TextIs};
 ghost use Rattle.gather_core.specs.Taken.{IsTaken};
@@ -14,15 +14,15 @@ ghost use Rattle.gather_core.specs.Turns.{IsCutOut, IsTurn, TurnInput, faults_in
 ghost use Rattle.gather_core.specs.Turns.{joined_expression_text, outcome_in, points_for, seen_as, text_settled};
 ghost use Rattle.gather_core.specs.Turns.{label_texts_for};
 
+use crate::findings::{
+    Diags, ExpressionBasis, ParseErrors, PlacedFindings, SeenFiles, UnclarifiedCrate, find,
+    missing_file,
+};
 use crate::summary::KrateLicense;
 use crate::told::told_by;
 use crate::turn::{LocatedLicense, joined};
 use deny_text::Span;
 use diag_core::{Coord, FileId, Files};
-use gather_findings::{
-    Diags, ExpressionBasis, ParseErrors, PlacedFindings, SeenFiles, UnclarifiedCrate, find,
-    missing_file,
-};
 use gather_licence::{FilesSeen, JoinedNames, LicenseBasis, folder};
 use graph_core::Krate;
 use std::alloc::{AllocError, Global};

@@ -4,9 +4,9 @@ ghost use Rattle.gather_licence.specs.Priority.{answer_in};
 ghost use Rattle.gather_core.specs.Told.{field_source, info_at, info_by, joined_info, joined_notes, notes_of};
 ghost use Rattle.gather_core.specs.Told.{nowhere};
 
+use crate::findings::{LicenseExprInfo, LicenseExprSource, LicenseInfo};
 use deny_text::Span;
 use diag_core::{Coord, FileId, Notes};
-use gather_findings::{LicenseExprInfo, LicenseExprSource, LicenseInfo};
 use gather_licence::{HeldClarification, JoinedNames, LicenseBasis};
 use spdx_core::Expression;
 use std::alloc::Global;

@@ -3,7 +3,7 @@ ghost use Rattle.std.specs.Prelude.{◌≡◌, ◌++◌, ◌&&◌, ℕ, not, tru
 ghost use Rattle.std.specs.Prelude.{map};
 ghost use Rattle.std.specs.Option.{option_to_list};
 ghost use Rattle.graph_core.specs.Krate.{record_of};
-ghost use Rattle.gather_location.specs.Location.{PointsAt};
+ghost use Rattle.gather_licence.specs.location.Location.{PointsAt};
 ghost use Rattle.gather_licence.specs.Clarification.{behind};
 ghost use Rattle.gather_licence.specs.Priority as spec;
 ghost use Rattle.gather_licence.specs.Priority.{field_of, folder_of};
@@ -15,11 +15,11 @@ ghost use Rattle.gather_core.specs.Turns.{field_text, located_where, records_in}
 
 use deny_text::ListOf;
 use diag_core::{Coord, Files};
+use gather_licence::location::{LocatedField, locate};
 use gather_licence::{ClarificationRef, LicenseBasis, Scan, Spans, settle_licence};
-use gather_location::{LocatedField, locate};
 use graph_core::Krate;
-use spdx_catalog::Identifier;
 use spdx_core::{Catalog, Expression};
+use spdx_terms::catalog::Identifier;
 use std::alloc::{AllocError, Global};
 use tree_core::{ReadRecord, Reads, Tree};
 

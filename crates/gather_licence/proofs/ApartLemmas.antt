@@ -3,12 +3,12 @@ use Rattle.std.proofs.Common.{◌≡◌, ℕ, Bool, true, false, not, ◌||◌, 
 use Rattle.std.specs.List.{fold, list_any}
 use Rattle.std.specs.Ordering.{is_lt}
 use Rattle.deny_text.specs.Path.{components_of, path_order}
-use Rattle.tree_reads.specs.Heard.{ReadResult}
-use Rattle.gather_files.specs.Pack.{first_spellings, in_path_order, placed, same_path, without_path}
-use Rattle.gather_files.specs.View.{file_at, normal_heard, paths_of}
-use Rattle.gather_files.proofs.PackLemmas.{by_test, file_at-parts, has_path}
-use Rattle.gather_files.proofs.PathLemmas.{parts_of_same, same_itself, symmetric}
-use Rattle.gather_files.proofs.CallLemmas.{first_false, second_false}
+use Rattle.tree_core.specs.file_reads.Heard.{ReadResult}
+use Rattle.gather_licence.specs.files.Pack.{first_spellings, in_path_order, placed, same_path, without_path}
+use Rattle.gather_licence.specs.files.View.{file_at, normal_heard, paths_of}
+use Rattle.gather_licence.proofs.files.PackLemmas.{by_test, file_at-parts, has_path}
+use Rattle.gather_licence.proofs.files.PathLemmas.{parts_of_same, same_itself, symmetric}
+use Rattle.gather_licence.proofs.files.CallLemmas.{first_false, second_false}
 
 both_false : (a b : Bool) → a ≡ false → b ≡ false → (a || b) ≡ false
 both_false a b first second = ap (λ x. x || b) first ∙ second

@@ -9,17 +9,17 @@ use Rattle.tree_core.specs.Content.{Content}
 use Rattle.tree_core.specs.declared.reads.ReadKind.TheVariants.{Listing}
 use Rattle.tree_core.specs.declared.reads.ReadRecord.{ReadRecord}
 use Rattle.graph_core.specs.Krate.{Record}
-use Rattle.tree_reads.specs.Heard.{read_record_of}
-use Rattle.tree_reads.specs.Read.{records_of_reads}
-use Rattle.gather_files.specs.Calls.{GoesBy, IsFront, IsMadeBy, Starves, StarvesAmong, first_records}
-use Rattle.gather_files.specs.Ears.{FolderReads, ears_by, holds, looked_of, tried_of}
-use Rattle.gather_files.specs.NamedFile.{NamedFileView}
-use Rattle.gather_files.specs.Pack.{license_files_in, reads_of}
-use Rattle.gather_files.specs.Steps.{Agrees, BeginsPack, file_record, records_by, with_path}
-use Rattle.gather_files.specs.View.{PackView, paths_read}
-use Rattle.gather_files.proofs.CallLemmas.{agrees_before, front_itself, front_looks, front_then, goes_then, starves_among, starves_behind, starves_then, starves_with}
-use Rattle.gather_files.proofs.PathLemmas.{look_ups_keep_first_spellings}
-use Rattle.gather_expression.specs.Scanned.{Scanner}
+use Rattle.tree_core.specs.file_reads.Heard.{read_record_of}
+use Rattle.tree_core.specs.file_reads.Read.{records_of_reads}
+use Rattle.gather_licence.specs.files.Calls.{GoesBy, IsFront, IsMadeBy, Starves, StarvesAmong, first_records}
+use Rattle.gather_licence.specs.files.Ears.{FolderReads, ears_by, holds, looked_of, tried_of}
+use Rattle.gather_licence.specs.files.NamedFile.{NamedFileView}
+use Rattle.gather_licence.specs.files.Pack.{license_files_in, reads_of}
+use Rattle.gather_licence.specs.files.Steps.{Agrees, BeginsPack, file_record, records_by, with_path}
+use Rattle.gather_licence.specs.files.View.{PackView, paths_read}
+use Rattle.gather_licence.proofs.files.CallLemmas.{agrees_before, front_itself, front_looks, front_then, goes_then, starves_among, starves_behind, starves_then, starves_with}
+use Rattle.gather_licence.proofs.files.PathLemmas.{look_ups_keep_first_spellings}
+use Rattle.gather_licence.specs.expression.Scanned.{Scanner}
 use Rattle.gather_licence.specs.declared.clarification.HeldClarification.{HeldClarification}
 use Rattle.deny_text.specs.declared.span.Span.{Span}
 use Rattle.gather_licence.specs.Clarification.{ClarificationView, named_files, named_in}

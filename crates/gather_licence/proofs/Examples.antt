@@ -16,11 +16,11 @@ use Rattle.tree_core.specs.declared.reads.ReadRecord.{ReadRecord}
 use Rattle.spdx_core.specs.Grammar.{leaf}
 use Rattle.spdx_core.specs.Reading.{ExpressionView}
 use Rattle.graph_core.specs.Krate.{Record}
-use Rattle.tree_reads.specs.Answered.{call_of}
-use Rattle.tree_reads.specs.Heard.{ReadResult, failed, absent, not_utf8, text, entries, file_heard}
-use Rattle.tree_reads.specs.Read.{AreReads, AnsweredRead, call_lost, calls_in, records_of_reads}
-use Rattle.gather_files.specs.Ears.{FolderReads, ears_by}
-use Rattle.gather_expression.specs.Scanned.{Scanner}
+use Rattle.tree_core.specs.file_reads.Answered.{call_of}
+use Rattle.tree_core.specs.file_reads.Heard.{ReadResult, failed, absent, not_utf8, text, entries, file_heard}
+use Rattle.tree_core.specs.file_reads.Read.{AreReads, AnsweredRead, call_lost, calls_in, records_of_reads}
+use Rattle.gather_licence.specs.files.Ears.{FolderReads, ears_by}
+use Rattle.gather_licence.specs.expression.Scanned.{Scanner}
 use Rattle.gather_licence.specs.Clarification.{ClarificationView}
 use Rattle.gather_licence.specs.Priority.{LicenseAnswer, folder_of, user_override, priority_of, records_of}
 use Rattle.gather_licence.specs.Settled.{missing_of}

@@ -6,17 +6,17 @@ use Rattle.std.proofs.lemmas.List.Sums.{fold-append}
 use Rattle.deny_text.specs.declared.span.Span.{Span}
 use Rattle.spdx_core.specs.Reading.{ExpressionView}
 use Rattle.graph_core.specs.Krate.{Record}
-use Rattle.tree_reads.specs.Heard.{ReadResult}
-use Rattle.tree_reads.specs.Read.{AnsweredRead}
-use Rattle.gather_files.specs.Calls.{TakesIn}
-use Rattle.gather_files.specs.Ears.{FolderReads, looked_of, tried_of}
-use Rattle.gather_files.specs.NamedFile.{NamedFileView}
-use Rattle.gather_files.specs.Pack.{license_files_in, in_path_order, pack_paths, reads_of, wanted_of}
-use Rattle.gather_files.specs.Steps.{Agrees, BeginsPack, records_by, with_path}
-use Rattle.gather_files.specs.View.{PackView, paths_of, paths_read}
-use Rattle.gather_files.proofs.CallLemmas.{agrees_before}
-use Rattle.gather_files.proofs.PathLemmas.{look_ups_keep_first_spellings}
-use Rattle.gather_expression.specs.Scanned.{Scanner, file_scanned}
+use Rattle.tree_core.specs.file_reads.Heard.{ReadResult}
+use Rattle.tree_core.specs.file_reads.Read.{AnsweredRead}
+use Rattle.gather_licence.specs.files.Calls.{TakesIn}
+use Rattle.gather_licence.specs.files.Ears.{FolderReads, looked_of, tried_of}
+use Rattle.gather_licence.specs.files.NamedFile.{NamedFileView}
+use Rattle.gather_licence.specs.files.Pack.{license_files_in, in_path_order, pack_paths, reads_of, wanted_of}
+use Rattle.gather_licence.specs.files.Steps.{Agrees, BeginsPack, records_by, with_path}
+use Rattle.gather_licence.specs.files.View.{PackView, paths_of, paths_read}
+use Rattle.gather_licence.proofs.files.CallLemmas.{agrees_before}
+use Rattle.gather_licence.proofs.files.PathLemmas.{look_ups_keep_first_spellings}
+use Rattle.gather_licence.specs.expression.Scanned.{Scanner, file_scanned}
 use Rattle.gather_licence.specs.declared.clarification.HeldClarification.{HeldClarification}
 use Rattle.gather_licence.specs.declared.settle.SettledLicense.{SettledLicense}
 use Rattle.gather_licence.specs.declared.settling.FilesSeen.{FilesSeen}

@@ -3,7 +3,7 @@ use Rattle.std.proofs.Common.{◌≡◌, ◌∙◌, ℕ, List, [], ◌∷◌, �
 use Rattle.std.specs.List.{cons_option}
 use Rattle.std.specs.Option.{option_to_list}
 use Rattle.std.proofs.lemmas.List.Elements.{filter_map-append}
-use Rattle.gather_expression.specs.declared.files.ScannedFile.{ScannedFile}
+use Rattle.gather_licence.specs.declared.expression.files.ScannedFile.{ScannedFile}
 use Rattle.gather_licence.specs.Notes.{path_given, paths_given}
 
 one_given : (o : Option (List ℕ)) → cons_option o [] ≡ option_to_list o

@@ -1,10 +1,10 @@
 -- What is seen of licence files.
 use Rattle.std.proofs.Common.{◌≡◌, ◌∙◌, List, map, Option, None, Some, sym, ap}
 use Rattle.std.specs.Prelude.{option_map, unwrap_or}
-use Rattle.tree_reads.specs.declared.bad_read.BadRead.{BadRead}
-use Rattle.gather_files.specs.View.{PackView, unlisted_of}
-use Rattle.gather_expression.specs.declared.files.ScannedFile.{ScannedFile}
-use Rattle.gather_expression.specs.Scanned.{Scanner, file_scanned}
+use Rattle.tree_core.specs.declared.file_reads.bad_read.BadRead.{BadRead}
+use Rattle.gather_licence.specs.files.View.{PackView, unlisted_of}
+use Rattle.gather_licence.specs.declared.expression.files.ScannedFile.{ScannedFile}
+use Rattle.gather_licence.specs.expression.Scanned.{Scanner, file_scanned}
 use Rattle.gather_licence.specs.declared.settling.FilesSeen.TheVariants.{Unlisted, Listed}
 use Rattle.gather_licence.specs.Steps.{seen_in}
 

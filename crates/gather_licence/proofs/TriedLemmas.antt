@@ -5,8 +5,8 @@ use Rattle.std.specs.List.{flat_map, fold}
 use Rattle.std.specs.Option.{option_to_list}
 use Rattle.std.proofs.lemmas.List.Sums.{fold-append}
 use Rattle.deny_text.specs.declared.span.Span.{Span}
-use Rattle.gather_files.specs.Ears.{FolderReads, holds, looked_of, tried_of}
-use Rattle.gather_files.specs.Steps.{with_path}
+use Rattle.gather_licence.specs.files.Ears.{FolderReads, holds, looked_of, tried_of}
+use Rattle.gather_licence.specs.files.Steps.{with_path}
 use Rattle.gather_licence.specs.Clarification.{ClarificationView, named_files, held_in, named_in}
 use Rattle.gather_licence.specs.Priority.{holding}
 use Rattle.gather_licence.specs.Settled.{missing_in, missing_of}

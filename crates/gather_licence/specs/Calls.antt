@@ -3,8 +3,8 @@ use Rattle.std.specs.Prelude.{◌≡◌, ℕ, List, Option}
 use Rattle.tree_core.specs.Call.{Call}
 use Rattle.tree_core.specs.Content.{Content}
 use Rattle.tree_core.specs.declared.reads.ReadRecord.{ReadRecord}
-use Rattle.tree_reads.specs.Read.{MadeReads, AnsweredRead, records_of_reads}
-use Rattle.gather_files.specs.Ears.{FolderReads, ears_by}
+use Rattle.tree_core.specs.file_reads.Read.{MadeReads, AnsweredRead, records_of_reads}
+use Rattle.gather_licence.specs.files.Ears.{FolderReads, ears_by}
 
 -- Reads with these records were made over a tree, for a crate in this folder: their calls were made, and no other, and this is so
 -- by what their answers let hear.

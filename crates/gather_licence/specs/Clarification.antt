@@ -6,7 +6,7 @@ use Rattle.deny_text.specs.contracts.span.Span as spans
 use Rattle.deny_text.specs.declared.span.Span.{Span}
 use Rattle.spdx_core.specs.ExpressionCode.{expression_code}
 use Rattle.spdx_core.specs.Reading.{ExpressionView}
-use Rattle.gather_files.specs.NamedFile.{NamedFileView}
+use Rattle.gather_licence.specs.files.NamedFile.{NamedFileView}
 use Rattle.gather_licence.specs.declared.clarification.HeldClarification.{HeldClarification}
 
 -- a file that a clarification names, and the place of its path in the policy's file

@@ -4,3 +4,6 @@ pub mod Notes
 pub mod Priority
 pub mod Settled
 pub mod Steps
+pub mod files
+pub mod location
+pub mod expression

@@ -1,10 +1,10 @@
 -- What is noted of licence files, and which of them give a name.
 use Rattle.std.specs.Prelude.{ℕ, Bool, List, [], ◌∷◌, ◌++◌, codes, Option, option_map, if◌then◌else◌}
 use Rattle.std.specs.List.{filter_map}
-use Rattle.gather_expression.specs.declared.files.FileResult.{FileResult}
-use Rattle.gather_expression.specs.declared.files.FileResult.TheVariants.{Bad, Unnamed, Low, Unknown, Joined}
-use Rattle.gather_expression.specs.declared.files.ScannedFile.{ScannedFile}
-use Rattle.gather_expression.specs.Scanned.{joined_name}
+use Rattle.gather_licence.specs.declared.expression.files.FileResult.{FileResult}
+use Rattle.gather_licence.specs.declared.expression.files.FileResult.TheVariants.{Bad, Unnamed, Low, Unknown, Joined}
+use Rattle.gather_licence.specs.declared.expression.files.ScannedFile.{ScannedFile}
+use Rattle.gather_licence.specs.expression.Scanned.{joined_name}
 
 -- the paths of the files that give a name
 abbrev pub path_given : ScannedFile → Option (List ℕ)

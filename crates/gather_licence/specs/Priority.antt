@@ -5,17 +5,17 @@ use Rattle.std.specs.Prelude.{option_map, option_and_then}
 use Rattle.std.specs.List.{flat_map}
 use Rattle.deny_text.specs.Path.{components_of, parent_of}
 use Rattle.tree_core.specs.declared.reads.ReadRecord.{ReadRecord}
-use Rattle.spdx_catalog.specs.Catalog.{CatalogLists}
+use Rattle.spdx_terms.specs.catalog.Catalog.{CatalogLists}
 use Rattle.spdx_core.specs.Reading.{ExpressionView}
 use Rattle.graph_core.specs.Krate.{Record}
-use Rattle.tree_reads.specs.Heard.{ReadResult}
-use Rattle.gather_files.specs.Ears.{FolderReads, holds}
-use Rattle.gather_files.specs.Pack.{pack_paths, reads_of}
-use Rattle.gather_files.specs.Steps.{records_by}
-use Rattle.gather_files.specs.View.{normal_heard, unlisted_of}
-use Rattle.gather_expression.specs.declared.files.ScannedFile.{ScannedFile}
-use Rattle.gather_expression.specs.Scanned.{Scanner, file_scanned, names_given}
-use Rattle.gather_expression.specs.Taken.{field_read, joined_read}
+use Rattle.tree_core.specs.file_reads.Heard.{ReadResult}
+use Rattle.gather_licence.specs.files.Ears.{FolderReads, holds}
+use Rattle.gather_licence.specs.files.Pack.{pack_paths, reads_of}
+use Rattle.gather_licence.specs.files.Steps.{records_by}
+use Rattle.gather_licence.specs.files.View.{normal_heard, unlisted_of}
+use Rattle.gather_licence.specs.declared.expression.files.ScannedFile.{ScannedFile}
+use Rattle.gather_licence.specs.expression.Scanned.{Scanner, file_scanned, names_given}
+use Rattle.gather_licence.specs.expression.Taken.{field_read, joined_read}
 use Rattle.gather_licence.specs.declared.clarification.HeldClarification.{HeldClarification}
 use Rattle.gather_licence.specs.declared.settling.FilesSeen.{FilesSeen}
 use Rattle.gather_licence.specs.declared.settling.FilesSeen.TheVariants.{Unlisted, Listed}

@@ -2,11 +2,11 @@
 use Rattle.std.specs.Prelude.{◌≡◌, ℕ, List, [], ◌∷◌, ◌++◌, slice_get, Option, option_copied, option_map, option_and_then, if◌then◌else◌}
 use Rattle.std.specs.Option.{option_to_list}
 use Rattle.deny_text.specs.declared.span.Span.{Span}
-use Rattle.spdx_catalog.specs.Catalog.{CatalogLists}
-use Rattle.spdx_catalog.specs.declared.identifier.Match.{Match}
+use Rattle.spdx_terms.specs.catalog.Catalog.{CatalogLists}
+use Rattle.spdx_terms.specs.declared.catalog.identifier.Match.{Match}
 use Rattle.graph_core.specs.Krate.{Record}
-use Rattle.gather_files.specs.Ears.{FolderReads, holds, missing_from}
-use Rattle.gather_expression.specs.Scanned.{Scanner, match_by}
+use Rattle.gather_licence.specs.files.Ears.{FolderReads, holds, missing_from}
+use Rattle.gather_licence.specs.expression.Scanned.{Scanner, match_by}
 use Rattle.gather_licence.specs.declared.scan.Scan.{Scan}
 use Rattle.gather_licence.specs.declared.settle.SettledLicense.{SettledLicense}
 use Rattle.gather_licence.specs.Clarification.{ClarificationView, PlacedFile, named_in}

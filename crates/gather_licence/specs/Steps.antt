@@ -2,11 +2,11 @@
 use Rattle.std.specs.Prelude.{◌≡◌, List, map, Option, option_map}
 use Rattle.deny_text.specs.declared.span.Span.{Span}
 use Rattle.graph_core.specs.Krate.{Record}
-use Rattle.gather_files.specs.Ears.{FolderReads}
-use Rattle.gather_files.specs.Pack.{reads_of}
-use Rattle.gather_files.specs.Steps.{Agrees}
-use Rattle.gather_files.specs.View.{PackView, paths_read}
-use Rattle.gather_expression.specs.Scanned.{Scanner, file_scanned}
+use Rattle.gather_licence.specs.files.Ears.{FolderReads}
+use Rattle.gather_licence.specs.files.Pack.{reads_of}
+use Rattle.gather_licence.specs.files.Steps.{Agrees}
+use Rattle.gather_licence.specs.files.View.{PackView, paths_read}
+use Rattle.gather_licence.specs.expression.Scanned.{Scanner, file_scanned}
 use Rattle.gather_licence.specs.declared.clarification.HeldClarification.{HeldClarification}
 use Rattle.gather_licence.specs.declared.settle.SettledLicense.{SettledLicense}
 use Rattle.gather_licence.specs.declared.settling.FilesSeen.{FilesSeen}

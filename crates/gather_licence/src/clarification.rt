@@ -2,8 +2,8 @@
 ghost use Rattle.std.specs.Prelude.{◌≡◌, IfOk};
 ghost use Rattle.gather_licence.specs.Clarification.{held_in};
 
+use crate::files::NamedFile;
 use deny_text::{PathBuf, Span};
-use gather_files::NamedFile;
 use spdx_core::Expression;
 use std::alloc::{AllocError, Global};
 use std::marker::Model;

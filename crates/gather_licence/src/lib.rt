@@ -3,6 +3,9 @@
 #![tactic(auto)]
 
 pub mod clarification;
+pub mod expression;
+pub mod files;
+pub mod location;
 mod notes;
 pub mod scan;
 pub mod settle;

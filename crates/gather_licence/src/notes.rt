@@ -5,9 +5,9 @@ ghost use Rattle.std.specs.Option.{option_to_list};
 ghost use Rattle.gather_licence.specs.Notes as spec;
 ghost use Rattle.gather_licence.specs.Notes.{deprecated_note, file_notes, path_given, renamed_note};
 
+use crate::expression::{FileResult, IdentifiedName, ScannedFile};
 use deny_text::{PathBuf, Text, Texts};
 use diag_core::Notes;
-use gather_expression::{FileResult, IdentifiedName, ScannedFile};
 use std::alloc::{AllocError, Global};
 
 /// Notes a file whose text was taken for that of `Pixar`.

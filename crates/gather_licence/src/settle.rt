@@ -3,10 +3,10 @@ ghost use Rattle.std.specs.Prelude.{◌≡◌, ◌++◌, IfOk, OnErr, OnOk, None
 ghost use Rattle.std.specs.List.{flat_map, fold};
 ghost use Rattle.std.specs.Option.{option_to_list};
 ghost use Rattle.graph_core.specs.Krate.{record_of};
-ghost use Rattle.gather_files.specs.Calls.{GoesBy, IsMadeBy, Starves, StarvesAmong};
-ghost use Rattle.gather_files.specs.Ears.{FolderReads, looked_of, tried_of};
-ghost use Rattle.gather_files.specs.Steps.{Agrees, with_path};
-ghost use Rattle.gather_files.specs.View.{paths_read};
+ghost use Rattle.gather_licence.specs.files.Calls.{GoesBy, IsMadeBy, Starves, StarvesAmong};
+ghost use Rattle.gather_licence.specs.files.Ears.{FolderReads, looked_of, tried_of};
+ghost use Rattle.gather_licence.specs.files.Steps.{Agrees, with_path};
+ghost use Rattle.gather_licence.specs.files.View.{paths_read};
 ghost use Rattle.gather_licence.specs.Calls.{IsByReads};
 ghost use Rattle.gather_licence.specs.Clarification.{behind, named_files, held_in};
 ghost use Rattle.gather_licence.specs.Priority as spec;
@@ -15,14 +15,14 @@ ghost use Rattle.gather_licence.specs.Settled.{IsSettledBy, missing_of, scanner_
 ghost use Rattle.gather_licence.specs.Steps.{IsLooked, IsOrderedBy};
 
 use crate::clarification::{ClarificationRef, FileRef, HeldClarification};
+use crate::files::LicensePack;
 use crate::scan::Scan;
 use crate::settling::{LicenseBasis, settle_by_cases};
 use deny_text::path::parent;
 use deny_text::{ListOf, Span};
-use gather_files::LicensePack;
 use graph_core::Krate;
-use spdx_catalog::Identifier;
 use spdx_core::{Catalog, Expression};
+use spdx_terms::catalog::Identifier;
 use std::alloc::{AllocError, Global};
 use tree_core::{Reads, Tree};
 

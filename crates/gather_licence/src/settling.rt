@@ -5,16 +5,16 @@ ghost use Rattle.gather_licence.specs.Settled.{scanner_of_scan};
 ghost use Rattle.gather_licence.specs.Steps.{seen_in};
 
 use crate::clarification::HeldClarification;
+use crate::expression::{ScannedFile, joined, scan_pack};
+use crate::files::LicensePack;
 use crate::notes::{notes_of, paths_given};
 use crate::scan::Scan;
 use deny_text::{ListOf, Texts};
 use diag_core::Notes;
-use gather_expression::{ScannedFile, joined, scan_pack};
-use gather_files::LicensePack;
-use spdx_catalog::Identifier;
 use spdx_core::{Catalog, Expression};
+use spdx_terms::catalog::Identifier;
 use std::alloc::{AllocError, Global};
-use tree_reads::BadRead;
+use tree_core::file_reads::BadRead;
 
 /// What is seen of a crate's licence files.
 #[derive(Drop)]

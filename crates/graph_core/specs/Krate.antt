@@ -9,9 +9,9 @@ use Rattle.std.specs.Cmp.{IsTotalOrder, on_total}
 use Rattle.std.specs.Cmp.Lexicographic.{slice_cmp, nat_list_cmp_total}
 use Rattle.semver.specs.Identifiers.{parts_of, parts_text}
 use Rattle.url.specs.Parts.{Parts}
-use Rattle.graph_source.specs.declared.source.Source.{Source}
-use Rattle.graph_source.specs.Source as sources
-use Rattle.graph_source.specs.Matching.{Matches}
+use Rattle.graph_core.specs.declared.source.source.Source.{Source}
+use Rattle.graph_core.specs.source.Source as sources
+use Rattle.graph_core.specs.source.Matching.{Matches}
 use Rattle.graph_core.specs.declared.krate.Krate.{Krate}
 
 -- major, minor and patch, the pre-release and the build part

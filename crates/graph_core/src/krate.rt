@@ -8,8 +8,8 @@ ghost use Rattle.std.proofs.Common.{rules};
 ghost use Rattle.graph_core.specs.Krate as spec;
 ghost use Rattle.graph_core.specs.Krate.{krate_order, krate_order_total, record_of, title_of, SourceMatches};
 
+use crate::source::{Source, matches_address};
 use deny_text::{PathBuf, Text, TextMap, Texts};
-use graph_source::{Source, matches_address};
 use semver::Version;
 use std::cmp::Ordering;
 use std::fmt;

@@ -7,8 +7,8 @@ use Rattle.serde_json.specs.Data.{Data, array, object, Items, Members, no_member
 use Rattle.serde_json.specs.Find.{get}
 use Rattle.deny_text.specs.Path.{parent_of}
 use Rattle.deny_text.specs.TextMap.{TextMapTo}
-use Rattle.graph_source.specs.declared.source.Source.{Source}
-use Rattle.graph_source.specs.Reading.{SourceReading, source_of}
+use Rattle.graph_core.specs.declared.source.source.Source.{Source}
+use Rattle.graph_core.specs.source.Reading.{SourceReading, source_of}
 use Rattle.graph_metadata.specs.declared.fault.MetaReason.TheVariants.{WrongKind, BadVersion, NoFolder}
 use Rattle.graph_metadata.specs.declared.fault.ObjectPlace.TheVariants.{Package, Features}
 use Rattle.graph_core.specs.Krate.{Record, Version}

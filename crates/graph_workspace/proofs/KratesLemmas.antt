@@ -1,22 +1,22 @@
 -- The crates from what was heard of the metadata's file, by what each step answers.
 use Rattle.std.proofs.Common.{◌≡◌, ◌∙◌, sym, ap, subst, ℕ, List, Option, Some, None, Result, Ok, Err, IfErr}
 use Rattle.tree_core.specs.Call.{Call}
-use Rattle.tree_texts.specs.Heard.{IsTextRead}
+use Rattle.tree_core.specs.texts.Heard.{IsTextRead}
 use Rattle.graph_core.specs.Metadata.{Graph}
 use Rattle.graph_metadata.specs.declared.fault.MetaError.{MetaError}
 use Rattle.graph_metadata.specs.declared.fault.MetaError.TheVariants as records
 use Rattle.graph_metadata.specs.Records.{metadata_of, IsMetaCause}
 use Rattle.graph_metadata.specs.Told.{MetadataReading}
-use Rattle.graph_selection.specs.declared.selection.BuildError.{BuildError}
-use Rattle.graph_selection.specs.declared.selection.BuildError.TheVariants as build
-use Rattle.graph_selection.specs.Choice.{Choice}
-use Rattle.graph_selection.specs.Listed.{Chosen}
-use Rattle.graph_selection.specs.Roots as roots
-use Rattle.tree_texts.specs.declared.fault.ReadFault.{ReadFault}
-use Rattle.tree_texts.specs.declared.fault.ReadFault.TheVariants.{Failed, Absent, Folder, NotUtf8}
+use Rattle.graph_core.specs.declared.selection.selection.BuildError.{BuildError}
+use Rattle.graph_core.specs.declared.selection.selection.BuildError.TheVariants as build
+use Rattle.graph_core.specs.selection.Choice.{Choice}
+use Rattle.graph_core.specs.selection.Listed.{Chosen}
+use Rattle.graph_core.specs.selection.Roots as roots
+use Rattle.tree_core.specs.declared.texts.fault.ReadFault.{ReadFault}
+use Rattle.tree_core.specs.declared.texts.fault.ReadFault.TheVariants.{Failed, Absent, Folder, NotUtf8}
 use Rattle.graph_workspace.specs.declared.error.KratesError.{KratesError}
 use Rattle.graph_workspace.specs.declared.error.KratesError.TheVariants.{Memory, NotCarried, MetadataRead, MetadataSyntax, MetadataShape, NoRoots}
-use Rattle.tree_texts.specs.Cause.{heard_cause, ReadCounts}
+use Rattle.tree_core.specs.texts.Cause.{heard_cause, ReadCounts}
 use Rattle.graph_workspace.specs.Krates.{krates_cause, error_of_build, error_of_records, graph_in, graph_or_error, sparse_dir, AreFrom, GathersBy, AnswersGraph}
 
 -- ---- what is told

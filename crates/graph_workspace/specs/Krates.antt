@@ -6,17 +6,17 @@ use Rattle.graph_metadata.specs.declared.fault.MetaError.{MetaError}
 use Rattle.graph_metadata.specs.declared.fault.MetaError.TheVariants as records
 use Rattle.graph_metadata.specs.Records.{metadata_of}
 use Rattle.graph_metadata.specs.Told.{MetadataReading}
-use Rattle.graph_selection.specs.declared.selection.BuildError.{BuildError}
-use Rattle.graph_selection.specs.declared.selection.BuildError.TheVariants as build
-use Rattle.graph_selection.specs.Choice.{Choice}
-use Rattle.graph_selection.specs.Listed.{Chosen, IsChosen}
-use Rattle.graph_selection.specs.Roots.{HasRoot, LacksRoots}
-use Rattle.tree_texts.specs.declared.fault.ReadFault.{ReadFault}
-use Rattle.tree_texts.specs.declared.fault.ReadFault.TheVariants.{Failed}
+use Rattle.graph_core.specs.declared.selection.selection.BuildError.{BuildError}
+use Rattle.graph_core.specs.declared.selection.selection.BuildError.TheVariants as build
+use Rattle.graph_core.specs.selection.Choice.{Choice}
+use Rattle.graph_core.specs.selection.Listed.{Chosen, IsChosen}
+use Rattle.graph_core.specs.selection.Roots.{HasRoot, LacksRoots}
+use Rattle.tree_core.specs.declared.texts.fault.ReadFault.{ReadFault}
+use Rattle.tree_core.specs.declared.texts.fault.ReadFault.TheVariants.{Failed}
 use Rattle.graph_workspace.specs.declared.error.KratesError.{KratesError}
 use Rattle.graph_workspace.specs.declared.error.KratesError.TheVariants.{Memory, NotCarried, MetadataRead, MetadataSyntax, MetadataShape, NoRoots}
-use Rattle.tree_texts.specs.Cause.{Cause, no_memory, told, failed_read}
-use Rattle.tree_texts.specs.Heard.{IsTextRead, read_of}
+use Rattle.tree_core.specs.texts.Cause.{Cause, no_memory, told, failed_read}
+use Rattle.tree_core.specs.texts.Heard.{IsTextRead, read_of}
 
 -- why a refusal comes
 abbrev pub krates_cause : KratesError → Cause

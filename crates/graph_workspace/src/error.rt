@@ -3,10 +3,10 @@ ghost use Rattle.std.specs.Prelude.{◌≡◌};
 ghost use Rattle.graph_workspace.specs.Krates.{error_of_records, error_of_build};
 ghost use Rattle.graph_workspace.specs.declared.error.KratesError.TheVariants.{Memory};
 
+use graph_core::selection::BuildError;
 use graph_metadata::{MetaError, MetaFault};
-use graph_selection::BuildError;
 use std::alloc::AllocError;
-use tree_texts::ReadFault;
+use tree_core::texts::ReadFault;
 
 /// What a request asks for that is not carried.
 #[derive(Clone, Copy, Debug, PartialEq, Eq)]

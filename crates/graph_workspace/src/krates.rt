@@ -1,18 +1,18 @@
 //! The crates of a workspace, from the metadata's file.
 ghost use Rattle.std.specs.Prelude.{◌≡◌, ◌≤◌, IfErr};
 ghost use Rattle.tree_core.specs.Hearing.{MadeSome};
-ghost use Rattle.graph_selection.specs.Choice.{choice_of};
-ghost use Rattle.tree_texts.specs.Cause.{ReadCounts};
+ghost use Rattle.graph_core.specs.selection.Choice.{choice_of};
+ghost use Rattle.tree_core.specs.texts.Cause.{ReadCounts};
 ghost use Rattle.graph_workspace.specs.Krates.{krates_cause, graph_in, sparse_dir, IsCarried};
 ghost use Rattle.graph_workspace.specs.Krates.{GathersBy, AreFrom, AnswersGraph};
 
 use crate::error::KratesError;
 use graph_core::Metadata;
+use graph_core::selection::{Krates, Selection};
 use graph_metadata::records;
-use graph_selection::{Krates, Selection};
 use std::alloc::Global;
 use tree_core::Tree;
-use tree_texts::{TextHeard, read_file_text};
+use tree_core::texts::{TextHeard, read_file_text};
 
 /// The folder in which cargo keeps crates of the sparse index of crates.io.
 fn sparse_dir() -> &'static str

@@ -6,7 +6,7 @@ pub mod krates;
 
 pub use error::{KratesError, What};
 pub use graph_core::Krate;
+pub use graph_core::selection::{ExcludeSpec, ExcludeSpecs, Include, KrateRefs, Krates, Selection};
 pub use graph_metadata::{MetaFault, MetaReason};
-pub use graph_selection::{ExcludeSpec, ExcludeSpecs, Include, KrateRefs, Krates, Selection};
 pub use krates::krates_at;
-pub use tree_texts::ReadFault;
+pub use tree_core::texts::ReadFault;

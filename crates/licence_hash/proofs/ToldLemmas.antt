@@ -9,8 +9,8 @@ use Rattle.tree_core.specs.Call.{Call}
 use Rattle.tree_core.specs.Faults.{Gained}
 use Rattle.tree_core.specs.Script.{SinkTexts}
 use Rattle.tree_core.proofs.GainedLemmas.{Gained-then}
-use Rattle.tree_texts.specs.Heard.{IsTextRead}
-use Rattle.tree_texts.specs.declared.fault.ReadFault.{ReadFault}
+use Rattle.tree_core.specs.texts.Heard.{IsTextRead}
+use Rattle.tree_core.specs.declared.texts.fault.ReadFault.{ReadFault}
 use Rattle.licence_hash.specs.Told.{AreTold, FileRead, IsHeard, call_of, err_of, err_text, has_entry, out_of, out_text, path_of}
 
 -- to gain nothing is to stay

@@ -2,7 +2,7 @@
 use Rattle.std.specs.Prelude.{ℕ, Bool, nat_lt, ◌==◌, ◌||◌, List, [], ◌∷◌, ◌++◌, codes, flat_map, if◌then◌else◌}
 use Rattle.deny_text.specs.Hash.{xxh32_of}
 use Rattle.deny_text.specs.Normal.{normal_of}
-use Rattle.diag_texts.specs.Manifest.{filled, hash_text}
+use Rattle.diag_core.specs.texts.Manifest.{filled, hash_text}
 
 -- a byte that stands in a basic string by an escape alone: a control character, the quote and the backslash (TOML 1.0: String)
 abbrev pub is_special : ℕ → Bool

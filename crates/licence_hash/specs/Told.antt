@@ -4,9 +4,9 @@ use Rattle.std.specs.List.{All, list_all}
 use Rattle.tree_core.specs.Call.{Call, CallAnswer}
 use Rattle.tree_core.specs.Faults.{Gained}
 use Rattle.tree_core.specs.Script.{SinkTexts}
-use Rattle.tree_texts.specs.Heard.{read_of, text_answered}
-use Rattle.tree_texts.specs.declared.fault.ReadFault.{ReadFault}
-use Rattle.tree_texts.specs.declared.fault.ReadFault.TheVariants.{Failed, Absent, Folder, NotUtf8}
+use Rattle.tree_core.specs.texts.Heard.{read_of, text_answered}
+use Rattle.tree_core.specs.declared.texts.fault.ReadFault.{ReadFault}
+use Rattle.tree_core.specs.declared.texts.fault.ReadFault.TheVariants.{Failed, Absent, Folder, NotUtf8}
 use Rattle.licence_hash.specs.Entry.{entry_of}
 
 -- why a file has no entry

@@ -6,8 +6,8 @@ ghost use Rattle.licence_hash.specs.Told.{AreTold, err_text, fault_words, out_te
 
 use crate::entry::entry_of;
 use std::alloc::{AllocError, Global};
+use tree_core::texts::{ReadFault, TextHeard, read_file_text};
 use tree_core::{Sink, SinkFailed, Tree, write_all};
-use tree_texts::{ReadFault, TextHeard, read_file_text};
 
 /// Why the program gave up.
 #[derive(Clone, Copy, Debug, PartialEq, Eq)]

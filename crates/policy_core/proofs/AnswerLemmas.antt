@@ -2,12 +2,12 @@
 use Rattle.std.proofs.Common.{◌≡◌, true, ℕ, List, [], ◌∷◌, ◌++◌, length, Ok, Err, Result}
 use Rattle.std.specs.Prelude.{OnOk}
 use Rattle.std.specs.declared.alloc.AllocError.{AllocError}
-use Rattle.spdx_catalog.specs.Catalog.{CatalogLists}
+use Rattle.spdx_terms.specs.catalog.Catalog.{CatalogLists}
 use Rattle.diag_core.specs.File.{File}
 use Rattle.diag_core.specs.declared.diagnostic.Diagnostic.{Diagnostic}
 use Rattle.toml_subset.specs.Reading.{read_text}
-use Rattle.policy_valid.specs.declared.policy.ValidConfig.{ValidConfig}
-use Rattle.policy_valid.specs.declared.policy.ValidException.{ValidException}
+use Rattle.policy_core.specs.declared.valid.policy.ValidConfig.{ValidConfig}
+use Rattle.policy_core.specs.declared.valid.policy.ValidException.{ValidException}
 use Rattle.policy_core.specs.ExceptionsText.{Answer, HadMemory, ReadsBy, answer_exceptions, diagnostics_of}
 use Rattle.policy_core.specs.Heard.{LoadState, after_exceptions}
 use Rattle.policy_core.specs.declared.exceptions.ExceptionsHeard.TheVariants.{Heard}

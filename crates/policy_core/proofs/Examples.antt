@@ -1,12 +1,12 @@
 -- All that is told of a policy, in its order, worked out by hand from the rules.
 use Rattle.std.proofs.Common.{◌≡◌, ℕ, false, List, [], ◌∷◌, Some, None, Ok, Err, codes, pos, refl}
-use Rattle.spdx_catalog.specs.Catalog.{CatalogLists}
+use Rattle.spdx_terms.specs.catalog.Catalog.{CatalogLists}
 use Rattle.deny_text.specs.declared.span.Span.{Span}
 use Rattle.toml_subset.specs.Data.{TomlContent, Entries, Toml, string, integer, table, array, no_item, item, no_entry, entry}
 use Rattle.toml_subset.specs.Reading.{read_text}
-use Rattle.toml_shapes.specs.Shapes.{fault_alone, wanted}
-use Rattle.toml_shapes.specs.Shaped.{shaped_map}
-use Rattle.policy_validate.specs.Valid.{error_at, removed_key}
+use Rattle.toml_subset.specs.shapes.Shapes.{fault_alone, wanted}
+use Rattle.toml_subset.specs.shapes.Shaped.{shaped_map}
+use Rattle.policy_core.specs.validate.Valid.{error_at, removed_key}
 use Rattle.policy_core.specs.Exceptions.{exceptions_findings, itself_finding, no_file, no_text, no_value, policy_itself, unread_finding, value}
 use Rattle.policy_core.specs.Findings.{absence_finding, moved_key_finding, target_finding}
 use Rattle.policy_core.specs.Policy.{FileNumbers, empty_table, policy_of_files}

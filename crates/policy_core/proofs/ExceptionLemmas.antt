@@ -1,15 +1,15 @@
 -- What an exceptions file leaves, by what was heard and read of it.
 use Rattle.std.proofs.Common.{◌≡◌, ◌∙◌, refl, sym, ap, subst, ℕ, true, List, [], ◌∷◌, ◌++◌, append-nil, length, map, Ok, Err}
-use Rattle.spdx_catalog.specs.Catalog.{CatalogLists}
+use Rattle.spdx_terms.specs.catalog.Catalog.{CatalogLists}
 use Rattle.deny_text.specs.declared.span.Span.{Span}
 use Rattle.diag_core.specs.File.{File, Grows}
 use Rattle.diag_core.specs.declared.diagnostic.Diagnostic.{Diagnostic}
 use Rattle.toml_subset.specs.Answer.{TomlReading}
 use Rattle.toml_subset.specs.Data.{Toml}
 use Rattle.toml_subset.specs.Reading.{read_text}
-use Rattle.toml_shapes.specs.Shaped.{faults_in}
-use Rattle.policy_valid.specs.declared.policy.ValidConfig.{ValidConfig}
-use Rattle.policy_valid.specs.declared.policy.ValidException.{ValidException}
+use Rattle.toml_subset.specs.shapes.Shaped.{faults_in}
+use Rattle.policy_core.specs.declared.valid.policy.ValidConfig.{ValidConfig}
+use Rattle.policy_core.specs.declared.valid.policy.ValidException.{ValidException}
 use Rattle.policy_core.specs.Exceptions.{HasMoreExceptions, valid_exceptions_in, exceptions_kept, exceptions_findings, with_exceptions, shape_diagnostic, syntax_finding}
 use Rattle.policy_core.specs.ExceptionsText.{Answer, HadMemory, ReadsBy, answer_exceptions, diagnostics_of}
 use Rattle.policy_core.specs.Heard.{LoadState, after_exceptions, value_or_fault}

@@ -7,36 +7,36 @@ use Rattle.std.specs.Result.{result_ok}
 use Rattle.std.proofs.lemmas.List.{length-drop, length-take}
 use Rattle.std.proofs.lemmas.List.Elements.{All-from_recursion, recursion_from_All}
 use Rattle.std.proofs.lemmas.List.Sorted.{All-permutation}
-use Rattle.spdx_catalog.specs.Catalog.{CatalogLists, IsCatalog}
+use Rattle.spdx_terms.specs.catalog.Catalog.{CatalogLists, IsCatalog}
 use Rattle.deny_text.specs.declared.span.Span.{Span}
 use Rattle.diag_core.specs.File.{File, source_of_file}
-use Rattle.policy_places.proofs.EntryPlaces.{exceptions_file_stays}
-use Rattle.policy_places.specs.Entries.{ClarificationKeeps, ExceptionKeeps, exceptions_file_keeps, licensee_keeps}
-use Rattle.policy_places.specs.Policies.{ConfigKeeps}
-use Rattle.policy_config.specs.declared.config.Config.{Config}
-use Rattle.policy_entries.specs.Exceptions.{exceptions_file_of}
-use Rattle.policy_entries.specs.declared.clarification.Clarification.{Clarification}
-use Rattle.policy_entries.specs.declared.exception.Exception.{Exception}
-use Rattle.policy_entries.specs.declared.exception.ExceptionsFile.{ExceptionsFile}
-use Rattle.policy_entries.specs.declared.licensee.Licensee.{Licensee}
-use Rattle.policy_places.specs.Parts.{file_source_keeps}
-use Rattle.policy_places.specs.Places.{StaysIn, keeps_its_span}
+use Rattle.policy_core.proofs.places.EntryPlaces.{exceptions_file_stays}
+use Rattle.policy_core.specs.places.Entries.{ClarificationKeeps, ExceptionKeeps, exceptions_file_keeps, licensee_keeps}
+use Rattle.policy_core.specs.places.Policies.{ConfigKeeps}
+use Rattle.policy_core.specs.declared.config.config.Config.{Config}
+use Rattle.policy_parts.specs.entries.Exceptions.{exceptions_file_of}
+use Rattle.policy_parts.specs.declared.entries.clarification.Clarification.{Clarification}
+use Rattle.policy_parts.specs.declared.entries.exception.Exception.{Exception}
+use Rattle.policy_parts.specs.declared.entries.exception.ExceptionsFile.{ExceptionsFile}
+use Rattle.policy_parts.specs.declared.entries.licensee.Licensee.{Licensee}
+use Rattle.policy_core.specs.places.Parts.{file_source_keeps}
+use Rattle.policy_core.specs.places.Places.{StaysIn, keeps_its_span}
 use Rattle.spdx_core.proofs.SpellingLemmas.{is_spelled}
 use Rattle.spdx_core.specs.Reading.{ExpressionView, expression_of_text}
 use Rattle.spdx_terms.specs.Faults.{first_fault}
 use Rattle.spdx_terms.specs.declared.error.ParseError.{ParseError}
-use Rattle.toml_laws.proofs.Texts.{text_placed}
+use Rattle.toml_subset.proofs.text_laws.Texts.{text_placed}
 use Rattle.deny_text.specs.Spans.{LiesBetween}
-use Rattle.toml_shapes.specs.Shaped.{ShapeReading}
+use Rattle.toml_subset.specs.shapes.Shaped.{ShapeReading}
 use Rattle.toml_subset.proofs.Law.Whole.{text_sound}
 use Rattle.toml_subset.specs.Answer.{TomlReading}
 use Rattle.toml_subset.specs.Data.{Toml}
 use Rattle.toml_subset.specs.Reading.{read_text}
-use Rattle.policy_validate.specs.Order.{PutsFilesInOrder, PutsPolicyInOrder}
-use Rattle.policy_validate.specs.Valid.{ItemOrFinding, clarification_judged, clarification_judged_by, exception_in, kept_by, strict, valid_part}
-use Rattle.policy_valid.specs.declared.policy.ValidClarification.{ValidClarification}
-use Rattle.policy_valid.specs.declared.policy.ValidConfig.{ValidConfig}
-use Rattle.policy_valid.specs.declared.policy.ValidException.{ValidException}
+use Rattle.policy_core.specs.validate.Order.{PutsFilesInOrder, PutsPolicyInOrder}
+use Rattle.policy_core.specs.validate.Valid.{ItemOrFinding, clarification_judged, clarification_judged_by, exception_in, kept_by, strict, valid_part}
+use Rattle.policy_core.specs.declared.valid.policy.ValidClarification.{ValidClarification}
+use Rattle.policy_core.specs.declared.valid.policy.ValidConfig.{ValidConfig}
+use Rattle.policy_core.specs.declared.valid.policy.ValidException.{ValidException}
 use Rattle.policy_core.specs.Exceptions.{valid_exceptions_in, exceptions_kept, with_exceptions}
 use Rattle.policy_core.specs.Heard.{IsFileText, IsTextHeard, LoadState, after_exceptions, heard_file_of, exceptions_read_of, value_or_fault}
 use Rattle.policy_core.specs.Places.{ClarificationStands, ExceptionStands, ExpressionStands, FileStands, IsSpelledAt, LicenseeStands, LiesInFile, PolicyStands}

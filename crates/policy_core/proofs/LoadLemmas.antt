@@ -1,14 +1,14 @@
 -- A policy is loaded step by step.
 use Rattle.std.proofs.Common.{◌≡◌, ◌∙◌, refl, sym, ap, subst, ℕ, List, ◌++◌, append_assoc, length}
-use Rattle.spdx_catalog.specs.Catalog.{CatalogLists}
+use Rattle.spdx_terms.specs.catalog.Catalog.{CatalogLists}
 use Rattle.diag_core.specs.File.{File}
 use Rattle.diag_core.specs.declared.diagnostic.Diagnostic.{Diagnostic}
-use Rattle.policy_config.specs.declared.config.Config.{Config}
-use Rattle.policy_config.specs.declared.root.RootConfig.{RootConfig}
-use Rattle.policy_validate.specs.Order.{PutsPolicyInOrder}
-use Rattle.policy_validate.specs.Valid.{valid_part, validation_findings, address_findings, clarification_findings, removed_findings}
-use Rattle.policy_valid.specs.declared.policy.ValidConfig.{ValidConfig}
-use Rattle.policy_valid.specs.declared.policy.ValidException.{ValidException}
+use Rattle.policy_core.specs.declared.config.config.Config.{Config}
+use Rattle.policy_core.specs.declared.config.root.RootConfig.{RootConfig}
+use Rattle.policy_core.specs.validate.Order.{PutsPolicyInOrder}
+use Rattle.policy_core.specs.validate.Valid.{valid_part, validation_findings, address_findings, clarification_findings, removed_findings}
+use Rattle.policy_core.specs.declared.valid.policy.ValidConfig.{ValidConfig}
+use Rattle.policy_core.specs.declared.valid.policy.ValidException.{ValidException}
 use Rattle.policy_core.specs.Exceptions.{exceptions_kept, exceptions_findings, with_exceptions}
 use Rattle.policy_core.specs.Findings.{target_findings, graph_key_findings, output_key_findings}
 use Rattle.policy_core.specs.Heard.{LoadState, after_exceptions, exceptions_read_of}

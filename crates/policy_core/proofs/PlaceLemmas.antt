@@ -5,40 +5,40 @@ use Rattle.std.specs.List.{AllByRecursion, cons_option}
 use Rattle.std.specs.Option.{option_to_list}
 use Rattle.std.specs.Result.{result_err}
 use Rattle.std.specs.Str.{IsUtf8}
-use Rattle.spdx_catalog.specs.Catalog.{CatalogLists, IsCatalog}
+use Rattle.spdx_terms.specs.catalog.Catalog.{CatalogLists, IsCatalog}
 use Rattle.deny_text.specs.declared.span.Span.{Span}
 use Rattle.deny_text.specs.declared.span.Spanned.{Spanned}
 use Rattle.diag_core.specs.File.{File, source_of_file}
 use Rattle.diag_core.specs.declared.diagnostic.Diagnostic.{Diagnostic}
 use Rattle.diag_core.specs.declared.label.Label.{Label}
-use Rattle.policy_places.proofs.Borders.{part_is_text, moved_lies}
-use Rattle.policy_places.proofs.EntryPlaces.{exceptions_file_stays}
-use Rattle.policy_places.specs.Entries.{ClarificationKeeps, exceptions_file_keeps}
-use Rattle.policy_places.specs.Policies.{ConfigKeeps, RootKeeps}
-use Rattle.policy_config.specs.Config.{no_config}
-use Rattle.policy_config.specs.declared.config.Config.{Config}
-use Rattle.policy_config.specs.declared.root.RootConfig.{RootConfig}
-use Rattle.policy_entries.specs.Exceptions.{exceptions_file_of}
-use Rattle.policy_entries.specs.Licensees.{moved}
-use Rattle.policy_entries.specs.declared.clarification.Clarification.{Clarification}
-use Rattle.policy_entries.specs.declared.exception.ExceptionsFile.{ExceptionsFile}
-use Rattle.policy_places.specs.Parts.{target_keeps}
-use Rattle.policy_places.specs.Places.{IsToldIn, StaysIn, keeps_its_span, keeps_where}
-use Rattle.graph_source.specs.Reading.{SourceReading as AddressRead, address_of}
+use Rattle.policy_core.proofs.places.Borders.{part_is_text, moved_lies}
+use Rattle.policy_core.proofs.places.EntryPlaces.{exceptions_file_stays}
+use Rattle.policy_core.specs.places.Entries.{ClarificationKeeps, exceptions_file_keeps}
+use Rattle.policy_core.specs.places.Policies.{ConfigKeeps, RootKeeps}
+use Rattle.policy_core.specs.config.Config.{no_config}
+use Rattle.policy_core.specs.declared.config.config.Config.{Config}
+use Rattle.policy_core.specs.declared.config.root.RootConfig.{RootConfig}
+use Rattle.policy_parts.specs.entries.Exceptions.{exceptions_file_of}
+use Rattle.policy_parts.specs.entries.Licensees.{moved}
+use Rattle.policy_parts.specs.declared.entries.clarification.Clarification.{Clarification}
+use Rattle.policy_parts.specs.declared.entries.exception.ExceptionsFile.{ExceptionsFile}
+use Rattle.policy_core.specs.places.Parts.{target_keeps}
+use Rattle.policy_core.specs.places.Places.{IsToldIn, StaysIn, keeps_its_span, keeps_where}
+use Rattle.graph_core.specs.source.Reading.{SourceReading as AddressRead, address_of}
 use Rattle.spdx_core.proofs.FaultSpans.{fault_lies}
 use Rattle.spdx_core.specs.Reading.{ExpressionView, expression_of_text}
 use Rattle.spdx_terms.specs.Faults.{first_fault}
 use Rattle.spdx_terms.specs.declared.error.ParseError.{ParseError}
-use Rattle.toml_laws.proofs.FirstFault.{first_fault as syntax_fault}
-use Rattle.toml_laws.proofs.Texts.{text_placed}
+use Rattle.toml_subset.proofs.text_laws.FirstFault.{first_fault as syntax_fault}
+use Rattle.toml_subset.proofs.text_laws.Texts.{text_placed}
 use Rattle.deny_text.specs.Spans.{LiesBetween}
-use Rattle.toml_shapes.specs.Shaped.{ShapeReading, faults_in}
+use Rattle.toml_subset.specs.shapes.Shaped.{ShapeReading, faults_in}
 use Rattle.toml_subset.proofs.Law.Whole.{text_sound}
 use Rattle.toml_subset.specs.Answer.{TomlReading}
 use Rattle.toml_subset.specs.Data.{Toml}
 use Rattle.toml_subset.specs.Reading.{read_text}
 use Rattle.url.specs.Parts.{Parts}
-use Rattle.policy_validate.specs.Valid.{ItemOrFinding, address_findings, address_judged, address_judged_by, clarification_findings, clarification_judged, clarification_judged_by, place_in, removed_findings, removed_key, strict, findings_by_each, validation_findings}
+use Rattle.policy_core.specs.validate.Valid.{ItemOrFinding, address_findings, address_judged, address_judged_by, clarification_findings, clarification_judged, clarification_judged_by, place_in, removed_findings, removed_key, strict, findings_by_each, validation_findings}
 use Rattle.policy_core.specs.Exceptions.{exceptions_findings, shape_diagnostic}
 use Rattle.policy_core.specs.Findings.{graph_key_findings, moved_key_finding, output_key_findings, target_finding, target_findings}
 use Rattle.policy_core.specs.Heard.{IsFileText, IsTextHeard, LoadState, after_exceptions, heard_file_of, exceptions_read_of, value_or_fault}

@@ -1,18 +1,18 @@
 -- What was read of an exceptions file, and what comes of it.
 use Rattle.std.specs.Prelude.{◌≡◌, ℕ, List, [], ◌∷◌, ◌++◌, map, codes, Ok, Err}
-use Rattle.spdx_catalog.specs.Catalog.{CatalogLists}
+use Rattle.spdx_terms.specs.catalog.Catalog.{CatalogLists}
 use Rattle.deny_text.specs.declared.span.Span.{Span}
 use Rattle.diag_core.specs.Diagnostic.{plain}
 use Rattle.diag_core.specs.declared.diagnostic.Diagnostic.{Diagnostic}
 use Rattle.diag_core.specs.declared.severity.Severity.TheVariants.{Error}
 use Rattle.toml_subset.specs.Data.{Toml}
-use Rattle.toml_shapes.specs.Shaped.{ShapeReading, faults_in}
-use Rattle.toml_shapes.specs.Shapes.{Fault, reason_text}
-use Rattle.policy_entries.specs.Exceptions.{exceptions_file_of}
-use Rattle.policy_entries.specs.declared.exception.ExceptionsFile.{ExceptionsFile}
-use Rattle.policy_validate.specs.Valid.{error_at, exception_in}
-use Rattle.policy_valid.specs.declared.policy.ValidConfig.{ValidConfig}
-use Rattle.policy_valid.specs.declared.policy.ValidException.{ValidException}
+use Rattle.toml_subset.specs.shapes.Shaped.{ShapeReading, faults_in}
+use Rattle.toml_subset.specs.shapes.Shapes.{Fault, reason_text}
+use Rattle.policy_parts.specs.entries.Exceptions.{exceptions_file_of}
+use Rattle.policy_parts.specs.declared.entries.exception.ExceptionsFile.{ExceptionsFile}
+use Rattle.policy_core.specs.validate.Valid.{error_at, exception_in}
+use Rattle.policy_core.specs.declared.valid.policy.ValidConfig.{ValidConfig}
+use Rattle.policy_core.specs.declared.valid.policy.ValidException.{ValidException}
 
 pub data ExceptionsRead : Type 0 where
   -- there is none

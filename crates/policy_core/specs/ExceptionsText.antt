@@ -1,15 +1,15 @@
 -- What reading the text of an exceptions file answers, and what is kept and told of that.
 use Rattle.std.specs.Prelude.{◌≡◌, ℕ, List, [], ◌∷◌, map, Result, Ok, Err, ⊤}
-use Rattle.spdx_catalog.specs.Catalog.{CatalogLists}
+use Rattle.spdx_terms.specs.catalog.Catalog.{CatalogLists}
 use Rattle.diag_core.specs.declared.diagnostic.Diagnostic.{Diagnostic}
 use Rattle.toml_subset.specs.Answer.{TomlReading}
 use Rattle.toml_subset.specs.Data.{Toml}
 use Rattle.toml_subset.specs.Reading.{read_text}
-use Rattle.toml_shapes.specs.Shaped.{ShapeReading}
-use Rattle.policy_entries.specs.Exceptions.{exceptions_file_of}
-use Rattle.policy_entries.specs.declared.exception.ExceptionsFile.{ExceptionsFile}
-use Rattle.policy_validate.specs.Valid.{exception_in}
-use Rattle.policy_valid.specs.declared.policy.ValidException.{ValidException}
+use Rattle.toml_subset.specs.shapes.Shaped.{ShapeReading}
+use Rattle.policy_parts.specs.entries.Exceptions.{exceptions_file_of}
+use Rattle.policy_parts.specs.declared.entries.exception.ExceptionsFile.{ExceptionsFile}
+use Rattle.policy_core.specs.validate.Valid.{exception_in}
+use Rattle.policy_core.specs.declared.valid.policy.ValidException.{ValidException}
 use Rattle.policy_core.specs.Exceptions.{shape_diagnostic, syntax_finding}
 use Rattle.policy_core.specs.declared.exceptions_text.NoExceptions.{NoExceptions}
 use Rattle.policy_core.specs.declared.exceptions_text.NoExceptions.TheVariants.{Syntax, Shape, Memory}

@@ -10,7 +10,7 @@ use Rattle.diag_core.specs.declared.general.Code.TheVariants.{Deprecated}
 use Rattle.diag_core.specs.declared.label.LabelStyle.TheVariants.{Primary}
 use Rattle.diag_core.specs.declared.severity.Severity.TheVariants.{Warning}
 use Rattle.policy_parts.specs.declared.target.Target.{Target}
-use Rattle.policy_config.specs.declared.root.RootConfig.{RootConfig}
+use Rattle.policy_core.specs.declared.config.root.RootConfig.{RootConfig}
 
 -- a policy that is absent, by the path where it was to be
 abbrev pub absence_finding : Option (List ℕ) → Diagnostic

@@ -1,14 +1,14 @@
 -- What holds of every validation of a policy whose places lie in the text of its file, and of what comes behind it.
 use Rattle.std.specs.Prelude.{◌≡◌, ℕ, List, ◌++◌, Some}
-use Rattle.spdx_catalog.specs.Catalog.{CatalogLists, IsCatalog}
+use Rattle.spdx_terms.specs.catalog.Catalog.{CatalogLists, IsCatalog}
 use Rattle.diag_core.specs.File.{File, source_of_file}
 use Rattle.diag_core.specs.declared.diagnostic.Diagnostic.{Diagnostic}
-use Rattle.policy_places.specs.Policies.{ConfigKeeps}
-use Rattle.policy_config.specs.declared.config.Config.{Config}
-use Rattle.policy_config.specs.declared.root.RootConfig.{RootConfig}
-use Rattle.policy_valid.specs.declared.policy.ValidConfig.{ValidConfig}
-use Rattle.policy_validate.specs.Order.{PutsPolicyInOrder}
-use Rattle.policy_validate.specs.Valid.{valid_part, validation_findings}
+use Rattle.policy_core.specs.places.Policies.{ConfigKeeps}
+use Rattle.policy_core.specs.declared.config.config.Config.{Config}
+use Rattle.policy_core.specs.declared.config.root.RootConfig.{RootConfig}
+use Rattle.policy_core.specs.declared.valid.policy.ValidConfig.{ValidConfig}
+use Rattle.policy_core.specs.validate.Order.{PutsPolicyInOrder}
+use Rattle.policy_core.specs.validate.Valid.{valid_part, validation_findings}
 use Rattle.policy_core.specs.Findings.{target_findings, graph_key_findings, output_key_findings}
 use Rattle.policy_core.specs.Heard.{IsFileText, IsTextHeard, LoadState, after_exceptions}
 use Rattle.policy_core.specs.Places.{IsConfigPlaced, PointInto, PolicyStands}

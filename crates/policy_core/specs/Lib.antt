@@ -6,3 +6,8 @@ pub mod Laws
 pub mod Load
 pub mod Policy
 pub mod Places
+pub mod config
+pub mod valid
+pub mod places
+pub mod validate
+pub mod text

@@ -6,13 +6,13 @@ use Rattle.diag_core.specs.File.{File, source_of_file}
 use Rattle.diag_core.specs.declared.diagnostic.Diagnostic.{Diagnostic}
 use Rattle.diag_core.specs.declared.label.Label.{Label}
 use Rattle.deny_text.specs.Spans.{LiesBetween}
-use Rattle.policy_config.specs.declared.root.RootConfig.{RootConfig}
-use Rattle.policy_entries.specs.declared.licensee.Licensee.{Licensee}
+use Rattle.policy_core.specs.declared.config.root.RootConfig.{RootConfig}
+use Rattle.policy_parts.specs.declared.entries.licensee.Licensee.{Licensee}
 use Rattle.policy_parts.specs.declared.file_source.FileSource.{FileSource}
-use Rattle.policy_valid.specs.declared.policy.ValidClarification.{ValidClarification}
-use Rattle.policy_valid.specs.declared.policy.ValidConfig.{ValidConfig}
-use Rattle.policy_valid.specs.declared.policy.ValidException.{ValidException}
-use Rattle.policy_places.specs.Policies.{RootKeeps}
+use Rattle.policy_core.specs.declared.valid.policy.ValidClarification.{ValidClarification}
+use Rattle.policy_core.specs.declared.valid.policy.ValidConfig.{ValidConfig}
+use Rattle.policy_core.specs.declared.valid.policy.ValidException.{ValidException}
+use Rattle.policy_core.specs.places.Policies.{RootKeeps}
 use Rattle.policy_core.specs.Heard.{IsFileText}
 
 -- a place lies in the text of the file of that number, between characters

@@ -1,17 +1,17 @@
 -- The policy that was read: what is valid of it, and all that is told of it.
 use Rattle.std.specs.Prelude.{ℕ, Bool, if◌then◌else◌, List, [], ◌∷◌, ◌++◌, Option, is_some, unwrap_or}
-use Rattle.spdx_catalog.specs.Catalog.{CatalogLists}
+use Rattle.spdx_terms.specs.catalog.Catalog.{CatalogLists}
 use Rattle.diag_core.specs.declared.diagnostic.Diagnostic.{Diagnostic}
 use Rattle.toml_subset.specs.Data.{Toml, table, no_entry}
-use Rattle.toml_shapes.specs.Shaped.{ShapeReading, shaped_map}
+use Rattle.toml_subset.specs.shapes.Shaped.{ShapeReading, shaped_map}
 use Rattle.policy_parts.specs.declared.graph.GraphConfig.{GraphConfig}
 use Rattle.policy_parts.specs.declared.output.OutputConfig.{OutputConfig}
-use Rattle.policy_config.specs.Config.{no_config}
-use Rattle.policy_config.specs.Root.{root_of}
-use Rattle.policy_config.specs.declared.config.Config.{Config}
-use Rattle.policy_config.specs.declared.root.RootConfig.{RootConfig}
-use Rattle.policy_validate.specs.Valid.{valid_part, address_findings, clarification_findings, removed_findings}
-use Rattle.policy_valid.specs.declared.policy.ValidConfig.{ValidConfig}
+use Rattle.policy_core.specs.config.Config.{no_config}
+use Rattle.policy_core.specs.config.Root.{root_of}
+use Rattle.policy_core.specs.declared.config.config.Config.{Config}
+use Rattle.policy_core.specs.declared.config.root.RootConfig.{RootConfig}
+use Rattle.policy_core.specs.validate.Valid.{valid_part, address_findings, clarification_findings, removed_findings}
+use Rattle.policy_core.specs.declared.valid.policy.ValidConfig.{ValidConfig}
 use Rattle.policy_core.specs.Exceptions.{ExceptionsRead, exceptions_kept, exceptions_findings, with_exceptions}
 use Rattle.policy_core.specs.Findings.{absence_finding, target_findings, graph_key_findings, output_key_findings}
 

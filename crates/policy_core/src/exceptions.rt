@@ -8,15 +8,15 @@ ghost use Rattle.policy_core.specs.Heard.{IsFileText, IsTextHeard, LoadState, af
 
 use crate::exceptions_text::{NoExceptions, read_exceptions};
 use crate::findings::{syntax, tell_itself, tell_shape, tell_unread};
+use crate::valid::{ValidConfig, ValidExceptions};
+use crate::validate::add_exceptions;
 use deny_text::{PathBuf, Text};
+use diag_core::lists::Diagnostics;
 use diag_core::{FileId, Files};
-use diag_lists::Diagnostics;
-use policy_entries::ExceptionsFile;
-use policy_valid::{ValidConfig, ValidExceptions};
-use policy_validate::add_exceptions;
+use policy_parts::entries::ExceptionsFile;
 use spdx_core::Catalog;
 use std::alloc::{AllocError, Global};
-use tree_texts::TextHeard;
+use tree_core::texts::TextHeard;
 
 /// What was heard of the exceptions file of a policy.
 #[derive(Drop)]

@@ -1,11 +1,11 @@
 //! The text of an exceptions file.
 ghost use Rattle.toml_value.specs.Views.{value_view};
-ghost use Rattle.policy_entries.specs.Exceptions.{exceptions_file_of};
+ghost use Rattle.policy_parts.specs.entries.Exceptions.{exceptions_file_of};
 ghost use Rattle.policy_core.specs.ExceptionsText.{GivesExceptions, ReadsExceptions};
 ghost use Rattle.policy_core.specs.Heard.{IsFileText};
 
 use deny_text::Span;
-use policy_entries::ExceptionsFile;
+use policy_parts::entries::ExceptionsFile;
 use policy_toml::{DeserError, Deserialize, ShapeErrors, TomlError, Value, parse};
 use spdx_core::Catalog;
 use std::alloc::Global;

@@ -2,19 +2,19 @@
 ghost use Rattle.std.specs.Prelude.{◌≡◌, [], ◌∷◌, ◌++◌, codes, map, IfOk, OnOk};
 ghost use Rattle.std.specs.Option.{option_copied};
 ghost use Rattle.deny_text.specs.Fronts.{StandsInFront};
-ghost use Rattle.toml_shapes.specs.ShapeViews.{fault_of};
+ghost use Rattle.toml_subset.specs.shapes.ShapeViews.{fault_of};
 ghost use Rattle.policy_core.specs.Exceptions as exceptions;
 ghost use Rattle.policy_core.specs.Findings as spec;
 ghost use Rattle.policy_core.specs.Heard as heard;
 
+use crate::validate::error_at;
 use deny_text::Span;
+use diag_core::lists::Diagnostics;
 use diag_core::{Deprecated, DeprecationReason, Diagnostic, FileId, Label, Severity};
-use diag_lists::Diagnostics;
 use policy_parts::Target;
 use policy_toml::{ShapeError, ShapeErrors};
-use policy_validate::error_at;
 use std::alloc::{AllocError, Global};
-use tree_texts::ReadFault;
+use tree_core::texts::ReadFault;
 
 /// That an exceptions file is the policy itself.
 fn itself(alloc: Global, path: &str) -> Result<Diagnostic, AllocError>

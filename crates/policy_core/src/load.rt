@@ -2,21 +2,21 @@
 ghost use Rattle.std.specs.Prelude.{◌≡◌, ◌++◌, map, unwrap_or, IfOk, OnOk, codes};
 ghost use Rattle.std.specs.Option.{option_copied, option_to_list};
 ghost use Rattle.deny_text.specs.Fronts.{StandsInFront};
-ghost use Rattle.policy_config.specs.Config.{no_config};
-ghost use Rattle.policy_validate.specs.Order.{PutsPolicyInOrder};
-ghost use Rattle.policy_validate.specs.Valid.{valid_part, validation_findings};
+ghost use Rattle.policy_core.specs.config.Config.{no_config};
+ghost use Rattle.policy_core.specs.validate.Order.{PutsPolicyInOrder};
+ghost use Rattle.policy_core.specs.validate.Valid.{valid_part, validation_findings};
 ghost use Rattle.policy_core.specs.Findings.{moved_key_finding};
 ghost use Rattle.policy_core.specs.Findings.{target_findings, graph_key_findings, output_key_findings};
 ghost use Rattle.policy_core.specs.Policy.{absence_findings};
 
+use crate::config::{Config, RootConfig};
 use crate::findings::{absent, moved, tell_moved, tell_targets};
+use crate::valid::ValidConfig;
+use crate::validate::UnvalidatedConfig;
 use deny_text::Span;
+use diag_core::lists::{Diagnostics, ValidationContext};
 use diag_core::{FileId, Files};
-use diag_lists::{Diagnostics, ValidationContext};
-use policy_config::{Config, RootConfig};
 use policy_parts::{GraphConfig, OutputConfig};
-use policy_valid::ValidConfig;
-use policy_validate::UnvalidatedConfig;
 use spdx_core::Catalog;
 use std::alloc::{AllocError, Global};
 

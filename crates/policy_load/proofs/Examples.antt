@@ -1,13 +1,13 @@
 -- The calls of a load behind the policy's read, worked out by hand from the rules.
 use Rattle.std.proofs.Common.{◌≡◌, ℕ, List, [], ◌∷◌, ◌++◌, codes, Some, None, Result, Ok, Err, refl}
 use Rattle.std.specs.Path.{path_components, path_names}
-use Rattle.spdx_catalog.specs.Catalog.{CatalogLists}
+use Rattle.spdx_terms.specs.catalog.Catalog.{CatalogLists}
 use Rattle.tree_core.specs.Call.{CallAnswer, Call, absent, bytes, failed}
 use Rattle.tree_core.specs.Content.{file}
-use Rattle.tree_texts.specs.Heard.{heard_of, read_of}
-use Rattle.tree_texts.specs.declared.fault.ReadFault.{ReadFault}
-use Rattle.tree_texts.specs.declared.fault.ReadFault.TheVariants.{Absent, Failed}
-use Rattle.policy_text.specs.Text.{config_text_of}
+use Rattle.tree_core.specs.texts.Heard.{heard_of, read_of}
+use Rattle.tree_core.specs.declared.texts.fault.ReadFault.{ReadFault}
+use Rattle.tree_core.specs.declared.texts.fault.ReadFault.TheVariants.{Absent, Failed}
+use Rattle.policy_core.specs.text.Text.{config_text_of}
 use Rattle.policy_load.specs.Answer.{ReadsBehind}
 use Rattle.policy_load.specs.declared.loading.PolicyPaths.{PolicyPaths}
 

@@ -6,9 +6,9 @@ use Rattle.std.proofs.lemmas.Iterator.Adapters.{position_from-zero}
 use Rattle.std.specs.Option.{ForSome}
 use Rattle.tree_core.specs.Call.{CallAnswer, Call}
 use Rattle.diag_core.specs.File.{File, file_id_at, is_at}
-use Rattle.tree_texts.specs.Heard.{IsTextRead, read_of as call_of}
-use Rattle.tree_texts.specs.declared.fault.ReadFault.{ReadFault}
-use Rattle.tree_texts.specs.declared.fault.ReadFault.TheVariants.{Absent}
+use Rattle.tree_core.specs.texts.Heard.{IsTextRead, read_of as call_of}
+use Rattle.tree_core.specs.declared.texts.fault.ReadFault.{ReadFault}
+use Rattle.tree_core.specs.declared.texts.fault.ReadFault.TheVariants.{Absent}
 use Rattle.policy_core.specs.declared.exceptions.ExceptionsHeard.{ExceptionsHeard}
 use Rattle.policy_core.specs.declared.exceptions.ExceptionsHeard.TheVariants.{NoPath, ThePolicy, Heard}
 use Rattle.policy_load.specs.Heard.{IsReadAt, IsReadOf, MayReadAt, MayReadOf, exceptions_at, exceptions_heard}

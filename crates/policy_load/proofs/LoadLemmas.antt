@@ -1,20 +1,20 @@
 -- What comes of a load, from what its steps answered.
 use Rattle.std.proofs.Common.{◌≡◌, ◌∙◌, refl, sym, ap, subst, ℕ, Bool, List, [], ◌++◌, Option, None, Some, Result, Ok, Err, append-nil}
 use Rattle.std.specs.Result.{IsErrAnd}
-use Rattle.spdx_catalog.specs.Catalog.{CatalogLists, IsCatalog}
+use Rattle.spdx_terms.specs.catalog.Catalog.{CatalogLists, IsCatalog}
 use Rattle.tree_core.specs.Call.{Call}
 use Rattle.tree_core.specs.Faults.{Gained, GainedPrefix}
 use Rattle.diag_core.specs.File.{File}
 use Rattle.diag_core.specs.declared.diagnostic.Diagnostic.{Diagnostic}
 use Rattle.diag_print.specs.declared.context.LogContext.{LogContext}
-use Rattle.policy_text.specs.declared.error.ConfigError.{ConfigError}
-use Rattle.policy_text.specs.declared.error.ConfigError.TheVariants as config
-use Rattle.policy_config.specs.declared.config.Config.{Config}
-use Rattle.policy_config.specs.declared.root.RootConfig.{RootConfig}
-use Rattle.policy_places.specs.Policies.{ConfigKeeps}
-use Rattle.policy_valid.specs.declared.policy.ValidConfig.{ValidConfig}
-use Rattle.policy_validate.specs.Order.{PutsPolicyInOrder}
-use Rattle.policy_validate.specs.Valid.{valid_part, validation_findings}
+use Rattle.policy_core.specs.declared.text.error.ConfigError.{ConfigError}
+use Rattle.policy_core.specs.declared.text.error.ConfigError.TheVariants as config
+use Rattle.policy_core.specs.declared.config.config.Config.{Config}
+use Rattle.policy_core.specs.declared.config.root.RootConfig.{RootConfig}
+use Rattle.policy_core.specs.places.Policies.{ConfigKeeps}
+use Rattle.policy_core.specs.declared.valid.policy.ValidConfig.{ValidConfig}
+use Rattle.policy_core.specs.validate.Order.{PutsPolicyInOrder}
+use Rattle.policy_core.specs.validate.Valid.{valid_part, validation_findings}
 use Rattle.policy_core.specs.Findings.{target_findings, graph_key_findings, output_key_findings}
 use Rattle.policy_core.specs.Heard.{IsTextHeard, LoadState, after_exceptions, heard_file_of}
 use Rattle.policy_core.specs.Places.{IsConfigPlaced, PointInto}

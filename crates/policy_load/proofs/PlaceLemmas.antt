@@ -7,33 +7,33 @@ use Rattle.std.specs.Str.{IsCharBoundary}
 use Rattle.std.proofs.lemmas.List.{length-append}
 use Rattle.std.proofs.lemmas.List.Elements.{All-from_recursion}
 use Rattle.deny_text.specs.declared.span.Span.{Span}
-use Rattle.spdx_catalog.specs.Catalog.{CatalogLists, IsCatalog}
+use Rattle.spdx_terms.specs.catalog.Catalog.{CatalogLists, IsCatalog}
 use Rattle.deny_text.specs.Spans.{LiesBetween}
-use Rattle.toml_laws.proofs.Texts.{text_placed}
+use Rattle.toml_subset.proofs.text_laws.Texts.{text_placed}
 use Rattle.toml_subset.specs.Answer.{TomlReading}
 use Rattle.toml_subset.specs.Data.{Toml}
 use Rattle.toml_subset.specs.Reading.{read_text}
 use Rattle.toml_subset.proofs.Law.Whole.{text_sound}
-use Rattle.toml_shapes.specs.Shaped.{ShapeReading}
-use Rattle.toml_shapes.specs.Shapes.{Fault}
+use Rattle.toml_subset.specs.shapes.Shaped.{ShapeReading}
+use Rattle.toml_subset.specs.shapes.Shapes.{Fault}
 use Rattle.diag_core.specs.File.{File, source_of_file}
 use Rattle.diag_core.specs.Label.{label_at}
 use Rattle.diag_core.specs.declared.diagnostic.Diagnostic.{Diagnostic}
 use Rattle.diag_core.specs.declared.label.Label.{Label}
 use Rattle.diag_core.specs.declared.label.LabelStyle.TheVariants.{Primary}
 use Rattle.diag_print.specs.Places.{LabelIsInside, LabelsAreInside, source_under}
-use Rattle.policy_places.specs.Places.{IsToldIn, StaysIn}
-use Rattle.policy_config.specs.Root.{root_of}
-use Rattle.policy_config.specs.declared.root.RootConfig.{RootConfig}
-use Rattle.policy_places.specs.Policies.{RootKeeps}
-use Rattle.policy_places.proofs.PolicyPlaces.{root_stays}
+use Rattle.policy_core.specs.places.Places.{IsToldIn, StaysIn}
+use Rattle.policy_core.specs.config.Root.{root_of}
+use Rattle.policy_core.specs.declared.config.root.RootConfig.{RootConfig}
+use Rattle.policy_core.specs.places.Policies.{RootKeeps}
+use Rattle.policy_core.proofs.places.PolicyPlaces.{root_stays}
 use Rattle.policy_core.specs.Exceptions.{shape_diagnostic}
 use Rattle.policy_core.specs.Places.{IsConfigPlaced, LabelPointsInFile, PointInto}
-use Rattle.graph_selection.specs.Choice.{is_uncarried}
-use Rattle.policy_text.specs.Config.{AnswersConfig, config_of_text, if_carried, or_shape, or_syntax, config_of_value, then_config}
-use Rattle.policy_text.specs.declared.error.ConfigError.{ConfigError}
-use Rattle.policy_text.specs.declared.error.ConfigError.TheVariants as config
-use Rattle.policy_text.specs.declared.error.ConfigError.TheVariants.{ConfigShape, NotCarried}
+use Rattle.graph_core.specs.selection.Choice.{is_uncarried}
+use Rattle.policy_core.specs.text.Config.{AnswersConfig, config_of_text, if_carried, or_shape, or_syntax, config_of_value, then_config}
+use Rattle.policy_core.specs.declared.text.error.ConfigError.{ConfigError}
+use Rattle.policy_core.specs.declared.text.error.ConfigError.TheVariants as config
+use Rattle.policy_core.specs.declared.text.error.ConfigError.TheVariants.{ConfigShape, NotCarried}
 use Rattle.policy_load.specs.Load.{refusal_findings}
 use Rattle.diag_print.specs.Findings.{AreInside}
 

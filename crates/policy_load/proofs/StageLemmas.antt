@@ -1,23 +1,23 @@
 -- What the stages of a load answer, put together.
 use Rattle.std.proofs.Common.{◌≡◌, ◌∙◌, refl, sym, ap, subst, ℕ, true, false, cond, List, [], ◌∷◌, ◌++◌, length, map, Option, Result, Ok, Err, append-nil, append_assoc}
 use Rattle.std.specs.List.{list_any}
-use Rattle.spdx_catalog.specs.Catalog.{CatalogLists}
-use Rattle.toml_shapes.specs.Shapes.{Fault}
+use Rattle.spdx_terms.specs.catalog.Catalog.{CatalogLists}
+use Rattle.toml_subset.specs.shapes.Shapes.{Fault}
 use Rattle.tree_core.specs.Faults.{GainedPrefix}
 use Rattle.diag_core.specs.File.{File}
 use Rattle.diag_core.specs.declared.diagnostic.Diagnostic.{Diagnostic}
-use Rattle.tree_texts.specs.Cause.{ReadCounts, heard_cause}
-use Rattle.tree_texts.specs.declared.fault.ReadFault.{ReadFault}
-use Rattle.tree_texts.specs.declared.fault.ReadFault.TheVariants.{Failed, Absent, Folder, NotUtf8}
+use Rattle.tree_core.specs.texts.Cause.{ReadCounts, heard_cause}
+use Rattle.tree_core.specs.declared.texts.fault.ReadFault.{ReadFault}
+use Rattle.tree_core.specs.declared.texts.fault.ReadFault.TheVariants.{Failed, Absent, Folder, NotUtf8}
 use Rattle.diag_print.specs.declared.context.LogContext.{LogContext}
 use Rattle.diag_print.specs.declared.printer.PrintError.{PrintError}
 use Rattle.diag_print.specs.declared.printer.PrintError.TheVariants as print
-use Rattle.policy_config.specs.declared.root.RootConfig.{RootConfig}
-use Rattle.policy_text.specs.Config.{config_of_text}
-use Rattle.policy_text.specs.Text.{config_text_of}
-use Rattle.policy_text.specs.declared.error.ConfigError.{ConfigError}
-use Rattle.policy_text.specs.declared.error.ConfigError.TheVariants as config
-use Rattle.policy_text.specs.declared.text.ConfigText.{ConfigText}
+use Rattle.policy_core.specs.declared.config.root.RootConfig.{RootConfig}
+use Rattle.policy_core.specs.text.Config.{config_of_text}
+use Rattle.policy_core.specs.text.Text.{config_text_of}
+use Rattle.policy_core.specs.declared.text.error.ConfigError.{ConfigError}
+use Rattle.policy_core.specs.declared.text.error.ConfigError.TheVariants as config
+use Rattle.policy_core.specs.declared.text.text.ConfigText.{ConfigText}
 use Rattle.policy_core.specs.Exceptions.{shape_diagnostic}
 use Rattle.policy_core.specs.Heard.{heard_file_of, exceptions_read_of}
 use Rattle.policy_core.specs.Load.{Keeps, numbers_at}

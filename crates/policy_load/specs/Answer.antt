@@ -1,12 +1,12 @@
 -- What a call that loads a policy answers and leaves.
 use Rattle.std.specs.Prelude.{◌≡◌, ◌⊎◌, ℕ, true, false, List, [], ◌++◌, Option, Result, Ok, Err, ⊤}
 use Rattle.std.specs.List.{list_any}
-use Rattle.spdx_catalog.specs.Catalog.{CatalogLists}
+use Rattle.spdx_terms.specs.catalog.Catalog.{CatalogLists}
 use Rattle.diag_core.specs.File.{File}
 use Rattle.diag_core.specs.declared.diagnostic.Diagnostic.{Diagnostic}
-use Rattle.tree_texts.specs.Cause.{Cause, no_memory, told, failed_read, refused_write}
-use Rattle.tree_texts.specs.declared.fault.ReadFault.{ReadFault}
-use Rattle.tree_texts.specs.declared.fault.ReadFault.TheVariants.{Failed}
+use Rattle.tree_core.specs.texts.Cause.{Cause, no_memory, told, failed_read, refused_write}
+use Rattle.tree_core.specs.declared.texts.fault.ReadFault.{ReadFault}
+use Rattle.tree_core.specs.declared.texts.fault.ReadFault.TheVariants.{Failed}
 use Rattle.diag_print.specs.declared.context.LogContext.{LogContext}
 use Rattle.diag_print.specs.declared.printer.PrintError.{PrintError}
 use Rattle.diag_print.specs.declared.printer.PrintError.TheVariants as print
@@ -17,14 +17,14 @@ use Rattle.policy_core.specs.Heard.{heard_file_of, exceptions_read_of}
 use Rattle.policy_core.specs.Load.{Keeps, Surroundings, numbers_at}
 use Rattle.policy_core.specs.Places.{PointInto, PolicyStands}
 use Rattle.policy_core.specs.Policy.{PolicyFound, policy_found}
-use Rattle.policy_config.specs.declared.root.RootConfig.{RootConfig}
-use Rattle.policy_text.specs.Config.{config_of_text}
-use Rattle.policy_text.specs.Text.{config_text_of}
-use Rattle.policy_text.specs.declared.error.ConfigError.{ConfigError}
-use Rattle.policy_text.specs.declared.text.ConfigText.{ConfigText}
+use Rattle.policy_core.specs.declared.config.root.RootConfig.{RootConfig}
+use Rattle.policy_core.specs.text.Config.{config_of_text}
+use Rattle.policy_core.specs.text.Text.{config_text_of}
+use Rattle.policy_core.specs.declared.text.error.ConfigError.{ConfigError}
+use Rattle.policy_core.specs.declared.text.text.ConfigText.{ConfigText}
 use Rattle.policy_core.specs.declared.exceptions.ExceptionsHeard.{ExceptionsHeard}
 use Rattle.policy_core.specs.declared.load.LoadedPolicy.{LoadedPolicy}
-use Rattle.policy_validate.specs.Order.{PutsPolicyInOrder}
+use Rattle.policy_core.specs.validate.Order.{PutsPolicyInOrder}
 use Rattle.policy_load.specs.Heard.{LoadHeard, IsPolicyRead, IsReadOf, MayReadOf, MayReadPolicy, exceptions_heard}
 use Rattle.policy_load.specs.Load.{LoadResult, error_of_config, load_by_config, load_of, refusal_findings, unless_error, with_policy}
 use Rattle.diag_print.specs.Findings.{is_error, printed_findings}

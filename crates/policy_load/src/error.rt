@@ -4,7 +4,7 @@ ghost use Rattle.policy_load.specs.declared.error.LoadError.TheVariants.{Memory}
 
 use diag_print::PrintError;
 use policy_core::Diagnostics;
-use policy_text::{ConfigError, ReadFault, ShapeErrors, SyntaxError};
+use policy_core::text::{ConfigError, ReadFault, ShapeErrors, SyntaxError};
 use std::alloc::AllocError;
 
 /// Why a policy was not loaded.

@@ -6,5 +6,7 @@ pub mod loading;
 
 pub use error::LoadError;
 pub use loading::{PolicyPaths, load};
+pub use policy_core::text::{
+    ErrorKind, ReadFault, ShapeError, ShapeErrors, SyntaxError, SyntaxReason,
+};
 pub use policy_core::{Diagnostics, GraphConfig, LoadedPolicy, OutputConfig, ValidConfig};
-pub use policy_text::{ErrorKind, ReadFault, ShapeError, ShapeErrors, SyntaxError, SyntaxReason};

@@ -4,10 +4,10 @@ ghost use Rattle.std.specs.Prelude.{IfOk, IfErr, OnOk, OnErr};
 ghost use Rattle.std.specs.Option.{ForSome, option_and_then, option_copied};
 ghost use Rattle.tree_core.specs.Faults.{Gained, GainedPrefix};
 ghost use Rattle.tree_core.specs.Hearing.{MadeSome};
-ghost use Rattle.tree_texts.specs.Cause.{ReadCounts, heard_cause};
-ghost use Rattle.tree_texts.specs.declared.fault.ReadFault.{ReadFault};
+ghost use Rattle.tree_core.specs.texts.Cause.{ReadCounts, heard_cause};
+ghost use Rattle.tree_core.specs.declared.texts.fault.ReadFault.{ReadFault};
 ghost use Rattle.diag_core.specs.File.{Grows, file_id_at};
-ghost use Rattle.policy_text.specs.Config as config;
+ghost use Rattle.policy_core.specs.text.Config as config;
 ghost use Rattle.policy_core.specs.Exceptions.{shape_diagnostic};
 ghost use Rattle.policy_core.specs.Heard.{IsFileText};
 ghost use Rattle.policy_core.specs.Places.{IsConfigPlaced, PointInto, PolicyStands};
@@ -25,17 +25,17 @@ use deny_text::{PathBuf, Text};
 use diag_core::{FileId, Files};
 use diag_print::findings::{has_error, print_findings};
 use diag_print::{LogContext, PrintError};
+use policy_core::text::{
+    ConfigError, ConfigText, ReadFault, RootConfig, ShapeErrors, TextHeard, read_config,
+};
 use policy_core::{
     Diagnostics, ExceptionsHeard, LoadedPolicy, PolicySource, take_exceptions, tell_settings,
     tell_shape, validate_policy,
 };
-use policy_text::{
-    ConfigError, ConfigText, ReadFault, RootConfig, ShapeErrors, TextHeard, read_config,
-};
 use spdx_core::Catalog;
 use std::alloc::{AllocError, Global};
+use tree_core::texts::read_file_text;
 use tree_core::{Sink, Tree};
-use tree_texts::read_file_text;
 
 /// Where the two files of a policy are, if anywhere.
 #[derive(Drop)]

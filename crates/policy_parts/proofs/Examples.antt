@@ -2,7 +2,7 @@
 use Rattle.std.proofs.Common.{◌≡◌, ℕ, ◌^◌, true, false, List, [], ◌∷◌, Some, None, Ok, Err, codes, pos, negsuc, refl}
 use Rattle.deny_text.specs.declared.span.Span.{Span}
 use Rattle.toml_subset.specs.Data.{TomlContent, Entries, Toml, string, integer, boolean, table, array, no_item, item, no_entry, entry}
-use Rattle.toml_shapes.specs.Shapes.{fault_alone, missing, wanted, unexpected_keys, unexpected_value, out_of_range}
+use Rattle.toml_subset.specs.shapes.Shapes.{fault_alone, missing, wanted, unexpected_keys, unexpected_value, out_of_range}
 use Rattle.policy_parts.specs.Names.{scope_of, agreement_of, lint_of}
 use Rattle.policy_parts.specs.Tables.{private_of, output_of, graph_config_of}
 use Rattle.policy_parts.specs.Values.{file_source_of, target_of, left_of_target, reason_of, left_of_reason}

@@ -3,12 +3,12 @@ use Rattle.std.proofs.Common.{◌≡◌, ℕ, true, List, Option, ap, ◌∙◌}
 use Rattle.std.specs.Prelude.{option_map}
 use Rattle.deny_text.specs.declared.span.Span.{Span}
 use Rattle.toml_subset.specs.Data.{Entries, Toml}
-use Rattle.toml_shapes.specs.Shaped.{ShapeReading, TellsFaults, shaped_then}
-use Rattle.toml_shapes.specs.declared.shape.DeserError.{DeserError}
-use Rattle.toml_shapes.specs.declared.shape.DeserError.TheVariants.{Faults, Memory}
+use Rattle.toml_subset.specs.shapes.Shaped.{ShapeReading, TellsFaults, shaped_then}
+use Rattle.toml_subset.specs.declared.shapes.shape.DeserError.{DeserError}
+use Rattle.toml_subset.specs.declared.shapes.shape.DeserError.TheVariants.{Faults, Memory}
 use Rattle.policy_toml.specs.HelperState.{HelperState, required_of}
-use Rattle.toml_rows.specs.Rows.{needed, needed_at}
-use Rattle.toml_rows.proofs.RowLemmas.{none_is, found_behind, begun, required_is}
+use Rattle.policy_toml.specs.rows.Rows.{needed, needed_at}
+use Rattle.policy_toml.proofs.rows.RowLemmas.{none_is, found_behind, begun, required_is}
 
 -- such a key is read as if it were the first
 pub needed_behind : {A : Type 0} (name : List ℕ) (reads : Toml → ShapeReading A) (passed : List (List ℕ)) (entries : Entries) (span : Span) (state : HelperState)

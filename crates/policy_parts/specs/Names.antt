@@ -1,7 +1,7 @@
 -- The types of a policy that are one of a table of names.
 use Rattle.std.specs.Prelude.{ℕ, List, [], ◌∷◌, codes}
 use Rattle.toml_subset.specs.Data.{Toml}
-use Rattle.toml_shapes.specs.Shaped.{ShapeReading}
+use Rattle.toml_subset.specs.shapes.Shaped.{ShapeReading}
 use Rattle.policy_toml.specs.Readings.{name_of}
 use Rattle.diag_core.specs.declared.severity.Severity.{Severity}
 use Rattle.diag_core.specs.declared.severity.Severity.TheVariants as severity

@@ -2,9 +2,9 @@
 use Rattle.std.specs.Prelude.{ℕ, Bool, false, List, [], ◌∷◌, codes, unwrap_or}
 use Rattle.deny_text.specs.declared.span.Spanned.{Spanned}
 use Rattle.toml_subset.specs.Data.{Entries, Toml}
-use Rattle.toml_shapes.specs.Shaped.{ShapeReading}
+use Rattle.toml_subset.specs.shapes.Shaped.{ShapeReading}
 use Rattle.policy_toml.specs.Readings.{boolean_of, text_of, u32_of, list_of, spanned_of}
-use Rattle.toml_rows.specs.Rows.{KeyRow, key, given, shaped_by, in_table}
+use Rattle.policy_toml.specs.rows.Rows.{KeyRow, key, given, shaped_by, in_table}
 use Rattle.policy_parts.specs.Values.{target_of}
 use Rattle.policy_parts.specs.declared.graph.GraphConfig.{GraphConfig}
 use Rattle.policy_parts.specs.declared.output.OutputConfig.{OutputConfig}

@@ -2,12 +2,12 @@
 use Rattle.std.specs.Prelude.{[], ◌∷◌, codes, Option, Some, None, unwrap_or, option_map}
 use Rattle.deny_text.specs.declared.span.Span.{Span}
 use Rattle.toml_subset.specs.Data.{Entries, Toml}
-use Rattle.toml_shapes.specs.Shaped.{ShapeReading, shaped_map, shaped_then}
+use Rattle.toml_subset.specs.shapes.Shaped.{ShapeReading, shaped_map, shaped_then}
 use Rattle.toml_value.specs.Lookup.{value_at}
 use Rattle.toml_value.specs.Removal.{entries_without}
 use Rattle.toml_value.specs.Taken.{as_table, given_back, left_by, string_of}
 use Rattle.policy_toml.specs.Readings.{text_of, u32_of, list_of, spanned_of}
-use Rattle.toml_rows.specs.Rows.{key, given, needed, needed_at, in_table, left_of_table, shaped_by}
+use Rattle.policy_toml.specs.rows.Rows.{key, given, needed, needed_at, in_table, left_of_table, shaped_by}
 use Rattle.policy_parts.specs.declared.file_source.FileSource.{FileSource}
 use Rattle.policy_parts.specs.declared.reason.Reason.{Reason}
 use Rattle.policy_parts.specs.declared.target.Target.{Target}

@@ -1,12 +1,12 @@
 //! Files that a clarification names.
 ghost use Rattle.std.specs.Prelude.{◌≡◌, IfOk};
-ghost use Rattle.toml_rows.specs.Rows.{left_of_table};
+ghost use Rattle.policy_toml.specs.rows.Rows.{left_of_table};
 ghost use Rattle.policy_parts.specs.Values.{file_source_at, file_source_of};
 
 use deny_text::{ListOf, PathBuf, Spanned, Text};
+use policy_toml::rows::{FromKeys, finish, read_table};
 use policy_toml::{DeserError, Deserialize, TableHelper, Value};
 use std::alloc::{AllocError, Global};
-use toml_rows::{FromKeys, finish, read_table};
 
 /// A licence file, and the hash of its normal form.
 #[derive(Drop)]

@@ -1,13 +1,13 @@
 //! The crates that a policy has looked at.
 ghost use Rattle.std.specs.Prelude.{◌≡◌, [], false};
-ghost use Rattle.toml_rows.specs.Rows.{left_of_table, shaped_by};
+ghost use Rattle.policy_toml.specs.rows.Rows.{left_of_table, shaped_by};
 ghost use Rattle.policy_parts.specs.Tables.{graph_rows, graph_config_in, graph_config_of};
 
 use crate::target::Targets;
 use deny_text::Texts;
+use policy_toml::rows::{FromKeys, finish, or_empty, read_table};
 use policy_toml::{DeserError, Deserialize, TableHelper, Value};
 use std::alloc::Global;
-use toml_rows::{FromKeys, finish, or_empty, read_table};
 
 /// Which crates are looked at, and with which features.
 #[derive(Drop)]

@@ -1,12 +1,14 @@
 //! The parts of a policy that know no licence.
 #![tactic(auto)]
 
+pub mod entries;
 pub mod file_source;
 pub mod graph;
 pub mod names;
 pub mod output;
 pub mod private;
 pub mod reason;
+pub mod spec;
 pub mod target;
 
 pub use file_source::{FileSource, FileSources};

@@ -1,11 +1,11 @@
 //! How a policy wants its findings printed.
 ghost use Rattle.std.specs.Prelude.{[]};
-ghost use Rattle.toml_rows.specs.Rows.{left_of_table, shaped_by};
+ghost use Rattle.policy_toml.specs.rows.Rows.{left_of_table, shaped_by};
 ghost use Rattle.policy_parts.specs.Tables.{output_rows, output_in, output_of};
 
+use policy_toml::rows::{FromKeys, finish, read_table};
 use policy_toml::{DeserError, Deserialize, TableHelper, Value};
 use std::alloc::Global;
-use toml_rows::{FromKeys, finish, read_table};
 
 /// What is printed of the graph.
 #[derive(Clone, Copy, Debug, PartialEq, Eq, Default)]

@@ -1,12 +1,12 @@
 //! Crates that a policy calls private.
 ghost use Rattle.std.specs.Prelude.{◌≡◌, [], false};
-ghost use Rattle.toml_rows.specs.Rows.{left_of_table, shaped_by};
+ghost use Rattle.policy_toml.specs.rows.Rows.{left_of_table, shaped_by};
 ghost use Rattle.policy_parts.specs.Tables.{private_rows, private_in, private_of};
 
 use deny_text::{ListOf, Spanned, Text, Texts};
+use policy_toml::rows::{FromKeys, finish, or_empty, read_table};
 use policy_toml::{DeserError, Deserialize, TableHelper, Value};
 use std::alloc::Global;
-use toml_rows::{FromKeys, finish, or_empty, read_table};
 
 /// Texts with their places.
 pub type SpannedTexts = ListOf<Spanned<Text>>;

@@ -1,14 +1,14 @@
 //! Reasons that a policy gives.
 ghost use Rattle.std.specs.Prelude.{◌≡◌, option_map};
-ghost use Rattle.toml_shapes.specs.Shaped.{AnswersShape};
+ghost use Rattle.toml_subset.specs.shapes.Shaped.{AnswersShape};
 ghost use Rattle.toml_value.specs.Views.{value_view};
 ghost use Rattle.policy_parts.specs.Values.{reason_by, reason_of, left_of_reason};
 
 use deny_text::{Span, Spanned, Text};
+use policy_toml::rows::take_value;
 use policy_toml::{DeserError, Deserialize, ErrorKind, Value};
 use std::alloc::Global;
-use toml_rows::take_value;
-use toml_shapes::{ValueKind, refuse};
+use toml_subset::shapes::{ValueKind, refuse};
 use toml_value::refuse_kind;
 
 /// Why an entry of a policy stands there.

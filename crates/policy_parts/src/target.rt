@@ -1,14 +1,14 @@
 //! Targets that crates are built for.
 ghost use Rattle.std.specs.Prelude.{◌≡◌, codes, is_some, None};
-ghost use Rattle.toml_shapes.specs.Shaped.{AnswersShape, OnAnswer};
+ghost use Rattle.toml_subset.specs.shapes.Shaped.{AnswersShape, OnAnswer};
 ghost use Rattle.toml_value.specs.Taken.{as_table, left_by, string_of};
 ghost use Rattle.toml_value.specs.Views.{value_view};
 ghost use Rattle.policy_parts.specs.Values.{target_at, target_by, target_of, left_of_target};
 
 use deny_text::{ListOf, Spanned, Text, Texts};
+use policy_toml::rows::{FromKeys, finish, or_empty, read_table};
 use policy_toml::{DeserError, Deserialize, TableHelper, Value, ValueInner};
 use std::alloc::Global;
-use toml_rows::{FromKeys, finish, or_empty, read_table};
 
 /// A platform that the graph is made for.
 #[derive(Drop)]

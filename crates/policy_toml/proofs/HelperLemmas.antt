@@ -8,9 +8,9 @@ use Rattle.policy_toml.specs.HelperState.{HelperState, without_key, with_faults,
 use Rattle.toml_value.specs.Lookup.{value_at}
 use Rattle.toml_value.specs.Removal.{entry_at}
 use Rattle.policy_toml.proofs.ShapedLemmas.{tells}
-use Rattle.toml_shapes.specs.Shaped.{ShapeReading, TellsFaults, IsToldBy}
-use Rattle.toml_shapes.specs.Shapes.{Fault, fault_alone, missing}
-use Rattle.toml_shapes.specs.declared.shape.DeserError.{DeserError}
+use Rattle.toml_subset.specs.shapes.Shaped.{ShapeReading, TellsFaults, IsToldBy}
+use Rattle.toml_subset.specs.shapes.Shapes.{Fault, fault_alone, missing}
+use Rattle.toml_subset.specs.declared.shapes.shape.DeserError.{DeserError}
 
 -- the value at a key is that of the entry
 pub value_at-entry_at : (name : List ℕ) (entries : Entries) → value_at name entries ≡ option_map (λ p. p.1) (entry_at name entries)

@@ -2,10 +2,10 @@
 use Rattle.std.proofs.Common.{◌≡◌, List, [], ◌∷◌, ◌++◌, Some, None, Ok, Err, Option, refl, ap, sym, ◌∙◌}
 use Rattle.std.specs.Prelude.{IfOk}
 use Rattle.std.specs.Result.{result_ok}
-use Rattle.toml_shapes.specs.Shaped.{ShapeReading, TellsFaults, AnswersShape, IsToldBy, HasFaults, shaped_map, shaped_then, faults_in}
-use Rattle.toml_shapes.specs.Shapes.{Fault}
-use Rattle.toml_shapes.specs.declared.shape.DeserError.{DeserError}
-use Rattle.toml_shapes.specs.declared.shape.DeserError.TheVariants.{Faults, Memory}
+use Rattle.toml_subset.specs.shapes.Shaped.{ShapeReading, TellsFaults, AnswersShape, IsToldBy, HasFaults, shaped_map, shaped_then, faults_in}
+use Rattle.toml_subset.specs.shapes.Shapes.{Fault}
+use Rattle.toml_subset.specs.declared.shapes.shape.DeserError.{DeserError}
+use Rattle.toml_subset.specs.declared.shapes.shape.DeserError.TheVariants.{Faults, Memory}
 
 -- faults that an error tells are those of a refused reading
 pub tells : (A : Type 0) (faults : List Fault) (error : DeserError) → IsToldBy error faults → TellsFaults {A = A} (Err faults) error

@@ -4,15 +4,15 @@ use Rattle.std.proofs.Common.{inl, inr}
 use denote.MutBor.{MutBor}
 use Rattle.deny_text.specs.declared.span.Span.{Span}
 use Rattle.toml_subset.specs.Data.{Entries, Toml}
-use Rattle.toml_shapes.specs.Kinds.{kind_word}
+use Rattle.toml_subset.specs.shapes.Kinds.{kind_word}
 use Rattle.toml_value.specs.Lookup.{value_at}
 use Rattle.toml_value.specs.Taken.{or_wanted, as_table}
 use Rattle.toml_value.specs.Removal.{entries_without, names_in}
-use Rattle.toml_shapes.specs.Shaped.{ShapeReading, shaped_map}
-use Rattle.toml_shapes.specs.Shapes.{Fault, fault_alone, missing, unexpected_keys}
+use Rattle.toml_subset.specs.shapes.Shaped.{ShapeReading, shaped_map}
+use Rattle.toml_subset.specs.shapes.Shapes.{Fault, fault_alone, missing, unexpected_keys}
 use Rattle.toml_value.specs.Views.{value_view, entries_view}
 use Rattle.policy_toml.specs.declared.helper.TableHelper.{TableHelper}
-use Rattle.toml_shapes.specs.declared.shape.ValueKind.TheVariants as kind
+use Rattle.toml_subset.specs.declared.shapes.shape.ValueKind.TheVariants as kind
 use Rattle.toml_value.specs.declared.value.Value.{Value}
 
 pub record HelperState : Type 0 where

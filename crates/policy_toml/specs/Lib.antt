@@ -1,2 +1,3 @@
 pub mod HelperState
 pub mod Readings
+pub mod rows

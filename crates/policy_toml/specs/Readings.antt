@@ -8,10 +8,10 @@ use denote.Ref.{Bor}
 use Rattle.deny_text.specs.declared.span.Span.{Span}
 use Rattle.deny_text.specs.declared.span.Spanned.{Spanned}
 use Rattle.toml_subset.specs.Data.{TomlContent, Toml, integer, decimal, boolean}
-use Rattle.toml_shapes.specs.Kinds.{kind_word}
-use Rattle.toml_shapes.specs.Shaped.{ShapeReading, shaped_map, shaped_then, faults_in, shaped_of}
-use Rattle.toml_shapes.specs.Shapes.{fault_alone, out_of_range, unexpected_value}
-use Rattle.toml_shapes.specs.declared.shape.ValueKind.TheVariants as kind
+use Rattle.toml_subset.specs.shapes.Kinds.{kind_word}
+use Rattle.toml_subset.specs.shapes.Shaped.{ShapeReading, shaped_map, shaped_then, faults_in, shaped_of}
+use Rattle.toml_subset.specs.shapes.Shapes.{fault_alone, out_of_range, unexpected_value}
+use Rattle.toml_subset.specs.declared.shapes.shape.ValueKind.TheVariants as kind
 use Rattle.toml_value.specs.Taken.{as_array, or_wanted, string_of, values_of}
 use Rattle.policy_toml.specs.declared.hundredths.Hundredths.{Hundredths}
 

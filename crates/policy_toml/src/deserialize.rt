@@ -6,13 +6,13 @@ ghost use Rattle.policy_toml.specs.Readings.{text_of, boolean_of, i64_of, i32_of
 ghost use Rattle.policy_toml.specs.Readings.{spanned_of, array_of, each_of, list_of};
 ghost use Rattle.toml_value.specs.Taken.{values_of, left_by};
 ghost use Rattle.policy_toml.specs.Readings.{thing_of_name, name_of, rows_of};
-ghost use Rattle.toml_shapes.specs.Shaped.{ShapeReading, AnswersShape, OnAnswer, faults_in};
+ghost use Rattle.toml_subset.specs.shapes.Shaped.{ShapeReading, AnswersShape, OnAnswer, faults_in};
 ghost use Rattle.toml_value.specs.Views.{value_view, values_view};
 
 use crate::hundredths::Hundredths;
 use deny_text::{ListOf, Spanned, Text, Texts};
 use std::alloc::{AllocError, Global};
-use toml_shapes::{DeserError, ErrorKind, ShapeErrors, ValueKind, answer, refuse};
+use toml_subset::shapes::{DeserError, ErrorKind, ShapeErrors, ValueKind, answer, refuse};
 use toml_value::{Value, ValueInner, Values, refuse_kind};
 
 /// A type that is read from a value, in a context.

@@ -7,16 +7,16 @@ ghost use Rattle.toml_value.specs.Taken.{given_back};
 ghost use Rattle.policy_toml.specs.Readings.{spanned_of};
 ghost use Rattle.toml_value.specs.Taken.{left_by};
 ghost use Rattle.toml_value.specs.Removal.{entry_at, names_in};
-ghost use Rattle.toml_shapes.specs.Shaped.{AnswersShape, GivesBy, HasFaults, IsToldBy, OnFaults, shaped_of};
-ghost use Rattle.toml_shapes.specs.Shapes.{fault_alone, missing};
+ghost use Rattle.toml_subset.specs.shapes.Shaped.{AnswersShape, GivesBy, HasFaults, IsToldBy, OnFaults, shaped_of};
+ghost use Rattle.toml_subset.specs.shapes.Shapes.{fault_alone, missing};
 ghost use Rattle.toml_value.specs.Views.{value_view, entries_view};
 
 use crate::deserialize::{Deserialize, read_value};
 use deny_text::{Span, Spanned};
 use std::alloc::{AllocError, Global};
 use std::mem;
-use toml_shapes::{DeserError, ErrorKind, ShapeError, ShapeErrors, ValueKind, answer};
 use toml_subset::Key;
+use toml_subset::shapes::{DeserError, ErrorKind, ShapeError, ShapeErrors, ValueKind, answer};
 use toml_value::{Entries, Value, kind_fault};
 
 /// A table of which keys are taken one after another. It collects what was wrong with their values.

@@ -2,9 +2,9 @@
 use Rattle.std.proofs.Common.{◌≡◌, ◌∙◌, ap, sym, subst, ℕ, List, [], ◌∷◌, ◌++◌, Option, Some, None, Result, Ok, Err, IfOk, OnErr, Bool, true, false, refl}
 use Rattle.tree_core.specs.Call as call
 use Rattle.tree_core.specs.Call.{Call, CallAnswer}
-use Rattle.tree_texts.specs.Heard.{IsTextRead, read_of}
-use Rattle.tree_texts.specs.declared.fault.ReadFault.{ReadFault}
-use Rattle.tree_texts.specs.declared.search.SearchError.{SearchError}
+use Rattle.tree_core.specs.texts.Heard.{IsTextRead, read_of}
+use Rattle.tree_core.specs.declared.texts.fault.ReadFault.{ReadFault}
+use Rattle.tree_core.specs.declared.texts.search.SearchError.{SearchError}
 use Rattle.run_context.specs.Paths.{ConfigPathUntil, IsConfigPath}
 use Rattle.run_request.specs.declared.context.KrateContext.{KrateContext}
 use Rattle.refusal_help.specs.Again.{AsksAgain, AsksForText, AsksWhere, SearchesAgain, file_there, given_up, read, searched}

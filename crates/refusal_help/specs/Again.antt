@@ -5,8 +5,8 @@ use Rattle.tree_core.specs.Call as call
 use Rattle.tree_core.specs.Call.{Call, CallAnswer}
 use Rattle.tree_core.specs.Trace.{file_call}
 use Rattle.tree_core.specs.declared.tree.TreeError.{TreeError}
-use Rattle.tree_texts.specs.Heard.{IsTextRead, read_of}
-use Rattle.tree_texts.specs.declared.search.SearchError.{SearchError}
+use Rattle.tree_core.specs.texts.Heard.{IsTextRead, read_of}
+use Rattle.tree_core.specs.declared.texts.search.SearchError.{SearchError}
 use Rattle.run_context.specs.Paths.{ConfigPathUntil, IsConfigPath}
 use Rattle.run_found.specs.declared.error.Error.{Error}
 use Rattle.run_found.specs.declared.error.Error.TheVariants.{ConfigRead, ConfigSyntax}

@@ -6,7 +6,7 @@ use Rattle.diag_core.specs.declared.diagnostic.Diagnostic.{Diagnostic}
 use Rattle.diag_core.specs.declared.label.Label.{Label}
 use Rattle.spdx_terms.specs.declared.error.ParseReason.TheVariants.{UnknownTerm}
 use Rattle.spdx_terms.specs.Reasons.{reason_text}
-use Rattle.toml_shapes.specs.Shapes.{Fault, ShapeReason, custom}
+use Rattle.toml_subset.specs.shapes.Shapes.{Fault, ShapeReason, custom}
 use Rattle.run_found.specs.declared.error.Error.{Error}
 use Rattle.run_found.specs.declared.error.Error.TheVariants.{ConfigShape, ConfigInvalid}
 

@@ -4,9 +4,9 @@ use Rattle.std.specs.Str.{bytes_eq}
 use Rattle.deny_text.specs.Path.{file_name_of}
 use Rattle.diag_core.specs.declared.severity.Severity.{Severity}
 use Rattle.diag_core.specs.declared.severity.Severity.TheVariants.{Help, Note, Warning, Error, Bug}
-use Rattle.tree_texts.specs.declared.fault.ReadFault.{ReadFault}
-use Rattle.tree_texts.specs.declared.fault.ReadFault.TheVariants.{Failed, Absent, Folder, NotUtf8}
-use Rattle.spdx_catalog.specs.Table.{table_licences}
+use Rattle.tree_core.specs.declared.texts.fault.ReadFault.{ReadFault}
+use Rattle.tree_core.specs.declared.texts.fault.ReadFault.TheVariants.{Failed, Absent, Folder, NotUtf8}
+use Rattle.spdx_terms.specs.catalog.Table.{table_licences}
 use Rattle.spdx_listing.specs.declared.error.StoreFault.{StoreFault}
 use Rattle.spdx_listing.specs.declared.error.StoreFault.TheVariants as store
 use Rattle.toml_subset.specs.declared.error.SyntaxReason.{SyntaxReason}

@@ -10,7 +10,7 @@ use run_found::Error;
 use run_request::KrateContext;
 use std::alloc::Global;
 use tree_core::Tree;
-use tree_texts::read_file_text;
+use tree_core::texts::read_file_text;
 
 /// Where the policy is, and its text, as they were heard behind a run.
 #[derive(Drop)]

@@ -24,7 +24,7 @@ use run_request::{Request, Subcommand};
 use spdx_listing::StoreFault;
 use std::alloc::{AllocError, Global};
 use toml_subset::SyntaxError;
-use tree_texts::ReadFault;
+use tree_core::texts::ReadFault;
 
 /// What is so of a file, or at a place in it.
 fn push_file(text: &mut String, file: &str, words: &str) -> Result<(), AllocError>

@@ -1,14 +1,14 @@
 //! Whether a policy was refused for a licence that the catalogue lacks.
 ghost use Rattle.std.specs.Prelude.{◌≡◌};
 ghost use Rattle.std.specs.List.{list_any};
-ghost use Rattle.toml_shapes.specs.ShapeViews.{fault_of};
+ghost use Rattle.toml_subset.specs.shapes.ShapeViews.{fault_of};
 ghost use Rattle.refusal_help.specs.Unknown as spec;
 
 use deny_text::ListOf;
 use diag_core::{Diagnostic, Label};
 use run_found::Error;
 use spdx_terms::ParseReason;
-use toml_shapes::{ErrorKind, ShapeError, ShapeErrors};
+use toml_subset::shapes::{ErrorKind, ShapeError, ShapeErrors};
 
 /// Whether words tell such a licence.
 fn is_unknown(words: &str) -> bool

@@ -11,7 +11,7 @@ use graph_workspace::What;
 use spdx_listing::StoreFault;
 use std::alloc::{AllocError, Global};
 use toml_subset::SyntaxReason;
-use tree_texts::ReadFault;
+use tree_core::texts::ReadFault;
 
 /// What to give in the place of what is not carried.
 #[tactic(auto, unfolding(crate::specs::Words::what_words))]

@@ -9,14 +9,14 @@ use Rattle.diag_core.specs.Severity.{is_same_severity}
 use Rattle.diag_core.specs.declared.label.Label.{Label}
 use Rattle.diag_core.specs.declared.pack.Diag.{Diag}
 use Rattle.diag_core.specs.declared.severity.Severity.TheVariants as severity
-use Rattle.gather_findings.specs.declared.license.LicenseInfo.{LicenseInfo}
-use Rattle.gather_findings.specs.declared.license.LicenseInfo.TheVariants as license_info
-use Rattle.spdx_certificates.specs.declared.verdict.Verdict.{Verdict}
-use Rattle.spdx_certificates.specs.declared.verdict.Verdict.TheVariants.{Accepted, Rejected, Skipped, Unlicensed}
-use Rattle.check_evaluate.specs.Evaluation.{is_allowed}
+use Rattle.gather_core.specs.declared.findings.license.LicenseInfo.{LicenseInfo}
+use Rattle.gather_core.specs.declared.findings.license.LicenseInfo.TheVariants as license_info
+use Rattle.spdx_core.specs.declared.certificates.verdict.Verdict.{Verdict}
+use Rattle.spdx_core.specs.declared.certificates.verdict.Verdict.TheVariants.{Accepted, Rejected, Skipped, Unlicensed}
+use Rattle.check_core.specs.evaluate.Evaluation.{is_allowed}
 use Rattle.graph_core.specs.Krate.{Record}
-use Rattle.policy_valid.specs.Policy.{Policy}
-use Rattle.check_verdicts.specs.Findings.{judged}
+use Rattle.policy_core.specs.valid.Policy.{Policy}
+use Rattle.check_core.specs.verdicts.Findings.{judged}
 use Rattle.check_core.specs.Check.{AreVerdicts, packs_of}
 use Rattle.check_core.specs.Turns.{GatheredCrate, expression_of, pack_by, verdict_finding}
 use Rattle.check_core.specs.Verdicts.{IsVerdict, accepted, is_skipped, rejected, unlicensed, verdict_of}

@@ -4,7 +4,7 @@ use Rattle.std.proofs.lemmas.List.Elements.{All-from_recursion}
 use Rattle.std.specs.Prelude.{All, IfSome, unwrap_or}
 use Rattle.std.specs.List.{AllByRecursion, AllZip}
 use Rattle.graph_core.specs.Krate.{Record}
-use Rattle.tree_reads.specs.Heard.{ReadResult}
+use Rattle.tree_core.specs.file_reads.Heard.{ReadResult}
 use Rattle.diag_core.specs.File.{File, file_id_at}
 use Rattle.diag_core.specs.declared.label.Coord.{Coord}
 use Rattle.gather_licence.specs.Priority.{answer_in}
@@ -12,15 +12,15 @@ use Rattle.gather_licence.specs.declared.settling.JoinedNames.{JoinedNames}
 use Rattle.gather_licence.specs.declared.settling.LicenseBasis.{LicenseBasis}
 use Rattle.gather_licence.specs.declared.settling.LicenseBasis.TheVariants.{Clarified, Field, Files}
 use Rattle.gather_licence.specs.Clarification.{ClarificationView}
-use Rattle.gather_location.specs.Location.{located_by}
-use Rattle.gather_files.specs.Ears.{FolderReads}
+use Rattle.gather_licence.specs.location.Location.{located_by}
+use Rattle.gather_licence.specs.files.Ears.{FolderReads}
 use Rattle.gather_core.specs.Told.{answer_view, info_by, joined_info, joined_notes, notes_of, nowhere}
 use Rattle.gather_core.specs.Turns.{IsCutOut, IsTurn, TurnInput, asks_manifest, field_text, files_behind, findings_in, info_in, located_in, located_where, notes_in, points_in, basis_in}
-use Rattle.gather_findings.specs.declared.license.LicenseInfo.{LicenseInfo}
-use Rattle.gather_findings.specs.declared.license.LicenseInfo.TheVariants.{SpdxExpression, Unlicensed}
-use Rattle.policy_valid.specs.declared.policy.ValidConfig.{ValidConfig}
-use Rattle.policy_valid.specs.Policy.{Policy}
-use Rattle.policy_valid.specs.View.{policy_of}
+use Rattle.gather_core.specs.declared.findings.license.LicenseInfo.{LicenseInfo}
+use Rattle.gather_core.specs.declared.findings.license.LicenseInfo.TheVariants.{SpdxExpression, Unlicensed}
+use Rattle.policy_core.specs.declared.valid.policy.ValidConfig.{ValidConfig}
+use Rattle.policy_core.specs.valid.Policy.{Policy}
+use Rattle.policy_core.specs.valid.View.{policy_of}
 use Rattle.gather_core.specs.Calls.{CrateReads, CrateTurn, HasOwnReads, IsTurnBy, turn_by, turns_of}
 use Rattle.gather_core.specs.Entries.{entries_of}
 use Rattle.gather_core.specs.Gathered.{krate_of}
@@ -28,7 +28,7 @@ use Rattle.gather_core.specs.declared.summary.KrateLicense.{KrateLicense}
 use Rattle.gather_core.proofs.ZipLemmas.{all_left, same_maps}
 use Rattle.check_core.specs.declared.report.CrateReport.{CrateReport}
 use Rattle.run_check.specs.Given.{CheckArguments}
-use Rattle.spdx_certificates.specs.declared.verdict.Verdict.{Verdict}
+use Rattle.spdx_core.specs.declared.certificates.verdict.Verdict.{Verdict}
 use Rattle.check_core.specs.Check.{AreVerdicts}
 use Rattle.check_core.specs.Reports.{license_source, reports_of}
 use Rattle.check_core.specs.Summary.{gathered_of_licenses, gathered_of_license}

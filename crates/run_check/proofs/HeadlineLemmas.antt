@@ -7,11 +7,11 @@ use Rattle.tree_core.specs.Content.{Content}
 use Rattle.tree_core.specs.Faults.{Rose}
 use Rattle.tree_core.specs.Trace.{Says}
 use Rattle.diag_core.specs.declared.severity.Severity.TheVariants as severity
-use Rattle.policy_valid.specs.View.{policy_of}
-use Rattle.check_unused.specs.Unused.{last_pack}
+use Rattle.policy_core.specs.valid.View.{policy_of}
+use Rattle.check_core.specs.unused.Unused.{last_pack}
 use Rattle.check_core.specs.Check.{all_hits, findings_of}
-use Rattle.tree_texts.specs.Cause.{Cause, no_memory, failed_read, refused_write}
-use Rattle.tree_texts.specs.Cause as causes
+use Rattle.tree_core.specs.texts.Cause.{Cause, no_memory, failed_read, refused_write}
+use Rattle.tree_core.specs.texts.Cause as causes
 use Rattle.diag_stats.specs.Counts.{count_in}
 use Rattle.diag_stats.specs.ExitCode.{has_errors}
 use Rattle.run_overrides.specs.Levels.{HasNoOverrides}

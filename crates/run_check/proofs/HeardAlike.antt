@@ -3,7 +3,7 @@ use Rattle.std.proofs.Common.{◌≡◌, ◌∙◌, ◌⊎◌, ap, subst, ℕ, L
 use Rattle.tree_core.specs.Call as call
 use Rattle.tree_core.specs.Call.{CallKind, CallAnswer, Call}
 use Rattle.gather_core.specs.Calls.{calls_of_all}
-use Rattle.tree_texts.specs.declared.fault.ReadFault.{ReadFault}
+use Rattle.tree_core.specs.declared.texts.fault.ReadFault.{ReadFault}
 use Rattle.policy_core.specs.Policy.{PolicyFound}
 use Rattle.run_overrides.specs.Twice.{first_twice}
 use Rattle.run_found.specs.declared.error.Error.{Error}

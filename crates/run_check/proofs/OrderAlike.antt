@@ -11,16 +11,16 @@ use Rattle.std.proofs.lemmas.List.Elements.{recursion_from_All}
 use Rattle.std.proofs.lemmas.List.Sorted.{ranks_by, sorted_far}
 use Rattle.deny_text.specs.Path.{path_order_total}
 use Rattle.spdx_terms.specs.Licensee.{printed_order_total}
-use Rattle.gather_files.proofs.PackLemmas.{by_test}
+use Rattle.gather_licence.proofs.files.PackLemmas.{by_test}
 use Rattle.graph_core.specs.Krate.{Record, ids_in}
 use Rattle.graph_core.specs.Metadata.{AreRising, Graph, CrateNode, ids_of}
-use Rattle.graph_selection.specs.Listed.{IsListOf}
-use Rattle.graph_selection.specs.Roots.{crates_of}
-use Rattle.policy_entries.specs.declared.licensee.Licensee.{Licensee}
+use Rattle.graph_core.specs.selection.Listed.{IsListOf}
+use Rattle.graph_core.specs.selection.Roots.{crates_of}
+use Rattle.policy_parts.specs.declared.entries.licensee.Licensee.{Licensee}
 use Rattle.policy_parts.specs.declared.file_source.FileSource.{FileSource}
-use Rattle.policy_valid.specs.declared.policy.ValidClarification.{ValidClarification}
-use Rattle.policy_valid.specs.declared.policy.ValidConfig.{ValidConfig}
-use Rattle.policy_validate.specs.Order.{PutsFilesInOrder, PutsInOrder, PutsPolicyInOrder, by_path, by_printed}
+use Rattle.policy_core.specs.declared.valid.policy.ValidClarification.{ValidClarification}
+use Rattle.policy_core.specs.declared.valid.policy.ValidConfig.{ValidConfig}
+use Rattle.policy_core.specs.validate.Order.{PutsFilesInOrder, PutsInOrder, PutsPolicyInOrder, by_path, by_printed}
 
 -- ---- what a stable sort leaves
 

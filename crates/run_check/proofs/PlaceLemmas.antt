@@ -5,7 +5,7 @@ use Rattle.diag_core.specs.File.{File}
 use Rattle.diag_core.specs.Pack.{PackOf}
 use Rattle.diag_core.specs.declared.label.Label.{Label}
 use Rattle.diag_core.specs.declared.pack.Diag.{Diag}
-use Rattle.gather_findings.specs.Cuts.{LabelLies}
+use Rattle.gather_core.specs.findings.Cuts.{LabelLies}
 use Rattle.diag_print.specs.Findings.{PacksAreInside}
 use Rattle.diag_print.specs.Places.{AllLabelsAreInside, LabelIsInside, LabelsAreInside}
 use Rattle.check_core.specs.Labels.{FindingLies, PackLies}

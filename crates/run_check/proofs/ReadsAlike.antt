@@ -13,19 +13,19 @@ use Rattle.tree_core.specs.declared.reads.ReadKind.TheVariants.{Manifest, Listin
 use Rattle.tree_core.specs.declared.reads.ReadRecord.{ReadRecord}
 use Rattle.tree_core.proofs.JoinLemmas.{resolve-join}
 use Rattle.graph_core.specs.Krate.{Record}
-use Rattle.tree_reads.specs.Answered.{file_answered, folder_answered}
-use Rattle.tree_reads.specs.Heard.{ReadResult, absent, file_heard, is_kind, is_read, listing_by, listing_heard, read_place, read_record_of, same_parts, there_heard}
-use Rattle.tree_reads.specs.Read.{AnsweredRead, asked_for, calls_in, counts_carried, first_heard, given_path, kind_answered, read_heard, records_of_reads}
+use Rattle.tree_core.specs.file_reads.Answered.{file_answered, folder_answered}
+use Rattle.tree_core.specs.file_reads.Heard.{ReadResult, absent, file_heard, is_kind, is_read, listing_by, listing_heard, read_place, read_record_of, same_parts, there_heard}
+use Rattle.tree_core.specs.file_reads.Read.{AnsweredRead, asked_for, calls_in, counts_carried, first_heard, given_path, kind_answered, read_heard, records_of_reads}
 use Rattle.diag_core.specs.File.{File, file_id_at}
-use Rattle.gather_files.specs.Ears.{FolderReads, ears_by, has_hash, holds, looked_of, matches, tried_of}
-use Rattle.gather_files.specs.NamedFile.{NamedFileView}
-use Rattle.gather_files.specs.Pack.{first_spellings, license_files_in, reads_of, same_path, wanted_of, without_path}
-use Rattle.gather_files.specs.Steps.{file_record}
-use Rattle.gather_files.proofs.PackLemmas.{by_test}
-use Rattle.gather_files.proofs.PathLemmas.{parts_of_same, same_itself}
-use Rattle.gather_location.specs.Calls.{manifest_by}
-use Rattle.gather_location.specs.Location.{located_by, manifest_record}
-use Rattle.gather_expression.specs.Scanned.{Scanner}
+use Rattle.gather_licence.specs.files.Ears.{FolderReads, ears_by, has_hash, holds, looked_of, matches, tried_of}
+use Rattle.gather_licence.specs.files.NamedFile.{NamedFileView}
+use Rattle.gather_licence.specs.files.Pack.{first_spellings, license_files_in, reads_of, same_path, wanted_of, without_path}
+use Rattle.gather_licence.specs.files.Steps.{file_record}
+use Rattle.gather_licence.proofs.files.PackLemmas.{by_test}
+use Rattle.gather_licence.proofs.files.PathLemmas.{parts_of_same, same_itself}
+use Rattle.gather_licence.specs.location.Calls.{manifest_by}
+use Rattle.gather_licence.specs.location.Location.{located_by, manifest_record}
+use Rattle.gather_licence.specs.expression.Scanned.{Scanner}
 use Rattle.gather_licence.specs.Clarification.{ClarificationView, named_files, named_in}
 use Rattle.gather_licence.specs.Priority.{folder_of, holding, is_nothing, looks_at_files, records_of, records_with}
 use Rattle.gather_core.specs.Taken.{turn_with}

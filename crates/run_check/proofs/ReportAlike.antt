@@ -7,22 +7,22 @@ use Rattle.tree_core.specs.Content.{Content}
 use Rattle.tree_core.specs.Trace.{content_answer}
 use Rattle.tree_core.specs.declared.reads.ReadKind.TheVariants.{Manifest}
 use Rattle.tree_core.specs.declared.reads.ReadRecord.{ReadRecord}
-use Rattle.tree_reads.specs.Read.{AnsweredRead, asked_for, calls_in, given_path, records_of_reads}
+use Rattle.tree_core.specs.file_reads.Read.{AnsweredRead, asked_for, calls_in, given_path, records_of_reads}
 use Rattle.spdx_core.specs.Reading.{ExpressionView}
 use Rattle.graph_core.specs.Krate.{Record}
 use Rattle.graph_core.specs.Metadata.{Graph}
 use Rattle.graph_metadata.proofs.RisingLemmas.{graph-rising}
-use Rattle.graph_selection.specs.Walks.{Selected}
+use Rattle.graph_core.specs.selection.Walks.{Selected}
 use Rattle.graph_workspace.specs.Krates.{sparse_dir}
-use Rattle.spdx_certificates.specs.declared.verdict.Verdict.{Verdict}
-use Rattle.spdx_certificates.specs.declared.verdict.Verdict.TheVariants.{Accepted, Rejected, Skipped, Unlicensed}
+use Rattle.spdx_core.specs.declared.certificates.verdict.Verdict.{Verdict}
+use Rattle.spdx_core.specs.declared.certificates.verdict.Verdict.TheVariants.{Accepted, Rejected, Skipped, Unlicensed}
 use Rattle.diag_core.specs.File.{File}
 use Rattle.policy_core.specs.Policy.{PolicyFound}
-use Rattle.policy_valid.specs.Policy.{IsPrivate, Policy}
-use Rattle.policy_valid.specs.View.{policy_of}
-use Rattle.policy_valid.specs.declared.policy.ValidConfig.{ValidConfig}
-use Rattle.policy_validate.specs.Order.{PutsPolicyInOrder}
-use Rattle.gather_expression.specs.Scanned.{Scanner}
+use Rattle.policy_core.specs.valid.Policy.{IsPrivate, Policy}
+use Rattle.policy_core.specs.valid.View.{policy_of}
+use Rattle.policy_core.specs.declared.valid.policy.ValidConfig.{ValidConfig}
+use Rattle.policy_core.specs.validate.Order.{PutsPolicyInOrder}
+use Rattle.gather_licence.specs.expression.Scanned.{Scanner}
 use Rattle.gather_licence.specs.Priority.{folder_of}
 use Rattle.gather_core.specs.Calls.{CrateReads, CrateTurn, HasOwnReads, calls_of_all, turn_by, turns_of}
 use Rattle.gather_core.specs.Entries.{ClarificationEntry, clarifications_of, entries_of}
@@ -31,8 +31,8 @@ use Rattle.check_core.specs.Check.{AreVerdicts, all_hits, findings_of, packs_of}
 use Rattle.check_core.specs.Turns.{GatheredCrate, expression_of, hits_by, pack_by}
 use Rattle.check_core.specs.Verdicts.{Judgement, IsVerdict, accepted, is_skipped, judgement_in, rejected, skipped, unlicensed, verdict_of}
 use Rattle.check_core.proofs.LawLemmas.{same_test}
-use Rattle.check_unused.specs.Unused.{last_pack}
-use Rattle.check_evaluate.specs.Evaluation.{is_allowed}
+use Rattle.check_core.specs.unused.Unused.{last_pack}
+use Rattle.check_core.specs.evaluate.Evaluation.{is_allowed}
 use Rattle.diag_stats.specs.Counts.{counts_of}
 use Rattle.run_overrides.specs.Levels.{packs_at}
 use Rattle.run_found.specs.declared.error.Error.{Error}

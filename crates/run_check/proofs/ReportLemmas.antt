@@ -7,23 +7,23 @@ use Rattle.tree_core.specs.Hearing.{Made}
 use Rattle.tree_core.specs.Trace.{fault_behind}
 use Rattle.tree_core.proofs.MadeLemmas.{made_as, made_joined}
 use Rattle.graph_core.specs.Metadata.{Graph}
-use Rattle.tree_texts.specs.Cause.{Cause, no_memory, told, failed_read, refused_write}
-use Rattle.tree_texts.specs.Heard.{read_of, text_answered}
-use Rattle.tree_texts.specs.declared.fault.ReadFault.{ReadFault}
-use Rattle.tree_texts.specs.declared.fault.ReadFault.TheVariants.{Failed, Absent, Folder, NotUtf8}
-use Rattle.graph_selection.specs.Listed.{IsListOf}
-use Rattle.graph_selection.specs.Roots.{HasRoot, LacksRoots}
-use Rattle.graph_selection.specs.Walks.{Selected}
+use Rattle.tree_core.specs.texts.Cause.{Cause, no_memory, told, failed_read, refused_write}
+use Rattle.tree_core.specs.texts.Heard.{read_of, text_answered}
+use Rattle.tree_core.specs.declared.texts.fault.ReadFault.{ReadFault}
+use Rattle.tree_core.specs.declared.texts.fault.ReadFault.TheVariants.{Failed, Absent, Folder, NotUtf8}
+use Rattle.graph_core.specs.selection.Listed.{IsListOf}
+use Rattle.graph_core.specs.selection.Roots.{HasRoot, LacksRoots}
+use Rattle.graph_core.specs.selection.Walks.{Selected}
 use Rattle.graph_workspace.specs.Krates.{IsCarried, graph_in}
 use Rattle.graph_workspace.specs.declared.error.KratesError.{KratesError}
 use Rattle.graph_workspace.specs.declared.error.KratesError.TheVariants as krates
 use Rattle.policy_parts.specs.declared.graph.GraphConfig.{GraphConfig}
-use Rattle.policy_valid.specs.declared.policy.ValidConfig.{ValidConfig}
+use Rattle.policy_core.specs.declared.valid.policy.ValidConfig.{ValidConfig}
 use Rattle.diag_core.specs.File.{File}
-use Rattle.tree_reads.specs.Read.{AreReads}
+use Rattle.tree_core.specs.file_reads.Read.{AreReads}
 use Rattle.gather_core.specs.Calls.{CrateReads, calls_of_all, reads_of_all}
 use Rattle.gather_core.specs.Gathered.{include_of}
-use Rattle.gather_expression.specs.Scanned.{Scanner}
+use Rattle.gather_licence.specs.expression.Scanned.{Scanner}
 use Rattle.policy_core.specs.Policy.{PolicyFound}
 use Rattle.policy_core.specs.declared.load.LoadedPolicy.{LoadedPolicy}
 use Rattle.policy_load.specs.Answer.{IsPolicyOf}

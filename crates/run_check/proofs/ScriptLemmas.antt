@@ -5,8 +5,8 @@ use Rattle.tree_core.specs.Faults.{Gained, GainedPrefix}
 use Rattle.tree_core.proofs.MadeLemmas.{made_none}
 use Rattle.tree_core.specs.Call.{Call}
 use Rattle.tree_core.specs.Content.{Content}
-use Rattle.tree_texts.specs.Cause.{Cause, no_memory, failed_read, refused_write}
-use Rattle.tree_texts.specs.Cause as causes
+use Rattle.tree_core.specs.texts.Cause.{Cause, no_memory, failed_read, refused_write}
+use Rattle.tree_core.specs.texts.Cause as causes
 use Rattle.diag_print.specs.declared.printer.PrintError.{PrintError}
 use Rattle.diag_print.specs.declared.printer.PrintError.TheVariants as print
 use Rattle.diag_print.specs.Findings.{HasReasonSince}

@@ -6,13 +6,13 @@ use Rattle.tree_core.specs.Content.{Content}
 use Rattle.tree_core.specs.Hearing.{MadeSome}
 use Rattle.tree_core.proofs.MadeLemmas.{made_joined, made_these}
 use Rattle.diag_core.specs.File.{File}
-use Rattle.gather_expression.specs.Scanned.{Scanner}
+use Rattle.gather_licence.specs.expression.Scanned.{Scanner}
 use Rattle.graph_core.specs.Metadata.{Graph}
-use Rattle.tree_reads.specs.Read.{AreReads}
-use Rattle.graph_selection.specs.Choice.{Choice}
-use Rattle.graph_selection.specs.Listed.{Chosen, IsChosen}
-use Rattle.policy_valid.specs.View.{policy_of}
-use Rattle.policy_valid.specs.declared.policy.ValidConfig.{ValidConfig}
+use Rattle.tree_core.specs.file_reads.Read.{AreReads}
+use Rattle.graph_core.specs.selection.Choice.{Choice}
+use Rattle.graph_core.specs.selection.Listed.{Chosen, IsChosen}
+use Rattle.policy_core.specs.valid.View.{policy_of}
+use Rattle.policy_core.specs.declared.valid.policy.ValidConfig.{ValidConfig}
 use Rattle.check_core.specs.Labels.{VerdictPoints}
 use Rattle.check_core.specs.Summary.{gathered_of_licenses}
 use Rattle.gather_core.specs.Calls.{reads_of_all}

@@ -1,6 +1,6 @@
 -- The counts of refusals.
 use Rattle.std.proofs.Common.{ℕ}
-use Rattle.tree_texts.specs.Cause.{ReadCounts}
+use Rattle.tree_core.specs.texts.Cause.{ReadCounts}
 use Rattle.diag_print.specs.declared.printer.PrintError.{PrintError}
 use Rattle.diag_print.specs.declared.printer.PrintError.TheVariants as print
 use Rattle.run_overrides.specs.declared.error.OverrideError.{OverrideError}

@@ -3,10 +3,10 @@ use Rattle.std.specs.Prelude.{◌≡◌, ℕ, List, [], map, Option, Some, None,
 use Rattle.tree_core.specs.Call.{Call}
 use Rattle.policy_core.specs.Policy.{PolicyFound}
 use Rattle.graph_workspace.specs.declared.error.What.{What}
-use Rattle.policy_valid.specs.declared.policy.ValidConfig.{ValidConfig}
+use Rattle.policy_core.specs.declared.valid.policy.ValidConfig.{ValidConfig}
 use Rattle.gather_core.specs.Calls.{CrateTurn}
 use Rattle.gather_core.specs.Turns.{TurnInput, findings_in, info_in, notes_in}
-use Rattle.gather_expression.specs.Scanned.{Scanner}
+use Rattle.gather_licence.specs.expression.Scanned.{Scanner}
 use Rattle.check_core.specs.Turns.{GatheredCrate}
 use Rattle.run_overrides.specs.Twice.{Twice, first_twice}
 use Rattle.run_found.specs.declared.error.Error.{Error}

@@ -11,8 +11,8 @@ use Rattle.std.specs.Prelude.{◌≡◌, ℕ, Bool, true, false, All, Result, Ok
 use Rattle.tree_core.specs.Content.{Content}
 use Rattle.tree_core.specs.Faults.{Rose}
 use Rattle.tree_core.specs.Trace.{Says, faults_after}
-use Rattle.spdx_certificates.specs.declared.verdict.Verdict.{Verdict}
-use Rattle.spdx_certificates.specs.declared.verdict.Verdict.TheVariants.{Accepted, Rejected, Skipped, Unlicensed}
+use Rattle.spdx_core.specs.declared.certificates.verdict.Verdict.{Verdict}
+use Rattle.spdx_core.specs.declared.certificates.verdict.Verdict.TheVariants.{Accepted, Rejected, Skipped, Unlicensed}
 use Rattle.diag_stats.specs.ExitCode.{has_errors}
 use Rattle.run_overrides.specs.Levels.{HasNoOverrides}
 use Rattle.run_found.specs.declared.error.Error.{Error}

@@ -2,12 +2,12 @@
 use Rattle.std.specs.Prelude.{◌≡◌, List, All}
 use Rattle.std.specs.List.{AllZip, flat_map}
 use Rattle.tree_core.specs.declared.reads.ReadRecord.{ReadRecord}
-use Rattle.tree_reads.specs.Read.{AreReads, records_of_reads}
-use Rattle.tree_reads.specs.Rising.{RiseInOrder}
+use Rattle.tree_core.specs.file_reads.Read.{AreReads, records_of_reads}
+use Rattle.tree_core.specs.file_reads.Rising.{RiseInOrder}
 use Rattle.gather_core.specs.Calls.{CrateReads, HasOwnReads, reads_of_all}
 use Rattle.policy_core.specs.Policy.{PolicyFound}
-use Rattle.policy_valid.specs.View.{policy_of}
-use Rattle.policy_validate.specs.Order.{PutsPolicyInOrder}
+use Rattle.policy_core.specs.valid.View.{policy_of}
+use Rattle.policy_core.specs.validate.Order.{PutsPolicyInOrder}
 use Rattle.check_core.specs.Hits.{TellUnneeded}
 use Rattle.check_core.specs.Verdicts.{IsVerdictShown, is_skipped}
 use Rattle.run_found.specs.Found.{count_metadata, files_loaded}

@@ -5,23 +5,23 @@ use Rattle.tree_core.specs.Call.{Call}
 use Rattle.spdx_core.specs.Reading.{ExpressionView}
 use Rattle.graph_core.specs.Krate.{Record}
 use Rattle.graph_core.specs.Metadata.{Graph}
-use Rattle.graph_selection.specs.Roots.{HasRoot, LacksRoots}
-use Rattle.tree_reads.specs.Read.{AreReads, records_of_reads}
-use Rattle.policy_valid.specs.View.{policy_of}
-use Rattle.policy_valid.specs.declared.policy.ValidConfig.{ValidConfig}
-use Rattle.spdx_certificates.specs.declared.verdict.Verdict.{Verdict}
+use Rattle.graph_core.specs.selection.Roots.{HasRoot, LacksRoots}
+use Rattle.tree_core.specs.file_reads.Read.{AreReads, records_of_reads}
+use Rattle.policy_core.specs.valid.View.{policy_of}
+use Rattle.policy_core.specs.declared.valid.policy.ValidConfig.{ValidConfig}
+use Rattle.spdx_core.specs.declared.certificates.verdict.Verdict.{Verdict}
 use Rattle.gather_licence.specs.Priority.{LicenseAnswer}
 use Rattle.diag_core.specs.File.{File}
 use Rattle.gather_core.specs.Calls.{CrateReads, CrateTurn, HasOwnReads, files_behind_all, reads_of_all}
 use Rattle.gather_core.specs.Told.{notes_of, source_view}
 use Rattle.gather_core.specs.Turns.{IsCutOut, info_in}
-use Rattle.gather_findings.specs.declared.license.LicenseExprSource.{LicenseExprSource}
+use Rattle.gather_core.specs.declared.findings.license.LicenseExprSource.{LicenseExprSource}
 use Rattle.check_core.specs.Check.{AreVerdicts, findings_of}
 use Rattle.check_core.specs.Reports.{license_source}
 use Rattle.check_core.specs.Labels.{PackLies, VerdictPoints}
 use Rattle.check_core.specs.Verdicts.{IsVerdict}
-use Rattle.policy_validate.specs.Order.{PutsPolicyInOrder}
-use Rattle.tree_texts.specs.Cause.{Cause, no_memory, refused_write}
+use Rattle.policy_core.specs.validate.Order.{PutsPolicyInOrder}
+use Rattle.tree_core.specs.texts.Cause.{Cause, no_memory, refused_write}
 use Rattle.policy_core.specs.Policy.{PolicyFound}
 use Rattle.diag_stats.specs.Counts.{counts_of}
 use Rattle.run_overrides.specs.Levels.{packs_at}

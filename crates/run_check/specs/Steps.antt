@@ -4,20 +4,20 @@ use Rattle.tree_core.specs.Call.{CallAnswer}
 use Rattle.tree_core.specs.Trace.{fault_behind}
 use Rattle.graph_core.specs.Metadata.{Graph}
 use Rattle.diag_core.specs.File.{File}
-use Rattle.tree_reads.specs.Read.{AreReads}
-use Rattle.tree_texts.specs.Heard.{read_of}
-use Rattle.graph_selection.specs.Choice.{Choice}
-use Rattle.graph_selection.specs.Listed.{IsListOf}
-use Rattle.graph_selection.specs.Walks.{Selected}
+use Rattle.tree_core.specs.file_reads.Read.{AreReads}
+use Rattle.tree_core.specs.texts.Heard.{read_of}
+use Rattle.graph_core.specs.selection.Choice.{Choice}
+use Rattle.graph_core.specs.selection.Listed.{IsListOf}
+use Rattle.graph_core.specs.selection.Walks.{Selected}
 use Rattle.graph_workspace.specs.declared.error.KratesError.{KratesError}
-use Rattle.gather_expression.specs.Scanned.{Scanner}
-use Rattle.policy_valid.specs.View.{policy_of}
-use Rattle.policy_valid.specs.declared.policy.ValidConfig.{ValidConfig}
+use Rattle.gather_licence.specs.expression.Scanned.{Scanner}
+use Rattle.policy_core.specs.valid.View.{policy_of}
+use Rattle.policy_core.specs.declared.valid.policy.ValidConfig.{ValidConfig}
 use Rattle.gather_core.specs.Calls.{AreTurnsBy, CrateReads, calls_of_all, reads_of_all}
 use Rattle.gather_core.specs.Gathered.{include_of, krate_of}
 use Rattle.gather_core.specs.declared.summary.KrateLicense.{KrateLicense}
 use Rattle.policy_core.specs.declared.load.LoadedPolicy.{LoadedPolicy}
-use Rattle.spdx_certificates.specs.declared.verdict.Verdict.{Verdict}
+use Rattle.spdx_core.specs.declared.certificates.verdict.Verdict.{Verdict}
 use Rattle.check_core.specs.Check.{AreVerdicts, findings_of}
 use Rattle.check_core.specs.Labels.{VerdictPoints}
 use Rattle.check_core.specs.Reports.{reports_of}

@@ -5,7 +5,7 @@ ghost use Rattle.run_check.specs.Carried as spec;
 ghost use Rattle.run_check.specs.Carried.{uncarried_of};
 
 use diag_print::LogContext;
-use graph_selection::has_uncarried;
+use graph_core::selection::has_uncarried;
 use graph_workspace::What;
 use run_found::is_sarif;
 use run_request::check::Args;

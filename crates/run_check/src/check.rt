@@ -1,12 +1,12 @@
 //! The licences of all crates, and the check of them.
 ghost use Rattle.std.specs.Prelude.{◌≡◌, ◌≤◌, All, IfOk, OnErr};
 ghost use Rattle.graph_core.specs.Metadata.{Graph};
-ghost use Rattle.graph_selection.specs.Choice.{Choice};
-ghost use Rattle.graph_selection.specs.Listed.{IsChosen};
-ghost use Rattle.policy_valid.specs.View.{policy_of};
+ghost use Rattle.graph_core.specs.selection.Choice.{Choice};
+ghost use Rattle.graph_core.specs.selection.Listed.{IsChosen};
+ghost use Rattle.policy_core.specs.valid.View.{policy_of};
 ghost use Rattle.policy_core.specs.Places.{PolicyStands};
 ghost use Rattle.gather_core.specs.Premises.{IsPlacedAt};
-ghost use Rattle.check_unused.specs.Laws.{EntriesLie};
+ghost use Rattle.check_core.specs.unused.Laws.{EntriesLie};
 ghost use Rattle.check_core.specs.Labels.{PackLies, VerdictPoints};
 ghost use Rattle.check_core.specs.Summary.{gathered_of_licenses};
 ghost use Rattle.run_request.specs.declared.level.LintLevels.{LintLevels};
@@ -19,7 +19,7 @@ use check_core::{CheckCtx, CrateReports, judge_all};
 use diag_core::{DiagnosticOverrides, ErrorSink, Files, LevelFilter, Packs};
 use gather_core::Summary;
 use graph_workspace::Krates;
-use policy_valid::ValidConfig;
+use policy_core::valid::ValidConfig;
 use run_found::licences_found;
 use spdx_core::{Catalog, Identifier};
 use std::alloc::{AllocError, Global};

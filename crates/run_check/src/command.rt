@@ -2,8 +2,8 @@
 ghost use Rattle.std.specs.Prelude.{◌≡◌, ◌≢◌, ◌≤◌, None, Some, Err, IfErr, IfOk};
 ghost use Rattle.std.specs.Option.{ForSome};
 ghost use Rattle.graph_workspace.specs.declared.error.What.{What};
-ghost use Rattle.tree_texts.specs.declared.fault.ReadFault.{ReadFault};
-ghost use Rattle.tree_texts.specs.Cause.{ReadCounts};
+ghost use Rattle.tree_core.specs.declared.texts.fault.ReadFault.{ReadFault};
+ghost use Rattle.tree_core.specs.texts.Cause.{ReadCounts};
 ghost use Rattle.run_found.specs.Error.{cause_of};
 ghost use Rattle.run_check.specs.Carried.{uncarried_of};
 ghost use Rattle.run_check.specs.Given.{check_arguments_of};

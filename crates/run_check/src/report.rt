@@ -1,6 +1,6 @@
 //! What a check answers.
+pub use check_core::evaluate::Verdict;
 pub use check_core::{CrateReport, CrateReports};
-pub use check_evaluate::Verdict;
 use diag_core::{Files, Packs};
 pub use diag_stats::{AllStats, Stats};
 use policy_core::ValidConfig;

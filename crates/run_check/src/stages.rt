@@ -1,6 +1,6 @@
 //! The crates that a request and its policy have checked.
 ghost use Rattle.std.specs.Prelude.{◌≡◌, ◌≤◌, ℕ, List, All, IfErr, IfOk, None, Some};
-ghost use Rattle.tree_texts.specs.Cause.{ReadCounts};
+ghost use Rattle.tree_core.specs.texts.Cause.{ReadCounts};
 ghost use Rattle.policy_core.specs.Places.{PolicyStands};
 ghost use Rattle.check_core.specs.Labels.{PackLies};
 ghost use Rattle.run_request.specs.declared.level.LintLevels.{LintLevels};

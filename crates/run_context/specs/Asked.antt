@@ -4,8 +4,8 @@ use Rattle.std.specs.List.{filter_map, list_any}
 use Rattle.tree_core.specs.Call.{Call}
 use Rattle.run_request.specs.declared.context.KrateContext.{KrateContext}
 use Rattle.run_context.specs.declared.gather.LeftOut.{LeftOut}
-use Rattle.graph_selection.specs.Choice.{Choice, is_uncarried, spec_read}
-use Rattle.graph_selection.specs.Listed.{Chosen}
+use Rattle.graph_core.specs.selection.Choice.{Choice, is_uncarried, spec_read}
+use Rattle.graph_core.specs.selection.Listed.{Chosen}
 use Rattle.graph_workspace.specs.declared.error.KratesError.{KratesError}
 use Rattle.graph_workspace.specs.declared.error.KratesError.TheVariants.{Memory, NotCarried}
 use Rattle.graph_workspace.specs.declared.error.What.{What}

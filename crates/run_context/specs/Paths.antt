@@ -3,11 +3,11 @@ use Rattle.std.specs.Prelude.{◌≡◌, ℕ, List, Option, Some, None}
 use Rattle.deny_text.specs.Path.{join_of}
 use Rattle.tree_core.specs.Call.{Call}
 use Rattle.run_request.specs.declared.context.KrateContext.{KrateContext}
-use Rattle.tree_texts.specs.Looked.{FindsByLooks, LookedUntil}
-use Rattle.tree_texts.specs.declared.search.SearchError.{SearchError}
-use Rattle.tree_texts.specs.declared.search.SearchError.TheVariants.{Memory}
-use Rattle.tree_texts.specs.declared.search.SoughtFile.TheVariants.{Policy, Exceptions}
-use Rattle.tree_texts.specs.Search.{candidates}
+use Rattle.tree_core.specs.texts.Looked.{FindsByLooks, LookedUntil}
+use Rattle.tree_core.specs.declared.texts.search.SearchError.{SearchError}
+use Rattle.tree_core.specs.declared.texts.search.SearchError.TheVariants.{Memory}
+use Rattle.tree_core.specs.declared.texts.search.SoughtFile.TheVariants.{Policy, Exceptions}
+use Rattle.tree_core.specs.texts.Search.{candidates}
 
 -- at a path that is given nothing is looked at; else the looks of the search were made, up to the first at which something stands
 abbrev pub LooksForPath : KrateContext → List Call → List Call → Option (List ℕ) → Option (List ℕ) → Type 0

@@ -1,14 +1,14 @@
 //! The crates that a request looks at, from its metadata's file.
 ghost use Rattle.std.specs.Prelude.{◌≡◌, ◌≤◌, IfErr, IfOk};
 ghost use Rattle.tree_core.specs.Hearing.{MadeSome};
-ghost use Rattle.graph_selection.specs.Choice.{choice_of};
-ghost use Rattle.tree_texts.specs.Cause.{ReadCounts};
+ghost use Rattle.graph_core.specs.selection.Choice.{choice_of};
+ghost use Rattle.tree_core.specs.texts.Cause.{ReadCounts};
 ghost use Rattle.graph_workspace.specs.Krates.{krates_cause};
 ghost use Rattle.run_context.specs.Asked as spec;
 ghost use Rattle.run_context.specs.Asked.{IsAnswerBy, IsUnasked, by_specs, choice_asked, left_out};
 
 use deny_text::Texts;
-use graph_selection::{has_uncarried, read_specs};
+use graph_core::selection::{has_uncarried, read_specs};
 use graph_workspace::{ExcludeSpecs, Krates, KratesError, Selection, What, krates_at};
 use run_request::KrateContext;
 use std::alloc::{AllocError, Global};

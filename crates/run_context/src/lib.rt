@@ -12,4 +12,4 @@ pub use paths::{
     config_path_since, exceptions_path_since, get_config_path, get_local_exceptions_path,
 };
 pub use run_request::KrateContext;
-pub use tree_texts::SearchError;
+pub use tree_core::texts::SearchError;

@@ -1,8 +1,8 @@
 //! Where a request's policy and exceptions file are.
 ghost use Rattle.std.specs.Prelude.{◌≤◌, IfErr, IfOk};
 ghost use Rattle.tree_core.specs.Hearing.{MadeSome};
-ghost use Rattle.tree_texts.specs.Cause.{ReadCounts};
-ghost use Rattle.tree_texts.specs.Search.{search_cause};
+ghost use Rattle.tree_core.specs.texts.Cause.{ReadCounts};
+ghost use Rattle.tree_core.specs.texts.Search.{search_cause};
 ghost use Rattle.run_context.specs.Paths.{IsConfigPath, IsExceptionsPath};
 ghost use Rattle.run_context.specs.Paths.{ConfigPathUntil, ExceptionsPathUntil};
 
@@ -11,7 +11,7 @@ use deny_text::path::join;
 use run_request::KrateContext;
 use std::alloc::Global;
 use tree_core::Tree;
-use tree_texts::{SearchError, SoughtFile, find_upwards};
+use tree_core::texts::{SearchError, SoughtFile, find_upwards};
 
 /// The policy's path: the one that is given, joined to the folder of the call, at which nothing is looked
 /// for; else the one that is found. `begun` is the tree's count of faults when the run began.

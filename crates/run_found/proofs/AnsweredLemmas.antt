@@ -7,7 +7,7 @@ use Rattle.tree_core.specs.Content.{Content}
 use Rattle.tree_core.specs.Faults.{Rose}
 use Rattle.tree_core.specs.Trace.{Says, fault_behind, faults_after}
 use Rattle.tree_core.proofs.MadeLemmas.{faults_after-later}
-use Rattle.tree_reads.proofs.ReadLemmas.{rose_counted}
+use Rattle.tree_core.proofs.file_reads.ReadLemmas.{rose_counted}
 use Rattle.run_found.specs.Hearing.{TellsContent}
 
 -- ---- the same calls

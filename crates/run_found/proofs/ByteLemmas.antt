@@ -4,7 +4,7 @@ use Rattle.graph_core.specs.Metadata.{Graph}
 use Rattle.graph_metadata.specs.Records.{metadata_of}
 use Rattle.graph_metadata.specs.Told.{MetadataReading}
 use Rattle.graph_workspace.specs.Krates.{graph_or_error, sparse_dir}
-use Rattle.tree_texts.specs.declared.fault.ReadFault.{ReadFault}
+use Rattle.tree_core.specs.declared.texts.fault.ReadFault.{ReadFault}
 use Rattle.policy_core.specs.Policy.{PolicyFound}
 use Rattle.policy_load.specs.Load.{LoadResult}
 use Rattle.policy_load.specs.declared.error.LoadError.{LoadError}

@@ -4,11 +4,11 @@ use Rattle.std.specs.Prelude.{unwrap_or}
 use Rattle.tree_core.specs.Call as call
 use Rattle.tree_core.specs.Call.{CallAnswer, Call}
 use Rattle.tree_core.specs.Trace.{faults_after}
-use Rattle.tree_texts.specs.Heard.{text_answered}
-use Rattle.tree_texts.specs.declared.fault.ReadFault.{ReadFault}
-use Rattle.tree_texts.specs.declared.fault.ReadFault.TheVariants.{Absent}
-use Rattle.tree_texts.specs.Looked.{FindsByLooks, LookedUntil, look_of, absent_looks}
-use Rattle.tree_texts.specs.declared.search.SearchError.TheVariants as search
+use Rattle.tree_core.specs.texts.Heard.{text_answered}
+use Rattle.tree_core.specs.declared.texts.fault.ReadFault.{ReadFault}
+use Rattle.tree_core.specs.declared.texts.fault.ReadFault.TheVariants.{Absent}
+use Rattle.tree_core.specs.texts.Looked.{FindsByLooks, LookedUntil, look_of, absent_looks}
+use Rattle.tree_core.specs.declared.texts.search.SearchError.TheVariants as search
 use Rattle.run_found.specs.Hearing.{LooksResult, look_failed, nowhere, at, IsReadWhereDue, count_behind, is_heard, look_calls, looks_by, read_calls, text_by}
 
 -- ---- looks

@@ -2,7 +2,7 @@
 use Rattle.std.proofs.Common.{◌≡◌, ◌∙◌, refl, ap, ℕ, Bool, true, false, cond, List, [], ◌∷◌, Option, Some, None, Ok}
 use Rattle.std.specs.Prelude.{find, is_none, option_map}
 use Rattle.std.specs.List.{list_any}
-use Rattle.graph_selection.specs.Choice.{is_uncarried}
+use Rattle.graph_core.specs.selection.Choice.{is_uncarried}
 use Rattle.graph_workspace.specs.declared.error.What.{What}
 use Rattle.policy_core.specs.Policy.{PolicyFound}
 use Rattle.policy_core.specs.declared.load.LoadedPolicy.{LoadedPolicy}

@@ -4,11 +4,11 @@ use Rattle.tree_core.specs.Call.{Call}
 use Rattle.tree_core.specs.Content.{Content}
 use Rattle.tree_core.specs.Faults.{Gained, GainedPrefix}
 use Rattle.tree_core.specs.Hearing.{MadeSome}
-use Rattle.spdx_catalog.specs.Catalog.{CatalogLists}
+use Rattle.spdx_terms.specs.catalog.Catalog.{CatalogLists}
 use Rattle.diag_core.specs.File.{File}
 use Rattle.diag_print.specs.declared.context.LogContext.{LogContext}
-use Rattle.tree_texts.specs.Cause.{Cause, no_memory, refused_write, ReadCounts}
-use Rattle.tree_texts.specs.declared.fault.ReadFault.TheVariants.{Failed, Absent, Folder, NotUtf8}
+use Rattle.tree_core.specs.texts.Cause.{Cause, no_memory, refused_write, ReadCounts}
+use Rattle.tree_core.specs.declared.texts.fault.ReadFault.TheVariants.{Failed, Absent, Folder, NotUtf8}
 use Rattle.policy_core.specs.declared.load.LoadedPolicy.{LoadedPolicy}
 use Rattle.policy_load.specs.Answer.{AnswersLoad, Comes, IsCutLoad, LoadsBy, Prints, WriteCounts, load_cause}
 use Rattle.policy_load.specs.Heard.{LoadHeard}

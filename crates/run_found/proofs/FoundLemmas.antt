@@ -4,7 +4,7 @@ use Rattle.std.specs.Option.{option_and_then}
 use Rattle.tree_core.specs.Trace.{faults_after}
 use Rattle.tree_core.proofs.MadeLemmas.{faults_after-append}
 use Rattle.policy_core.specs.Policy.{PolicyFound}
-use Rattle.policy_text.specs.Text.{config_text_of}
+use Rattle.policy_core.specs.text.Text.{config_text_of}
 use Rattle.policy_load.specs.declared.error.LoadError.{LoadError}
 use Rattle.policy_load.specs.declared.loading.PolicyPaths.{PolicyPaths}
 use Rattle.run_found.specs.declared.error.Error.{Error}
@@ -14,8 +14,8 @@ use Rattle.run_found.specs.Found.{config_in, count_exceptions, count_looked, cou
 use Rattle.run_found.specs.Given.{RequestArguments}
 use Rattle.run_found.specs.Hearing.{RequestHearing, look_calls, read_calls}
 use Rattle.run_found.specs.Steps.{◌>>=◌, unless_refused}
-use Rattle.tree_texts.specs.Search.{candidates}
-use Rattle.tree_texts.specs.declared.search.SoughtFile.TheVariants.{Exceptions}
+use Rattle.tree_core.specs.texts.Search.{candidates}
+use Rattle.tree_core.specs.declared.texts.search.SoughtFile.TheVariants.{Exceptions}
 use Rattle.run_found.proofs.CallLemmas.{counts_due}
 
 pub bind-Ok : {X Y : Type 0} (first : Result X Error) (next : X → Result Y Error) (x : X) (last : Result Y Error) → first ≡ Ok x → next x ≡ last → (first >>= next) ≡ last

@@ -8,17 +8,17 @@ use Rattle.tree_core.specs.Content.{Content}
 use Rattle.tree_core.specs.Hearing.{Made}
 use Rattle.tree_core.proofs.MadeLemmas.{made-later, made_as}
 use Rattle.diag_core.specs.File.{File}
-use Rattle.gather_expression.specs.Scanned.{Scanner}
+use Rattle.gather_licence.specs.expression.Scanned.{Scanner}
 use Rattle.graph_core.specs.Krate.{Record}
 use Rattle.graph_core.specs.Metadata.{Graph}
-use Rattle.tree_reads.specs.Read.{call_lost, calls_in}
-use Rattle.gather_files.specs.Calls.{IsFront}
+use Rattle.tree_core.specs.file_reads.Read.{call_lost, calls_in}
+use Rattle.gather_licence.specs.files.Calls.{IsFront}
 use Rattle.gather_licence.specs.Priority.{folder_of}
-use Rattle.graph_selection.specs.Choice.{Choice}
-use Rattle.graph_selection.specs.Listed.{Chosen, IsChosen, IsListOf, selected_in}
-use Rattle.graph_selection.specs.Walks.{Selected}
-use Rattle.graph_selection.proofs.SelectedLemmas.{selected-lists}
-use Rattle.policy_valid.specs.declared.policy.ValidConfig.{ValidConfig}
+use Rattle.graph_core.specs.selection.Choice.{Choice}
+use Rattle.graph_core.specs.selection.Listed.{Chosen, IsChosen, IsListOf, selected_in}
+use Rattle.graph_core.specs.selection.Walks.{Selected}
+use Rattle.graph_core.proofs.selection.SelectedLemmas.{selected-lists}
+use Rattle.policy_core.specs.declared.valid.policy.ValidConfig.{ValidConfig}
 use Rattle.gather_core.specs.Calls.{AreTurnsByReads, CrateReads, HasOwnReads, StarvesGathering, calls_of_all}
 use Rattle.gather_core.specs.Entries.{ClarificationEntry, entries_of}
 use Rattle.gather_core.specs.Gathered.{include_of, krate_of}

@@ -10,7 +10,7 @@ use Rattle.policy_core.specs.Policy.{PolicyFound}
 use Rattle.policy_load.specs.Heard.{LoadHeard}
 use Rattle.policy_load.specs.Load.{load_of}
 use Rattle.policy_load.specs.declared.loading.PolicyPaths.{PolicyPaths}
-use Rattle.policy_text.specs.Text.{config_text_of}
+use Rattle.policy_core.specs.text.Text.{config_text_of}
 use Rattle.run_found.specs.declared.error.Error.{Error}
 use Rattle.run_found.specs.Finds.{HearsPolicy}
 use Rattle.run_found.specs.Found.{calls_with, config_by, config_in, count_exceptions, count_looked, count_metadata, count_policy, count_sought, due_by_text, exceptions_due, exceptions_in, files_loaded, files_of_load, load_heard, looked_behind, metadata_heard, or_load_error, path_by, paths_found, paths_looked, paths_sought, policy_due, policy_found}

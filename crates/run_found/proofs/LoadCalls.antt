@@ -1,19 +1,19 @@
 -- The reads of a load, as what they were answered.
 use Rattle.std.proofs.Common.{◌≡◌, ◌∙◌, inl, inr, refl, sym, ap, subst, ℕ, List, [], ◌∷◌, ◌++◌, append-nil, Option, Some, None, Result, Ok, Err}
-use Rattle.spdx_catalog.specs.Catalog.{CatalogLists}
+use Rattle.spdx_terms.specs.catalog.Catalog.{CatalogLists}
 use Rattle.diag_core.specs.File.{File, file_id_at}
 use Rattle.tree_core.specs.Call as call
 use Rattle.tree_core.specs.Call.{CallAnswer, Call}
 use Rattle.tree_core.specs.Trace.{fault_behind}
-use Rattle.tree_texts.specs.Heard.{read_of, text_answered}
-use Rattle.tree_texts.specs.declared.fault.ReadFault.{ReadFault}
-use Rattle.tree_texts.specs.declared.fault.ReadFault.TheVariants.{Absent, Failed}
-use Rattle.policy_config.specs.declared.root.RootConfig.{RootConfig}
+use Rattle.tree_core.specs.texts.Heard.{read_of, text_answered}
+use Rattle.tree_core.specs.declared.texts.fault.ReadFault.{ReadFault}
+use Rattle.tree_core.specs.declared.texts.fault.ReadFault.TheVariants.{Absent, Failed}
+use Rattle.policy_core.specs.declared.config.root.RootConfig.{RootConfig}
 use Rattle.policy_core.specs.declared.exceptions.ExceptionsHeard.TheVariants.{Heard as heard}
-use Rattle.policy_text.specs.Config.{config_of_text}
-use Rattle.policy_text.specs.Text.{config_text_of}
-use Rattle.policy_text.specs.declared.error.ConfigError.{ConfigError}
-use Rattle.policy_text.specs.declared.text.ConfigText.{ConfigText}
+use Rattle.policy_core.specs.text.Config.{config_of_text}
+use Rattle.policy_core.specs.text.Text.{config_text_of}
+use Rattle.policy_core.specs.declared.text.error.ConfigError.{ConfigError}
+use Rattle.policy_core.specs.declared.text.text.ConfigText.{ConfigText}
 use Rattle.policy_load.specs.Answer.{MayReadFurther, ReadsBehind, ReadsFurther}
 use Rattle.policy_load.specs.Heard.{IsReadAt, IsReadOf, MayReadAt, MayReadOf, exceptions_at, exceptions_heard}
 use Rattle.policy_load.specs.Load.{load_by_config, load_by_text, with_policy}

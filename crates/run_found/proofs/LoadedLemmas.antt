@@ -5,13 +5,13 @@ use Rattle.tree_core.specs.Content.{Content}
 use Rattle.tree_core.specs.Hearing.{MadeSome}
 use Rattle.tree_core.specs.Trace.{fault_behind, faults_after}
 use Rattle.tree_core.proofs.MadeLemmas.{faults_after-append, made_as, made_joined, made_these}
-use Rattle.tree_texts.specs.Heard.{read_of}
-use Rattle.tree_texts.specs.declared.fault.ReadFault.{ReadFault}
-use Rattle.tree_texts.specs.Search.{candidates}
-use Rattle.tree_texts.specs.declared.search.SoughtFile.TheVariants.{Exceptions}
-use Rattle.policy_text.specs.Config.{config_of_text}
-use Rattle.policy_text.specs.Text.{config_text_of}
-use Rattle.policy_text.specs.declared.text.ConfigText.{ConfigText}
+use Rattle.tree_core.specs.texts.Heard.{read_of}
+use Rattle.tree_core.specs.declared.texts.fault.ReadFault.{ReadFault}
+use Rattle.tree_core.specs.texts.Search.{candidates}
+use Rattle.tree_core.specs.declared.texts.search.SoughtFile.TheVariants.{Exceptions}
+use Rattle.policy_core.specs.text.Config.{config_of_text}
+use Rattle.policy_core.specs.text.Text.{config_text_of}
+use Rattle.policy_core.specs.declared.text.text.ConfigText.{ConfigText}
 use Rattle.policy_load.specs.Answer.{MayReadBoth, ReadsBehind}
 use Rattle.policy_load.specs.Heard.{IsPolicyRead, LoadHeard, MayReadPolicy}
 use Rattle.policy_load.specs.Load.{load_by_text, load_of, with_policy}

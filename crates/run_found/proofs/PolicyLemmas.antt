@@ -1,32 +1,32 @@
 -- A policy's bytes: a load answers it exactly where its two files are one, in words of texts, values and shapes.
 use Rattle.std.proofs.Common.{◌≡◌, ◌∙◌, refl, sym, ap, subst, ℕ, Bool, true, false, cond, List, [], ◌∷◌, ◌++◌, map, Option, Some, None, Result, Ok, Err, ◌||◌}
 use Rattle.std.specs.List.{list_any}
-use Rattle.spdx_catalog.specs.Catalog.{CatalogLists}
-use Rattle.graph_selection.specs.Choice.{is_uncarried}
+use Rattle.spdx_terms.specs.catalog.Catalog.{CatalogLists}
+use Rattle.graph_core.specs.selection.Choice.{is_uncarried}
 use Rattle.diag_core.specs.File.{File, file_id_at}
 use Rattle.diag_core.specs.declared.diagnostic.Diagnostic.{Diagnostic}
-use Rattle.tree_texts.specs.declared.fault.ReadFault.{ReadFault}
+use Rattle.tree_core.specs.declared.texts.fault.ReadFault.{ReadFault}
 use Rattle.policy_load.specs.Heard.{LoadHeard, exceptions_at, exceptions_heard}
 use Rattle.policy_load.specs.Load.{found_by, load_by_config, load_by_text, load_of, policy_file, unless_error}
 use Rattle.diag_print.specs.Findings.{is_error}
 use Rattle.policy_load.specs.declared.error.LoadError.TheVariants.{ConfigInvalid}
 use Rattle.policy_load.specs.declared.loading.PolicyPaths.{PolicyPaths}
-use Rattle.policy_config.specs.Root.{root_of}
-use Rattle.policy_config.specs.declared.root.RootConfig.{RootConfig}
+use Rattle.policy_core.specs.config.Root.{root_of}
+use Rattle.policy_core.specs.declared.config.root.RootConfig.{RootConfig}
 use Rattle.policy_core.specs.Exceptions.{ExceptionsRead, exceptions_findings, shape_diagnostic}
 use Rattle.policy_core.specs.Heard.{exceptions_read_of, value_or_fault}
 use Rattle.policy_core.specs.declared.exceptions.ExceptionsHeard.TheVariants.{Heard as heard}
 use Rattle.policy_core.specs.Policy.{PolicyFound, absence_findings, policy_found, load_findings, licences_in}
 use Rattle.policy_core.specs.Findings.{target_findings, graph_key_findings, output_key_findings}
-use Rattle.policy_validate.specs.Valid.{address_findings, clarification_findings, removed_findings}
-use Rattle.policy_entries.specs.Exceptions.{exceptions_file_of}
-use Rattle.policy_text.specs.Config.{config_of_text, if_carried, or_shape, or_syntax, config_of_value, then_config}
-use Rattle.policy_text.specs.Text.{config_text_of}
-use Rattle.policy_text.specs.declared.error.ConfigError.{ConfigError}
-use Rattle.policy_text.specs.declared.error.ConfigError.TheVariants.{NotCarried}
-use Rattle.policy_text.specs.declared.text.ConfigText.{ConfigText}
-use Rattle.toml_shapes.specs.Shaped.{ShapeReading, faults_in}
-use Rattle.toml_shapes.specs.Shapes.{Fault}
+use Rattle.policy_core.specs.validate.Valid.{address_findings, clarification_findings, removed_findings}
+use Rattle.policy_parts.specs.entries.Exceptions.{exceptions_file_of}
+use Rattle.policy_core.specs.text.Config.{config_of_text, if_carried, or_shape, or_syntax, config_of_value, then_config}
+use Rattle.policy_core.specs.text.Text.{config_text_of}
+use Rattle.policy_core.specs.declared.text.error.ConfigError.{ConfigError}
+use Rattle.policy_core.specs.declared.text.error.ConfigError.TheVariants.{NotCarried}
+use Rattle.policy_core.specs.declared.text.text.ConfigText.{ConfigText}
+use Rattle.toml_subset.specs.shapes.Shaped.{ShapeReading, faults_in}
+use Rattle.toml_subset.specs.shapes.Shapes.{Fault}
 use Rattle.toml_subset.specs.Answer.{TomlReading}
 use Rattle.toml_subset.specs.Data.{Toml}
 use Rattle.toml_subset.specs.Reading.{read_text}

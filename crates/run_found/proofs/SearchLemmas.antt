@@ -6,12 +6,12 @@ use Rattle.tree_core.specs.Faults.{Gained, GainedPrefix}
 use Rattle.tree_core.specs.Hearing.{MadeSome}
 use Rattle.tree_core.specs.Trace.{faults_after}
 use Rattle.tree_core.proofs.MadeLemmas.{faults_after-append, made_as, made_these}
-use Rattle.tree_texts.specs.Cause.{ReadCounts, failed_read}
-use Rattle.tree_texts.specs.declared.fault.ReadFault.TheVariants.{Failed}
-use Rattle.tree_texts.specs.declared.search.SearchError.{SearchError}
-use Rattle.tree_texts.specs.declared.search.SearchError.TheVariants as search
-use Rattle.tree_texts.specs.declared.search.SoughtFile.TheVariants.{Policy, Exceptions}
-use Rattle.tree_texts.specs.Search.{candidates, search_cause}
+use Rattle.tree_core.specs.texts.Cause.{ReadCounts, failed_read}
+use Rattle.tree_core.specs.declared.texts.fault.ReadFault.TheVariants.{Failed}
+use Rattle.tree_core.specs.declared.texts.search.SearchError.{SearchError}
+use Rattle.tree_core.specs.declared.texts.search.SearchError.TheVariants as search
+use Rattle.tree_core.specs.declared.texts.search.SoughtFile.TheVariants.{Policy, Exceptions}
+use Rattle.tree_core.specs.texts.Search.{candidates, search_cause}
 use Rattle.diag_core.specs.File.{File}
 use Rattle.policy_load.specs.declared.loading.PolicyPaths.{PolicyPaths}
 use Rattle.run_request.specs.declared.context.KrateContext.{KrateContext}

@@ -6,13 +6,13 @@ use Rattle.tree_core.specs.Hearing.{MadeSome}
 use Rattle.tree_core.specs.Trace.{fault_behind}
 use Rattle.tree_core.proofs.MadeLemmas.{made_as, made_joined, made_these}
 use Rattle.diag_core.specs.File.{File}
-use Rattle.gather_expression.specs.Scanned.{Scanner}
+use Rattle.gather_licence.specs.expression.Scanned.{Scanner}
 use Rattle.graph_core.specs.Metadata.{Graph}
-use Rattle.tree_texts.specs.Heard.{read_of, text_answered}
-use Rattle.tree_texts.specs.declared.fault.ReadFault.{ReadFault}
-use Rattle.graph_selection.specs.Choice.{Choice}
-use Rattle.graph_selection.specs.Listed.{Chosen, IsChosen}
-use Rattle.policy_valid.specs.declared.policy.ValidConfig.{ValidConfig}
+use Rattle.tree_core.specs.texts.Heard.{read_of, text_answered}
+use Rattle.tree_core.specs.declared.texts.fault.ReadFault.{ReadFault}
+use Rattle.graph_core.specs.selection.Choice.{Choice}
+use Rattle.graph_core.specs.selection.Listed.{Chosen, IsChosen}
+use Rattle.policy_core.specs.declared.valid.policy.ValidConfig.{ValidConfig}
 use Rattle.gather_core.specs.Calls.{CrateReads, calls_of_all}
 use Rattle.gather_core.specs.Gathered.{krate_of}
 use Rattle.gather_core.proofs.CrateTurns.{krates_told, own_turns}

@@ -1,8 +1,8 @@
 -- The counts of refusals.
 use Rattle.std.proofs.Common.{◌≡◌, refl, ℕ, ◌≤◌, inl, inr, arith}
 use Rattle.tree_core.specs.Faults.{Rose}
-use Rattle.tree_texts.specs.Cause.{Cause, no_memory, told, failed_read, refused_write, ReadCounts}
-use Rattle.tree_texts.specs.declared.fault.ReadFault.TheVariants.{Failed, Absent, Folder, NotUtf8}
+use Rattle.tree_core.specs.texts.Cause.{Cause, no_memory, told, failed_read, refused_write, ReadCounts}
+use Rattle.tree_core.specs.declared.texts.fault.ReadFault.TheVariants.{Failed, Absent, Folder, NotUtf8}
 use Rattle.policy_load.specs.Answer.{load_cause}
 use Rattle.policy_load.specs.declared.error.LoadError.{LoadError}
 use Rattle.policy_load.specs.declared.error.LoadError.TheVariants as load

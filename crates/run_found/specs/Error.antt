@@ -1,17 +1,17 @@
 -- The table of refusals: the words of each, and why it comes.
 use Rattle.std.specs.Prelude.{ℕ, List, ◌++◌, codes, Result, Ok, Err, ⊤}
-use Rattle.tree_texts.specs.declared.fault.ReadFault.TheVariants.{Failed}
+use Rattle.tree_core.specs.declared.texts.fault.ReadFault.TheVariants.{Failed}
 use Rattle.graph_workspace.specs.declared.error.KratesError.{KratesError}
 use Rattle.graph_workspace.specs.declared.error.KratesError.TheVariants as krates
-use Rattle.tree_texts.specs.Cause.{Cause, no_memory, told, failed_read, refused_write}
+use Rattle.tree_core.specs.texts.Cause.{Cause, no_memory, told, failed_read, refused_write}
 use Rattle.policy_load.specs.declared.error.LoadError.{LoadError}
 use Rattle.policy_load.specs.declared.error.LoadError.TheVariants as load
 use Rattle.run_overrides.specs.declared.error.OverrideError.{OverrideError}
 use Rattle.run_overrides.specs.declared.error.OverrideError.TheVariants as overrides
 use Rattle.diag_print.specs.declared.printer.PrintError.{PrintError}
 use Rattle.diag_print.specs.declared.printer.PrintError.TheVariants as print
-use Rattle.tree_texts.specs.declared.search.SearchError.{SearchError}
-use Rattle.tree_texts.specs.declared.search.SearchError.TheVariants as search
+use Rattle.tree_core.specs.declared.texts.search.SearchError.{SearchError}
+use Rattle.tree_core.specs.declared.texts.search.SearchError.TheVariants as search
 use Rattle.graph_workspace.specs.declared.error.What.TheVariants.{ExcludeSpec}
 use Rattle.spdx_listing.specs.declared.error.ListingError.{ListingError}
 use Rattle.spdx_listing.specs.declared.error.ListingError.TheVariants as listing

@@ -7,7 +7,7 @@ use Rattle.gather_core.specs.Calls.{CrateReads}
 use Rattle.policy_core.specs.declared.load.LoadedPolicy.{LoadedPolicy}
 use Rattle.policy_core.specs.Policy.{PolicyFound}
 use Rattle.policy_load.specs.Answer.{IsPolicyOf}
-use Rattle.tree_texts.specs.Cause.{Cause, no_memory, refused_write}
+use Rattle.tree_core.specs.texts.Cause.{Cause, no_memory, refused_write}
 use Rattle.run_found.specs.declared.policy.PolicyRefusal.{PolicyRefusal}
 use Rattle.run_found.specs.Error.{cause_of, error_of_policy}
 use Rattle.run_found.specs.Found.{LooksEnd, SoughtEnds, exceptions_due, files_loaded, load_text, loaded_of, policy_calls, policy_due, policy_found}

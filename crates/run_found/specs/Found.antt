@@ -6,10 +6,10 @@ use Rattle.deny_text.specs.Path.{join_of}
 use Rattle.tree_core.specs.Call.{Call}
 use Rattle.tree_core.specs.Trace.{faults_after}
 use Rattle.graph_core.specs.Metadata.{Graph}
-use Rattle.tree_texts.specs.declared.fault.ReadFault.{ReadFault}
-use Rattle.tree_texts.specs.declared.fault.ReadFault.TheVariants.{Failed}
-use Rattle.tree_texts.specs.Search.{candidates}
-use Rattle.tree_texts.specs.declared.search.SoughtFile.TheVariants.{Policy, Exceptions}
+use Rattle.tree_core.specs.declared.texts.fault.ReadFault.{ReadFault}
+use Rattle.tree_core.specs.declared.texts.fault.ReadFault.TheVariants.{Failed}
+use Rattle.tree_core.specs.texts.Search.{candidates}
+use Rattle.tree_core.specs.declared.texts.search.SoughtFile.TheVariants.{Policy, Exceptions}
 use Rattle.graph_workspace.specs.Krates.{graph_in}
 use Rattle.diag_core.specs.File.{File, file_id_at}
 use Rattle.policy_load.specs.Heard.{LoadHeard}
@@ -17,17 +17,17 @@ use Rattle.policy_load.specs.Load.{LoadResult, load_of, with_policy}
 use Rattle.diag_print.specs.Findings.{printed_findings}
 use Rattle.policy_load.specs.declared.error.LoadError.{LoadError}
 use Rattle.diag_print.specs.declared.context.LogContext.{LogContext}
-use Rattle.policy_config.specs.declared.root.RootConfig.{RootConfig}
-use Rattle.policy_text.specs.Config.{config_of_text}
-use Rattle.policy_text.specs.declared.error.ConfigError.{ConfigError}
-use Rattle.policy_text.specs.declared.text.ConfigText.{ConfigText}
+use Rattle.policy_core.specs.declared.config.root.RootConfig.{RootConfig}
+use Rattle.policy_core.specs.text.Config.{config_of_text}
+use Rattle.policy_core.specs.declared.text.error.ConfigError.{ConfigError}
+use Rattle.policy_core.specs.declared.text.text.ConfigText.{ConfigText}
 use Rattle.graph_workspace.specs.declared.error.KratesError.{KratesError}
 use Rattle.graph_workspace.specs.declared.error.What.{What}
-use Rattle.spdx_catalog.specs.Catalog.{CatalogLists}
+use Rattle.spdx_terms.specs.catalog.Catalog.{CatalogLists}
 use Rattle.gather_core.specs.Calls.{calls_of_all}
 use Rattle.policy_load.specs.declared.loading.PolicyPaths.{PolicyPaths}
 use Rattle.policy_core.specs.Policy.{PolicyFound}
-use Rattle.policy_text.specs.Text.{config_text_of}
+use Rattle.policy_core.specs.text.Text.{config_text_of}
 use Rattle.run_found.specs.declared.error.Error.{Error}
 use Rattle.run_found.specs.declared.error.Error.TheVariants.{ConfigRead, NotCarried}
 use Rattle.run_found.specs.Error.{error_of_krates, error_of_load}

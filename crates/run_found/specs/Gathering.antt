@@ -6,17 +6,17 @@ use Rattle.tree_core.specs.Trace.{fault_behind}
 use Rattle.graph_core.specs.Krate.{Record}
 use Rattle.graph_core.specs.Metadata.{Graph}
 use Rattle.diag_core.specs.File.{File}
-use Rattle.tree_texts.specs.Heard.{read_of, text_answered}
-use Rattle.tree_texts.specs.declared.fault.ReadFault.{ReadFault}
-use Rattle.graph_selection.specs.Choice.{Choice}
-use Rattle.graph_selection.specs.Listed.{IsListOf}
-use Rattle.graph_selection.specs.Roots.{HasRoot}
-use Rattle.graph_selection.specs.Walks.{Selected}
+use Rattle.tree_core.specs.texts.Heard.{read_of, text_answered}
+use Rattle.tree_core.specs.declared.texts.fault.ReadFault.{ReadFault}
+use Rattle.graph_core.specs.selection.Choice.{Choice}
+use Rattle.graph_core.specs.selection.Listed.{IsListOf}
+use Rattle.graph_core.specs.selection.Roots.{HasRoot}
+use Rattle.graph_core.specs.selection.Walks.{Selected}
 use Rattle.graph_workspace.specs.Krates.{AreFrom, IsCarried, graph_in}
 use Rattle.graph_workspace.specs.declared.error.KratesError.{KratesError}
 use Rattle.graph_workspace.specs.declared.error.KratesError.TheVariants as krates
-use Rattle.gather_expression.specs.Scanned.{Scanner}
-use Rattle.policy_valid.specs.declared.policy.ValidConfig.{ValidConfig}
+use Rattle.gather_licence.specs.expression.Scanned.{Scanner}
+use Rattle.policy_core.specs.declared.valid.policy.ValidConfig.{ValidConfig}
 use Rattle.gather_core.specs.Calls.{CrateReads, calls_of_all}
 use Rattle.gather_core.specs.Gathered.{include_of}
 use Rattle.run_found.specs.declared.refusal.CrateRefusal.{CrateRefusal}

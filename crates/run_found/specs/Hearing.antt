@@ -6,10 +6,10 @@ use Rattle.tree_core.specs.Content.{Content}
 use Rattle.tree_core.specs.Hearing.{Made, MadeSome}
 use Rattle.tree_core.specs.Trace.{content_answer, fault_behind}
 use Rattle.graph_core.specs.Krate.{Record}
-use Rattle.tree_texts.specs.Heard.{read_of, text_answered}
-use Rattle.tree_texts.specs.declared.fault.ReadFault.{ReadFault}
-use Rattle.tree_texts.specs.declared.fault.ReadFault.TheVariants.{Absent}
-use Rattle.tree_texts.specs.Looked.{look_of}
+use Rattle.tree_core.specs.texts.Heard.{read_of, text_answered}
+use Rattle.tree_core.specs.declared.texts.fault.ReadFault.{ReadFault}
+use Rattle.tree_core.specs.declared.texts.fault.ReadFault.TheVariants.{Absent}
+use Rattle.tree_core.specs.texts.Looked.{look_of}
 use Rattle.gather_core.specs.Calls.{CrateReads}
 
 -- The tree's count of faults when the run began, and what its calls were answered: the looks for a policy, path after path, where

@@ -12,3 +12,5 @@ pub mod Reads
 pub mod Selection
 pub mod Steps
 pub mod Written
+pub mod places
+pub mod lists

@@ -4,22 +4,22 @@ use Rattle.std.specs.Option.{option_to_list}
 use Rattle.tree_core.specs.Call.{Call}
 use Rattle.tree_core.specs.declared.reads.ReadKind.TheVariants.{Manifest}
 use Rattle.tree_core.specs.declared.reads.ReadRecord.{ReadRecord}
-use Rattle.spdx_catalog.specs.Catalog.{CatalogLists}
-use Rattle.spdx_catalog.specs.declared.identifier.Match.{Match}
+use Rattle.spdx_terms.specs.catalog.Catalog.{CatalogLists}
+use Rattle.spdx_terms.specs.declared.catalog.identifier.Match.{Match}
 use Rattle.spdx_core.specs.Reading.{ExpressionView}
 use Rattle.graph_core.specs.Krate.{Record}
 use Rattle.graph_core.specs.Metadata.{Graph}
-use Rattle.graph_selection.specs.Choice.{Choice}
-use Rattle.graph_selection.specs.Listed.{IsListOf}
-use Rattle.graph_selection.specs.Walks.{Selected}
-use Rattle.tree_reads.specs.Read.{AreReads, call_lost, records_of_reads}
-use Rattle.gather_files.specs.Calls.{IsFront}
-use Rattle.gather_files.specs.Ears.{FolderReads, ears_by}
-use Rattle.gather_expression.specs.Scanned.{Scanner}
+use Rattle.graph_core.specs.selection.Choice.{Choice}
+use Rattle.graph_core.specs.selection.Listed.{IsListOf}
+use Rattle.graph_core.specs.selection.Walks.{Selected}
+use Rattle.tree_core.specs.file_reads.Read.{AreReads, call_lost, records_of_reads}
+use Rattle.gather_licence.specs.files.Calls.{IsFront}
+use Rattle.gather_licence.specs.files.Ears.{FolderReads, ears_by}
+use Rattle.gather_licence.specs.expression.Scanned.{Scanner}
 use Rattle.gather_licence.specs.Clarification.{ClarificationView}
 use Rattle.gather_licence.specs.Priority.{LicenseAnswer, folder_of, is_nothing, priority_of, records_of}
 use Rattle.diag_core.specs.File.{File}
-use Rattle.policy_valid.specs.declared.policy.ValidConfig.{ValidConfig}
+use Rattle.policy_core.specs.declared.valid.policy.ValidConfig.{ValidConfig}
 use Rattle.gather_core.specs.Calls.{AreTurnsBy, CrateReads, CrateTurn, HasOwnReads, calls_of_all, files_behind_all, reads_of_all, turn_by, turns_of}
 use Rattle.gather_core.specs.Entries.{clarifications_of, entries_of}
 use Rattle.gather_core.specs.Gathered.{include_of, krate_of, threshold_of}

@@ -1,7 +1,7 @@
 -- Where the two files of a request's policy are, by what a tree answered.
 use Rattle.std.specs.Prelude.{ℕ, List, Option, ◌⊎◌}
 use Rattle.tree_core.specs.Call.{Call}
-use Rattle.tree_texts.specs.declared.search.SearchError.{SearchError}
+use Rattle.tree_core.specs.declared.texts.search.SearchError.{SearchError}
 use Rattle.run_request.specs.declared.context.KrateContext.{KrateContext}
 use Rattle.policy_load.specs.declared.loading.PolicyPaths.{PolicyPaths}
 use Rattle.run_context.specs.Paths.{ConfigPathUntil, ExceptionsPathUntil, IsConfigPath, IsExceptionsPath}

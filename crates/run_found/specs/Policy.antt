@@ -1,22 +1,22 @@
 -- The policy's bytes: when its two files are a policy, in words of texts, values and shapes.
 use Rattle.std.specs.Prelude.{◌≡◌, ℕ, false, List, [], ◌∷◌, Option, Some, None, Result, Ok}
 use Rattle.std.specs.List.{list_any}
-use Rattle.spdx_catalog.specs.Catalog.{CatalogLists}
-use Rattle.graph_selection.specs.Choice.{is_uncarried}
+use Rattle.spdx_terms.specs.catalog.Catalog.{CatalogLists}
+use Rattle.graph_core.specs.selection.Choice.{is_uncarried}
 use Rattle.diag_core.specs.File.{File, file_id_at}
-use Rattle.tree_texts.specs.declared.fault.ReadFault.{ReadFault}
+use Rattle.tree_core.specs.declared.texts.fault.ReadFault.{ReadFault}
 use Rattle.policy_load.specs.Heard.{LoadHeard}
 use Rattle.policy_load.specs.Load.{policy_file}
 use Rattle.diag_print.specs.Findings.{is_error}
 use Rattle.policy_load.specs.declared.loading.PolicyPaths.{PolicyPaths}
-use Rattle.policy_config.specs.Root.{root_of}
-use Rattle.policy_config.specs.declared.root.RootConfig.{RootConfig}
+use Rattle.policy_core.specs.config.Root.{root_of}
+use Rattle.policy_core.specs.declared.config.root.RootConfig.{RootConfig}
 use Rattle.policy_core.specs.Exceptions.{ExceptionsRead, no_file, value}
 use Rattle.policy_core.specs.Policy.{PolicyFound, absence_findings, policy_found}
-use Rattle.policy_entries.specs.Exceptions.{exceptions_file_of}
-use Rattle.policy_text.specs.Text.{config_text_of}
-use Rattle.policy_text.specs.declared.text.ConfigText.{ConfigText}
-use Rattle.toml_shapes.specs.Shaped.{faults_in}
+use Rattle.policy_parts.specs.entries.Exceptions.{exceptions_file_of}
+use Rattle.policy_core.specs.text.Text.{config_text_of}
+use Rattle.policy_core.specs.declared.text.text.ConfigText.{ConfigText}
+use Rattle.toml_subset.specs.shapes.Shaped.{faults_in}
 use Rattle.toml_subset.specs.Data.{Toml}
 use Rattle.toml_subset.specs.Reading.{read_text}
 use Rattle.graph_core.specs.Metadata.{Graph}

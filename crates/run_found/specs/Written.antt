@@ -1,7 +1,7 @@
 -- What a sink gained of a text.
 use Rattle.std.specs.Prelude.{◌≡◌, ℕ, List, Option}
 use Rattle.tree_core.specs.Faults.{Rose, Gained, GainedPrefix}
-use Rattle.tree_texts.specs.Cause.{Cause, no_memory, refused_write}
+use Rattle.tree_core.specs.texts.Cause.{Cause, no_memory, refused_write}
 
 -- What `err` gained of what is told of the load, before a summary: all of it, or a front where memory was wanting or where
 -- `err` refused, whose counts are told.

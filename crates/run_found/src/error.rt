@@ -13,7 +13,7 @@ use policy_load::{Diagnostics, LoadError, ReadFault, ShapeErrors, SyntaxError};
 use run_overrides::OverrideError;
 use spdx_listing::{ListingError, StoreError, StoreFault};
 use std::alloc::AllocError;
-use tree_texts::SearchError;
+use tree_core::texts::SearchError;
 
 /// Why a command was refused, in the order of the table of refusals.
 #[derive(Drop)]

@@ -4,6 +4,8 @@
 pub mod carried;
 pub mod error;
 pub mod licences;
+pub mod lists;
+pub mod places;
 pub mod policy;
 pub mod reads;
 pub mod refusal;

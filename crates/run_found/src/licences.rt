@@ -1,19 +1,19 @@
 //! The licences of the crates that a request looks at.
 ghost use Rattle.std.specs.Prelude.{◌≤◌, All, IfOk, OnErr};
 ghost use Rattle.graph_core.specs.Metadata.{Graph};
-ghost use Rattle.graph_selection.specs.Choice.{Choice};
-ghost use Rattle.graph_selection.specs.Listed.{IsChosen};
+ghost use Rattle.graph_core.specs.selection.Choice.{Choice};
+ghost use Rattle.graph_core.specs.selection.Listed.{IsChosen};
 ghost use Rattle.diag_core.specs.File.{Grows};
 ghost use Rattle.policy_core.specs.Places.{PolicyStands};
 ghost use Rattle.gather_core.specs.Premises.{IsPlacedAt};
-ghost use Rattle.check_unused.specs.Laws.{EntriesLie};
+ghost use Rattle.check_core.specs.unused.Laws.{EntriesLie};
 ghost use Rattle.run_found.specs.Licences.{IsGatherCut, IsGatheredOn, scanner_of_policy};
 ghost use Rattle.run_found.specs.Hearing.{seen_between};
 
 use diag_core::Files;
 use gather_core::{Gatherer, Summary};
 use graph_workspace::Krates;
-use policy_valid::ValidConfig;
+use policy_core::valid::ValidConfig;
 use spdx_core::{Catalog, Identifier};
 use std::alloc::{AllocError, Global};
 use tree_core::Tree;

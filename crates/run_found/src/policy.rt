@@ -1,8 +1,8 @@
 //! The policy of a request.
 ghost use Rattle.std.specs.Prelude.{◌≡◌, ◌≢◌, ◌≤◌, [], IfErr, IfOk};
-ghost use Rattle.tree_texts.specs.Cause.{ReadCounts};
-ghost use Rattle.tree_texts.specs.Search.{search_cause};
-ghost use Rattle.tree_texts.specs.declared.fault.ReadFault.{ReadFault};
+ghost use Rattle.tree_core.specs.texts.Cause.{ReadCounts};
+ghost use Rattle.tree_core.specs.texts.Search.{search_cause};
+ghost use Rattle.tree_core.specs.declared.texts.fault.ReadFault.{ReadFault};
 ghost use Rattle.policy_core.specs.Places.{PolicyStands};
 ghost use Rattle.policy_load.specs.Answer.{WriteCounts};
 ghost use Rattle.run_found.specs.declared.error.Error.{Error};
@@ -19,8 +19,8 @@ use run_context::{config_path_since, exceptions_path_since};
 use run_request::KrateContext;
 use spdx_core::Catalog;
 use std::alloc::{AllocError, Global};
+use tree_core::texts::SearchError;
 use tree_core::{Sink, Tree};
-use tree_texts::SearchError;
 
 /// Why no policy was found.
 #[derive(Drop)]

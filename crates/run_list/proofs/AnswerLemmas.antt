@@ -5,16 +5,16 @@ use Rattle.tree_core.specs.Hearing.{MadeSome}
 use Rattle.tree_core.proofs.MadeLemmas.{some_made}
 use Rattle.diag_core.specs.File.{File}
 use Rattle.graph_core.specs.Metadata.{Graph}
-use Rattle.graph_selection.specs.Listed.{IsListOf}
-use Rattle.graph_selection.specs.Roots.{HasRoot}
-use Rattle.graph_selection.specs.Walks.{Selected}
-use Rattle.tree_reads.specs.Read.{AreReads}
+use Rattle.graph_core.specs.selection.Listed.{IsListOf}
+use Rattle.graph_core.specs.selection.Roots.{HasRoot}
+use Rattle.graph_core.specs.selection.Walks.{Selected}
+use Rattle.tree_core.specs.file_reads.Read.{AreReads}
 use Rattle.gather_core.specs.Calls.{AreTurnsBy, CrateTurn, reads_of_all}
 use Rattle.gather_core.specs.Entries.{entries_of}
 use Rattle.gather_core.specs.Gathered.{include_of, krate_of}
 use Rattle.gather_core.proofs.CrateTurns.{krates_told, own_turns}
-use Rattle.tree_texts.specs.Cause.{Cause, no_memory, told, failed_read, refused_write}
-use Rattle.policy_valid.specs.declared.policy.ValidConfig.{ValidConfig}
+use Rattle.tree_core.specs.texts.Cause.{Cause, no_memory, told, failed_read, refused_write}
+use Rattle.policy_core.specs.declared.valid.policy.ValidConfig.{ValidConfig}
 use Rattle.policy_core.specs.Policy.{PolicyFound}
 use Rattle.run_found.specs.declared.error.Error.{Error}
 use Rattle.run_found.specs.Error.{cause_of}

@@ -5,8 +5,8 @@ use Rattle.std.proofs.lemmas.List.Elements.{recursion_from_All}
 use Rattle.tree_core.specs.Content.{Content}
 use Rattle.tree_core.specs.Faults.{Rose}
 use Rattle.tree_core.specs.Trace.{Says}
-use Rattle.tree_texts.specs.Cause.{Cause, no_memory, failed_read, refused_write}
-use Rattle.tree_texts.specs.Cause as causes
+use Rattle.tree_core.specs.texts.Cause.{Cause, no_memory, failed_read, refused_write}
+use Rattle.tree_core.specs.texts.Cause as causes
 use Rattle.run_found.specs.declared.error.Error.{Error}
 use Rattle.run_found.specs.declared.error.Error.TheVariants.{Memory, NotCarried, ManifestPath, ManifestRead, CatalogRead, CatalogSyntax, StoreRead, ConfigRead, ConfigSyntax, ConfigShape, ConfigInvalid, OverrideTwice, MetadataRead, MetadataSyntax, MetadataShape, NoRoots, RecordRead, RecordSyntax, WriteFault}
 use Rattle.run_found.specs.Error.{MayEndLawful, cause_of}

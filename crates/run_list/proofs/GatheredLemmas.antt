@@ -4,16 +4,16 @@ use Rattle.std.proofs.lemmas.List.Elements.{All-from_recursion}
 use Rattle.std.specs.Prelude.{All, IfSome}
 use Rattle.std.specs.List.{AllByRecursion, AllZip}
 use Rattle.graph_core.specs.Krate.{Record}
-use Rattle.tree_reads.specs.Heard.{ReadResult}
+use Rattle.tree_core.specs.file_reads.Heard.{ReadResult}
 use Rattle.diag_core.specs.File.{File, file_id_at}
 use Rattle.gather_licence.specs.Clarification.{ClarificationView}
-use Rattle.gather_location.specs.Location.{located_by}
-use Rattle.gather_files.specs.Ears.{FolderReads}
+use Rattle.gather_licence.specs.location.Location.{located_by}
+use Rattle.gather_licence.specs.files.Ears.{FolderReads}
 use Rattle.gather_core.specs.Told.{answer_view}
 use Rattle.gather_core.specs.Turns.{asks_manifest, field_text, files_behind, located_in, located_where}
-use Rattle.gather_findings.specs.declared.license.LicenseInfo.{LicenseInfo}
-use Rattle.gather_findings.specs.declared.license.LicenseInfo.TheVariants.{SpdxExpression, Unlicensed}
-use Rattle.policy_valid.specs.declared.policy.ValidConfig.{ValidConfig}
+use Rattle.gather_core.specs.declared.findings.license.LicenseInfo.{LicenseInfo}
+use Rattle.gather_core.specs.declared.findings.license.LicenseInfo.TheVariants.{SpdxExpression, Unlicensed}
+use Rattle.policy_core.specs.declared.valid.policy.ValidConfig.{ValidConfig}
 use Rattle.gather_core.specs.Calls.{CrateReads, CrateTurn, HasOwnReads, IsTurnBy, turn_by, turns_of}
 use Rattle.gather_core.specs.Entries.{entries_of}
 use Rattle.gather_core.specs.declared.summary.KrateLicense.{KrateLicense}

@@ -2,7 +2,7 @@
 use Rattle.std.proofs.Common.{◌≡◌, ◌∙◌, ◌⊎◌, ap, subst, ℕ, List, ◌∷◌, Option, None, Result, Ok}
 use Rattle.tree_core.specs.Call as call
 use Rattle.tree_core.specs.Call.{CallKind, CallAnswer, Call}
-use Rattle.tree_texts.specs.declared.fault.ReadFault.{ReadFault}
+use Rattle.tree_core.specs.declared.texts.fault.ReadFault.{ReadFault}
 use Rattle.policy_core.specs.Policy.{PolicyFound}
 use Rattle.run_found.specs.declared.error.Error.{Error}
 use Rattle.run_found.specs.Found.{calls_with, graph_heard, metadata_heard, policy_found}

@@ -4,10 +4,10 @@ use Rattle.std.specs.List.{AllZip, flat_map}
 use Rattle.tree_core.specs.Trace.{faults_after}
 use Rattle.tree_core.proofs.MadeLemmas.{faults_after-append, faults_after-later}
 use Rattle.tree_core.specs.declared.reads.ReadRecord.{ReadRecord}
-use Rattle.tree_reads.specs.Read.{records_of_reads}
-use Rattle.tree_reads.specs.Rising.{RiseInOrder}
-use Rattle.tree_reads.proofs.ReadLemmas.{reads_rise, records_in-append}
-use Rattle.tree_reads.proofs.RisingLemmas.{rises_widen}
+use Rattle.tree_core.specs.file_reads.Read.{records_of_reads}
+use Rattle.tree_core.specs.file_reads.Rising.{RiseInOrder}
+use Rattle.tree_core.proofs.file_reads.ReadLemmas.{reads_rise, records_in-append}
+use Rattle.tree_core.proofs.file_reads.RisingLemmas.{rises_widen}
 use Rattle.gather_core.specs.Calls.{CrateReads, calls_of_all, reads_of_all}
 use Rattle.gather_core.proofs.TurnCalls.{counts_of_all}
 use Rattle.graph_workspace.specs.declared.error.What.{What}

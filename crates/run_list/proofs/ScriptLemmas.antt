@@ -4,8 +4,8 @@ use Rattle.tree_core.specs.Faults.{Gained, GainedPrefix}
 use Rattle.tree_core.proofs.MadeLemmas.{made_none}
 use Rattle.tree_core.specs.Call.{Call}
 use Rattle.tree_core.specs.Content.{Content}
-use Rattle.tree_texts.specs.Cause.{Cause, no_memory, failed_read, refused_write}
-use Rattle.tree_texts.specs.Cause as causes
+use Rattle.tree_core.specs.texts.Cause.{Cause, no_memory, failed_read, refused_write}
+use Rattle.tree_core.specs.texts.Cause as causes
 use Rattle.graph_workspace.specs.declared.error.What.{What}
 use Rattle.run_found.specs.declared.error.Error.{Error}
 use Rattle.run_found.specs.declared.error.Error.TheVariants.{Memory, NotCarried, WriteFault}

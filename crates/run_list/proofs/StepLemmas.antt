@@ -1,6 +1,6 @@
 -- The counts of refusals.
 use Rattle.std.proofs.Common.{ℕ}
-use Rattle.tree_texts.specs.Cause.{ReadCounts}
+use Rattle.tree_core.specs.texts.Cause.{ReadCounts}
 use Rattle.run_found.specs.Error.{cause_of}
 use Rattle.run_listing.specs.declared.lines.ListError.{ListError}
 use Rattle.run_listing.specs.declared.lines.ListError.TheVariants as list

@@ -4,13 +4,13 @@ use Rattle.std.specs.List.{AllZip}
 use Rattle.tree_core.specs.Call.{Call}
 use Rattle.graph_core.specs.Krate.{Record}
 use Rattle.graph_core.specs.Metadata.{Graph}
-use Rattle.graph_selection.specs.Roots.{HasRoot, LacksRoots}
-use Rattle.tree_reads.specs.Read.{AreReads}
-use Rattle.policy_valid.specs.declared.policy.ValidConfig.{ValidConfig}
+use Rattle.graph_core.specs.selection.Roots.{HasRoot, LacksRoots}
+use Rattle.tree_core.specs.file_reads.Read.{AreReads}
+use Rattle.policy_core.specs.declared.valid.policy.ValidConfig.{ValidConfig}
 use Rattle.policy_core.specs.Policy.{PolicyFound}
-use Rattle.policy_validate.specs.Order.{PutsPolicyInOrder}
+use Rattle.policy_core.specs.validate.Order.{PutsPolicyInOrder}
 use Rattle.gather_core.specs.Calls.{HasOwnReads, reads_of_all}
-use Rattle.tree_texts.specs.Cause.{Cause, no_memory, refused_write}
+use Rattle.tree_core.specs.texts.Cause.{Cause, no_memory, refused_write}
 use Rattle.run_found.specs.declared.error.Error.{Error}
 use Rattle.run_found.specs.declared.error.Error.TheVariants.{NoRoots}
 use Rattle.run_found.specs.Error.{cause_of}

@@ -1,7 +1,7 @@
 -- What of a request for a listing is not carried.
 use Rattle.std.specs.Prelude.{Bool, not, ◌==◌, List, [], ◌∷◌, find, length, is_none, Option, option_map}
 use Rattle.std.specs.List.{list_any}
-use Rattle.graph_selection.specs.Choice.{is_uncarried}
+use Rattle.graph_core.specs.selection.Choice.{is_uncarried}
 use Rattle.diag_print.specs.declared.context.LogContext.{LogContext}
 use Rattle.run_request.specs.declared.context.KrateContext.{KrateContext}
 use Rattle.graph_workspace.specs.declared.error.What.{What}

@@ -3,14 +3,14 @@ use Rattle.std.specs.Prelude.{◌≡◌, ℕ, List, [], Option, Some, None, Resu
 use Rattle.tree_core.specs.Call.{Call}
 use Rattle.graph_core.specs.Krate.{Record}
 use Rattle.graph_core.specs.Metadata.{Graph}
-use Rattle.graph_selection.specs.Choice.{Choice}
-use Rattle.graph_selection.specs.Listed.{IsListOf}
-use Rattle.graph_selection.specs.Walks.{Selected}
+use Rattle.graph_core.specs.selection.Choice.{Choice}
+use Rattle.graph_core.specs.selection.Listed.{IsListOf}
+use Rattle.graph_core.specs.selection.Walks.{Selected}
 use Rattle.policy_core.specs.Policy.{PolicyFound}
 use Rattle.graph_workspace.specs.declared.error.What.{What}
-use Rattle.policy_valid.specs.declared.policy.ValidConfig.{ValidConfig}
+use Rattle.policy_core.specs.declared.valid.policy.ValidConfig.{ValidConfig}
 use Rattle.gather_core.specs.Calls.{CrateTurn}
-use Rattle.gather_expression.specs.Scanned.{Scanner}
+use Rattle.gather_licence.specs.expression.Scanned.{Scanner}
 use Rattle.run_context.specs.Asked.{by_specs, choice_asked}
 use Rattle.run_found.specs.declared.error.Error.{Error}
 use Rattle.run_found.specs.Finds.{HearsPolicy}

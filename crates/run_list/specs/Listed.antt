@@ -1,10 +1,10 @@
 -- What a listing tells of crates, by what the answers to their reads let hear.
 use Rattle.std.specs.Prelude.{◌≡◌, ℕ, ℤ, List, [], map, Option, Some, None}
 use Rattle.spdx_core.specs.Reading.{ExpressionView}
-use Rattle.tree_reads.specs.Read.{records_of_reads}
-use Rattle.policy_valid.specs.declared.policy.ValidConfig.{ValidConfig}
+use Rattle.tree_core.specs.file_reads.Read.{records_of_reads}
+use Rattle.policy_core.specs.declared.valid.policy.ValidConfig.{ValidConfig}
 use Rattle.gather_core.specs.Calls.{CrateReads}
-use Rattle.gather_expression.specs.Scanned.{Scanner}
+use Rattle.gather_licence.specs.expression.Scanned.{Scanner}
 use Rattle.run_found.specs.Licences.{expression_in, priority_heard}
 use Rattle.run_listing.specs.declared.listed.ListedCrate.{ListedCrate}
 use Rattle.run_listing.specs.Listed.{crate_name, distinct, printed_terms}

@@ -2,9 +2,9 @@
 use Rattle.std.specs.Prelude.{List}
 use Rattle.std.specs.List.{AllZip, All, flat_map}
 use Rattle.tree_core.specs.declared.reads.ReadRecord.{ReadRecord}
-use Rattle.tree_reads.specs.Read.{AreReads}
-use Rattle.tree_reads.specs.Rising.{RiseInOrder}
-use Rattle.policy_valid.specs.declared.policy.ValidConfig.{ValidConfig}
+use Rattle.tree_core.specs.file_reads.Read.{AreReads}
+use Rattle.tree_core.specs.file_reads.Rising.{RiseInOrder}
+use Rattle.policy_core.specs.declared.valid.policy.ValidConfig.{ValidConfig}
 use Rattle.policy_core.specs.Policy.{PolicyFound}
 use Rattle.gather_core.specs.Calls.{HasOwnReads, reads_of_all}
 use Rattle.run_found.specs.Found.{count_metadata}

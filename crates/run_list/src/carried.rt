@@ -3,7 +3,7 @@ ghost use Rattle.std.specs.Prelude.{◌≡◌};
 ghost use Rattle.run_list.specs.Carried.{uncarried_of};
 
 use diag_print::LogContext;
-use graph_selection::has_uncarried;
+use graph_core::selection::has_uncarried;
 use graph_workspace::What;
 use run_found::is_sarif;
 use run_request::KrateContext;

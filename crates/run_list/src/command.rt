@@ -3,8 +3,8 @@ ghost use Rattle.std.specs.Prelude.{◌≡◌, ◌≢◌, ◌≤◌, All, None, 
 ghost use Rattle.std.specs.Option.{ForSome};
 ghost use Rattle.graph_core.specs.Metadata.{AreRising};
 ghost use Rattle.graph_workspace.specs.declared.error.What.{What};
-ghost use Rattle.tree_texts.specs.declared.fault.ReadFault.{ReadFault};
-ghost use Rattle.tree_texts.specs.Cause.{ReadCounts};
+ghost use Rattle.tree_core.specs.declared.texts.fault.ReadFault.{ReadFault};
+ghost use Rattle.tree_core.specs.texts.Cause.{ReadCounts};
 ghost use Rattle.run_found.specs.Error.{cause_of};
 ghost use Rattle.run_list.specs.Answer.{IsListAnswer};
 ghost use Rattle.run_list.specs.Carried.{uncarried_of};

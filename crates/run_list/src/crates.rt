@@ -1,8 +1,8 @@
 //! The licences of all crates, as they are listed, and their reads.
 ghost use Rattle.std.specs.Prelude.{◌≡◌, ◌≤◌, All, IfOk, OnErr};
 ghost use Rattle.graph_core.specs.Metadata.{AreRising, Graph};
-ghost use Rattle.graph_selection.specs.Choice.{Choice};
-ghost use Rattle.graph_selection.specs.Listed.{IsChosen};
+ghost use Rattle.graph_core.specs.selection.Choice.{Choice};
+ghost use Rattle.graph_core.specs.selection.Listed.{IsChosen};
 ghost use Rattle.policy_core.specs.Places.{PolicyStands};
 ghost use Rattle.run_found.specs.Licences.{IsGatherCut, scanner_of_policy};
 ghost use Rattle.run_list.specs.Steps.{IsListedOn, listing_from};
@@ -11,7 +11,7 @@ ghost use Rattle.run_found.specs.Hearing.{seen_between};
 use diag_core::Files;
 use gather_core::Summary;
 use graph_workspace::Krates;
-use policy_valid::ValidConfig;
+use policy_core::valid::ValidConfig;
 use run_found::{CrateReads, licences_found, reads_of_licenses};
 use run_listing::{ListedCrates, listed_crates};
 use spdx_core::{Catalog, Identifier};

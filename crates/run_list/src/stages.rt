@@ -1,7 +1,7 @@
 //! The crates that a request and its policy have listed.
 ghost use Rattle.std.specs.Prelude.{◌≡◌, ◌≤◌, ℕ, List, All, IfErr, IfOk, None, Some};
 ghost use Rattle.graph_core.specs.Metadata.{AreRising};
-ghost use Rattle.tree_texts.specs.Cause.{ReadCounts};
+ghost use Rattle.tree_core.specs.texts.Cause.{ReadCounts};
 ghost use Rattle.policy_core.specs.Places.{PolicyStands};
 ghost use Rattle.run_context.specs.Asked.{uncarried};
 ghost use Rattle.run_found.specs.Error.{cause_of, error_of_crates};

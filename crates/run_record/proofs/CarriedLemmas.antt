@@ -2,7 +2,7 @@
 use Rattle.std.proofs.Common.{◌≡◌, refl, ap, Bool, true, false, not, ◌==◌, List, [], ◌∷◌, find, length, is_none, Option, Some, option_map, Result, Err, sym, ◌∙◌}
 use Rattle.std.specs.List.{list_any}
 use Rattle.diag_print.specs.declared.context.LogContext.{LogContext}
-use Rattle.graph_selection.specs.Choice.{is_uncarried}
+use Rattle.graph_core.specs.selection.Choice.{is_uncarried}
 use Rattle.graph_workspace.specs.declared.error.What.{What}
 use Rattle.graph_workspace.specs.declared.error.What.TheVariants as what
 use Rattle.run_request.specs.declared.context.KrateContext.{KrateContext}

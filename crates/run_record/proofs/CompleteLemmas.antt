@@ -5,8 +5,8 @@ use Rattle.tree_core.specs.Call as call
 use Rattle.tree_core.specs.Call.{CallKind, CallAnswer, Call}
 use Rattle.tree_core.specs.Content.{Content}
 use Rattle.tree_core.specs.Faults.{Rose}
-use Rattle.tree_texts.specs.Cause.{Cause, no_memory, failed_read, refused_write}
-use Rattle.tree_texts.specs.Cause as causes
+use Rattle.tree_core.specs.texts.Cause.{Cause, no_memory, failed_read, refused_write}
+use Rattle.tree_core.specs.texts.Cause as causes
 use Rattle.run_found.specs.declared.error.Error.{Error}
 use Rattle.run_found.specs.declared.error.Error.TheVariants.{RecordRead, RecordSyntax}
 use Rattle.run_found.specs.declared.reads.CrateRead.{CrateRead}

@@ -11,15 +11,15 @@ use Rattle.spdx_core.specs.Reading.{ExpressionView}
 use Rattle.graph_core.specs.Krate.{Record, ids_in}
 use Rattle.graph_core.specs.Metadata.{AreRising}
 use Rattle.graph_workspace.specs.declared.error.What.{What}
-use Rattle.tree_texts.specs.Cause.{Cause, failed_read, no_memory, refused_write, told}
-use Rattle.policy_valid.specs.Policy.{Policy}
-use Rattle.policy_valid.specs.View.{policy_of}
-use Rattle.policy_valid.specs.declared.policy.ValidConfig.{ValidConfig}
-use Rattle.spdx_certificates.specs.declared.verdict.Verdict.{Verdict}
-use Rattle.spdx_certificates.specs.declared.verdict.Verdict.TheVariants.{Skipped, Unlicensed, Accepted, Rejected}
+use Rattle.tree_core.specs.texts.Cause.{Cause, failed_read, no_memory, refused_write, told}
+use Rattle.policy_core.specs.valid.Policy.{Policy}
+use Rattle.policy_core.specs.valid.View.{policy_of}
+use Rattle.policy_core.specs.declared.valid.policy.ValidConfig.{ValidConfig}
+use Rattle.spdx_core.specs.declared.certificates.verdict.Verdict.{Verdict}
+use Rattle.spdx_core.specs.declared.certificates.verdict.Verdict.TheVariants.{Skipped, Unlicensed, Accepted, Rejected}
 use Rattle.gather_core.specs.Calls.{CrateReads, calls_of_all}
 use Rattle.check_core.specs.Verdicts.{IsVerdictShown, is_skipped}
-use Rattle.check_evaluate.specs.Evaluation.{term_hits}
+use Rattle.check_core.specs.evaluate.Evaluation.{term_hits}
 use Rattle.check_record.specs.declared.items.RecordItem.{RecordItem}
 use Rattle.check_record.specs.Items.{IsRecord, IsRecordItem, all_rise, ids_of, is_before}
 use Rattle.check_verify.specs.Recorded.{IsRecordable}

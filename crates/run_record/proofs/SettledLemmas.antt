@@ -7,12 +7,12 @@ use Rattle.tree_core.specs.Faults.{Gained}
 use Rattle.tree_core.specs.Trace.{fault_behind, faults_after}
 use Rattle.tree_core.proofs.MadeLemmas.{faults_after-append, made_as}
 use Rattle.diag_core.specs.File.{File}
-use Rattle.graph_selection.specs.Listed.{IsListOf}
-use Rattle.graph_selection.specs.Roots.{HasRoot}
-use Rattle.graph_selection.specs.Walks.{Selected}
-use Rattle.tree_reads.specs.Read.{AreReads}
-use Rattle.tree_texts.specs.Heard.{read_of}
-use Rattle.policy_valid.specs.declared.policy.ValidConfig.{ValidConfig}
+use Rattle.graph_core.specs.selection.Listed.{IsListOf}
+use Rattle.graph_core.specs.selection.Roots.{HasRoot}
+use Rattle.graph_core.specs.selection.Walks.{Selected}
+use Rattle.tree_core.specs.file_reads.Read.{AreReads}
+use Rattle.tree_core.specs.texts.Heard.{read_of}
+use Rattle.policy_core.specs.declared.valid.policy.ValidConfig.{ValidConfig}
 use Rattle.policy_core.specs.declared.load.LoadedPolicy.{LoadedPolicy}
 use Rattle.gather_core.specs.Calls.{AreTurnsBy, CrateReads, IsTurnBy, calls_of_all, reads_of_all}
 use Rattle.gather_core.specs.Entries.{entries_of}
@@ -21,9 +21,9 @@ use Rattle.gather_core.specs.Told.{answer_view}
 use Rattle.gather_core.specs.Turns.{files_behind}
 use Rattle.gather_core.specs.declared.summary.KrateLicense.{KrateLicense}
 use Rattle.gather_core.proofs.CrateTurns.{krates_told, own_turns}
-use Rattle.gather_findings.specs.License.{expression_of}
-use Rattle.gather_findings.specs.declared.license.LicenseInfo.{LicenseInfo}
-use Rattle.gather_findings.specs.declared.license.LicenseInfo.TheVariants.{SpdxExpression, Unlicensed}
+use Rattle.gather_core.specs.findings.License.{expression_of}
+use Rattle.gather_core.specs.declared.findings.license.LicenseInfo.{LicenseInfo}
+use Rattle.gather_core.specs.declared.findings.license.LicenseInfo.TheVariants.{SpdxExpression, Unlicensed}
 use Rattle.run_overrides.specs.Twice.{first_twice}
 use Rattle.run_found.specs.Finds.{FindsLoaded, hearing_of}
 use Rattle.run_found.specs.Found.{files_loaded, policy_calls}

@@ -6,23 +6,23 @@ use Rattle.tree_core.specs.Faults.{GainedPrefix}
 use Rattle.tree_core.specs.Hearing.{MadeSome}
 use Rattle.tree_core.specs.Trace.{fault_behind, faults_after}
 use Rattle.tree_core.proofs.MadeLemmas.{made_joined, made_these, some_made}
-use Rattle.tree_reads.specs.Read.{AreReads}
+use Rattle.tree_core.specs.file_reads.Read.{AreReads}
 use Rattle.diag_core.specs.File.{File}
-use Rattle.gather_expression.specs.Scanned.{Scanner}
+use Rattle.gather_licence.specs.expression.Scanned.{Scanner}
 use Rattle.gather_core.specs.Calls.{calls_of_all, reads_of_all}
 use Rattle.gather_core.specs.declared.summary.KrateLicense.{KrateLicense}
 use Rattle.graph_core.specs.Metadata.{Graph}
-use Rattle.graph_selection.specs.Choice.{Choice}
-use Rattle.graph_selection.specs.Listed.{Chosen, IsChosen}
+use Rattle.graph_core.specs.selection.Choice.{Choice}
+use Rattle.graph_core.specs.selection.Listed.{Chosen, IsChosen}
 use Rattle.graph_workspace.specs.Krates.{GathersBy}
 use Rattle.graph_workspace.specs.declared.error.KratesError.{KratesError}
 use Rattle.graph_workspace.specs.declared.error.KratesError.TheVariants as krates
-use Rattle.tree_texts.specs.Cause.{Cause, ReadCounts, failed_read, no_memory, refused_write, told}
-use Rattle.tree_texts.specs.Heard.{IsTextRead, read_of, text_answered}
-use Rattle.tree_texts.specs.declared.fault.ReadFault.{ReadFault}
-use Rattle.tree_texts.specs.declared.fault.ReadFault.TheVariants.{Absent}
-use Rattle.policy_valid.specs.View.{policy_of}
-use Rattle.policy_valid.specs.declared.policy.ValidConfig.{ValidConfig}
+use Rattle.tree_core.specs.texts.Cause.{Cause, ReadCounts, failed_read, no_memory, refused_write, told}
+use Rattle.tree_core.specs.texts.Heard.{IsTextRead, read_of, text_answered}
+use Rattle.tree_core.specs.declared.texts.fault.ReadFault.{ReadFault}
+use Rattle.tree_core.specs.declared.texts.fault.ReadFault.TheVariants.{Absent}
+use Rattle.policy_core.specs.valid.View.{policy_of}
+use Rattle.policy_core.specs.declared.valid.policy.ValidConfig.{ValidConfig}
 use Rattle.policy_core.specs.declared.load.LoadedPolicy.{LoadedPolicy}
 use Rattle.run_request.specs.declared.context.KrateContext.{KrateContext}
 use Rattle.run_overrides.specs.Twice.{first_twice}

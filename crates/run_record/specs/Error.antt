@@ -1,6 +1,6 @@
 -- The refusals of `verify`, and why they come.
-use Rattle.tree_texts.specs.Cause.{Cause, failed_read, told}
-use Rattle.tree_texts.specs.declared.fault.ReadFault.TheVariants.{Failed}
+use Rattle.tree_core.specs.texts.Cause.{Cause, failed_read, told}
+use Rattle.tree_core.specs.declared.texts.fault.ReadFault.TheVariants.{Failed}
 use Rattle.check_record.specs.declared.error.RecordError.{RecordError}
 use Rattle.check_record.specs.declared.error.RecordError.TheVariants as record_error
 use Rattle.run_found.specs.declared.error.Error.{Error}

@@ -1,7 +1,7 @@
 -- What a command without options of its own is given: what a check of licences is given that has none.
 use Rattle.std.specs.Prelude.{ℕ, false, List, [], ◌∷◌, None}
-use Rattle.spdx_catalog.specs.Catalog.{CatalogLists}
-use Rattle.spdx_catalog.specs.declared.identifier.Match.{Match}
+use Rattle.spdx_terms.specs.catalog.Catalog.{CatalogLists}
+use Rattle.spdx_terms.specs.declared.catalog.identifier.Match.{Match}
 use Rattle.diag_print.specs.declared.context.LogContext.{LogContext}
 use Rattle.run_request.specs.declared.check.Args.{Args}
 use Rattle.run_request.specs.declared.context.KrateContext.{KrateContext}

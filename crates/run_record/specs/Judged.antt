@@ -3,7 +3,7 @@ use Rattle.std.specs.Prelude.{List, map}
 use Rattle.std.specs.List.{AllByRecursion}
 use Rattle.graph_core.specs.Krate.{Record}
 use Rattle.graph_core.specs.Metadata.{AreRising}
-use Rattle.policy_valid.specs.Policy.{Policy}
+use Rattle.policy_core.specs.valid.Policy.{Policy}
 use Rattle.check_core.specs.Verdicts.{IsVerdict}
 use Rattle.check_core.specs.declared.report.CrateReport.{CrateReport}
 

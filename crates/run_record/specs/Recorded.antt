@@ -1,7 +1,7 @@
 -- What recording answers and writes.
 use Rattle.std.specs.Prelude.{◌≡◌, ◌⊎◌, ℕ, List, map, Result, Ok, Err}
 use Rattle.tree_core.specs.Faults.{Gained, GainedPrefix, Rose}
-use Rattle.tree_texts.specs.Cause.{Cause, refused_write}
+use Rattle.tree_core.specs.texts.Cause.{Cause, refused_write}
 use Rattle.check_record.specs.declared.items.RecordItem.{RecordItem}
 use Rattle.check_record.specs.Items.{IsRecord}
 use Rattle.check_record.specs.Spelling.{spelled_of}

@@ -6,16 +6,16 @@ use Rattle.tree_core.specs.Trace.{fault_behind, faults_after}
 use Rattle.tree_core.specs.Faults.{Gained}
 use Rattle.diag_core.specs.File.{File}
 use Rattle.graph_core.specs.Metadata.{Graph}
-use Rattle.graph_selection.specs.Choice.{Choice}
-use Rattle.graph_selection.specs.Listed.{IsListOf}
-use Rattle.graph_selection.specs.Walks.{Selected}
-use Rattle.tree_reads.specs.Read.{AreReads, records_of_reads}
-use Rattle.tree_texts.specs.Heard.{read_of}
-use Rattle.policy_valid.specs.declared.policy.ValidConfig.{ValidConfig}
+use Rattle.graph_core.specs.selection.Choice.{Choice}
+use Rattle.graph_core.specs.selection.Listed.{IsListOf}
+use Rattle.graph_core.specs.selection.Walks.{Selected}
+use Rattle.tree_core.specs.file_reads.Read.{AreReads, records_of_reads}
+use Rattle.tree_core.specs.texts.Heard.{read_of}
+use Rattle.policy_core.specs.declared.valid.policy.ValidConfig.{ValidConfig}
 use Rattle.policy_core.specs.declared.load.LoadedPolicy.{LoadedPolicy}
-use Rattle.policy_validate.specs.Order.{PutsPolicyInOrder}
-use Rattle.gather_expression.specs.Scanned.{Scanner}
-use Rattle.gather_findings.specs.License.{expression_of}
+use Rattle.policy_core.specs.validate.Order.{PutsPolicyInOrder}
+use Rattle.gather_licence.specs.expression.Scanned.{Scanner}
+use Rattle.gather_core.specs.findings.License.{expression_of}
 use Rattle.gather_core.specs.Calls.{AreTurnsBy, CrateReads, HasOwnReads, calls_of_all, reads_of_all}
 use Rattle.gather_core.specs.Gathered.{include_of, krate_of}
 use Rattle.gather_core.specs.declared.summary.KrateLicense.{KrateLicense}

@@ -3,11 +3,11 @@ use Rattle.std.specs.Prelude.{◌≡◌, ◌⊎◌, ℕ, List, ◌++◌, Some, R
 use Rattle.tree_core.specs.Call.{CallAnswer}
 use Rattle.tree_core.specs.Faults.{Gained}
 use Rattle.tree_core.specs.Trace.{fault_behind}
-use Rattle.tree_texts.specs.Cause.{Cause, no_memory, refused_write}
-use Rattle.tree_texts.specs.Heard.{text_answered}
-use Rattle.tree_texts.specs.declared.fault.ReadFault.{ReadFault}
-use Rattle.policy_valid.specs.View.{policy_of}
-use Rattle.policy_valid.specs.declared.policy.ValidConfig.{ValidConfig}
+use Rattle.tree_core.specs.texts.Cause.{Cause, no_memory, refused_write}
+use Rattle.tree_core.specs.texts.Heard.{text_answered}
+use Rattle.tree_core.specs.declared.texts.fault.ReadFault.{ReadFault}
+use Rattle.policy_core.specs.valid.View.{policy_of}
+use Rattle.policy_core.specs.declared.valid.policy.ValidConfig.{ValidConfig}
 use Rattle.gather_core.specs.declared.summary.KrateLicense.{KrateLicense}
 use Rattle.check_record.specs.declared.items.RecordItem.{RecordItem}
 use Rattle.check_record.specs.Decoded.{Spells}

@@ -3,7 +3,7 @@ ghost use Rattle.std.specs.Prelude.{◌≡◌};
 ghost use Rattle.run_record.specs.Error.{error_of_verify};
 
 use run_found::{CrateReads, Error};
-use tree_texts::ReadFault;
+use tree_core::texts::ReadFault;
 
 /// Why a record was not verified, in the order of the table of refusals.
 #[derive(Drop)]

@@ -7,7 +7,7 @@ use check_record::RecordError;
 use graph_workspace::KratesError;
 use run_found::{CrateReads, Error};
 use std::alloc::AllocError;
-use tree_texts::ReadFault;
+use tree_core::texts::ReadFault;
 
 /// Why nothing was verified behind the policy.
 #[derive(Drop)]

@@ -2,11 +2,11 @@
 ghost use Rattle.std.specs.Prelude.{◌≡◌, ◌≢◌, ◌≤◌, ◌<◌, Err, List, ℕ, IfErr, IfOk, None, Some};
 ghost use Rattle.std.specs.Option.{ForSome};
 ghost use Rattle.graph_core.specs.Metadata.{Graph};
-ghost use Rattle.graph_selection.specs.Choice.{Choice};
-ghost use Rattle.graph_selection.specs.Listed.{IsChosen};
+ghost use Rattle.graph_core.specs.selection.Choice.{Choice};
+ghost use Rattle.graph_core.specs.selection.Listed.{IsChosen};
 ghost use Rattle.graph_workspace.specs.declared.error.What.{What};
-ghost use Rattle.tree_texts.specs.Cause.{ReadCounts};
-ghost use Rattle.policy_valid.specs.View.{policy_of};
+ghost use Rattle.tree_core.specs.texts.Cause.{ReadCounts};
+ghost use Rattle.policy_core.specs.valid.View.{policy_of};
 ghost use Rattle.policy_core.specs.Places.{PolicyStands};
 ghost use Rattle.check_verify.specs.Verified.{IsVerified};
 ghost use Rattle.run_context.specs.Asked.{uncarried};
@@ -33,8 +33,8 @@ use diag_core::Files;
 use diag_print::LogContext;
 use gather_core::Summary;
 use graph_workspace::Krates;
+use policy_core::valid::ValidConfig;
 use policy_load::LoadedPolicy;
-use policy_valid::ValidConfig;
 use run_context::{LeftOut, gather_krates_since};
 use run_found::{Error, licences_found, policy_found, reads_of_licenses};
 use run_list::uncarried_in;
@@ -43,8 +43,8 @@ use spdx_core::{Catalog, Identifier};
 use std::alloc::{AllocError, Global};
 use std::marker::Brand;
 use std::sync::ledger::{Blank, Ledger};
+use tree_core::texts::{ReadFault, read_file_text};
 use tree_core::{Sink, Tree};
-use tree_texts::{ReadFault, read_file_text};
 
 /// Whether a record is right, with its steps counted in a ledger that is handed in.
 fn verify_by_ledger<L: Ledger>(

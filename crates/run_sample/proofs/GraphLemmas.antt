@@ -13,8 +13,8 @@ use Rattle.std.proofs.lemmas.Slice.Eq.{bytes_eq-Decides}
 use Rattle.deny_text.specs.Path.{parent_of}
 use Rattle.graph_core.specs.Metadata.{Graph, CrateNode}
 use Rattle.graph_metadata.specs.Records.{edges_of_node, graph_node_at, graph_of, link_to, metadata_of, rows_in, spot_of, spots_of, told_graph}
-use Rattle.graph_selection.specs.Choice.{Choice}
-use Rattle.graph_selection.specs.Roots.{HasRoot, crates_of}
+use Rattle.graph_core.specs.selection.Choice.{Choice}
+use Rattle.graph_core.specs.selection.Roots.{HasRoot, crates_of}
 use Rattle.run_sample.specs.Metadata.{sample_metadata, sample_name}
 use Rattle.run_sample.proofs.SampleData.{sample_manifest}
 use Rattle.run_sample.proofs.TextLemmas.{read_sample}

@@ -12,28 +12,28 @@ use Rattle.deny_text.specs.Path.{ancestors_of}
 use Rattle.tree_core.specs.Call as call
 use Rattle.tree_core.specs.Content.{Content, file, node_at}
 use Rattle.tree_core.specs.Trace.{read_answer}
-use Rattle.tree_texts.specs.Heard.{heard_of}
-use Rattle.tree_texts.specs.Search.{candidates}
-use Rattle.tree_texts.specs.declared.search.SoughtFile.TheVariants.{Exceptions}
-use Rattle.tree_texts.specs.declared.fault.ReadFault.TheVariants.{NotUtf8}
-use Rattle.spdx_catalog.specs.Table.{table_lists, single_names, families, gnu_families}
-use Rattle.spdx_catalog.specs.declared.identifier.Match.{Match}
+use Rattle.tree_core.specs.texts.Heard.{heard_of}
+use Rattle.tree_core.specs.texts.Search.{candidates}
+use Rattle.tree_core.specs.declared.texts.search.SoughtFile.TheVariants.{Exceptions}
+use Rattle.tree_core.specs.declared.texts.fault.ReadFault.TheVariants.{NotUtf8}
+use Rattle.spdx_terms.specs.catalog.Table.{table_lists, single_names, families, gnu_families}
+use Rattle.spdx_terms.specs.declared.catalog.identifier.Match.{Match}
 use Rattle.graph_metadata.specs.Records.{graph_of}
-use Rattle.graph_selection.specs.Choice.{is_uncarried}
-use Rattle.graph_selection.specs.Roots.{HasRoot}
+use Rattle.graph_core.specs.selection.Choice.{is_uncarried}
+use Rattle.graph_core.specs.selection.Roots.{HasRoot}
 use Rattle.graph_workspace.specs.Krates.{sparse_dir}
 use Rattle.toml_subset.specs.Answer.{TomlReading}
 use Rattle.toml_subset.specs.Data.{TomlContent, Entries, Toml, no_entry, table}
 use Rattle.toml_subset.specs.Reading.{read_text}
-use Rattle.policy_config.specs.Root.{root_in, root_of}
-use Rattle.policy_config.specs.declared.root.RootConfig.{RootConfig}
+use Rattle.policy_core.specs.config.Root.{root_in, root_of}
+use Rattle.policy_core.specs.declared.config.root.RootConfig.{RootConfig}
 use Rattle.policy_core.specs.Exceptions.{no_file}
 use Rattle.policy_core.specs.Policy.{PolicyFound, absence_findings, empty_table, policy_found as policy_by}
 use Rattle.policy_load.specs.Load.{with_policy}
 use Rattle.policy_load.specs.declared.loading.PolicyPaths.{PolicyPaths}
-use Rattle.policy_text.specs.Config.{config_of_text}
-use Rattle.policy_text.specs.Text.{config_text_of}
-use Rattle.policy_text.specs.declared.error.ConfigError.{ConfigError}
+use Rattle.policy_core.specs.text.Config.{config_of_text}
+use Rattle.policy_core.specs.text.Text.{config_text_of}
+use Rattle.policy_core.specs.declared.text.error.ConfigError.{ConfigError}
 use Rattle.diag_core.specs.File.{File}
 use Rattle.diag_print.specs.Findings.{is_error}
 use Rattle.run_found.specs.Found.{config_in, count_looked, due_behind, due_by_text, exceptions_due, exceptions_in, load_heard, looked_behind, metadata_heard, path_by, paths_found, paths_looked, policy_due}

@@ -7,11 +7,11 @@ use Rattle.tree_core.specs.Call.{CallKind, CallAnswer, Call}
 use Rattle.tree_core.specs.Content.{Content}
 use Rattle.tree_core.specs.Trace.{IsUnlessLost, Says, content_answer, fault_behind, faults_after}
 use Rattle.tree_core.proofs.MadeLemmas.{faults_after-later}
-use Rattle.spdx_catalog.specs.Catalog.{CatalogLists}
-use Rattle.spdx_catalog.specs.Table.{table_lists}
-use Rattle.spdx_catalog.specs.declared.identifier.Match.{Match}
-use Rattle.tree_texts.specs.Cause.{Cause, no_memory, failed_read, refused_write}
-use Rattle.tree_texts.specs.Cause as causes
+use Rattle.spdx_terms.specs.catalog.Catalog.{CatalogLists}
+use Rattle.spdx_terms.specs.catalog.Table.{table_lists}
+use Rattle.spdx_terms.specs.declared.catalog.identifier.Match.{Match}
+use Rattle.tree_core.specs.texts.Cause.{Cause, no_memory, failed_read, refused_write}
+use Rattle.tree_core.specs.texts.Cause as causes
 use Rattle.run_found.specs.declared.error.Error.{Error}
 use Rattle.run_found.specs.declared.error.Error.TheVariants.{Memory, NotCarried, ManifestPath, ManifestRead, CatalogRead, CatalogSyntax, StoreRead, ConfigRead, ConfigSyntax, ConfigShape, ConfigInvalid, OverrideTwice, MetadataRead, MetadataSyntax, MetadataShape, NoRoots, RecordRead, RecordSyntax, WriteFault}
 use Rattle.run_found.specs.Error.{cause_of}
@@ -23,7 +23,7 @@ use Rattle.run_check.specs.Headline.{TellsContent}
 use Rattle.run_check.specs.Report.{IsAnsweredBy, IsCheckAnswer, IsRefusal, IsRefusedCheck, Refuses, RefusesSelection}
 use Rattle.run_check.proofs.HeardAlike.{found_alike}
 use Rattle.graph_metadata.specs.Records.{graph_of}
-use Rattle.graph_selection.specs.Roots.{HasRoot}
+use Rattle.graph_core.specs.selection.Roots.{HasRoot}
 use Rattle.run_found.specs.Selection.{choice_in}
 use Rattle.run_sample.specs.Files.{sample_content}
 use Rattle.run_sample.specs.Request.{sample_request}

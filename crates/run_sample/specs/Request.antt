@@ -1,7 +1,7 @@
 -- The request that checks the sample.
 use Rattle.std.specs.Prelude.{ℕ, List, [], ◌∷◌, codes, false, Some, None}
-use Rattle.spdx_catalog.specs.Catalog.{CatalogLists}
-use Rattle.spdx_catalog.specs.declared.identifier.Match.{Match}
+use Rattle.spdx_terms.specs.catalog.Catalog.{CatalogLists}
+use Rattle.spdx_terms.specs.declared.catalog.identifier.Match.{Match}
 use Rattle.diag_core.specs.declared.severity.LevelFilter.TheVariants.{Off}
 use Rattle.diag_print.specs.declared.context.Format.TheVariants.{Human}
 use Rattle.diag_print.specs.declared.context.Color.TheVariants.{Auto}

@@ -3,10 +3,10 @@ use Rattle.std.specs.Prelude.{◌≡◌, ◌≤◌, ℕ, List, [], Option, Some,
 use Rattle.tree_core.specs.Faults.{Rose, Gained, GainedPrefix}
 use Rattle.tree_core.specs.declared.reads.ReadAnswer.{ReadAnswer}
 use Rattle.tree_core.specs.declared.reads.ReadAnswer.TheVariants.{Got, Absent, WrongKind, NotUtf8, Failed}
-use Rattle.spdx_catalog.specs.Catalog.{CatalogLists}
-use Rattle.spdx_catalog.specs.Table.{table_lists}
-use Rattle.spdx_catalog.specs.declared.identifier.Match.{Match}
-use Rattle.tree_texts.specs.Cause.{Cause, no_memory, failed_read, refused_write}
+use Rattle.spdx_terms.specs.catalog.Catalog.{CatalogLists}
+use Rattle.spdx_terms.specs.catalog.Table.{table_lists}
+use Rattle.spdx_terms.specs.declared.catalog.identifier.Match.{Match}
+use Rattle.tree_core.specs.texts.Cause.{Cause, no_memory, failed_read, refused_write}
 use Rattle.run_found.specs.declared.error.Error.{Error}
 use Rattle.run_found.specs.Error.{cause_of}
 use Rattle.run_found.specs.Hearing.{RequestHearing, TreeSeen}

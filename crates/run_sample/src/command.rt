@@ -1,7 +1,7 @@
 //! The command `sample`.
 ghost use Rattle.std.specs.Prelude.{◌≢◌, ◌≤◌, Err, IfErr, IfOk, OnOk};
 ghost use Rattle.tree_core.specs.Faults.{Gained};
-ghost use Rattle.tree_texts.specs.declared.fault.ReadFault.{ReadFault};
+ghost use Rattle.tree_core.specs.declared.texts.fault.ReadFault.{ReadFault};
 ghost use Rattle.run_found.specs.Error.{cause_of};
 ghost use Rattle.run_sample.specs.Lines.{sample_lines as lines_of};
 ghost use Rattle.run_sample.specs.Sample.{IsSampleComplete, IsSampled, IsUnfailed, IsUnwritten, IsWholeSample, LinesCut, WritesLines};

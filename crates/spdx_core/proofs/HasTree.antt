@@ -2,7 +2,7 @@
 use Rattle.std.proofs.Common.{◌≡◌, ◌∙◌, refl, sym, ap, subst, ℕ, ◌+◌, false, cond, IsTrue, List, [], ◌∷◌, ◌++◌, map, append_assoc, append-nil, Option, Some, None, length, drop}
 use Rattle.std.proofs.lemmas.Bool.{true≢false}
 use Rattle.deny_text.specs.declared.span.Span.{Span}
-use Rattle.spdx_catalog.specs.Catalog.{CatalogLists}
+use Rattle.spdx_terms.specs.catalog.Catalog.{CatalogLists}
 use Rattle.spdx_terms.specs.declared.mode.ParseMode.{ParseMode}
 use Rattle.spdx_terms.specs.declared.error.ParseError.{ParseError}
 use Rattle.spdx_terms.specs.declared.error.ParseReason.TheVariants.{Unexpected, UnopenedParens}

@@ -8,9 +8,9 @@ use Rattle.std.specs.Prelude.{codes}
 use Rattle.std.specs.Option.{option_map, option_or}
 use Rattle.std.specs.List.{list_all, prefix_len, starts_with}
 use Rattle.std.specs.Str.{bytes_eq}
-use Rattle.spdx_catalog.specs.declared.catalog.LicenseEntry.{LicenseEntry}
-use Rattle.spdx_catalog.specs.Catalog.{CatalogLists, IsCatalog, entry_of, names_of}
-use Rattle.spdx_catalog.specs.Words.{is_word_byte, is_word, is_name, is_operator, is_reference, ends_word}
+use Rattle.spdx_terms.specs.declared.catalog.catalog.LicenseEntry.{LicenseEntry}
+use Rattle.spdx_terms.specs.catalog.Catalog.{CatalogLists, IsCatalog, entry_of, names_of}
+use Rattle.spdx_terms.specs.catalog.Words.{is_word_byte, is_word, is_name, is_operator, is_reference, ends_word}
 use Rattle.spdx_terms.specs.declared.mode.ParseMode.{ParseMode}
 use Rattle.spdx_terms.specs.declared.item.Token.TheVariants.{Word as a_word, Plus as a_plus, Open as an_open, Close as a_close, Slash as a_slash, Other as another}
 use Rattle.spdx_terms.specs.declared.item.WantedItem.{WantedItem}

@@ -10,7 +10,7 @@ use Rattle.spdx_terms.specs.declared.item.WantedItem.{WantedItem}
 use Rattle.spdx_terms.specs.declared.item.WantedItem.TheVariants.{Term as wants_term, AfterTerm, AfterPart}
 use Rattle.spdx_terms.specs.declared.item.ItemKind.TheVariants.{And, Or, Close}
 use Rattle.spdx_terms.specs.declared.item.Item.{Item}
-use Rattle.spdx_catalog.specs.Catalog.{CatalogLists}
+use Rattle.spdx_terms.specs.catalog.Catalog.{CatalogLists}
 use Rattle.spdx_terms.specs.Items.{items_of}
 use Rattle.spdx_terms.specs.Faults.{fault_from, fault_of, first_fault, first_of, unless, takes_operator, end_fault}
 use Rattle.spdx_terms.proofs.FaultLemmas.{marks_untold}

@@ -1,6 +1,6 @@
 -- A licensee's text is one part exactly where it has no fault.
 use Rattle.std.proofs.Common.{◌≡◌, ap, ◌↔◌, ℕ, List, None, length}
-use Rattle.spdx_catalog.specs.Catalog.{CatalogLists}
+use Rattle.spdx_terms.specs.catalog.Catalog.{CatalogLists}
 use Rattle.spdx_terms.specs.declared.mode.ParseMode.{ParseMode}
 use Rattle.spdx_terms.specs.declared.item.Item.{Item}
 use Rattle.spdx_terms.specs.declared.term.LicenseReq.{LicenseReq}

@@ -10,9 +10,9 @@ use Rattle.std.specs.Prelude.{codes}
 use Rattle.std.specs.Option.{option_map, option_or}
 use Rattle.std.specs.List.{list_all, list_any, before_first, after_first}
 use Rattle.std.specs.Str.{bytes_eq}
-use Rattle.spdx_catalog.specs.declared.catalog.LicenseEntry.{LicenseEntry}
-use Rattle.spdx_catalog.specs.Catalog.{CatalogLists, IsCatalog}
-use Rattle.spdx_catalog.specs.Words.{is_word_byte, is_word, is_name, ends_word}
+use Rattle.spdx_terms.specs.declared.catalog.catalog.LicenseEntry.{LicenseEntry}
+use Rattle.spdx_terms.specs.catalog.Catalog.{CatalogLists, IsCatalog}
+use Rattle.spdx_terms.specs.catalog.Words.{is_word_byte, is_word, is_name, ends_word}
 use Rattle.spdx_terms.specs.declared.term.LicenseItem.{LicenseItem}
 use Rattle.spdx_terms.specs.declared.term.LicenseItem.TheVariants.{Spdx, Reference}
 use Rattle.spdx_terms.specs.declared.term.ExpressionReq.{ExpressionReq}

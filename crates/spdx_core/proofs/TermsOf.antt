@@ -4,8 +4,8 @@ use Rattle.std.proofs.lemmas.Bool.{false≢true}
 use Rattle.std.proofs.lemmas.List.Elements.{All-from_recursion}
 use Rattle.std.specs.Prelude.{codes}
 use Rattle.std.specs.List.{AllByRecursion, before_first, after_first}
-use Rattle.spdx_catalog.specs.Catalog.{CatalogLists}
-use Rattle.spdx_catalog.specs.Words.{is_word}
+use Rattle.spdx_terms.specs.catalog.Catalog.{CatalogLists}
+use Rattle.spdx_terms.specs.catalog.Words.{is_word}
 use Rattle.spdx_terms.specs.declared.mode.ParseMode.{ParseMode}
 use Rattle.spdx_terms.specs.declared.term.LicenseItem.{LicenseItem}
 use Rattle.spdx_terms.specs.declared.term.LicenseItem.TheVariants.{Reference}

@@ -1,6 +1,6 @@
 -- What the private calls of the reader of expressions answer.
 use Rattle.std.specs.Prelude.{◌≡◌, ℕ, List, Some, None, Result, Ok, Err}
-use Rattle.spdx_catalog.specs.Catalog.{CatalogLists}
+use Rattle.spdx_terms.specs.catalog.Catalog.{CatalogLists}
 use Rattle.spdx_terms.specs.declared.mode.ParseMode.{ParseMode}
 use Rattle.spdx_terms.specs.declared.error.ExprError.{ExprError}
 use Rattle.spdx_terms.specs.declared.error.ExprError.TheVariants.{Parse, Memory}

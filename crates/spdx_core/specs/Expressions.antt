@@ -1,6 +1,6 @@
 -- What every expression keeps, and what reading one answers.
 use Rattle.std.specs.Prelude.{◌≡◌, ℕ, ◌<◌, List, Some, None, length, map, Result, Ok, Err}
-use Rattle.spdx_catalog.specs.Catalog.{CatalogLists}
+use Rattle.spdx_terms.specs.catalog.Catalog.{CatalogLists}
 use Rattle.spdx_terms.specs.declared.mode.ParseMode.{ParseMode}
 use Rattle.spdx_terms.specs.declared.error.ExprError.{ExprError}
 use Rattle.spdx_terms.specs.declared.error.ExprError.TheVariants.{Parse, Memory}

@@ -8,3 +8,4 @@ pub mod Machine
 pub mod Printing
 pub mod Reading
 pub mod Stack
+pub mod certificates

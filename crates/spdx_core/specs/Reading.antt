@@ -9,7 +9,7 @@ use Rattle.spdx_terms.specs.declared.term.ExpressionReq.{ExpressionReq}
 use Rattle.spdx_terms.specs.declared.item.ItemKind.{ItemKind}
 use Rattle.spdx_terms.specs.declared.item.ItemKind.TheVariants.{Term, Exception, And, Or, With, Open, Close, Plus, Word, Other}
 use Rattle.spdx_terms.specs.declared.item.Item.{Item}
-use Rattle.spdx_catalog.specs.Catalog.{CatalogLists}
+use Rattle.spdx_terms.specs.catalog.Catalog.{CatalogLists}
 use Rattle.spdx_terms.specs.Items.{items_of}
 use Rattle.spdx_terms.specs.Faults.{first_fault}
 use Rattle.spdx_core.specs.Grammar.{ExpressionTree, leaf, both, either, term}

@@ -6,7 +6,7 @@ ghost use Rattle.spdx_core.specs.Reading.{postfix};
 use crate::node::ExprNode;
 use crate::read::read_text;
 use deny_text::Text;
-use spdx_catalog::Catalog;
+use spdx_terms::catalog::Catalog;
 use spdx_terms::{ExprError, ExpressionReq, ParseMode};
 use std::alloc::{AllocError, Global};
 use std::fmt;

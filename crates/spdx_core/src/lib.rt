@@ -1,6 +1,7 @@
 //! Licence expressions over a catalogue of licences.
 #![tactic(auto)]
 
+pub mod certificates;
 pub mod expression;
 pub mod laws;
 pub mod node;
@@ -10,7 +11,9 @@ mod stack;
 
 pub use expression::Expression;
 pub use node::ExprNode;
-pub use spdx_catalog::{Catalog, Identifier, Imprecise, LicenseEntry, LicenseStore, Match, Table};
+pub use spdx_terms::catalog::{
+    Catalog, Identifier, Imprecise, LicenseEntry, LicenseStore, Match, Table,
+};
 pub use spdx_terms::{
     ExprError, ExpressionReq, Family, LicenseItem, LicenseReq, Licensee, ParseError, ParseMode,
     ParseReason,

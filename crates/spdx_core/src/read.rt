@@ -6,7 +6,7 @@ ghost use Rattle.spdx_core.specs.Answers.{StepAnswers, TextAnswer};
 use crate::reader::Reader;
 use crate::stack::Stack;
 use deny_text::Span;
-use spdx_catalog::Catalog;
+use spdx_terms::catalog::Catalog;
 use spdx_terms::fault::{empty_fault, end_fault, item_fault};
 use spdx_terms::item::{Item, ItemKind, WantedItem};
 use spdx_terms::items::next_item;

@@ -6,10 +6,10 @@ use Rattle.std.specs.Str.Lossy.{utf8_valid_len}
 use Rattle.std.proofs.lemmas.List.Folds.{list_all-append, list_any-append}
 use Rattle.std.proofs.lemmas.Slice.Eq.{bytes_eq-Decides}
 use Rattle.std.proofs.lemmas.Bool.{or_parts, and_parts, and_from, not-true, not-false, not_from_false}
-use Rattle.spdx_catalog.specs.declared.catalog.LicenseEntry.{LicenseEntry}
-use Rattle.spdx_catalog.specs.Catalog.{CatalogLists, IsCatalog, all_distinct, entry_of, names_of}
-use Rattle.spdx_catalog.specs.TextWords.{has_some}
-use Rattle.spdx_catalog.specs.Words.{is_name, is_imprecise}
+use Rattle.spdx_terms.specs.declared.catalog.catalog.LicenseEntry.{LicenseEntry}
+use Rattle.spdx_terms.specs.catalog.Catalog.{CatalogLists, IsCatalog, all_distinct, entry_of, names_of}
+use Rattle.spdx_terms.specs.catalog.TextWords.{has_some}
+use Rattle.spdx_terms.specs.catalog.Words.{is_name, is_imprecise}
 use Rattle.spdx_listing.specs.File.{FilesAreCatalogs, fault_behind, fault_in, first_fault, has_fault, is_among, line_at, lines_of, lists_of, names_in, unless_fault}
 use Rattle.spdx_listing.specs.Form.{LineForm, nothing, license, exception, imprecise, form_of}
 use Rattle.spdx_listing.specs.ListsView.{no_lists, with_form}

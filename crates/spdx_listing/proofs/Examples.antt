@@ -4,7 +4,7 @@ use Rattle.std.specs.Str.{is_utf8, chars}
 use Rattle.std.specs.Str.Lossy.{utf8_valid_len}
 use lib.Utf8.{encode}
 use Rattle.tree_core.specs.Call as call
-use Rattle.tree_texts.specs.Heard.{heard_of}
+use Rattle.tree_core.specs.texts.Heard.{heard_of}
 use Rattle.spdx_listing.specs.File.{catalog_of, fault_in, first_fault, lines_of, lists_of}
 use Rattle.spdx_listing.specs.Folder.{store_answered, text_file, texts_of}
 use Rattle.spdx_listing.specs.Form.{form_of, decimal_of, marks_of}

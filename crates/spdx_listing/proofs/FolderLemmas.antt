@@ -7,9 +7,9 @@ use Rattle.tree_core.specs.Answer.{listed}
 use Rattle.tree_core.specs.Call as call
 use Rattle.tree_core.specs.Call.{CallAnswer, Call}
 use Rattle.tree_core.specs.declared.tree.Entry.{Entry}
-use Rattle.tree_texts.specs.Heard.{IsTextRead, read_of, text_answered}
-use Rattle.tree_texts.specs.declared.fault.ReadFault.{ReadFault}
-use Rattle.spdx_catalog.specs.declared.store.StoreText.{StoreText}
+use Rattle.tree_core.specs.texts.Heard.{IsTextRead, read_of, text_answered}
+use Rattle.tree_core.specs.declared.texts.fault.ReadFault.{ReadFault}
+use Rattle.spdx_terms.specs.declared.catalog.store.StoreText.{StoreText}
 use Rattle.spdx_listing.specs.declared.error.StoreFault.{StoreFault}
 use Rattle.spdx_listing.specs.declared.error.StoreError.{StoreError}
 use Rattle.spdx_listing.specs.declared.error.StoreError.TheVariants.{Fault, Memory}

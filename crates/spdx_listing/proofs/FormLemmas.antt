@@ -4,8 +4,8 @@ use Rattle.std.proofs.lemmas.Bool.{or_parts}
 use Rattle.std.specs.List.{list_any}
 use Rattle.std.specs.Str.{bytes_eq, str_eq_ignore_ascii_case, str_to_ascii_lowercase}
 use Rattle.std.proofs.Common.{◌||◌}
-use Rattle.spdx_catalog.specs.Catalog.{CatalogLists, names_of}
-use Rattle.spdx_catalog.specs.Words.{is_name}
+use Rattle.spdx_terms.specs.catalog.Catalog.{CatalogLists, names_of}
+use Rattle.spdx_terms.specs.catalog.Words.{is_name}
 use Rattle.spdx_listing.specs.File.{has_fault, is_among}
 use Rattle.spdx_listing.specs.Form.{LineForm, nothing, license, exception, imprecise, form_of}
 use Rattle.spdx_listing.specs.IndexView.{texts_lowered}

@@ -2,8 +2,8 @@
 use Rattle.std.proofs.Common.{◌≡◌, ℕ, List, [], ◌∷◌, ◌++◌, append-nil, append_assoc, Option, Some, None, refl, sym, ap, ◌∙◌}
 use Rattle.std.specs.List.{filter_map, cons_option}
 use Rattle.std.proofs.lemmas.List.Elements.{filter_map-append}
-use Rattle.spdx_catalog.specs.declared.catalog.LicenseEntry.{LicenseEntry}
-use Rattle.spdx_catalog.specs.Catalog.{CatalogLists, names_of}
+use Rattle.spdx_terms.specs.declared.catalog.catalog.LicenseEntry.{LicenseEntry}
+use Rattle.spdx_terms.specs.catalog.Catalog.{CatalogLists, names_of}
 use Rattle.spdx_listing.specs.File.{license_in, exception_in, imprecise_in, lists_of, names_in}
 use Rattle.spdx_listing.specs.Form.{LineForm, nothing, license, exception, imprecise, form_of}
 use Rattle.spdx_listing.specs.ListsView.{lists_from, no_lists, with_form}

@@ -9,7 +9,7 @@ use Rattle.std.specs.Str.Parse.{ParsesUnsigned, digits_value}
 use Rattle.std.proofs.Common.{rules, arith}
 use Rattle.std.proofs.lemmas.Bool.{and_parts}
 use Rattle.std.proofs.lemmas.Str.Parse.{IsNumeralModel, numerals_by_value, parse_digits}
-use Rattle.spdx_catalog.specs.TextWords.{has_some}
+use Rattle.spdx_terms.specs.catalog.TextWords.{has_some}
 use Rattle.spdx_listing.specs.Form.{MarksSet, decimal_of, has_leading_zero, is_decimal, marks_of, marks_words, some_marks}
 
 abbrev AreDigits : List ℕ → Type 0

@@ -14,8 +14,8 @@ use Rattle.std.proofs.lemmas.List.Elements.{All-contains, All-map, All-more, All
 use Rattle.std.proofs.lemmas.List.Sorted.{Contains-permutation, IsPermutation-sym, searchable_from_sorted}
 use Rattle.std.proofs.lemmas.Map.Text.{is_eq-slice_cmp}
 use Rattle.std.proofs.lemmas.Slice.Eq.{bytes_eq-Decides}
-use Rattle.spdx_catalog.specs.Catalog.{BeginsNone, BeginsText, IsLongestImprecise}
-use Rattle.spdx_catalog.specs.Words.{ends_word}
+use Rattle.spdx_terms.specs.catalog.Catalog.{BeginsNone, BeginsText, IsLongestImprecise}
+use Rattle.spdx_terms.specs.catalog.Words.{ends_word}
 use Rattle.spdx_listing.specs.IndexView.{meanings_listed}
 use Rattle.spdx_listing.specs.Ordered.{AreInOrder, AreSorted, IsLastUpto, IsLaterOf, Means, MeansNothing, MeansNothingUpto, MeansSome, lower_pair}
 use Rattle.spdx_listing.specs.declared.meanings.Meaning.{Meaning}

@@ -3,8 +3,8 @@ use Rattle.std.proofs.Common.{◌≡◌, ◌<◌, ◌≤◌, ◌+◌, ℕ, Bool,
 use Rattle.std.specs.Str.{IsUtf8, is_utf8}
 use Rattle.std.proofs.lemmas.Str.{IsUtf8-from_is_utf8, is_utf8-from_IsUtf8}
 use Rattle.std.specs.Str.Lossy.{utf8_valid_len}
-use Rattle.spdx_catalog.specs.Catalog.{CatalogLists}
-use Rattle.spdx_catalog.specs.TextWords.{is_line_end, has_some}
+use Rattle.spdx_terms.specs.catalog.Catalog.{CatalogLists}
+use Rattle.spdx_terms.specs.catalog.TextWords.{is_line_end, has_some}
 use Rattle.spdx_listing.specs.File.{fault_behind, fault_in, first_fault, has_fault, line_at, lines_of, lists_of, catalog_of, unless_fault, TellsFault, TellsLine}
 use Rattle.spdx_listing.specs.Form.{nothing, form_of}
 use Rattle.spdx_listing.specs.ListsView.{no_lists, with_form}

@@ -9,7 +9,7 @@ use Rattle.tree_core.specs.Trace.{list_call, refusal_answer}
 use Rattle.tree_core.specs.declared.tree.Entry.{Entry}
 use Rattle.tree_core.specs.declared.tree.TreeError.{TreeError}
 use Rattle.tree_core.specs.declared.tree.TreeError.TheVariants as tree
-use Rattle.spdx_catalog.specs.declared.store.StoreText.{StoreText}
+use Rattle.spdx_terms.specs.declared.catalog.store.StoreText.{StoreText}
 use Rattle.spdx_listing.specs.declared.error.StoreFault.TheVariants.{Failed, Absent, NotFolder}
 use Rattle.spdx_listing.specs.declared.error.StoreError.{StoreError}
 use Rattle.spdx_listing.specs.declared.error.StoreError.TheVariants.{Fault, Memory}

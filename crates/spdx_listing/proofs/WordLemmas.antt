@@ -7,7 +7,7 @@ use Rattle.std.specs.List.{list_all, slice_split}
 use Rattle.std.specs.Option.{MatchOption, option_copied}
 use Rattle.std.specs.Str.{bytes_eq, str_eq_ignore_ascii_case, IsCharBoundary}
 use Rattle.std.specs.Str.Pattern.{FindsTextSuffix, StripsSuffix}
-use Rattle.spdx_catalog.specs.Words.{is_space, is_word}
+use Rattle.spdx_terms.specs.catalog.Words.{is_space, is_word}
 use Rattle.spdx_listing.specs.Folder.{before_end}
 use Rattle.spdx_listing.proofs.CutLemmas.{IsCut}
 

@@ -3,10 +3,10 @@ use Rattle.std.specs.Prelude.{◌≡◌, ℕ, ◌+◌, Bool, true, false, not, �
 use Rattle.std.specs.List.{list_any, slice_split, filter_map}
 use Rattle.std.specs.Str.{is_utf8, bytes_eq, str_eq_ignore_ascii_case}
 use Rattle.std.specs.Str.Lossy.{utf8_valid_len}
-use Rattle.spdx_catalog.specs.declared.catalog.LicenseEntry.{LicenseEntry}
-use Rattle.spdx_catalog.specs.Catalog.{CatalogLists, IsCatalog, names_of}
-use Rattle.spdx_catalog.specs.TextWords.{is_line_end, has_some}
-use Rattle.spdx_catalog.specs.Words.{is_name, is_imprecise}
+use Rattle.spdx_terms.specs.declared.catalog.catalog.LicenseEntry.{LicenseEntry}
+use Rattle.spdx_terms.specs.catalog.Catalog.{CatalogLists, IsCatalog, names_of}
+use Rattle.spdx_terms.specs.catalog.TextWords.{is_line_end, has_some}
+use Rattle.spdx_terms.specs.catalog.Words.{is_name, is_imprecise}
 use Rattle.spdx_listing.specs.declared.error.ListingError.{ListingError}
 use Rattle.spdx_listing.specs.declared.error.ListingError.TheVariants.{Syntax, Memory}
 use Rattle.spdx_listing.specs.Form.{LineForm, nothing, license, exception, imprecise, form_of}

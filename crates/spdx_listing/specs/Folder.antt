@@ -5,11 +5,11 @@ use Rattle.deny_text.specs.Path.{join_of}
 use Rattle.tree_core.specs.Call as call
 use Rattle.tree_core.specs.Call.{CallAnswer, Call}
 use Rattle.tree_core.specs.Content.{ListedEntry}
-use Rattle.tree_texts.specs.Cause.{Cause, no_memory, told, failed_read}
-use Rattle.tree_texts.specs.Heard.{read_of, text_answered}
-use Rattle.tree_texts.specs.declared.fault.ReadFault.{ReadFault}
-use Rattle.tree_texts.specs.declared.fault.ReadFault.TheVariants as read
-use Rattle.spdx_catalog.specs.declared.store.StoreText.{StoreText}
+use Rattle.tree_core.specs.texts.Cause.{Cause, no_memory, told, failed_read}
+use Rattle.tree_core.specs.texts.Heard.{read_of, text_answered}
+use Rattle.tree_core.specs.declared.texts.fault.ReadFault.{ReadFault}
+use Rattle.tree_core.specs.declared.texts.fault.ReadFault.TheVariants as read
+use Rattle.spdx_terms.specs.declared.catalog.store.StoreText.{StoreText}
 use Rattle.spdx_listing.specs.declared.error.StoreFault.{StoreFault}
 use Rattle.spdx_listing.specs.declared.error.StoreFault.TheVariants.{Failed, Absent, NotFolder, NotUtf8}
 use Rattle.spdx_listing.specs.declared.error.StoreError.{StoreError}

@@ -5,9 +5,9 @@ use Rattle.std.specs.List.{find, list_all, join_with_byte}
 use Rattle.std.specs.Str.{byte, bytes_eq}
 use Rattle.std.specs.Str.Parse.{digits_value}
 use Rattle.deny_text.specs.Cut.{cut_at}
-use Rattle.spdx_catalog.specs.declared.catalog.LicenseEntry.{LicenseEntry}
-use Rattle.spdx_catalog.specs.TextWords.{has_some}
-use Rattle.spdx_catalog.specs.Words.{is_space}
+use Rattle.spdx_terms.specs.declared.catalog.catalog.LicenseEntry.{LicenseEntry}
+use Rattle.spdx_terms.specs.catalog.TextWords.{has_some}
+use Rattle.spdx_terms.specs.catalog.Words.{is_space}
 
 -- Nothing, as an empty line and a remark; what is known of a licence; the name of an exception; or an imprecise text, and the
 -- name of the licence that it means.

@@ -2,8 +2,8 @@
 use Rattle.std.specs.Prelude.{◌≡◌, ℕ, List, is_some}
 use Rattle.std.specs.FinMap as finmap
 use Rattle.deny_text.specs.TextMap.{TextMapTo}
-use Rattle.spdx_catalog.specs.declared.catalog.LicenseEntry.{LicenseEntry}
-use Rattle.spdx_catalog.specs.Catalog.{entry_of}
+use Rattle.spdx_terms.specs.declared.catalog.catalog.LicenseEntry.{LicenseEntry}
+use Rattle.spdx_terms.specs.catalog.Catalog.{entry_of}
 use Rattle.spdx_listing.specs.File.{is_among}
 
 -- the map has what is known of each name

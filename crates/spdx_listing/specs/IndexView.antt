@@ -1,7 +1,7 @@
 -- Lists of licences and of imprecise texts, as the values of the code stand for them.
 use Rattle.std.specs.Prelude.{ℕ, List, map}
 use Rattle.std.specs.Str.{str_to_ascii_lowercase}
-use Rattle.spdx_catalog.specs.declared.catalog.LicenseEntry.{LicenseEntry}
+use Rattle.spdx_terms.specs.declared.catalog.catalog.LicenseEntry.{LicenseEntry}
 use Rattle.spdx_listing.specs.declared.entries.NamedEntry.{NamedEntry}
 use Rattle.spdx_listing.specs.declared.meanings.Meaning.{Meaning}
 

@@ -1,5 +1,5 @@
 -- What a listing lists.
-use Rattle.spdx_catalog.specs.Catalog.{CatalogLists}
+use Rattle.spdx_terms.specs.catalog.Catalog.{CatalogLists}
 use Rattle.spdx_listing.specs.ListsView.{lists_from}
 use Rattle.spdx_listing.specs.declared.listing.Listing.{Listing}
 

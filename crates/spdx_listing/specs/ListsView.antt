@@ -1,7 +1,7 @@
 -- What the lines of a catalogue's file list, as the values of the code stand for it.
 use Rattle.std.specs.Prelude.{◌≡◌, ℕ, List, [], ◌∷◌, ◌++◌, Option, Some, None}
-use Rattle.spdx_catalog.specs.declared.catalog.LicenseEntry.{LicenseEntry}
-use Rattle.spdx_catalog.specs.Catalog.{CatalogLists, entry_of}
+use Rattle.spdx_terms.specs.declared.catalog.catalog.LicenseEntry.{LicenseEntry}
+use Rattle.spdx_terms.specs.catalog.Catalog.{CatalogLists, entry_of}
 use Rattle.spdx_listing.specs.Form.{LineForm, nothing, license, exception, imprecise}
 use Rattle.spdx_listing.specs.declared.lists.Lists.{Lists}
 

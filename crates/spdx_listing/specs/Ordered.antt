@@ -4,7 +4,7 @@ use Rattle.std.specs.List.Sorted.{IsPermutation, IsSortedBy}
 use Rattle.std.specs.Ordering.{nat_cmp, is_lt}
 use Rattle.std.specs.Cmp.Lexicographic.{slice_cmp}
 use Rattle.std.specs.Str.{str_to_ascii_lowercase}
-use Rattle.spdx_catalog.specs.Words.{ends_word}
+use Rattle.spdx_terms.specs.catalog.Words.{ends_word}
 use Rattle.spdx_listing.specs.IndexView.{meanings_listed}
 use Rattle.spdx_listing.specs.declared.meanings.Meaning.{Meaning}
 

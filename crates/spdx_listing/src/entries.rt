@@ -1,10 +1,10 @@
 //! Licences by their names.
 ghost use Rattle.std.specs.Prelude.{◌≡◌, [], ◌∷◌, ◌++◌, IfOk, None};
-ghost use Rattle.spdx_catalog.specs.Catalog.{entry_of, names_of};
+ghost use Rattle.spdx_terms.specs.catalog.Catalog.{entry_of, names_of};
 ghost use Rattle.spdx_listing.specs.File.{is_among};
 
 use deny_text::{ListOf, Text, TextMap};
-use spdx_catalog::LicenseEntry;
+use spdx_terms::catalog::LicenseEntry;
 use std::alloc::{AllocError, Global};
 use std::marker::Model;
 
@@ -24,7 +24,7 @@ pub(crate) struct LicenseList {
 
 impl Model for LicenseList {
     ghost use Rattle.std.specs.Prelude.{ℕ, List};
-    ghost use Rattle.spdx_catalog.specs.declared.catalog.LicenseEntry.{LicenseEntry};
+    ghost use Rattle.spdx_terms.specs.declared.catalog.catalog.LicenseEntry.{LicenseEntry};
     ghost use Rattle.spdx_listing.specs.IndexView.{entries_listed};
     ghost use Rattle.spdx_listing.specs.Index.{HasEntries};
 

@@ -1,6 +1,6 @@
 //! What the lines of a catalogue's file say.
 
-use spdx_catalog::LicenseEntry;
+use spdx_terms::catalog::LicenseEntry;
 
 /// What a line says.
 #[derive(Clone, Copy)]

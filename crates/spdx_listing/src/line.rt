@@ -4,8 +4,8 @@ ghost use Rattle.std.specs.Char.{is_ascii_digit};
 ghost use Rattle.std.specs.List.{list_all};
 ghost use Rattle.std.specs.Map.{lookup};
 ghost use Rattle.std.specs.Str.{bytes_eq};
-ghost use Rattle.spdx_catalog.specs.TextWords.{has_some};
-ghost use Rattle.spdx_catalog.specs.Words.{is_space};
+ghost use Rattle.spdx_terms.specs.catalog.TextWords.{has_some};
+ghost use Rattle.spdx_terms.specs.catalog.Words.{is_space};
 ghost use Rattle.spdx_listing.specs.Form.{form_of, form_by, license_cut, imprecise_cut};
 ghost use Rattle.spdx_listing.specs.Form.{decimal_of, is_decimal, has_leading_zero, marks_of, rank_of};
 ghost use Rattle.spdx_listing.specs.Form.{says_nothing};
@@ -14,7 +14,7 @@ ghost use Rattle.deny_text.specs.Cut.{cut_at};
 
 use crate::form::{LineForm, LineMarks};
 use crate::words::cut_at_space;
-use spdx_catalog::LicenseEntry;
+use spdx_terms::catalog::LicenseEntry;
 
 /// Whether there is a byte.
 fn has_some(bytes: &[u8]) -> bool

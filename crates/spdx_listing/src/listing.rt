@@ -1,11 +1,11 @@
 //! A catalogue that owns its lists.
-ghost use Rattle.spdx_catalog.specs.Catalog.{IsCatalog};
+ghost use Rattle.spdx_terms.specs.catalog.Catalog.{IsCatalog};
 ghost use Rattle.spdx_listing.specs.ListsView.{lists_from};
 
 use crate::entries::LicenseList;
 use crate::names::NameList;
 use crate::ordered::OrderedMeanings;
-use spdx_catalog::{Catalog, Imprecise, LicenseEntry};
+use spdx_terms::catalog::{Catalog, Imprecise, LicenseEntry};
 
 /// The catalogue that a file defines. A name and an imprecise text are found without going through all of them.
 #[derive(Drop)]

@@ -2,7 +2,7 @@
 ghost use Rattle.std.specs.Prelude.{◌≡◌, [], ◌∷◌, ◌++◌, IfOk};
 ghost use Rattle.std.specs.List.{list_any};
 ghost use Rattle.std.specs.Str.{str_eq_ignore_ascii_case, str_to_ascii_lowercase};
-ghost use Rattle.spdx_catalog.specs.Catalog.{names_of};
+ghost use Rattle.spdx_terms.specs.catalog.Catalog.{names_of};
 ghost use Rattle.spdx_listing.specs.IndexView.{meanings_listed};
 
 use deny_text::{ListOf, Text, TextMap};

@@ -4,15 +4,15 @@ ghost use Rattle.std.specs.List.Sorted.{IsPermutation};
 ghost use Rattle.std.specs.Ordering.{nat_cmp};
 ghost use Rattle.std.specs.Cmp.Lexicographic.{slice_cmp};
 ghost use Rattle.std.specs.Str.{str_to_ascii_lowercase};
-ghost use Rattle.spdx_catalog.specs.Catalog.{BeginsNone, IsLongestImprecise};
-ghost use Rattle.spdx_catalog.specs.Words.{ends_word};
+ghost use Rattle.spdx_terms.specs.catalog.Catalog.{BeginsNone, IsLongestImprecise};
+ghost use Rattle.spdx_terms.specs.catalog.Words.{ends_word};
 ghost use Rattle.spdx_listing.specs.IndexView.{meanings_listed};
 ghost use Rattle.spdx_listing.specs.Ordered.{AreInOrder, AreSorted, IsLastUpto, IsLaterOf, lower_pair};
 ghost use Rattle.spdx_listing.specs.Ordered.{Means, MeansNothing, MeansNothingUpto};
 
 use crate::meanings::{Meaning, lowered};
 use deny_text::{ListOf, Text};
-use spdx_catalog::Imprecise;
+use spdx_terms::catalog::Imprecise;
 use std::alloc::{AllocError, Global};
 use std::cmp::Ordering;
 use std::marker::Model;

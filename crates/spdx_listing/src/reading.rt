@@ -4,7 +4,7 @@ ghost use Rattle.std.specs.Prelude.{Some, None, IfOk, IfErr, false};
 ghost use Rattle.spdx_listing.specs.File.{catalog_of, fault_behind, fault_in, first_fault, has_fault, line_at};
 ghost use Rattle.spdx_listing.specs.File.{license_in, lines_of, lists_of, names_in, TellsFault, TellsLine};
 ghost use Rattle.std.specs.List.{cons_option};
-ghost use Rattle.spdx_catalog.specs.Catalog.{IsCatalog, names_of};
+ghost use Rattle.spdx_terms.specs.catalog.Catalog.{IsCatalog, names_of};
 ghost use Rattle.spdx_listing.specs.Form.{form_of};
 ghost use Rattle.spdx_listing.specs.FormView.{form_view};
 ghost use Rattle.spdx_listing.specs.Listed.{lists_in};

@@ -2,17 +2,17 @@
 ghost use Rattle.std.specs.Prelude.{◌≡◌, ◌≤◌, ◌∷◌, [], map, IfOk, IfErr, option_copied};
 ghost use Rattle.tree_core.specs.Answer.{listed};
 ghost use Rattle.tree_core.specs.Hearing.{MadeSome};
-ghost use Rattle.tree_texts.specs.Cause.{ReadCounts};
+ghost use Rattle.tree_core.specs.texts.Cause.{ReadCounts};
 ghost use Rattle.spdx_listing.specs.Folder.{AreTextsRead, IsStoreRead, ReadsOn, before_end, fault_of};
 ghost use Rattle.spdx_listing.specs.Folder.{licence_of, one_text, store_cause, text_file, texts_of};
 
 use crate::error::{StoreError, StoreFault};
 use deny_text::Text;
 use deny_text::path::join;
-use spdx_catalog::{LicenseStore, StoreText, StoreTexts};
+use spdx_terms::catalog::{LicenseStore, StoreText, StoreTexts};
 use std::alloc::{AllocError, Global};
+use tree_core::texts::{ReadFault, read_file_text};
 use tree_core::{Entry, Tree, TreeError};
-use tree_texts::{ReadFault, read_file_text};
 
 /// What stands before an end.
 #[tactic(auto, using(crate::proofs::WordLemmas::strips_end))]

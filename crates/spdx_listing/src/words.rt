@@ -2,10 +2,10 @@
 ghost use Rattle.std.specs.Prelude.{◌≡◌, ◌&&◌, option_map};
 ghost use Rattle.deny_text.specs.Cut.{cut_at};
 ghost use Rattle.std.specs.Str.{str_eq_ignore_ascii_case};
-ghost use Rattle.spdx_catalog.specs.TextWords.{is_line_end};
+ghost use Rattle.spdx_terms.specs.catalog.TextWords.{is_line_end};
 ghost use Rattle.std.specs.List.{before_first, list_all, slice_split};
-ghost use Rattle.spdx_catalog.specs.Words.{is_word_byte, is_word, is_operator, is_reference};
-ghost use Rattle.spdx_catalog.specs.Words.{is_name, is_imprecise, is_space};
+ghost use Rattle.spdx_terms.specs.catalog.Words.{is_word_byte, is_word, is_operator, is_reference};
+ghost use Rattle.spdx_terms.specs.catalog.Words.{is_name, is_imprecise, is_space};
 
 /// What stands before the first space, and what stands behind it.
 pub(crate) fn cut_at_space(text: &str) -> Option<(&str, &str)>

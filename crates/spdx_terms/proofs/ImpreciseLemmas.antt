@@ -9,9 +9,9 @@ use Rattle.std.specs.Option.{option_map}
 use Rattle.std.specs.List.{list_any}
 use Rattle.std.specs.Char.{to_ascii_lowercase}
 use Rattle.std.specs.Str.{bytes_eq, str_eq_ignore_ascii_case, str_to_ascii_lowercase}
-use Rattle.spdx_catalog.specs.declared.catalog.Imprecise.{Imprecise}
-use Rattle.spdx_catalog.specs.Catalog.{CatalogLists, IsCatalog, IsLongestImprecise, BeginsNone, BeginsText, names_of, all_distinct}
-use Rattle.spdx_catalog.specs.Words.{ends_word}
+use Rattle.spdx_terms.specs.declared.catalog.catalog.Imprecise.{Imprecise}
+use Rattle.spdx_terms.specs.catalog.Catalog.{CatalogLists, IsCatalog, IsLongestImprecise, BeginsNone, BeginsText, names_of, all_distinct}
+use Rattle.spdx_terms.specs.catalog.Words.{ends_word}
 use Rattle.spdx_terms.specs.Items.{begins, longest, longer, imprecise_of}
 
 abbrev pub Pairs : Type 0

@@ -4,7 +4,7 @@ use Rattle.std.proofs.lemmas.Bool.Decides.{nat_tests}
 use Rattle.spdx_terms.specs.declared.mode.ParseMode.{ParseMode}
 use Rattle.spdx_terms.specs.declared.item.WantedItem.{WantedItem}
 use Rattle.spdx_terms.specs.declared.item.Item.{Item}
-use Rattle.spdx_catalog.specs.Catalog.{CatalogLists}
+use Rattle.spdx_terms.specs.catalog.Catalog.{CatalogLists}
 use Rattle.spdx_terms.specs.Tokens.{is_white}
 use Rattle.spdx_terms.specs.Items.{items_from, item_here, with_item, wanted_behind, used_behind}
 

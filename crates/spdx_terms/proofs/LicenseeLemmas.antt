@@ -13,7 +13,7 @@ use Rattle.spdx_terms.specs.Faults.{licensee_fault_from, licensee_fault_of, lice
 use Rattle.spdx_terms.specs.declared.item.LicenseMarks.{LicenseMarks}
 use Rattle.spdx_terms.specs.declared.term.LicenseItem.{LicenseItem}
 use Rattle.spdx_terms.specs.declared.term.LicenseItem.TheVariants.{Spdx, Reference}
-use Rattle.spdx_catalog.specs.Catalog.{CatalogLists}
+use Rattle.spdx_terms.specs.catalog.Catalog.{CatalogLists}
 use Rattle.spdx_terms.specs.Items.{items_of}
 use Rattle.spdx_terms.proofs.ImpreciseLemmas.{some_same}
 use Rattle.spdx_terms.specs.Licensee.{IsLicensee, HasNoPlus, without_plus, IsOnePart, alone, with_exception, part_of, licensee_req}

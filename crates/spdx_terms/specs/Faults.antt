@@ -12,7 +12,7 @@ use Rattle.spdx_terms.specs.declared.item.ItemKind.TheVariants.{Term, Exception,
 use Rattle.spdx_terms.specs.declared.item.Item.{Item}
 use Rattle.spdx_terms.specs.declared.item.LicenseMarks.{LicenseMarks}
 use Rattle.spdx_terms.specs.declared.item.Simple.{Simple}
-use Rattle.spdx_catalog.specs.Catalog.{CatalogLists}
+use Rattle.spdx_terms.specs.catalog.Catalog.{CatalogLists}
 use Rattle.spdx_terms.specs.Items.{items_of, wanted_after}
 
 abbrev pub fault : ParseReason → ℕ → ℕ → Option ParseError

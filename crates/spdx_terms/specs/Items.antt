@@ -3,8 +3,8 @@ use Rattle.std.specs.Prelude.{ℕ, ◌+◌, ◌==◌, nat_lt, nat_le, Bool, true
 use Rattle.std.specs.Str.{byte, str_eq_ignore_ascii_case}
 use Rattle.std.specs.Option.{option_map, option_or}
 use Rattle.deny_text.specs.declared.span.Span.{Span}
-use Rattle.spdx_catalog.specs.declared.catalog.LicenseEntry.{LicenseEntry}
-use Rattle.spdx_catalog.specs.declared.catalog.Imprecise.{Imprecise}
+use Rattle.spdx_terms.specs.declared.catalog.catalog.LicenseEntry.{LicenseEntry}
+use Rattle.spdx_terms.specs.declared.catalog.catalog.Imprecise.{Imprecise}
 use Rattle.spdx_terms.specs.declared.mode.ParseMode.{ParseMode}
 use Rattle.spdx_terms.specs.declared.item.Token.{Token}
 use Rattle.spdx_terms.specs.declared.item.Token.TheVariants.{Word as a_word, Plus as a_plus, Open as an_open, Close as a_close, Slash as a_slash, Other as another}
@@ -16,8 +16,8 @@ use Rattle.spdx_terms.specs.declared.item.Item.{Item}
 use Rattle.spdx_terms.specs.declared.item.LicenseMarks.{LicenseMarks}
 use Rattle.spdx_terms.specs.declared.term.LicenseItem.{LicenseItem}
 use Rattle.spdx_terms.specs.declared.term.LicenseItem.TheVariants.{Spdx}
-use Rattle.spdx_catalog.specs.Catalog.{CatalogLists, entry_of}
-use Rattle.spdx_catalog.specs.Words.{ends_word}
+use Rattle.spdx_terms.specs.catalog.Catalog.{CatalogLists, entry_of}
+use Rattle.spdx_terms.specs.catalog.Words.{ends_word}
 use Rattle.spdx_terms.specs.Tokens.{is_white, token_of, rest_len, one_of, says_and, says_or, says_with, reference_of}
 
 -- so many bytes from a place on

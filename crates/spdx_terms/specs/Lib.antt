@@ -10,3 +10,5 @@ pub mod Satisfaction
 pub mod Spans
 pub mod Terms
 pub mod Tokens
+pub mod catalog
+pub mod families

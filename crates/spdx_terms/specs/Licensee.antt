@@ -16,7 +16,7 @@ use Rattle.spdx_terms.specs.declared.item.ItemKind.{ItemKind}
 use Rattle.spdx_terms.specs.declared.item.ItemKind.TheVariants.{Term, Exception, And, Or, With, Open, Close, Plus, Word, Other}
 use Rattle.spdx_terms.specs.declared.error.ExprError.{ExprError}
 use Rattle.spdx_terms.specs.declared.error.ExprError.TheVariants.{Parse, Memory}
-use Rattle.spdx_catalog.specs.Catalog.{CatalogLists}
+use Rattle.spdx_terms.specs.catalog.Catalog.{CatalogLists}
 use Rattle.spdx_terms.specs.Items.{items_of}
 use Rattle.spdx_terms.specs.Faults.{marks_allowed, licensee_mode, licensee_fault}
 use Rattle.spdx_terms.specs.Terms.{req_text}

@@ -7,7 +7,7 @@ use Rattle.spdx_terms.specs.declared.item.Token.{Token}
 use Rattle.spdx_terms.specs.declared.item.Token.TheVariants.{Word, Plus, Open, Close, Slash, Other}
 use Rattle.spdx_terms.specs.declared.term.LicenseItem.{LicenseItem}
 use Rattle.spdx_terms.specs.declared.term.LicenseItem.TheVariants.{Reference}
-use Rattle.spdx_catalog.specs.Words.{is_word_byte, is_word}
+use Rattle.spdx_terms.specs.catalog.Words.{is_word_byte, is_word}
 
 -- space, tab, LF or CR
 abbrev pub is_white : ℕ → Bool

@@ -11,13 +11,13 @@ ghost use Rattle.spdx_terms.specs.Items.{exception_item as exception_item_at, wo
 ghost use Rattle.spdx_terms.specs.Items.{first_item as first_item_of, items_of};
 ghost use Rattle.spdx_terms.specs.NextItem.{IsNext};
 
+use crate::catalog::{Catalog, Imprecise, LicenseEntry};
 use crate::item::{Item, ItemKind, LicenseMarks, Simple, Token, WantedItem};
 use crate::mode::ParseMode;
 use crate::term::LicenseItem;
 use crate::words;
 use deny_text::text::copied;
 use deny_text::{ListOf, Span, Text};
-use spdx_catalog::{Catalog, Imprecise, LicenseEntry};
 use std::alloc::{AllocError, Global};
 
 impl WantedItem {

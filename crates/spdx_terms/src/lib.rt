@@ -1,7 +1,9 @@
 //! What licence expressions are made of: their words and marks, terms, and licensees.
 #![tactic(auto)]
 
+pub mod catalog;
 pub mod error;
+pub mod families;
 pub mod fault;
 pub mod item;
 pub mod items;

@@ -11,6 +11,7 @@ ghost use Rattle.spdx_terms.specs.Licensee.{exception_name_of, part_of, Licensee
 ghost use Rattle.spdx_terms.specs.Faults.{lone_fault as lone_fault_at, licensee_fault_from, licensee_fault_of};
 ghost use Rattle.std.specs.Option.{option_and_then};
 
+use crate::catalog::Catalog;
 use crate::error::{ExprError, ParseError, ParseReason};
 use crate::fault::{empty_fault, end_fault, item_fault};
 use crate::item::{Item, ItemKind, LicenseMarks, WantedItem};
@@ -18,7 +19,6 @@ use crate::items::item_vec;
 use crate::mode::ParseMode;
 use crate::term::{Family, LicenseItem, LicenseReq};
 use deny_text::{Steps, Text};
-use spdx_catalog::Catalog;
 use std::alloc::{AllocError, Global};
 use std::cmp::Ordering;
 use std::fmt;

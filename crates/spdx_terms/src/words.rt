@@ -2,7 +2,7 @@
 ghost use Rattle.std.specs.Prelude.{◌≡◌, ◌≤◌, length, Some};
 ghost use Rattle.std.specs.Option.{option_map, option_copied};
 ghost use Rattle.std.specs.List.{list_all};
-ghost use Rattle.spdx_catalog.specs.Words.{is_word_byte as word_byte, is_word as word_text};
+ghost use Rattle.spdx_terms.specs.catalog.Words.{is_word_byte as word_byte, is_word as word_text};
 ghost use Rattle.spdx_terms.specs.Tokens.{is_white as white, in_word as inside_word};
 ghost use Rattle.spdx_terms.specs.Tokens.{token_of as token_with, rest_len, says_and as and_text};
 ghost use Rattle.spdx_terms.specs.Tokens.{says_or as or_text, says_with as with_text};

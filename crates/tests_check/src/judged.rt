@@ -2,16 +2,16 @@
 //! was gathered of it, and then of the policy.
 ghost use Rattle.std.specs.Prelude.{◌≡◌, ◌<◌};
 
-use check_evaluate::{Evaluator, Hit, Hits, TermPlaces, Verdict};
-use check_unused::{EntryHits, last_pack};
-use check_verdicts::{finding, fits, judged, pack_of, skipped, unlicensed};
+use check_core::evaluate::{Evaluator, Hit, Hits, TermPlaces, Verdict};
+use check_core::unused::{EntryHits, last_pack};
+use check_core::verdicts::{finding, fits, judged, pack_of, skipped, unlicensed};
 use deny_text::{Steps, Text, Texts};
 use diag_core::licenses::Code;
 use diag_core::{Diag, Files, Label, Labels, LevelFilter, Notes, Pack, Severity};
 use diag_print::{Color, DiagPrinter, Format, LogContext, pack_labels_are_inside};
 use gather_core::{Diags, LicenseExprInfo, LicenseExprSource};
 use graph_core::{Krate, Source};
-use policy_valid::ValidConfig;
+use policy_core::valid::ValidConfig;
 use spdx_core::Expression;
 use std::alloc::{AllocError, Global};
 use std::marker::Brand;

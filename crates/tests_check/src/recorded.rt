@@ -9,7 +9,7 @@ use gather_core::{
     Diags, KrateLicense, KrateLicenses, LicenseExprInfo, LicenseExprSource, LicenseInfo, Summary,
 };
 use graph_core::Krate;
-use policy_valid::ValidConfig;
+use policy_core::valid::ValidConfig;
 use std::alloc::Global;
 use std::marker::Brand;
 use std::sync::ledger::{Blank, Ledger};

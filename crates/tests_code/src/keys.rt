@@ -3,7 +3,7 @@ ghost use Rattle.std.specs.Prelude.{◌≡◌};
 
 use deny_text::Span;
 use std::test::Fail;
-use toml_keys::KeyIndex;
+use toml_subset::key_index::KeyIndex;
 use toml_subset::{Key, plain_string};
 
 const PLACE: Span = Span { start: 0, end: 1 };

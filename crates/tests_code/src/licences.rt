@@ -1,13 +1,13 @@
 //! What the definitions make of names, texts and expressions that were worked out by hand.
 ghost use Rattle.std.specs.Prelude.{◌≡◌, [], ◌∷◌, true, false, codes, map, refl};
-ghost use Rattle.spdx_catalog.specs.Catalog.{IsCatalog};
-ghost use Rattle.spdx_catalog.specs.Words.{is_name, is_imprecise, ends_word};
+ghost use Rattle.spdx_terms.specs.catalog.Catalog.{IsCatalog};
+ghost use Rattle.spdx_terms.specs.catalog.Words.{is_name, is_imprecise, ends_word};
 ghost use Rattle.spdx_terms.specs.ItemRows.{odd, mode_with, RowsHold, plain_rows, imprecise_rows, slash_rows};
 ghost use Rattle.spdx_terms.specs.ItemRows.{lax_rows};
 ghost use Rattle.spdx_terms.specs.Faults.{first_fault};
 ghost use Rattle.spdx_core.specs.Reading.{expression_of_text};
 ghost use Rattle.spdx_core.specs.ExpressionRows.{two_terms, operator_is_used_up};
-ghost use Rattle.spdx_certificates.specs.Rows.{rows, computed};
+ghost use Rattle.spdx_core.specs.certificates.Rows.{rows, computed};
 
 /// Does nothing: its clauses are rows of what can stand in a catalogue.
 fn names_and_imprecise_texts()

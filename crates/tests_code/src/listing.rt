@@ -1,9 +1,9 @@
 //! A catalogue that is made at run time and owns its lists, behind functions over any catalogue.
 ghost use Rattle.std.specs.Prelude.{◌≡◌, [], ◌∷◌, IfOk, Contains, map, codes, true, false};
-ghost use Rattle.spdx_catalog.specs.Catalog.{IsCatalog, entry_of};
+ghost use Rattle.spdx_terms.specs.catalog.Catalog.{IsCatalog, entry_of};
 
 use deny_text::{ListOf, Text};
-use spdx_catalog::{Catalog, Imprecise, LicenseEntry};
+use spdx_terms::catalog::{Catalog, Imprecise, LicenseEntry};
 use std::alloc::{AllocError, Global};
 use std::test::Fail;
 

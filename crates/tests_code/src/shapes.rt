@@ -1,7 +1,7 @@
 //! How faults of a shape are printed.
 use deny_text::{Span, Text};
 use std::test::Fail;
-use toml_shapes::{DeserError, ErrorKind, ShapeError, ShapeErrors};
+use toml_subset::shapes::{DeserError, ErrorKind, ShapeError, ShapeErrors};
 
 #[test]
 fn faults_are_printed(rt: HostRuntime) -> Result<(), Fail> {

@@ -1,7 +1,7 @@
 -- What the identifier of names says of a text.
 use Rattle.std.specs.Prelude.{ℕ, ◌≤◌, Bool, true, false, cond, List, codes, Option, Some, None, bytes_eq, if◌then◌else◌}
 use Rattle.std.proofs.Common.{lit≤}
-use Rattle.spdx_catalog.specs.declared.identifier.Match.{Match}
+use Rattle.spdx_terms.specs.declared.catalog.identifier.Match.{Match}
 
 -- the licence that a text is said to be, of these texts
 abbrev pub name_in : List ℕ → Option (List ℕ)

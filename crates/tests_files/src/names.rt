@@ -3,7 +3,7 @@ ghost use Rattle.std.specs.Prelude.{◌≡◌, option_copied};
 ghost use Rattle.tests_files.specs.Said.{is_within, match_with, name_in, score_in};
 
 use deny_text::Text;
-use spdx_catalog::{Identifier, Match};
+use spdx_terms::catalog::{Identifier, Match};
 use std::alloc::{AllocError, Global};
 
 /// Says of a text of one line, which is the name of a licence, that it is that one, at 80 or at the score that

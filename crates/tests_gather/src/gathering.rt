@@ -4,21 +4,21 @@ use crate::given::{OF_FEED, World, first_word, policy_of, world_of};
 use deny_text::{PathBuf, Span, Text};
 use diag_core::{Diag, Files, Label, LabelStyle};
 use gather_core::{Gatherer, KrateLicense, LicenseExprSource, LicenseInfo, Summary};
-use gather_expression::{joined, scan_pack};
-use gather_files::{LicensePack, TriedClarification};
 use gather_licence::FileRef;
-use gather_location::{LocatedField, locate};
+use gather_licence::expression::{joined, scan_pack};
+use gather_licence::files::{LicensePack, TriedClarification};
+use gather_licence::location::{LocatedField, locate};
+use graph_core::selection::{ExcludeSpecs, Krates, Selection};
 use graph_metadata::records;
-use graph_selection::{ExcludeSpecs, Krates, Selection};
-use policy_valid::ValidConfig;
+use policy_core::valid::ValidConfig;
 use run_listing::list;
 use run_request::{FromWord, Layout, OutputFormat};
 use spdx_core::Table;
 use std::alloc::Global;
 use tests_files::tree::text_of;
 use tests_files::{AnswerText, Case, CaseEntry, NameIdentifier, ok, some};
+use tree_core::file_reads::{FolderHeard, list_folder, listing_record, read_file};
 use tree_core::{MemSink, MemTree, ReadRecord};
-use tree_reads::{FolderHeard, list_folder, listing_record, read_file};
 
 /// The crates of the metadata of a case.
 fn krates(alloc: Global, case: &Case<'_>) -> Option<Krates> {

@@ -3,12 +3,12 @@
 use deny_text::{PathBuf, Span, Spanned, Text, TextMap, Texts};
 use diag_core::Files;
 use graph_core::Krate;
-use policy_entries::{Licensee, Licensees};
-use policy_parts::{FileSource, FileSources, LintLevel, Private, SpannedTexts};
-use policy_spec::PackageSpec;
-use policy_valid::{
+use policy_core::valid::{
     Urls, ValidClarification, ValidClarifications, ValidConfig, ValidException, ValidExceptions,
 };
+use policy_parts::entries::{Licensee, Licensees};
+use policy_parts::spec::PackageSpec;
+use policy_parts::{FileSource, FileSources, LintLevel, Private, SpannedTexts};
 use semver::Version;
 use spdx_core::{Expression, ParseMode, Table};
 use std::alloc::Global;

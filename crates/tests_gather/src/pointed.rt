@@ -6,17 +6,17 @@ use crate::gathering::put_findings;
 use crate::given::{World, file_told, first_word, krate, span, table, value, world_of};
 use deny_text::{ListOf, PathBuf, Text};
 use diag_core::{Coord, Diag, Files};
-use gather_expression::{FileResult, IdentifiedName, ScannedFile};
-use gather_findings::{
+use gather_core::findings::{
     ExpressionBasis, PlacedFindings, SeenFiles, UnclarifiedCrate as Unsettled, find, missing_file,
     read_field,
 };
-use gather_location::locate;
+use gather_licence::expression::{FileResult, IdentifiedName, ScannedFile};
+use gather_licence::location::locate;
 use graph_core::Krate;
 use spdx_core::Table;
 use std::alloc::Global;
 use tests_files::{AnswerText, Case, CaseEntry, ok, some};
-use tree_reads::BadRead;
+use tree_core::file_reads::BadRead;
 
 fn bad_read(word: &str) -> Option<BadRead> {
     match word {

@@ -4,10 +4,10 @@
 //! where its publish list is empty and `~` where a registry stands in it. Behind an arrow stand the crates that it depends on, each
 //! with its kinds, or with `none` for an empty list of kinds, or alone, where there is no such list.
 use crate::given;
-use graph_metadata::{Krate, MetaError, records};
-use graph_selection::{
+use graph_core::selection::{
     BuildError, DepKind, ExcludeSpec, ExcludeSpecs, Include, KrateRefs, Krates, Metadata, Selection,
 };
+use graph_metadata::{Krate, MetaError, records};
 use std::alloc::{AllocError, Global};
 use tests_files::{AnswerText, Case};
 

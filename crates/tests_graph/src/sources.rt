@@ -1,6 +1,6 @@
 //! Sources, how they compare, the addresses that they match, and the normal form of git addresses.
 use crate::SPARSE_DIR;
-use graph_source::{Source, SourceError, matches_address, normalize_git_url};
+use graph_core::source::{Source, SourceError, matches_address, normalize_git_url};
 use std::alloc::Global;
 use std::cmp::Ordering;
 use tests_files::AnswerText;

@@ -5,8 +5,8 @@ use run_context::{KrateContext, Krates, KratesError, gather_krates};
 use std::alloc::{AllocError, Global};
 use tests_files::tree::{number, tree_of};
 use tests_files::{AnswerText, Case, KeyAnswer};
+use tree_core::texts::{SearchError, SoughtFile, find_upwards};
 use tree_core::{MemTree, PutError, Tree};
-use tree_texts::{SearchError, SoughtFile, find_upwards};
 
 /// Makes the call with this number fail, or none where it is 0.
 fn fail_call(out: &mut AnswerText, tree: &mut MemTree, word: &str) {

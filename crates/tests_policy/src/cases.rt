@@ -5,9 +5,9 @@ use crate::show::{
 use deny_text::PathBuf;
 use diag_core::{Files, LevelFilter};
 use diag_print::{Color, Format, LogContext};
+use policy_core::text::{ConfigError, read_config};
 use policy_core::{Config, Licensees, RootConfig, ValidConfig, ValidExceptions};
 use policy_load::{LoadError, LoadedPolicy, PolicyPaths, load};
-use policy_text::{ConfigError, read_config};
 use spdx_core::Table;
 use std::alloc::{AllocError, Global};
 use tests_files::cases::{is_among, wanted};

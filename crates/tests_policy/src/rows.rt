@@ -3,18 +3,18 @@ use crate::cases::{put_policy, read_policy};
 use crate::show::{Fields, put_at, put_clarified, put_findings, put_refusal, put_spans};
 use deny_text::{Span, Spanned, Text};
 use diag_core::{Diagnostic, Files, Severity};
+use policy_core::text::{ConfigError, ConfigText, ReadFault};
 use policy_core::{
     BlanketAgreement, Clarification, Config, Exception, ExceptionsFile, FileSource, GraphConfig,
     Licensee, LintLevel, OutputConfig, Private, Reason, Scope, SpannedList, UnvalidatedConfig,
     ValidConfig, ValidationContext,
 };
 use policy_load::{Diagnostics, LoadError};
-use policy_text::{ConfigError, ConfigText, ReadFault};
+use policy_toml::rows::{Spans, deprecated, finish};
 use policy_toml::{Deserialize, TableHelper, Value};
 use spdx_core::Table;
 use std::alloc::{AllocError, Global};
 use tests_files::{AnswerText, Rows};
-use toml_rows::{Spans, deprecated, finish};
 use toml_value::read_value;
 
 fn value_of(alloc: Global, text: &str) -> Result<Value<'_>, ConfigError> {

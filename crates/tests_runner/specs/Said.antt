@@ -1,8 +1,8 @@
 -- What the identifiers of cases say of a text.
 use Rattle.std.specs.Prelude.{ℕ, ◌≤◌, min, List, codes, Some}
 use Rattle.std.proofs.Math.Nat.{min-le_right}
-use Rattle.spdx_catalog.specs.declared.identifier.Match.{Match}
-use Rattle.spdx_catalog.specs.Store as store
+use Rattle.spdx_terms.specs.declared.catalog.identifier.Match.{Match}
+use Rattle.spdx_terms.specs.catalog.Store as store
 use Rattle.tests_files.specs.Said as said
 use Rattle.tests_runner.specs.declared.identifiers.CaseIdentifier.{CaseIdentifier}
 use Rattle.tests_runner.specs.declared.identifiers.CaseIdentifier.TheVariants.{Stored, Named, Mit}

@@ -6,7 +6,7 @@ use run_check::{Report, cmd};
 use run_found::Error;
 use run_request::read::read;
 use run_request::{CliAnswer, Request, Subcommand};
-use spdx_catalog::Table;
+use spdx_terms::catalog::Table;
 use std::alloc::Global;
 
 /// What a request comes to by its command; none where that is another one.

@@ -3,7 +3,7 @@ ghost use Rattle.std.specs.Prelude.{◌≡◌, Some, IfOk};
 ghost use Rattle.tests_runner.specs.Said.{match_of_text, is_within};
 
 use deny_text::Text;
-use spdx_catalog::{Identifier, LicenseStore, Match};
+use spdx_terms::catalog::{Identifier, LicenseStore, Match};
 use std::alloc::{AllocError, Global};
 use tests_files::NameIdentifier;
 use tests_files::told::UnreadLine;

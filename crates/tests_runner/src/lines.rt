@@ -2,7 +2,7 @@
 use deny_run::run::run;
 use deny_run::{CrateReport, Outcome, RunEnd, Verdict};
 use deny_text::hash::hash;
-use spdx_catalog::{LicenseStore, Table};
+use spdx_terms::catalog::{LicenseStore, Table};
 use std::alloc::{AllocError, Global};
 use tests_files::AnswerText;
 use tree_core::{MemSink, MemTree};

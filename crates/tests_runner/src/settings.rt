@@ -3,7 +3,7 @@ use crate::counted::{CountedSink, CountedTree};
 use crate::identifiers::{CaseIdentifier, known_as};
 use deny_run::Outcome;
 use deny_run::run::run;
-use spdx_catalog::Table;
+use spdx_terms::catalog::Table;
 use std::alloc::{AllocError, Global};
 use tests_files::cases::wanted;
 use tests_files::tree::{number, range_of, text_of, tree_of};

@@ -1,6 +1,6 @@
 //! Texts as expressions, and the certificates of their verdicts.
 use crate::terms::{pair_of, put_fault, put_span};
-use spdx_certificates::{Hit, Hits, TermPlaces, Verdict, certificate};
+use spdx_core::certificates::{Hit, Hits, TermPlaces, Verdict, certificate};
 use spdx_core::{ExprError, ExprNode, Expression, ParseMode, Table};
 use std::alloc::{AllocError, Global};
 use tests_files::AnswerText;

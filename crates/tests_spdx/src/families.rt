@@ -1,7 +1,7 @@
 //! Where licence families stand in lists of licences.
 use crate::terms::pair_of;
 use spdx_core::{Expression, Family, ParseMode, Table};
-use spdx_families::FamilyIndex;
+use spdx_terms::families::FamilyIndex;
 use std::alloc::Global;
 use tests_files::AnswerText;
 

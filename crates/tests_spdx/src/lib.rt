@@ -8,7 +8,7 @@ mod listings;
 mod terms;
 mod texts;
 
-use spdx_catalog::{Catalog, Table};
+use spdx_terms::catalog::{Catalog, Table};
 use std::alloc::Global;
 use std::rt::Runtime;
 use tests_files::{AnswerText, Rows, compare_rows};

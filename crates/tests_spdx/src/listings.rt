@@ -1,7 +1,7 @@
 //! Files of an organisation's own catalogue, and folders of its texts.
 use deny_text::Bytes;
-use spdx_catalog::{Catalog, Identifier, Table};
 use spdx_listing::{Listing, ListingError, StoreError, StoreFault, read_catalog, read_store};
+use spdx_terms::catalog::{Catalog, Identifier, Table};
 use std::alloc::{AllocError, Global};
 use tests_files::AnswerText;
 use tree_core::MemTree;

@@ -1,6 +1,6 @@
 //! Texts of licences, which rows name by their files, and what stores of texts find.
 use deny_text::Text;
-use spdx_catalog::{Identifier, LicenseStore, StoreText, StoreTexts};
+use spdx_terms::catalog::{Identifier, LicenseStore, StoreText, StoreTexts};
 use std::alloc::{AllocError, Global};
 use std::rt::Runtime;
 use std::{fs, io};

@@ -2,7 +2,7 @@
 use deny_text::{Span, Texts};
 use std::alloc::Global;
 use tests_files::AnswerText;
-use toml_shapes::DeserError;
+use toml_subset::shapes::DeserError;
 use toml_subset::{Key, Str, SyntaxError, TomlError};
 use toml_value::{Entries, Value, ValueInner};
 

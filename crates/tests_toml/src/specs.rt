@@ -5,7 +5,7 @@ use crate::printed::{let_go, put_error, put_faults, put_span};
 use crate::typed::put_table;
 use deny_text::{PathBuf, Span, Spanned, Text, TextMap, Texts};
 use graph_core::Krate;
-use policy_spec::{PackageSpec, PackageSpecOrExtended, SpecIndex, match_krate};
+use policy_parts::spec::{PackageSpec, PackageSpecOrExtended, SpecIndex, match_krate};
 use policy_toml::{Deserialize, Value};
 use semver::{Version, VersionReq};
 use std::alloc::{AllocError, Global};

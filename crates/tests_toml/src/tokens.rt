@@ -8,7 +8,9 @@ use deny_text::Span;
 use std::alloc::Global;
 use std::fmt;
 use tests_files::AnswerText;
-use toml_frames::{Scalar, behind_entry, behind_item, entry_place, item_place, read_scalar};
+use toml_subset::frames::{
+    Scalar, behind_entry, behind_item, entry_place, item_place, read_scalar,
+};
 use toml_subset::{
     Keys, Number, Str, SyntaxError, TomlError, after_blanks, after_comment, after_white, char_end,
     classify, line_end, next_line, read_keys, read_left, read_number, read_string, space_from,

@@ -18,3 +18,7 @@ pub mod TableFaults
 pub mod Tables
 pub mod Text
 pub mod Written
+pub mod shapes
+pub mod text_laws
+pub mod frames
+pub mod key_index

@@ -3,12 +3,16 @@
 
 mod error;
 mod fault;
+pub mod frames;
+pub mod key_index;
 mod keys;
 pub mod laws;
 mod number;
 mod scan;
+pub mod shapes;
 mod string;
 mod strings;
+pub mod text_laws;
 
 pub use error::{SyntaxError, SyntaxReason, TomlError};
 pub use fault::{control_character, fault_at, stuck};

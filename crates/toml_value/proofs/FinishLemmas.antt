@@ -5,7 +5,7 @@ use Rattle.deny_text.specs.declared.span.Span.{Span}
 use Rattle.toml_subset.specs.Data.{Entries, Items, Toml}
 use Rattle.toml_subset.specs.Tables.{Branches, entries_of, items_of}
 use Rattle.toml_subset.specs.declared.string.Key.{Key}
-use Rattle.toml_frames.specs.Levels.{bodies_to}
+use Rattle.toml_subset.specs.frames.Levels.{bodies_to}
 use Rattle.toml_value.specs.BranchViews.{node_view, branches_view, body_view, body_items, finished}
 use Rattle.toml_value.specs.FinishViews.{followed, left_of, item_of}
 use Rattle.toml_value.specs.Lookup.{with_item, with_entry}

@@ -3,7 +3,7 @@ use Rattle.std.proofs.Common.{◌≡◌, ℕ, zero, suc, ◌+◌, ◌<◌, ◌&&
 use Rattle.std.proofs.lemmas.List.{length-map, map-append}
 use Rattle.std.specs.List.{list_all}
 use Rattle.deny_text.specs.declared.span.Span.{Span}
-use Rattle.toml_keys.specs.KeyPlaces.{first_key_place}
+use Rattle.toml_subset.specs.key_index.KeyPlaces.{first_key_place}
 use Rattle.toml_subset.specs.Answer.{AnswersToml, then_read}
 use Rattle.toml_subset.specs.TableFaults.{last_of}
 use Rattle.toml_subset.specs.Tables.{Node, Branches, growing, unbranched, branch, tables, same_key, added}
@@ -13,10 +13,10 @@ use Rattle.toml_subset.specs.declared.error.TomlError.{TomlError}
 use Rattle.toml_subset.specs.declared.error.TomlError.TheVariants.{Syntax, Memory}
 use Rattle.toml_subset.specs.declared.string.Key.{Key}
 use Rattle.toml_subset.proofs.Law.Basics.{map_some, is_some, is_ok, not_ok, if_is}
-use Rattle.toml_frames.proofs.Levels.{plugged_last}
-use Rattle.toml_frames.specs.Levels.{Around, behind, Cursor, replaced, found_at, size, bodies_to, before_last, last_place, all_of, plugged, all_plugged, steps_in, opened, fresh, refusal, further, into_old, into_new, into_found, into_part, into_parts, into_header}
-use Rattle.toml_frames.specs.declared.part.HeaderPart.{HeaderPart}
-use Rattle.toml_frames.specs.declared.part.HeaderPart.TheVariants.{Through, Array}
+use Rattle.toml_subset.proofs.frames.Levels.{plugged_last}
+use Rattle.toml_subset.specs.frames.Levels.{Around, behind, Cursor, replaced, found_at, size, bodies_to, before_last, last_place, all_of, plugged, all_plugged, steps_in, opened, fresh, refusal, further, into_old, into_new, into_found, into_part, into_parts, into_header}
+use Rattle.toml_subset.specs.declared.frames.part.HeaderPart.{HeaderPart}
+use Rattle.toml_subset.specs.declared.frames.part.HeaderPart.TheVariants.{Through, Array}
 use Rattle.toml_value.specs.AroundViews.{or_redefined}
 use Rattle.toml_value.specs.BranchViews.{mark_of, joined, node_view, branches_view, body_view, is_whole, is_whole_node, is_whole_body}
 use Rattle.toml_value.specs.LevelViews.{level_view}

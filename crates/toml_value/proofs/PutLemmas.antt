@@ -7,8 +7,8 @@ use Rattle.toml_subset.specs.Tables.{by_header, implicit, dotted, Node, Branches
 use Rattle.toml_subset.specs.declared.string.Key.{Key}
 use Rattle.toml_subset.proofs.Law.Basics.{map_some, is_some as one_of, if_is, if_false}
 use Rattle.toml_subset.proofs.Law.Ways.{along_by, along_step, new_table}
-use Rattle.toml_frames.specs.Levels.{found_at, hole, replaced, size}
-use Rattle.toml_frames.proofs.Levels.{is_found, is_missing}
+use Rattle.toml_subset.specs.frames.Levels.{found_at, hole, replaced, size}
+use Rattle.toml_subset.proofs.frames.Levels.{is_found, is_missing}
 use Rattle.toml_value.specs.BelowViews.{LeadsOn, IsTakenOut, HasRoom, placed}
 use Rattle.toml_value.specs.BranchViews.{parts_of_dotted}
 use Rattle.toml_value.proofs.LevelLemmas.{size_replaced}

@@ -20,11 +20,11 @@ use Rattle.toml_subset.proofs.Law.Depths.{depth}
 use Rattle.toml_subset.proofs.Law.Headers.{section_inner}
 use Rattle.toml_subset.proofs.Law.Values.{value_sound}
 use Rattle.toml_subset.proofs.Law.Whole.{text_complete}
-use Rattle.toml_laws.proofs.FirstFault.{first_fault}
-use Rattle.toml_frames.specs.Levels.{Cursor, steps, all_plugged, at_root, IsWay, IsOpened}
-use Rattle.toml_frames.specs.LinesRead.{AreLinesRead}
-use Rattle.toml_frames.proofs.LinesRead.{line_goes_on, line_refused}
-use Rattle.toml_frames.proofs.Levels.{section_way, more_above, pair_low, pair_way, pair_put_is, header_line_is}
+use Rattle.toml_subset.proofs.text_laws.FirstFault.{first_fault}
+use Rattle.toml_subset.specs.frames.Levels.{Cursor, steps, all_plugged, at_root, IsWay, IsOpened}
+use Rattle.toml_subset.specs.frames.LinesRead.{AreLinesRead}
+use Rattle.toml_subset.proofs.frames.LinesRead.{line_goes_on, line_refused}
+use Rattle.toml_subset.proofs.frames.Levels.{section_way, more_above, pair_low, pair_way, pair_put_is, header_line_is}
 use Rattle.toml_value.specs.LevelViews.{cursor_view, pending_view, IsPending, IsShallowCursor, IsLineRead}
 use Rattle.toml_value.specs.ReaderViews.{OnSyntax}
 use Rattle.toml_value.specs.declared.tree.document.Document.{Document as DocumentOf}

@@ -4,7 +4,7 @@ use Rattle.std.proofs.lemmas.Bool.Decides.{nat_tests}
 use Rattle.std.proofs.lemmas.List.{length-map}
 use Rattle.std.specs.List.{list_all}
 use Rattle.std.specs.Str.{bytes_eq}
-use Rattle.toml_keys.specs.KeyPlaces.{first_key_place}
+use Rattle.toml_subset.specs.key_index.KeyPlaces.{first_key_place}
 use Rattle.toml_subset.specs.TableFaults.{table_node_at}
 use Rattle.deny_text.specs.declared.span.Span.{Span}
 use Rattle.toml_subset.specs.Tables.{Node, growing, dotted, branch, same_key, has_key, added}

@@ -10,9 +10,9 @@ use Rattle.toml_subset.specs.declared.error.SyntaxError.{SyntaxError}
 use Rattle.toml_subset.specs.declared.error.TomlError.{TomlError}
 use Rattle.toml_subset.specs.declared.error.TomlError.TheVariants.{Syntax, Memory}
 use Rattle.toml_subset.specs.declared.string.Key.{Key}
-use Rattle.toml_frames.specs.Frames.{with_last, read, waits}
-use Rattle.toml_frames.proofs.Stacks.{IsReading}
-use Rattle.toml_frames.proofs.Turns.{turn_same, turn_from}
+use Rattle.toml_subset.specs.frames.Frames.{with_last, read, waits}
+use Rattle.toml_subset.proofs.frames.Stacks.{IsReading}
+use Rattle.toml_subset.proofs.frames.Turns.{turn_same, turn_from}
 use Rattle.toml_value.specs.Lookup.{with_item}
 use Rattle.toml_value.specs.StackViews.{value_found, frame_view, turn_view, TakesTurn}
 use Rattle.toml_value.specs.TreeViews.{tree_view, IsAwaited}

@@ -1,8 +1,8 @@
 -- What stands around a table that was taken out.
 use Rattle.std.specs.Prelude.{Bool, true, map, Option, Some, None, Ok, Err}
 use Rattle.std.specs.List.{list_all}
-use Rattle.toml_frames.specs.Levels as levels
-use Rattle.toml_frames.specs.Levels.{refusal}
+use Rattle.toml_subset.specs.frames.Levels as levels
+use Rattle.toml_subset.specs.frames.Levels.{refusal}
 use Rattle.toml_subset.specs.Answer.{TomlReading}
 use Rattle.toml_subset.specs.Tables.{Branches}
 use Rattle.toml_subset.specs.declared.error.SyntaxReason.TheVariants.{RedefinedTable}

@@ -3,7 +3,7 @@ use Rattle.std.specs.Prelude.{◌≡◌, ℕ, ◌<◌, true, false, is_some, Opt
 use Rattle.deny_text.specs.declared.span.Span.{Span}
 use Rattle.toml_subset.specs.Tables.{Node, Branches, growing, dotted, unbranched, has_key, added}
 use Rattle.toml_subset.specs.declared.string.Key.{Key}
-use Rattle.toml_frames.specs.Levels.{found_at, hole, replaced, size}
+use Rattle.toml_subset.specs.frames.Levels.{found_at, hole, replaced, size}
 use Rattle.toml_value.specs.BranchViews.{parts_of_dotted}
 
 -- a key leads into a table that a dotted key made, where its table has the key

@@ -6,7 +6,7 @@ use Rattle.toml_subset.specs.Tables as «tables»
 use Rattle.toml_subset.specs.Tables.{Node, Branches}
 use Rattle.toml_subset.specs.Data as «data»
 use Rattle.toml_subset.specs.Data.{Items, Toml}
-use Rattle.toml_frames.specs.Levels.{bodies_to}
+use Rattle.toml_subset.specs.frames.Levels.{bodies_to}
 use Rattle.toml_subset.specs.declared.string.Key.{Key}
 use Rattle.toml_value.specs.Views.{value_view}
 use Rattle.toml_value.specs.declared.value.Value.{Value}

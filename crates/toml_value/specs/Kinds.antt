@@ -1,8 +1,8 @@
 -- The kind of a value.
 use Rattle.toml_subset.specs.Data as «data»
 use Rattle.toml_subset.specs.Data.{TomlContent}
-use Rattle.toml_shapes.specs.declared.shape.ValueKind.{ValueKind}
-use Rattle.toml_shapes.specs.declared.shape.ValueKind.TheVariants.{String, Integer, Decimal, Boolean, Array, Table}
+use Rattle.toml_subset.specs.declared.shapes.shape.ValueKind.{ValueKind}
+use Rattle.toml_subset.specs.declared.shapes.shape.ValueKind.TheVariants.{String, Integer, Decimal, Boolean, Array, Table}
 
 abbrev pub kind_of : TomlContent → ValueKind
 kind_of (data.string w) = String

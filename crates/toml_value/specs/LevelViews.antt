@@ -9,8 +9,8 @@ use Rattle.toml_subset.specs.declared.error.SyntaxError.{SyntaxError}
 use Rattle.toml_subset.specs.declared.error.TomlError.{TomlError}
 use Rattle.toml_subset.specs.declared.error.TomlError.TheVariants.{Syntax, Memory}
 use Rattle.toml_subset.specs.declared.string.Key.{Key}
-use Rattle.toml_frames.specs.Levels as levels
-use Rattle.toml_frames.specs.Levels.{Cursor, IsWay}
+use Rattle.toml_subset.specs.frames.Levels as levels
+use Rattle.toml_subset.specs.frames.Levels.{Cursor, IsWay}
 use Rattle.toml_value.specs.AroundViews.{around_view}
 use Rattle.toml_value.specs.BranchViews.{branches_view}
 use Rattle.toml_value.specs.TreeViews.{tree_view}

@@ -4,8 +4,8 @@ use Rattle.toml_subset.specs.Answer.{TomlReading}
 use Rattle.toml_subset.specs.Reading.{ValueFound}
 use Rattle.toml_subset.specs.declared.error.TomlError.{TomlError}
 use Rattle.toml_subset.specs.declared.error.TomlError.TheVariants.{Syntax, Memory}
-use Rattle.toml_frames.specs.Frames as «frames»
-use Rattle.toml_frames.specs.Frames.{IsValueStep}
+use Rattle.toml_subset.specs.frames.Frames as «frames»
+use Rattle.toml_subset.specs.frames.Frames.{IsValueStep}
 use Rattle.toml_value.specs.TreeViews.{tree_view}
 use Rattle.toml_value.specs.Views.{value_view, values_view}
 use Rattle.toml_value.specs.declared.value.Value.{Value}

@@ -2,9 +2,9 @@
 use Rattle.std.specs.Prelude.{ℕ, Bool, false, if◌then◌else◌, List, [], ◌∷◌, Option, Some, None, Ok, Err}
 use Rattle.toml_subset.specs.Data.{TomlContent, Items, Entries, Toml, string, boolean, array, table, no_item, item}
 use Rattle.toml_subset.specs.Written.{WrittenString}
-use Rattle.toml_shapes.specs.Kinds.{kind_word}
-use Rattle.toml_shapes.specs.Shaped.{ShapeReading}
-use Rattle.toml_shapes.specs.Shapes.{Fault, fault_alone, wanted}
+use Rattle.toml_subset.specs.shapes.Kinds.{kind_word}
+use Rattle.toml_subset.specs.shapes.Shaped.{ShapeReading}
+use Rattle.toml_subset.specs.shapes.Shapes.{Fault, fault_alone, wanted}
 use Rattle.toml_value.specs.Kinds.{kind_of}
 
 -- what a value holds, where it is of the kind

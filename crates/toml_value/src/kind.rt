@@ -1,13 +1,13 @@
 //! Which kind a value is of, and that another was wanted.
 ghost use Rattle.std.specs.Prelude.{◌≡◌, None};
-ghost use Rattle.toml_shapes.specs.Shaped.{AnswersShape, IsToldBy};
+ghost use Rattle.toml_subset.specs.shapes.Shaped.{AnswersShape, IsToldBy};
 ghost use Rattle.toml_value.specs.Kinds.{kind_of as kind_seen};
 ghost use Rattle.toml_value.specs.Taken.{or_wanted, wrong_kind};
 ghost use Rattle.toml_value.specs.Views.{content_view, value_view};
 
 use crate::value::{Value, ValueInner};
 use std::alloc::Global;
-use toml_shapes::{DeserError, ErrorKind, ValueKind, one_fault};
+use toml_subset::shapes::{DeserError, ErrorKind, ValueKind, one_fault};
 
 fn kind_of(inner: &ValueInner<'_>) -> ValueKind
     ensures { result ≡ kind_seen (content_view inner.now) }

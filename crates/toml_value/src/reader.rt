@@ -13,9 +13,9 @@ ghost use Rattle.toml_subset.specs.StringReading.{read_left as left_at};
 ghost use Rattle.toml_subset.specs.Tables.{Branches};
 ghost use Rattle.toml_subset.specs.declared.error.SyntaxError.{SyntaxError as SyntaxErrorOf};
 ghost use Rattle.toml_subset.specs.Text.{IsText};
-ghost use Rattle.toml_frames.specs.Levels.{IsWay, IsOpened, at_root, into_header};
-ghost use Rattle.toml_frames.specs.LinesRead.{bracket_line};
-ghost use Rattle.toml_laws.specs.Placed.{IsPlaced};
+ghost use Rattle.toml_subset.specs.frames.Levels.{IsWay, IsOpened, at_root, into_header};
+ghost use Rattle.toml_subset.specs.frames.LinesRead.{bracket_line};
+ghost use Rattle.toml_subset.specs.text_laws.Placed.{IsPlaced};
 ghost use Rattle.toml_value.specs.LevelViews.{cursor_view, pending_view, IsShallowCursor, IsLineRead};
 ghost use Rattle.toml_value.specs.ReaderViews.{OnSyntax};
 ghost use Rattle.toml_value.specs.Views.{value_view};
@@ -25,7 +25,7 @@ use crate::value::{Value, ValueInner};
 use crate::values::read_value;
 use deny_text::Span;
 use std::alloc::{AllocError, Global};
-use toml_frames::HeaderPart;
+use toml_subset::frames::HeaderPart;
 use toml_subset::{
     Keys, SyntaxError, TomlError, after_blanks, after_comment, control_character, next_line,
     read_keys, read_left, stands, stuck,

@@ -1,9 +1,9 @@
 //! Tables that grow key by key, as the table rules of the subset have them.
 ghost use Rattle.std.specs.Prelude.{◌≡◌, ◌<◌, ◌++◌, [], ◌∷◌, length, get_or, set, false, IsTrue, IfOk, IfSome, option_map};
-ghost use Rattle.toml_keys.specs.KeyPlaces.{first_key_place};
+ghost use Rattle.toml_subset.specs.key_index.KeyPlaces.{first_key_place};
 ghost use Rattle.toml_subset.specs.TableFaults.{table_node_at};
 ghost use Rattle.toml_subset.specs.Tables.{unbranched, has_key, added};
-ghost use Rattle.toml_frames.specs.Levels.{size as size_of, replaced, hole as hole_at};
+ghost use Rattle.toml_subset.specs.frames.Levels.{size as size_of, replaced, hole as hole_at};
 ghost use Rattle.toml_value.specs.BranchViews.{node_view, branches_view, is_whole, is_whole_node};
 ghost use Rattle.toml_value.specs.declared.tree.Branches.{out-Branches};
 
@@ -21,8 +21,8 @@ pub(crate) use fault::DEPTH_LIMIT;
 use std::alloc::{AllocError, Global};
 use std::mem;
 pub(crate) use tables::{Awaiting, TableTree};
-use toml_keys::KeyIndex;
 use toml_subset::Key;
+use toml_subset::key_index::KeyIndex;
 
 /// What made a table.
 #[derive(Clone, Copy)]

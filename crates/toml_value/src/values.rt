@@ -8,11 +8,11 @@ ghost use Rattle.toml_subset.specs.Data.{depth_of, depth_limit};
 ghost use Rattle.toml_subset.specs.Places.{stands as stands_at};
 ghost use Rattle.toml_subset.specs.Reading.{read_scalar as scalar_at, value_at};
 ghost use Rattle.toml_subset.specs.Tables.{entries_of};
-ghost use Rattle.toml_frames.specs.Between.{next_place};
-ghost use Rattle.toml_frames.specs.Frames.{in_array, in_table, outside, inside as inside_of, IsShallowFrame};
-ghost use Rattle.toml_frames.specs.Frames.{on_with, array_turn as turn_of_array, table_turn as turn_of_table};
-ghost use Rattle.toml_frames.specs.Frames.{table_on};
-ghost use Rattle.toml_frames.specs.Scalars.{scalar_content};
+ghost use Rattle.toml_subset.specs.frames.Between.{next_place};
+ghost use Rattle.toml_subset.specs.frames.Frames.{in_array, in_table, outside, inside as inside_of, IsShallowFrame};
+ghost use Rattle.toml_subset.specs.frames.Frames.{on_with, array_turn as turn_of_array, table_turn as turn_of_table};
+ghost use Rattle.toml_subset.specs.frames.Frames.{table_on};
+ghost use Rattle.toml_subset.specs.frames.Scalars.{scalar_content};
 ghost use Rattle.toml_value.specs.StackViews.{value_found, frame_view, turn_view, TakesTurn};
 ghost use Rattle.toml_value.specs.TreeViews.{tree_view};
 ghost use Rattle.toml_value.specs.Views.{value_view, content_view, values_view};
@@ -21,7 +21,9 @@ use crate::tree::{Awaiting, DEPTH_LIMIT, TableTree};
 use crate::value::{Value, ValueInner, Values};
 use deny_text::Span;
 use std::alloc::{AllocError, Global};
-use toml_frames::{Next, Scalar, behind_entry, behind_item, entry_place, item_place, read_scalar};
+use toml_subset::frames::{
+    Next, Scalar, behind_entry, behind_item, entry_place, item_place, read_scalar,
+};
 use toml_subset::{Number, SyntaxReason, TomlError, fault_at, read_left, stands};
 
 /// Where an array or an inline table opens, and how many tables and arrays stand around it.

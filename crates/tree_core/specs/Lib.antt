@@ -11,3 +11,5 @@ pub mod Stored
 pub mod SystemNames
 pub mod Trace
 pub mod TreeState
+pub mod texts
+pub mod file_reads

@@ -1,6 +1,7 @@
 //! Where the gate reads and writes: trees of files, and sinks of bytes.
 #![tactic(auto)]
 
+pub mod file_reads;
 pub mod folder_tree;
 pub mod laws;
 pub mod mem_sink;
@@ -10,6 +11,7 @@ mod place;
 pub mod reads;
 pub mod sink;
 pub mod std_sink;
+pub mod texts;
 pub mod trace;
 pub mod tree;
 

@@ -1,5 +1,5 @@
 use Rattle.std.proofs.Common.{refl, ap}
-use Rattle.spdx_catalog.specs.Store.{match_of}
+use Rattle.spdx_terms.specs.catalog.Store.{match_of}
 use Rattle.run_request.specs.Given.{texts}
 use Rattle.deny_gate.proofs.run_started.Goals as goal
 

@@ -4,7 +4,7 @@ ghost use Rattle.toml_subset.specs.Answer.{AnswersToml};
 ghost use Rattle.toml_subset.specs.Data.{depth_limit};
 ghost use Rattle.toml_subset.specs.TableFaults.{put_fault};
 ghost use Rattle.toml_subset.specs.Tables.{Node};
-ghost use Rattle.toml_frames.specs.Levels.{refusal, found_at, replaced, hole as hole_at, opened as opened_in};
+ghost use Rattle.toml_subset.specs.frames.Levels.{refusal, found_at, replaced, hole as hole_at, opened as opened_in};
 ghost use Rattle.toml_value.specs.AroundViews.{opened_view, or_redefined, is_whole_around};
 ghost use Rattle.toml_value.specs.BranchViews.{branches_view, is_whole};
 ghost use Rattle.toml_value.specs.TreeViews.{tree_view};
@@ -13,8 +13,8 @@ use super::levels::{Around, TableLevel, fresh, opened};
 use super::{Awaiting, Branches, TableTree, hole};
 use crate::value::{Entries, Value};
 use std::alloc::{AllocError, Global};
-use toml_frames::HeaderPart;
-use toml_keys::KeyParts;
+use toml_subset::frames::HeaderPart;
+use toml_subset::key_index::KeyParts;
 use toml_subset::{Key, Keys, SyntaxError, SyntaxReason, TomlError};
 
 /// The table that the last header opened, taken out of the tables around it. So a further key of it is looked
@@ -44,7 +44,7 @@ impl<'de> Document<'de> {
     ghost use Rattle.toml_subset.specs.Data.{depth_limit};
     ghost use Rattle.toml_subset.specs.TableFaults.{put_fault};
     ghost use Rattle.toml_subset.specs.Tables.{entries_of};
-    ghost use Rattle.toml_frames.specs.Levels.{at_start, at_root, found_at, into_part, into_header, steps_in};
+    ghost use Rattle.toml_subset.specs.frames.Levels.{at_start, at_root, found_at, into_part, into_header, steps_in};
     ghost use Rattle.toml_value.specs.BranchViews.{branches_view, is_whole};
     ghost use Rattle.toml_value.specs.LevelViews.{level_view, cursor_view, IsPending, IsShallowCursor};
     ghost use Rattle.toml_value.specs.Views.{entries_view};

@@ -10,7 +10,7 @@ use super::{Body, Branches, Node};
 use crate::value::{Entries, Value, ValueInner, Values};
 use deny_text::Span;
 use std::alloc::{AllocError, Global};
-use toml_keys::KeyParts;
+use toml_subset::key_index::KeyParts;
 
 /// What stands at a key, as a value.
 #[cycle(finish)]

@@ -1,6 +1,6 @@
 //! Tables that are taken out of one another, and put back.
 ghost use Rattle.std.specs.Prelude.{◌≡◌, ◌<◌, ◌++◌, [], ◌∷◌, length, IsTrue, IfOk, IfSome, option_map};
-ghost use Rattle.toml_frames.specs.Levels.{steps_in, around_node, opened as opened_in, fresh as fresh_in};
+ghost use Rattle.toml_subset.specs.frames.Levels.{steps_in, around_node, opened as opened_in, fresh as fresh_in};
 ghost use Rattle.toml_value.specs.BranchViews.{node_view, branches_view, is_whole, is_whole_node};
 ghost use Rattle.toml_value.specs.AroundViews.{around_view, is_whole_around, opened_view};
 ghost use Rattle.toml_value.specs.declared.tree.Branches.{out-Branches};
@@ -9,8 +9,8 @@ use super::fault::DEPTH_LIMIT;
 use super::{Body, Branches, Mark, Node};
 use deny_text::Span;
 use std::alloc::{AllocError, Global};
-use toml_frames::HeaderPart;
 use toml_subset::Key;
+use toml_subset::frames::HeaderPart;
 
 /// What a table that was taken out is where it stands.
 #[derive(Drop)]
@@ -65,7 +65,7 @@ impl<'de> Around<'de> {
 
 impl<'de> TableLevel<'de> {
     ghost use Rattle.std.specs.Prelude.{◌≡◌, IsTrue};
-    ghost use Rattle.toml_frames.specs.Levels.{plugged};
+    ghost use Rattle.toml_subset.specs.frames.Levels.{plugged};
     ghost use Rattle.toml_value.specs.BranchViews.{branches_view, is_whole};
     ghost use Rattle.toml_value.specs.LevelViews.{level_view};
 

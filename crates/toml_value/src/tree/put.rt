@@ -2,7 +2,7 @@
 ghost use Rattle.std.specs.Prelude.{◌≡◌, ◌<◌, ◌∷◌, length, Some, true, is_some, IsTrue, IfOk, IfSome};
 ghost use Rattle.std.specs.Prelude.{option_map};
 ghost use Rattle.toml_subset.specs.Tables.{put};
-ghost use Rattle.toml_frames.specs.Levels.{found_at, replaced};
+ghost use Rattle.toml_subset.specs.frames.Levels.{found_at, replaced};
 ghost use Rattle.toml_value.specs.BelowViews.{LeadsOn, IsTakenOut, HasRoom, placed};
 ghost use Rattle.toml_value.specs.BranchViews.{node_view, branches_view, is_whole, is_whole_node, shut};
 ghost use Rattle.toml_value.specs.BranchViews.{parts_of_dotted};
@@ -12,8 +12,8 @@ use super::{Branches, Mark, Node};
 use crate::value::Value;
 use deny_text::Span;
 use std::alloc::{AllocError, Global};
-use toml_keys::KeyParts;
 use toml_subset::Key;
+use toml_subset::key_index::KeyParts;
 
 /// The place and the keys of a table that a dotted key made.
 fn dotted_parts(node: Node<'_>) -> Option<(Span, Branches<'_>)>

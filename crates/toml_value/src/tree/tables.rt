@@ -9,7 +9,7 @@ use super::finish::into_entries;
 use super::put::put_along;
 use crate::value::{Entries, Value};
 use std::alloc::{AllocError, Global};
-use toml_keys::KeyParts;
+use toml_subset::key_index::KeyParts;
 use toml_subset::{Key, Keys, SyntaxError};
 
 /// The table of a body or of an inline table, with all that dotted keys made in it.
@@ -31,7 +31,7 @@ pub(crate) struct Awaiting<'de> {
 
 impl<'de> TableTree<'de> {
     ghost use Rattle.std.specs.Prelude.{◌≡◌, ◌<◌, ◌≤◌, length, IsTrue, IfOk, option_map};
-    ghost use Rattle.toml_frames.specs.Levels.{found_at};
+    ghost use Rattle.toml_subset.specs.frames.Levels.{found_at};
     ghost use Rattle.toml_value.specs.BranchViews.{branches_view, is_whole};
     ghost use Rattle.toml_subset.specs.Data.{depth_limit};
     ghost use Rattle.toml_subset.specs.TableFaults.{put_fault};

@@ -5,7 +5,7 @@ ghost use Rattle.std.specs.Str.{bytes_eq};
 ghost use Rattle.toml_value.specs.Taken.{given_back};
 ghost use Rattle.toml_value.specs.Taken.{as_array, as_table, string_of, values_of, left_by, left_where};
 ghost use Rattle.toml_value.specs.Removal.{entry_at, entries_without, names_in};
-ghost use Rattle.toml_shapes.specs.Shaped.{AnswersShape};
+ghost use Rattle.toml_subset.specs.shapes.Shaped.{AnswersShape};
 ghost use Rattle.toml_value.specs.Views.{value_view, content_view, values_view, entries_view};
 
 use crate::kind::refuse_kind;
@@ -13,7 +13,7 @@ use crate::value::{Entries, Value, ValueInner, Values};
 use deny_text::{Text, Texts};
 use std::alloc::{AllocError, Global};
 use std::mem;
-use toml_shapes::DeserError;
+use toml_subset::shapes::DeserError;
 use toml_subset::{Key, Str};
 
 impl<'de> Value<'de> {

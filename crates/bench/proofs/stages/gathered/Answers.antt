@@ -1,6 +1,6 @@
 use Rattle.std.proofs.lemmas.Result.{IfOk-weaker}
-use Rattle.check_unused.specs.Laws.{EntriesLie}
-use Rattle.run_places.proofs.PlaceLemmas.{are_placed, entries_lie}
+use Rattle.check_core.specs.unused.Laws.{EntriesLie}
+use Rattle.run_found.proofs.places.PlaceLemmas.{are_placed, entries_lie}
 use Rattle.bench.proofs.stages.gathered.Goals as goal
 
 pub returns-clause-placed : goal.returns-clause-placed

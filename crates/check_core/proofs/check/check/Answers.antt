@@ -1,7 +1,7 @@
 use Rattle.std.proofs.Common.{subst, List}
 use Rattle.std.specs.List.{All}
 use Rattle.gather_core.specs.declared.summary.KrateLicense.{KrateLicense}
-use Rattle.policy_valid.specs.View.{policy_of}
+use Rattle.policy_core.specs.valid.View.{policy_of}
 use Rattle.check_core.specs.Summary.{IsExpressionIn}
 use Rattle.check_core.proofs.LabelLemmas.{all_point, any_gain}
 use Rattle.check_core.proofs.check.check.Goals as goal

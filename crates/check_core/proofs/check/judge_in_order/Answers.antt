@@ -2,7 +2,7 @@ use Rattle.std.proofs.Common.{◌≡◌, ◌∙◌, ap, sym, subst, List, [], �
 use Rattle.std.specs.Vec.Iter.{into_iter_items}
 use Rattle.diag_core.specs.declared.overrides.ErrorSink.{ErrorSink}
 use Rattle.gather_core.specs.declared.summary.KrateLicense.{KrateLicense}
-use Rattle.policy_valid.specs.View.{policy_of}
+use Rattle.policy_core.specs.valid.View.{policy_of}
 use Rattle.check_core.specs.declared.report.CrateReport.{CrateReport}
 use Rattle.check_core.specs.Check.{HasFront}
 use Rattle.check_core.proofs.CheckLemmas.{SoFar, has_front, one_more}

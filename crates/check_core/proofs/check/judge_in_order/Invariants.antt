@@ -1,7 +1,7 @@
 -- Of the crates so far.
 use Rattle.std.proofs.Common.{◌≡◌, ◌≤◌, ◌++◌, length}
 use Rattle.std.specs.Vec.Iter.{into_iter_items}
-use Rattle.policy_valid.specs.View.{policy_of}
+use Rattle.policy_core.specs.valid.View.{policy_of}
 use Rattle.check_core.proofs.CheckLemmas.{SoFar}
 use Rattle.check_core.proofs.StepLemmas.{IsBounded}
 use Rattle.check_core.proofs.check.judge_in_order.Given as goal

@@ -1,5 +1,5 @@
 use Rattle.std.proofs.Common.{◌∙◌, sym, ap, length, Some}
-use Rattle.spdx_certificates.specs.declared.verdict.Hit.TheVariants.{Allowed}
+use Rattle.spdx_core.specs.declared.certificates.verdict.Hit.TheVariants.{Allowed}
 use Rattle.check_verify.specs.Terms.{kept_at}
 use Rattle.check_verify.proofs.Places.{accepted_choice, not_accepted}
 use Rattle.check_verify.proofs.certificates.is_choice.Goals as goal

@@ -1,5 +1,5 @@
 use Rattle.std.proofs.Common.{◌∙◌, sym, ap, length, Some, None}
-use Rattle.spdx_certificates.specs.declared.verdict.Hit.TheVariants.{Allowed}
+use Rattle.spdx_core.specs.declared.certificates.verdict.Hit.TheVariants.{Allowed}
 use Rattle.check_verify.specs.Terms.{kept_at}
 use Rattle.check_verify.proofs.Places.{not_rejected, rejected_meets}
 use Rattle.check_verify.proofs.certificates.meet_each.Goals as goal

@@ -1,6 +1,6 @@
 use Rattle.std.proofs.Common.{◌≡◌, ◌+◌, ◌≤◌, ◌||◌, drop, sum_by, take}
 use Rattle.std.specs.List.{list_any}
-use Rattle.policy_valid.specs.View.{policy_of}
+use Rattle.policy_core.specs.valid.View.{policy_of}
 use Rattle.check_verify.specs.Terms.{entries_at, hit_or_none_by}
 use Rattle.check_verify.proofs.entries.any_has_hit.Given as goal
 

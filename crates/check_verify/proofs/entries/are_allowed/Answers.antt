@@ -1,5 +1,5 @@
 use Rattle.std.specs.Option.{option_to_list}
-use Rattle.policy_valid.specs.View.{policy_of}
+use Rattle.policy_core.specs.valid.View.{policy_of}
 use Rattle.check_verify.proofs.Walk.{allowed_apart}
 use Rattle.check_verify.proofs.entries.are_allowed.Goals as goal
 

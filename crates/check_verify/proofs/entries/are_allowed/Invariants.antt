@@ -1,6 +1,6 @@
 use Rattle.std.proofs.Common.{◌≡◌, ◌+◌, ◌≤◌, ◌&&◌, drop}
 use Rattle.std.specs.Option.{option_to_list}
-use Rattle.policy_valid.specs.View.{policy_of}
+use Rattle.policy_core.specs.valid.View.{policy_of}
 use Rattle.check_verify.specs.Terms.{are_allowed}
 use Rattle.check_verify.proofs.entries.are_allowed.Given as goal
 

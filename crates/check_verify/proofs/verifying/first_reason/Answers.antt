@@ -1,9 +1,9 @@
 use Rattle.std.proofs.Common.{◌∙◌, ◌+◌, ◌≤◌, ◌<◌, sym, ap, map, length, false, arith}
 use Rattle.std.proofs.lemmas.List.{drop_more}
 use Rattle.graph_core.specs.Krate.{record_of}
-use Rattle.policy_spec.specs.Index.{first_of, matching}
-use Rattle.policy_valid.specs.View.{policy_of}
-use Rattle.check_evaluate.proofs.EvaluationLemmas.{spec_of, specs_are}
+use Rattle.policy_parts.specs.spec.Index.{first_of, matching}
+use Rattle.policy_core.specs.valid.View.{policy_of}
+use Rattle.check_core.proofs.evaluate.EvaluationLemmas.{spec_of, specs_are}
 use Rattle.check_verify.specs.Reasons.{reason_with}
 use Rattle.check_verify.specs.Verified.{IsFlagged, steps_at}
 use Rattle.check_verify.proofs.Walk.{as_many, at_index, at_item, first_here, numbers_are, none_here, none_left, none_of, past_items, steps_left}

@@ -1,5 +1,5 @@
 use Rattle.std.proofs.Common.{◌≡◌, ◌+◌, ◌≤◌, drop}
-use Rattle.policy_valid.specs.View.{policy_of}
+use Rattle.policy_core.specs.valid.View.{policy_of}
 use Rattle.check_verify.specs.Reasons.{first_reason}
 use Rattle.check_verify.specs.Verified.{all_seen, all_steps}
 use Rattle.check_verify.proofs.verifying.first_reason.Given as goal

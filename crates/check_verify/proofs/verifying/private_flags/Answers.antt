@@ -1,4 +1,4 @@
-use Rattle.policy_valid.specs.View.{policy_of}
+use Rattle.policy_core.specs.valid.View.{policy_of}
 use Rattle.check_verify.specs.Verified.{IsFlagged}
 use Rattle.check_verify.proofs.Walk.{zip_next}
 use Rattle.check_verify.proofs.verifying.private_flags.Goals as goal

@@ -1,6 +1,6 @@
 use Rattle.std.proofs.Common.{take}
 use Rattle.std.specs.List.{AllZip}
-use Rattle.policy_valid.specs.View.{policy_of}
+use Rattle.policy_core.specs.valid.View.{policy_of}
 use Rattle.check_verify.specs.Verified.{IsFlagged}
 use Rattle.check_verify.proofs.verifying.private_flags.Given as goal
 

@@ -3,15 +3,15 @@
 use Rattle.std.proofs.Common.{◌≡◌, ◌∙◌, subst, refl, ℕ, List, Result, Ok, Err}
 use Rattle.tree_core.specs.Script.{FaultCounts, SinkTexts}
 use Rattle.tree_core.proofs.MadeLemmas.{made_joined}
-use Rattle.tree_texts.specs.Cause.{ReadCounts}
-use Rattle.tree_texts.specs.declared.fault.ReadFault.TheVariants.{Absent}
+use Rattle.tree_core.specs.texts.Cause.{ReadCounts}
+use Rattle.tree_core.specs.declared.texts.fault.ReadFault.TheVariants.{Absent}
 use Rattle.diag_stats.specs.Summary.{sink_counts}
 use Rattle.run_found.specs.declared.error.Error.{Error}
 use Rattle.run_found.specs.declared.error.Error.TheVariants.{ConfigRead}
 use Rattle.run_found.specs.Error.{cause_of}
 use Rattle.run_found.specs.Hearing.{seen}
-use Rattle.run_lists.specs.Chosen.{lists_chosen, texts_chosen}
-use Rattle.run_lists.specs.Given.{lists_given}
+use Rattle.run_found.specs.lists.Chosen.{lists_chosen, texts_chosen}
+use Rattle.run_found.specs.lists.Given.{lists_given}
 use Rattle.run_check.specs.declared.report.Report.{Report}
 use Rattle.deny_run.specs.Given.{check_asked}
 use Rattle.deny_run.specs.Manifest.{LooksAtManifest}

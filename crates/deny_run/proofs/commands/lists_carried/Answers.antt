@@ -1,10 +1,10 @@
 -- The manifest is not there, names and texts are not had, or they are.
 use Rattle.std.proofs.Common.{subst, refl, ℕ, List, Ok, Err}
-use Rattle.tree_texts.specs.Cause.{ReadCounts}
+use Rattle.tree_core.specs.texts.Cause.{ReadCounts}
 use Rattle.run_found.specs.Error.{cause_of}
 use Rattle.run_found.specs.Hearing.{seen}
-use Rattle.run_lists.specs.Chosen.{lists_chosen, texts_chosen}
-use Rattle.run_lists.specs.Given.{lists_asked, lists_given}
+use Rattle.run_found.specs.lists.Chosen.{lists_chosen, texts_chosen}
+use Rattle.run_found.specs.lists.Given.{lists_asked, lists_given}
 use Rattle.deny_run.specs.Commands.{had, no_lists, no_manifest}
 use Rattle.deny_run.specs.Manifest.{LooksAtManifest}
 use Rattle.deny_run.proofs.ManifestLemmas.{look_apart, looked_count}

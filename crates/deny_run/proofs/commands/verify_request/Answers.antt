@@ -1,13 +1,13 @@
 -- The command is refused before it begins, or it runs by the names and texts that are had.
 use Rattle.std.proofs.Common.{refl, subst, ℕ, Ok, Err, IfErr}
 use Rattle.tree_core.proofs.MadeLemmas.{some_joined}
-use Rattle.tree_texts.specs.Cause.{ReadCounts}
+use Rattle.tree_core.specs.texts.Cause.{ReadCounts}
 use Rattle.run_found.specs.declared.error.Error.TheVariants.{NotCarried}
 use Rattle.run_found.specs.Error.{cause_of}
 use Rattle.run_found.specs.Hearing.{seen}
 use Rattle.run_list.specs.Carried.{uncarried_of}
-use Rattle.run_lists.specs.Chosen.{lists_chosen, texts_chosen}
-use Rattle.run_lists.specs.Given.{lists_given}
+use Rattle.run_found.specs.lists.Chosen.{lists_chosen, texts_chosen}
+use Rattle.run_found.specs.lists.Given.{lists_given}
 use Rattle.deny_run.specs.Commands.{came, stopped}
 use Rattle.deny_run.specs.Given.{command_asked}
 use Rattle.deny_run.proofs.CommandLemmas.{answer_apart, carried_apart, comes_carried, comes_made, comes_still, refused_as}

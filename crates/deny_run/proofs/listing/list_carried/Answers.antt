@@ -1,14 +1,14 @@
 -- The manifest is not there, names and texts are not had, or the listing runs behind them.
 use Rattle.std.proofs.Common.{◌≡◌, ◌∙◌, subst, refl, ℕ, List, Result, Ok, Err, IfErr}
-use Rattle.tree_texts.specs.Cause.{ReadCounts}
-use Rattle.tree_texts.specs.declared.fault.ReadFault.TheVariants.{Absent}
+use Rattle.tree_core.specs.texts.Cause.{ReadCounts}
+use Rattle.tree_core.specs.declared.texts.fault.ReadFault.TheVariants.{Absent}
 use Rattle.run_found.specs.declared.error.Error.{Error}
 use Rattle.run_found.specs.declared.error.Error.TheVariants.{ConfigRead}
 use Rattle.run_found.specs.Error.{cause_of}
 use Rattle.run_found.specs.Hearing.{seen}
 use Rattle.run_found.specs.declared.reads.CrateRead.{CrateRead}
-use Rattle.run_lists.specs.Chosen.{lists_chosen, texts_chosen}
-use Rattle.run_lists.specs.Given.{lists_asked, lists_given}
+use Rattle.run_found.specs.lists.Chosen.{lists_chosen, texts_chosen}
+use Rattle.run_found.specs.lists.Given.{lists_asked, lists_given}
 use Rattle.deny_run.specs.Listing.{behind, no_lists, no_manifest}
 use Rattle.deny_run.specs.Manifest.{LooksAtManifest}
 use Rattle.deny_run.proofs.ManifestLemmas.{look_apart, looked_count}

@@ -2,8 +2,8 @@
 use Rattle.std.proofs.Common.{subst, ℕ, List, Option}
 use Rattle.std.specs.Option.{option_copied}
 use Rattle.run_found.specs.Hearing.{seen}
-use Rattle.run_lists.specs.Found.{FindsLists, found_answer}
-use Rattle.run_lists.specs.Given.{lists_asked, lists_given}
+use Rattle.run_found.specs.lists.Found.{FindsLists, found_answer}
+use Rattle.run_found.specs.lists.Given.{lists_asked, lists_given}
 use Rattle.deny_run.proofs.own.own_lists.Goals as goal
 
 pub returns-clause-found : goal.returns-clause-found

@@ -8,8 +8,8 @@ use Rattle.run_check.specs.declared.report.Report.{Report}
 use Rattle.run_found.specs.declared.error.Error.{Error}
 use Rattle.run_found.specs.declared.error.Error.TheVariants.{ConfigRead}
 use Rattle.run_found.specs.Error.{cause_of}
-use Rattle.tree_texts.specs.Cause.{ReadCounts}
-use Rattle.tree_texts.specs.declared.fault.ReadFault.TheVariants.{Absent}
+use Rattle.tree_core.specs.texts.Cause.{ReadCounts}
+use Rattle.tree_core.specs.declared.texts.fault.ReadFault.TheVariants.{Absent}
 use Rattle.run_sample.specs.Sample.{IsSampled}
 use Rattle.deny_run.specs.declared.outcome.RunEnd.{RunEnd}
 use Rattle.deny_run.specs.declared.outcome.RunEnd.TheVariants.{Refused}

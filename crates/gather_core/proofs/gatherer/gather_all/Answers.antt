@@ -4,10 +4,10 @@ use Rattle.std.proofs.lemmas.List.{take_more}
 use Rattle.std.proofs.lemmas.List.Elements.{All-nil, All-push}
 use Rattle.graph_core.specs.Krate.{Record}
 use Rattle.gather_licence.specs.Settled.{scanner_of_scan}
-use Rattle.graph_selection.specs.Listed.{record_behind}
-use Rattle.gather_files.specs.Calls.{IsFront}
-use Rattle.gather_files.proofs.CallLemmas.{on_err}
-use Rattle.gather_findings.proofs.GrowLemmas.{grows_itself}
+use Rattle.graph_core.specs.selection.Listed.{record_behind}
+use Rattle.gather_licence.specs.files.Calls.{IsFront}
+use Rattle.gather_licence.proofs.files.CallLemmas.{on_err}
+use Rattle.gather_core.proofs.findings.GrowLemmas.{grows_itself}
 use Rattle.gather_core.specs.Calls.{AreTurnsByReads}
 use Rattle.gather_core.specs.Gathered.{krate_of}
 use Rattle.gather_core.specs.Premises.{Grows, IsPlacedAt}

@@ -1,13 +1,13 @@
 use Rattle.std.proofs.Common.{◌≡◌, ◌∙◌, List, map, refl, sym, ap, subst}
 use Rattle.std.specs.List.{All}
 use Rattle.graph_core.specs.Krate.{record_of}
-use Rattle.gather_files.specs.Ears.{ears_by}
-use Rattle.gather_files.proofs.CallLemmas.{on_err}
-use Rattle.gather_location.specs.Calls.{manifest_by}
+use Rattle.gather_licence.specs.files.Ears.{ears_by}
+use Rattle.gather_licence.proofs.files.CallLemmas.{on_err}
+use Rattle.gather_licence.specs.location.Calls.{manifest_by}
 use Rattle.gather_licence.specs.Clarification.{ClarificationView, behind}
 use Rattle.gather_licence.specs.Settled.{scanner_of_scan}
 use Rattle.gather_licence.specs.Priority.{folder_of}
-use Rattle.gather_findings.proofs.GrowLemmas.{grows_itself}
+use Rattle.gather_core.proofs.findings.GrowLemmas.{grows_itself}
 use Rattle.gather_core.specs.Calls.{IsByOwnReads, StarvesTaking}
 use Rattle.gather_core.specs.Entries.{clarifications_of}
 use Rattle.gather_core.specs.Premises.{IsClarificationPlaced, TextIs}

@@ -1,4 +1,4 @@
-use Rattle.gather_findings.proofs.GrowLemmas.{grows_itself}
+use Rattle.gather_core.proofs.findings.GrowLemmas.{grows_itself}
 use Rattle.gather_core.proofs.tell.find_points.Goals as goal
 
 pub returns-in-None-clause-grows : goal.returns-in-None-clause-grows

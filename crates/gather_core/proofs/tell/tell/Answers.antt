@@ -4,9 +4,9 @@ use Rattle.std.specs.Prelude.{unwrap_or}
 use Rattle.deny_text.specs.declared.span.Span.{Span}
 use Rattle.diag_core.specs.declared.pack.Diag.{Diag}
 use Rattle.graph_core.specs.Krate.{Record, record_of}
-use Rattle.gather_findings.specs.Cuts.{LabelLies, labels_of}
-use Rattle.gather_findings.proofs.GrowLemmas.{grows_itself}
-use Rattle.gather_findings.proofs.LabelLemmas.{lie-append}
+use Rattle.gather_core.specs.findings.Cuts.{LabelLies, labels_of}
+use Rattle.gather_core.proofs.findings.GrowLemmas.{grows_itself}
+use Rattle.gather_core.proofs.findings.LabelLemmas.{lie-append}
 use Rattle.gather_core.specs.declared.summary.KrateLicense.{KrateLicense}
 use Rattle.gather_core.specs.Premises.{Grows, InfoStands}
 use Rattle.gather_core.specs.Told.{info_by, nowhere}

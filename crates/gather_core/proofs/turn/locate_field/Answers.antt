@@ -1,7 +1,7 @@
 use Rattle.std.proofs.Common.{◌≡◌, ◌∙◌, ℕ, List, Some, is_some, sym, ap}
 use Rattle.std.proofs.lemmas.Result.{IfOk-weaker, on_err_weaker}
 use Rattle.graph_core.specs.Krate.{record_of}
-use Rattle.gather_findings.proofs.GrowLemmas.{grows_itself}
+use Rattle.gather_core.proofs.findings.GrowLemmas.{grows_itself}
 use Rattle.gather_core.proofs.CallLemmas.{grows_located_by, none_located, own_located, own_starved}
 use Rattle.gather_core.proofs.turn.locate_field.Goals as goal
 

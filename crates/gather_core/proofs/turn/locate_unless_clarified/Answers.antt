@@ -3,7 +3,7 @@ use Rattle.std.specs.Option.{option_to_list}
 use Rattle.std.specs.Prelude.{IfOk, OnErr}
 use Rattle.graph_core.specs.Krate.{record_of}
 use Rattle.gather_licence.specs.Priority.{folder_of}
-use Rattle.gather_findings.proofs.GrowLemmas.{grows_itself}
+use Rattle.gather_core.proofs.findings.GrowLemmas.{grows_itself}
 use Rattle.gather_core.specs.Calls.{IsByOwnReads, StarvesTaking}
 use Rattle.gather_core.specs.Taken.{IsLocatedWhere, is_clarified}
 use Rattle.gather_core.specs.Turns.{located_where}

@@ -4,8 +4,8 @@ use Rattle.tree_core.specs.declared.reads.ReadRecord.{ReadRecord}
 use Rattle.graph_core.specs.Krate.{record_of}
 use Rattle.gather_licence.specs.Clarification.{behind}
 use Rattle.gather_licence.specs.Settled.{scanner_of_scan}
-use Rattle.gather_findings.proofs.GrowLemmas.{grows_itself}
-use Rattle.gather_files.proofs.CallLemmas.{on_err}
+use Rattle.gather_core.proofs.findings.GrowLemmas.{grows_itself}
+use Rattle.gather_licence.proofs.files.CallLemmas.{on_err}
 use Rattle.gather_core.proofs.CallLemmas.{own_last, starves_last, starves_last_locating, starves_taken}
 use Rattle.gather_core.proofs.turn.take_files_first.Goals as goal
 

@@ -4,7 +4,7 @@ use Rattle.tree_core.specs.declared.reads.ReadRecord.{ReadRecord}
 use Rattle.graph_core.specs.Krate.{record_of}
 use Rattle.gather_licence.specs.Clarification.{behind}
 use Rattle.gather_licence.specs.Settled.{scanner_of_scan}
-use Rattle.gather_files.proofs.CallLemmas.{on_err}
+use Rattle.gather_licence.proofs.files.CallLemmas.{on_err}
 use Rattle.gather_core.proofs.CallLemmas.{own_first, starves_first, starves_first_settling, starves_taken}
 use Rattle.gather_core.proofs.turn.take_manifest_first.Goals as goal
 

@@ -1,7 +1,7 @@
 use Rattle.std.proofs.Common.{take, sym, ap, ◌∙◌, ◌∷◌, [], ◌++◌}
 use Rattle.std.specs.Option.{option_to_list}
 use Rattle.std.proofs.lemmas.List.{take_more}
-use Rattle.gather_expression.specs.declared.files.ScannedFile.{ScannedFile}
+use Rattle.gather_licence.specs.declared.expression.files.ScannedFile.{ScannedFile}
 use Rattle.gather_licence.specs.Notes as spec
 use Rattle.gather_licence.specs.Notes.{path_given}
 use Rattle.gather_licence.proofs.NotesLemmas.{paths_push}

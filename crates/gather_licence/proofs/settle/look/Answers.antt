@@ -1,8 +1,8 @@
 use Rattle.std.proofs.Common.{◌≡◌, ◌∙◌, List, ℕ, subst, map, option_copied, rules}
 use Rattle.graph_core.specs.Krate.{record_of}
-use Rattle.gather_files.specs.Calls.{IsMadeBy}
-use Rattle.gather_files.specs.Steps.{BeginsPack}
-use Rattle.gather_files.proofs.CallLemmas.{made_then, on_err}
+use Rattle.gather_licence.specs.files.Calls.{IsMadeBy}
+use Rattle.gather_licence.specs.files.Steps.{BeginsPack}
+use Rattle.gather_licence.proofs.files.CallLemmas.{made_then, on_err}
 use Rattle.gather_licence.specs.Clarification.{behind}
 use Rattle.gather_licence.specs.Priority.{folder_of}
 use Rattle.gather_licence.proofs.CallLemmas.{starves_beginning, starves_looking}

@@ -1,7 +1,7 @@
 use Rattle.std.proofs.Common.{refl, sym, map, ◌∙◌}
 use Rattle.graph_core.specs.Krate.{record_of}
-use Rattle.gather_files.specs.Ears.{ears_by}
-use Rattle.gather_files.proofs.CallLemmas.{on_err}
+use Rattle.gather_licence.specs.files.Ears.{ears_by}
+use Rattle.gather_licence.proofs.files.CallLemmas.{on_err}
 use Rattle.gather_licence.specs.declared.settle.SettledLicense.{SettledLicense}
 use Rattle.gather_licence.specs.Clarification.{behind}
 use Rattle.gather_licence.specs.Settled.{scanner_of_scan}

@@ -1,8 +1,8 @@
 use Rattle.std.proofs.Common.{◌≡◌, ◌∙◌, true, false, [], map, sym, ap, rules}
 use Rattle.std.proofs.lemmas.Result.{IfOk-weaker, on_err_weaker}
 use Rattle.graph_core.specs.Krate.{record_of}
-use Rattle.gather_files.specs.Ears.{ears_by}
-use Rattle.tree_reads.proofs.ReadLemmas.{no_reads}
+use Rattle.gather_licence.specs.files.Ears.{ears_by}
+use Rattle.tree_core.proofs.file_reads.ReadLemmas.{no_reads}
 use Rattle.gather_licence.specs.declared.settle.SettledLicense.{SettledLicense}
 use Rattle.gather_licence.specs.Clarification.{behind}
 use Rattle.gather_licence.specs.Priority.{folder_of}

@@ -4,10 +4,10 @@ use Rattle.std.proofs.lemmas.List.{at_drop_more}
 use Rattle.std.specs.List.{fold}
 use Rattle.std.specs.Option.{option_to_list}
 use Rattle.deny_text.specs.declared.span.Span.{Span}
-use Rattle.gather_files.specs.Ears.{holds, looked_of, missing_from}
-use Rattle.gather_files.specs.Steps.{with_path}
-use Rattle.gather_files.specs.View.{paths_read}
-use Rattle.gather_files.proofs.CallLemmas.{agrees_before, goes_itself, goes_then, on_err}
+use Rattle.gather_licence.specs.files.Ears.{holds, looked_of, missing_from}
+use Rattle.gather_licence.specs.files.Steps.{with_path}
+use Rattle.gather_licence.specs.files.View.{paths_read}
+use Rattle.gather_licence.proofs.files.CallLemmas.{agrees_before, goes_itself, goes_then, on_err}
 use Rattle.gather_licence.specs.declared.clarification.HeldClarification.{HeldClarification}
 use Rattle.gather_licence.specs.Clarification.{PlacedFile, behind, held_in}
 use Rattle.gather_licence.specs.Priority.{holding}

@@ -1,10 +1,10 @@
 -- All the clarifications are tried as the rest of them, with the pack that is there.
 use Rattle.std.proofs.Common.{◌≡◌, ◌++◌, map, drop}
 use Rattle.std.specs.Prelude.{option_map}
-use Rattle.gather_files.specs.Calls.{GoesBy}
-use Rattle.gather_files.specs.Ears.{FolderReads}
-use Rattle.gather_files.specs.Steps.{Agrees}
-use Rattle.gather_files.specs.View.{paths_read}
+use Rattle.gather_licence.specs.files.Calls.{GoesBy}
+use Rattle.gather_licence.specs.files.Ears.{FolderReads}
+use Rattle.gather_licence.specs.files.Steps.{Agrees}
+use Rattle.gather_licence.specs.files.View.{paths_read}
 use Rattle.gather_licence.specs.Clarification.{behind, held_in}
 use Rattle.gather_licence.specs.Priority.{holding}
 use Rattle.gather_licence.specs.Settled.{missing_of}

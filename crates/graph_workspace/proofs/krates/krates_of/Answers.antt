@@ -1,5 +1,5 @@
 use Rattle.std.proofs.lemmas.Result.{err_from_is_err_and}
-use Rattle.graph_selection.specs.Choice.{choice_of}
+use Rattle.graph_core.specs.selection.Choice.{choice_of}
 use Rattle.graph_workspace.proofs.KratesLemmas.{build_refused, graph_refused}
 use Rattle.graph_workspace.proofs.krates.krates_of.Goals as goal
 

@@ -1,6 +1,6 @@
 -- what was told so far
 use Rattle.std.proofs.Common.{◌≡◌, ◌++◌, map, take}
-use Rattle.toml_shapes.specs.ShapeViews.{fault_of}
+use Rattle.toml_subset.specs.shapes.ShapeViews.{fault_of}
 use Rattle.policy_core.specs.Exceptions.{shape_diagnostic}
 use Rattle.policy_core.proofs.findings.tell_faults.Given as goal
 

@@ -1,6 +1,6 @@
 use Rattle.std.proofs.Common.{◌≡◌, ◌∙◌, ap, subst, ◌++◌, map}
 use Rattle.std.specs.Prelude.{OnOk}
-use Rattle.toml_shapes.specs.ShapeViews.{fault_of}
+use Rattle.toml_subset.specs.shapes.ShapeViews.{fault_of}
 use Rattle.policy_core.specs.Exceptions.{shape_diagnostic}
 use Rattle.policy_core.proofs.MapLemmas.{map_twice}
 use Rattle.policy_core.proofs.findings.tell_shape.Goals as goal

@@ -2,7 +2,7 @@ use Rattle.std.proofs.Common.{◌≡◌, ◌∙◌, sym, ap, subst, true, false,
 use Rattle.std.specs.Prelude.{is_some}
 use Rattle.tree_core.specs.Call.{no_memory}
 use Rattle.diag_core.specs.File.{file_id_at}
-use Rattle.tree_texts.specs.Heard.{IsTextRead, read_of}
+use Rattle.tree_core.specs.texts.Heard.{IsTextRead, read_of}
 use Rattle.policy_load.proofs.HeardLemmas.{itself_unread, on_err, one_read_at, other_read}
 use Rattle.policy_load.proofs.loading.hear_at.Goals as goal
 

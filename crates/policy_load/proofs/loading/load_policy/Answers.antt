@@ -1,7 +1,7 @@
 use Rattle.std.proofs.Common.{◌≡◌, subst, ap}
 use Rattle.std.specs.Option.{option_copied}
 use Rattle.std.specs.Prelude.{unwrap_or}
-use Rattle.policy_config.specs.Config.{no_config}
+use Rattle.policy_core.specs.config.Config.{no_config}
 use Rattle.policy_core.proofs.ExceptionLemmas.{grows_from, grows_itself}
 use Rattle.policy_core.specs.Heard.{LoadState, after_exceptions}
 use Rattle.policy_load.specs.Heard.{IsReadOf, MayReadOf}

@@ -1,5 +1,5 @@
 use Rattle.std.proofs.Common.{◌∙◌, ◌⊎◌, inl, refl, sym, ap, subst, length, Err}
-use Rattle.policy_text.specs.Config.{AnswersConfig, config_of_text}
+use Rattle.policy_core.specs.text.Config.{AnswersConfig, config_of_text}
 use Rattle.policy_core.specs.Heard.{IsFileText}
 use Rattle.policy_core.specs.Places.{IsConfigPlaced}
 use Rattle.policy_core.specs.Policy.{absence_findings}

@@ -1,5 +1,5 @@
 use Rattle.std.specs.Result.{result_ok}
-use Rattle.toml_shapes.specs.Shaped.{faults_in}
+use Rattle.toml_subset.specs.shapes.Shaped.{faults_in}
 use Rattle.toml_value.specs.Views.{value_view}
 use Rattle.policy_toml.proofs.ListReading.{values_more, faults_more}
 use Rattle.policy_toml.proofs.deserialize.read_items.Goals as goal

@@ -1,7 +1,7 @@
 use Rattle.std.proofs.Common.{◌≡◌, map}
 use Rattle.std.specs.List.{filter_map, flat_map}
 use Rattle.std.specs.Result.{result_ok}
-use Rattle.toml_shapes.specs.Shaped.{faults_in}
+use Rattle.toml_subset.specs.shapes.Shaped.{faults_in}
 use Rattle.toml_value.specs.Views.{value_view}
 use Rattle.policy_toml.proofs.deserialize.read_items.Given as goal
 

@@ -1,12 +1,12 @@
 use Rattle.std.proofs.lemmas.Result.{IfOk-weaker, err_from_is_err_and}
 use Rattle.std.specs.Prelude.{All}
 use Rattle.graph_core.specs.Metadata.{Graph}
-use Rattle.graph_selection.specs.Choice.{Choice}
-use Rattle.graph_selection.specs.Listed.{IsChosen}
-use Rattle.policy_valid.specs.View.{policy_of}
+use Rattle.graph_core.specs.selection.Choice.{Choice}
+use Rattle.graph_core.specs.selection.Listed.{IsChosen}
+use Rattle.policy_core.specs.valid.View.{policy_of}
 use Rattle.check_core.specs.Labels.{VerdictPoints}
 use Rattle.check_core.specs.Summary.{gathered_of_licenses}
-use Rattle.gather_files.proofs.CallLemmas.{on_err}
+use Rattle.gather_licence.proofs.files.CallLemmas.{on_err}
 use Rattle.run_request.specs.declared.level.LintLevels.{LintLevels}
 use Rattle.run_overrides.specs.Levels.{PutAtLevels}
 use Rattle.run_found.specs.Hearing.{seen}

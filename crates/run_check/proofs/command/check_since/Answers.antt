@@ -1,8 +1,8 @@
 -- Each end of `check_since`: a refusal before what was found, findings that were not all printed, and the report.
 use Rattle.std.proofs.Common.{◌≡◌, Result, Err, sym, subst}
 use Rattle.tree_core.specs.Faults.{Gained, GainedPrefix}
-use Rattle.tree_texts.specs.Cause.{ReadCounts}
-use Rattle.tree_texts.specs.declared.fault.ReadFault.TheVariants.{Absent}
+use Rattle.tree_core.specs.texts.Cause.{ReadCounts}
+use Rattle.tree_core.specs.declared.texts.fault.ReadFault.TheVariants.{Absent}
 use Rattle.diag_print.specs.Findings.{HasReasonSince, PacksAreInside, printed_packs}
 use Rattle.diag_print.specs.declared.printer.PrintError.{PrintError}
 use Rattle.diag_print.specs.declared.printer.PrintError.TheVariants as print

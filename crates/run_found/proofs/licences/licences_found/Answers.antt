@@ -3,14 +3,14 @@ use Rattle.std.proofs.lemmas.Int.{to_z-of_z}
 use Rattle.std.proofs.lemmas.Result.{err_from_is_err_and}
 use mir.Syntax.{w64}
 use mir.Val.{SFits}
-use Rattle.graph_selection.specs.Listed.{selected_in}
+use Rattle.graph_core.specs.selection.Listed.{selected_in}
 use Rattle.tree_core.specs.Hearing.{Made}
 use Rattle.tree_core.proofs.MadeLemmas.{made-later}
-use Rattle.gather_expression.specs.Scanned.{Scanner}
+use Rattle.gather_licence.specs.expression.Scanned.{Scanner}
 use Rattle.gather_core.specs.Calls.{AreTurnsByReads, StarvesGathering}
 use Rattle.gather_core.specs.Entries.{entries_of}
 use Rattle.gather_core.specs.Gathered.{include_of, scanner_of_gatherer, threshold_of}
-use Rattle.run_places.proofs.PlaceLemmas.{are_placed, entries_lie}
+use Rattle.run_found.proofs.places.PlaceLemmas.{are_placed, entries_lie}
 use Rattle.run_found.specs.Hearing.{seen}
 use Rattle.run_found.specs.Licences.{scanner_of_policy}
 use Rattle.run_found.proofs.GatheredLemmas.{gather_cut, gathered_on, gathering_later}

@@ -2,8 +2,8 @@
 use Rattle.std.proofs.Common.{Ok, Err, subst, arith}
 use Rattle.std.proofs.lemmas.Result.{err_from_is_err_and}
 use Rattle.tree_core.proofs.MadeLemmas.{some-later, some_joined}
-use Rattle.tree_texts.specs.Cause.{ReadCounts}
-use Rattle.tree_texts.specs.Search.{search_cause}
+use Rattle.tree_core.specs.texts.Cause.{ReadCounts}
+use Rattle.tree_core.specs.texts.Search.{search_cause}
 use Rattle.policy_load.specs.Answer.{load_cause}
 use Rattle.run_found.specs.Given.{request_arguments_of}
 use Rattle.run_found.proofs.EndLemmas.{counts_at, ends_at, load_finds, load_refused}

@@ -1,7 +1,7 @@
 use Rattle.std.proofs.Common.{inl, inr, arith}
 use Rattle.std.proofs.lemmas.Result.{err_from_is_err_and}
 use Rattle.tree_core.proofs.MadeLemmas.{some-later, some_joined}
-use Rattle.tree_texts.specs.Search.{search_cause}
+use Rattle.tree_core.specs.texts.Search.{search_cause}
 use Rattle.run_found.proofs.StepLemmas.{counts_from}
 use Rattle.run_found.proofs.policy.policy_paths.Goals as goal
 

@@ -1,8 +1,8 @@
 -- Each end of `list_since`: a refusal before the listing, a listing that was not all written, and the whole of it.
 use Rattle.std.proofs.Common.{◌≡◌, Err, List, Result, subst, sym}
 use Rattle.tree_core.specs.Faults.{Gained, GainedPrefix}
-use Rattle.tree_texts.specs.Cause.{ReadCounts}
-use Rattle.tree_texts.specs.declared.fault.ReadFault.TheVariants.{Absent}
+use Rattle.tree_core.specs.texts.Cause.{ReadCounts}
+use Rattle.tree_core.specs.declared.texts.fault.ReadFault.TheVariants.{Absent}
 use Rattle.run_found.specs.declared.error.Error.{Error}
 use Rattle.run_found.specs.declared.error.Error.TheVariants.{ConfigRead}
 use Rattle.run_found.specs.Error.{cause_of}

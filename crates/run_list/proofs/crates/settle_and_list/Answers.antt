@@ -1,9 +1,9 @@
 use Rattle.std.proofs.Common.{◌≡◌}
 use Rattle.std.proofs.lemmas.Result.{IfOk-weaker, err_from_is_err_and}
 use Rattle.graph_core.specs.Metadata.{Graph}
-use Rattle.graph_selection.specs.Choice.{Choice}
-use Rattle.graph_selection.specs.Listed.{IsChosen}
-use Rattle.gather_files.proofs.CallLemmas.{on_err}
+use Rattle.graph_core.specs.selection.Choice.{Choice}
+use Rattle.graph_core.specs.selection.Listed.{IsChosen}
+use Rattle.gather_licence.proofs.files.CallLemmas.{on_err}
 use Rattle.run_found.specs.Hearing.{seen}
 use Rattle.run_found.specs.Licences.{scanner_of_policy}
 use Rattle.run_found.proofs.StageLemmas.{gather_cut}

@@ -2,7 +2,7 @@ use Rattle.std.proofs.Common.{◌∙◌, ap, subst, sym, Ok}
 use Rattle.std.proofs.lemmas.Result.{err_from_is_err_and}
 use Rattle.tree_core.specs.Call.{no_memory}
 use Rattle.tree_core.proofs.MadeLemmas.{some-later}
-use Rattle.tree_texts.specs.Heard.{IsTextRead}
+use Rattle.tree_core.specs.texts.Heard.{IsTextRead}
 use Rattle.run_record.proofs.VerifyLemmas.{fault_read, none_read, text_read}
 use Rattle.run_record.proofs.verifying.verify_file.Goals as goal
 

@@ -1,5 +1,5 @@
 use Rattle.std.proofs.Common.{sym, subst}
-use Rattle.spdx_catalog.specs.Catalog.{IsCatalog}
+use Rattle.spdx_terms.specs.catalog.Catalog.{IsCatalog}
 use Rattle.spdx_listing.specs.File.{lines_of}
 use Rattle.spdx_listing.proofs.CatalogLemmas.{lines_are_catalog}
 use Rattle.spdx_listing.proofs.reading.listing_of.Goals as goal

@@ -1,6 +1,6 @@
 use Rattle.std.proofs.Common.{◌∙◌, ◌++◌, ap, sym, rules}
 use Rattle.std.proofs.lemmas.Result.{IfOk-weaker}
-use Rattle.spdx_catalog.specs.TextWords.{is_line_end}
+use Rattle.spdx_terms.specs.catalog.TextWords.{is_line_end}
 use Rattle.spdx_listing.specs.File.{lines_of, names_in}
 use Rattle.spdx_listing.proofs.CutLemmas.{cut_is, uncut}
 use Rattle.spdx_listing.proofs.ListsLemmas.{names_on}

@@ -1,6 +1,6 @@
 use Rattle.std.proofs.Common.{◌<◌, length, sym, ◌∙◌, eqb-true, arith, rules}
 use Rattle.std.proofs.lemmas.Bool.Decides.{nat_tests}
-use Rattle.spdx_catalog.specs.TextWords.{is_line_end}
+use Rattle.spdx_terms.specs.catalog.TextWords.{is_line_end}
 use Rattle.spdx_listing.specs.ListsView.{lists_view}
 use Rattle.spdx_listing.proofs.CutLemmas.{cut_is, uncut}
 use Rattle.spdx_listing.proofs.ReadLemmas.{read_none, read_on, read_told, read_ended, read_unended}

@@ -1,5 +1,5 @@
 use Rattle.std.proofs.Common.{sym, rules}
-use Rattle.spdx_catalog.specs.Words.{is_space}
+use Rattle.spdx_terms.specs.catalog.Words.{is_space}
 use Rattle.spdx_listing.proofs.CutLemmas.{cut_is, uncut}
 use Rattle.spdx_listing.proofs.WordLemmas.{words_end, words_on}
 use Rattle.spdx_listing.proofs.words.are_words.Goals as goal

@@ -3,7 +3,7 @@ use Rattle.std.proofs.Common.{◌≡◌, ◌&&◌, length}
 use denote.Text.{Utf8}
 use denote.Shadow.{shadow}
 use Rattle.std.specs.List.{list_all, slice_split}
-use Rattle.spdx_catalog.specs.Words.{is_space, is_word}
+use Rattle.spdx_terms.specs.catalog.Words.{is_space, is_word}
 use Rattle.spdx_listing.proofs.words.are_words.Given as goal
 
 abbrev pub invariant-pieces : goal.invariant-pieces

@@ -1,5 +1,5 @@
 use Rattle.std.proofs.Common.{sym}
-use Rattle.spdx_catalog.specs.Words.{is_space}
+use Rattle.spdx_terms.specs.catalog.Words.{is_space}
 use Rattle.spdx_listing.proofs.CutLemmas.{before_cut, before_uncut}
 use Rattle.spdx_listing.proofs.words.first_word.Goals as goal
 

@@ -5,7 +5,7 @@ use Rattle.toml_subset.specs.Places.{stands, after_blanks, from_to}
 use Rattle.toml_subset.specs.Reading.{with_root}
 use Rattle.toml_subset.specs.TableFaults.{array_header_fault}
 use Rattle.toml_subset.specs.Tables.{along, implicit, through_any, open_array}
-use Rattle.toml_frames.proofs.Levels.{array_way}
+use Rattle.toml_subset.proofs.frames.Levels.{array_way}
 use Rattle.toml_value.specs.LevelViews.{cursor_view, IsLineRead}
 use Rattle.toml_value.proofs.ReaderLemmas.{line_if_true}
 use Rattle.toml_value.proofs.reader.behind_array_parts.Goals as goal

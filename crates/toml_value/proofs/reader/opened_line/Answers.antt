@@ -1,4 +1,4 @@
-use Rattle.toml_frames.specs.Levels.{into_header}
+use Rattle.toml_subset.specs.frames.Levels.{into_header}
 use Rattle.toml_value.specs.LevelViews.{cursor_view}
 use Rattle.toml_value.proofs.ReaderLemmas.{header_ends, header_refused}
 use Rattle.toml_value.proofs.reader.opened_line.Goals as goal

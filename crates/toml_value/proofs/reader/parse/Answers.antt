@@ -2,9 +2,9 @@ use Rattle.std.proofs.Common.{◌≡◌, ◌<◌, ◌≤◌, ℕ, length, Ok, Er
 use Rattle.toml_subset.specs.Places.{after_blanks}
 use Rattle.toml_subset.specs.Reading.{line_from}
 use Rattle.toml_subset.proofs.Law.Whole.{text_sound, line_forward}
-use Rattle.toml_frames.specs.LinesRead.{AreLinesRead}
-use Rattle.toml_frames.proofs.LinesRead.{lines_begin, lines_end}
-use Rattle.toml_laws.proofs.Texts.{text_placed}
+use Rattle.toml_subset.specs.frames.LinesRead.{AreLinesRead}
+use Rattle.toml_subset.proofs.frames.LinesRead.{lines_begin, lines_end}
+use Rattle.toml_subset.proofs.text_laws.Texts.{text_placed}
 use Rattle.toml_value.specs.LevelViews.{cursor_view, IsLineRead}
 use Rattle.toml_value.specs.Views.{value_view}
 use Rattle.toml_value.proofs.ReaderLemmas.{way_low, line_on, text_refused, outside_by, first_by}

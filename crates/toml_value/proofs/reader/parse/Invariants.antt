@@ -1,5 +1,5 @@
 use Rattle.std.proofs.Common.{◌-◌, length}
-use Rattle.toml_frames.specs.LinesRead.{AreLinesRead}
+use Rattle.toml_subset.specs.frames.LinesRead.{AreLinesRead}
 use Rattle.toml_value.specs.LevelViews.{cursor_view}
 use Rattle.toml_value.proofs.reader.parse.Given as goal
 

@@ -1,8 +1,8 @@
 use Rattle.std.proofs.Common.{◌+◌, ◌<◌, sym, arith}
-use Rattle.toml_frames.proofs.Goings.{entries_shallow}
-use Rattle.toml_frames.proofs.Turns.{table_behind}
-use Rattle.toml_frames.specs.Between.{next_place}
-use Rattle.toml_frames.specs.Frames.{in_table, on_with, table_on}
+use Rattle.toml_subset.proofs.frames.Goings.{entries_shallow}
+use Rattle.toml_subset.proofs.frames.Turns.{table_behind}
+use Rattle.toml_subset.specs.frames.Between.{next_place}
+use Rattle.toml_subset.specs.frames.Frames.{in_table, on_with, table_on}
 use Rattle.toml_value.specs.StackViews.{value_found}
 use Rattle.toml_value.specs.TreeViews.{tree_view}
 use Rattle.toml_value.proofs.TurnLemmas.{takes_same}

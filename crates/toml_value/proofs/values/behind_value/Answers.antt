@@ -1,8 +1,8 @@
 use Rattle.std.proofs.Common.{◌≡◌, ◌+◌, ◌<◌, ap, sym, subst, ◌∙◌, arith}
 use Rattle.toml_subset.specs.Data.{Items}
-use Rattle.toml_frames.proofs.Turns.{array_behind, array_stops}
-use Rattle.toml_frames.specs.Between.{next_place}
-use Rattle.toml_frames.specs.Frames.{in_array, with_last, on_with, array_turn, IsValueStep}
+use Rattle.toml_subset.proofs.frames.Turns.{array_behind, array_stops}
+use Rattle.toml_subset.specs.frames.Between.{next_place}
+use Rattle.toml_subset.specs.frames.Frames.{in_array, with_last, on_with, array_turn, IsValueStep}
 use Rattle.toml_value.specs.StackViews.{value_found}
 use Rattle.toml_value.specs.Views.{value_view, values_view}
 use Rattle.toml_value.proofs.TurnLemmas.{with_item-last}

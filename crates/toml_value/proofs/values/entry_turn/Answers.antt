@@ -1,9 +1,9 @@
 use Rattle.std.proofs.Common.{◌+◌, ap, sym, subst, ◌∙◌}
 use Rattle.toml_subset.specs.StringReading.{KeysFound}
 use Rattle.toml_subset.specs.TableFaults.{put_fault}
-use Rattle.toml_frames.proofs.Turns.{entry_turn_is}
-use Rattle.toml_frames.specs.declared.between.Next.TheVariants.{Further}
-use Rattle.toml_frames.specs.Frames.{in_table, waits, table_on, IsValueStep}
+use Rattle.toml_subset.proofs.frames.Turns.{entry_turn_is}
+use Rattle.toml_subset.specs.declared.frames.between.Next.TheVariants.{Further}
+use Rattle.toml_subset.specs.frames.Frames.{in_table, waits, table_on, IsValueStep}
 use Rattle.toml_value.specs.TreeViews.{tree_view}
 use Rattle.toml_value.proofs.TurnLemmas.{awaited}
 use Rattle.toml_value.proofs.values.entry_turn.Goals as goal

@@ -4,9 +4,9 @@ use Rattle.toml_subset.specs.Data.{Items}
 use Rattle.toml_subset.specs.Places.{stands}
 use Rattle.toml_subset.specs.Reading.{value_at}
 use Rattle.toml_subset.specs.Tables.{Branches}
-use Rattle.toml_frames.proofs.Turns.{array_opens, table_opens}
-use Rattle.toml_frames.specs.Between.{next_place, entry_place}
-use Rattle.toml_frames.specs.Frames.{array_turn, table_on, IsValueStep}
+use Rattle.toml_subset.proofs.frames.Turns.{array_opens, table_opens}
+use Rattle.toml_subset.specs.frames.Between.{next_place, entry_place}
+use Rattle.toml_subset.specs.frames.Frames.{array_turn, table_on, IsValueStep}
 use Rattle.toml_value.specs.TreeViews.{tree_view}
 use Rattle.toml_value.proofs.TurnLemmas.{takes_same}
 use Rattle.toml_value.proofs.values.opening_turn.Goals as goal

@@ -1,7 +1,7 @@
 use Rattle.std.proofs.Common.{◌+◌, List, map, sym, subst}
 use Rattle.toml_subset.specs.Reading.{value_at}
-use Rattle.toml_frames.proofs.Stacks.{IsReading, reading_begins, waits_shallow, waits_on, waits_refused, reads_shallow, reads_on, reads_refused}
-use Rattle.toml_frames.specs.Frames.{outside, inside, on_with}
+use Rattle.toml_subset.proofs.frames.Stacks.{IsReading, reading_begins, waits_shallow, waits_on, waits_refused, reads_shallow, reads_on, reads_refused}
+use Rattle.toml_subset.specs.frames.Frames.{outside, inside, on_with}
 use Rattle.toml_value.specs.StackViews.{value_found, frame_view, turn_view}
 use Rattle.toml_value.specs.declared.values.Frame.{Frame}
 use Rattle.toml_value.proofs.TurnLemmas.{refused_on, waiting, pushed, popped}

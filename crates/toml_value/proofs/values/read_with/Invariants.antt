@@ -1,6 +1,6 @@
 use Rattle.std.proofs.Common.{◌-◌, length, map}
-use Rattle.toml_frames.proofs.Stacks.{IsReading}
-use Rattle.toml_frames.specs.Frames.{turn_place}
+use Rattle.toml_subset.proofs.frames.Stacks.{IsReading}
+use Rattle.toml_subset.specs.frames.Frames.{turn_place}
 use Rattle.toml_value.specs.StackViews.{frame_view, turn_view}
 use Rattle.toml_value.proofs.values.read_with.Given as goal
 

@@ -1,8 +1,8 @@
 use Rattle.std.proofs.Common.{◌≡◌, ◌+◌, refl, ap, sym, subst, ◌∙◌}
 use Rattle.toml_subset.specs.Reading.{ValueFound, value_at}
-use Rattle.toml_frames.proofs.Turns.{scalar_turn}
-use Rattle.toml_frames.specs.Frames.{read, IsValueStep}
-use Rattle.toml_frames.specs.Scalars.{scalar_content}
+use Rattle.toml_subset.proofs.frames.Turns.{scalar_turn}
+use Rattle.toml_subset.specs.frames.Frames.{read, IsValueStep}
+use Rattle.toml_subset.specs.frames.Scalars.{scalar_content}
 use Rattle.toml_value.specs.StackViews.{value_found}
 use Rattle.toml_value.proofs.values.scalar_turn.Goals as goal
 

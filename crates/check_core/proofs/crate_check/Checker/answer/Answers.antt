@@ -1,7 +1,7 @@
 use Rattle.std.proofs.Common.{◌≡◌, ◌≤◌, ◌+◌, sym, subst, IfOk}
-use Rattle.gather_findings.specs.declared.license.LicenseInfo.{LicenseInfo}
+use Rattle.gather_core.specs.declared.findings.license.LicenseInfo.{LicenseInfo}
 use Rattle.gather_core.specs.Gathered.{krate_of}
-use Rattle.policy_valid.specs.View.{policy_of}
+use Rattle.policy_core.specs.valid.View.{policy_of}
 use Rattle.check_core.specs.declared.crate_check.ToldVerdict.{ToldVerdict}
 use Rattle.check_core.specs.Steps.{entries_of_info}
 use Rattle.check_core.specs.Turns.{verdict_finding}

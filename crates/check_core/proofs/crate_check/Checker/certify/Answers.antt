@@ -1,10 +1,10 @@
 use Rattle.std.proofs.Common.{◌∙◌, ap, ap₂, ◌≡◌, ℕ, Bool, List, Option}
 use Rattle.graph_core.specs.Krate.{record_of}
-use Rattle.spdx_certificates.specs.declared.verdict.Hit.{Hit}
-use Rattle.policy_valid.specs.View.{policy_of}
-use Rattle.check_evaluate.specs.Evaluation.{Evaluation, term_hits}
-use Rattle.check_verdicts.specs.Findings as findings
-use Rattle.check_verdicts.specs.Findings.{verdict_labels}
+use Rattle.spdx_core.specs.declared.certificates.verdict.Hit.{Hit}
+use Rattle.policy_core.specs.valid.View.{policy_of}
+use Rattle.check_core.specs.evaluate.Evaluation.{Evaluation, term_hits}
+use Rattle.check_core.specs.verdicts.Findings as findings
+use Rattle.check_core.specs.verdicts.Findings.{verdict_labels}
 use Rattle.check_core.proofs.crate_check.Checker.certify.Goals as goal
 
 pub returns-clause-told : goal.returns-clause-told

@@ -1,5 +1,5 @@
 use Rattle.gather_core.specs.Gathered.{krate_of}
-use Rattle.policy_valid.specs.View.{policy_of}
+use Rattle.policy_core.specs.valid.View.{policy_of}
 use Rattle.check_core.specs.Turns.{expression_of}
 use Rattle.check_core.proofs.VerdictLemmas.{answered_check}
 use Rattle.check_core.proofs.StepLemmas.{asked_bound}

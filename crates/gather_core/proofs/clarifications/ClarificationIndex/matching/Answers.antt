@@ -1,7 +1,7 @@
 use Rattle.std.proofs.Common.{◌≡◌, ◌∙◌, List, ap}
 use Rattle.std.proofs.lemmas.Result.{IfOk-weaker}
 use Rattle.graph_core.specs.Krate.{record_of}
-use Rattle.policy_spec.specs.Index.{matching}
+use Rattle.policy_parts.specs.spec.Index.{matching}
 use Rattle.gather_core.specs.Entries.{ClarificationEntry, clarifications_at, specs_of}
 use Rattle.gather_core.proofs.PickLemmas.{items_matching}
 use Rattle.gather_core.proofs.clarifications.ClarificationIndex.matching.Goals as goal

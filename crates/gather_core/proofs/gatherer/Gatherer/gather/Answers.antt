@@ -1,10 +1,10 @@
 use Rattle.std.proofs.Common.{◌≡◌, ◌∙◌, List, map, inl, inr, sym, ap, subst}
 use Rattle.graph_core.specs.Krate.{Record}
 use Rattle.tree_core.proofs.MadeLemmas.{made_none}
-use Rattle.graph_selection.specs.Listed.{IsListOf, record_behind}
-use Rattle.graph_selection.specs.Walks.{Selected}
-use Rattle.gather_findings.proofs.GrowLemmas.{grows_itself}
-use Rattle.gather_files.proofs.CallLemmas.{on_err}
+use Rattle.graph_core.specs.selection.Listed.{IsListOf, record_behind}
+use Rattle.graph_core.specs.selection.Walks.{Selected}
+use Rattle.gather_core.proofs.findings.GrowLemmas.{grows_itself}
+use Rattle.gather_licence.proofs.files.CallLemmas.{on_err}
 use Rattle.gather_core.specs.Calls.{AreTurnsByReads, StarvesGathering}
 use Rattle.gather_core.specs.Entries.{ClarificationEntry, entries_of, clarification_entry}
 use Rattle.gather_core.specs.Gathered.{include_of, scanner_of_gatherer}

@@ -3,13 +3,13 @@ use Rattle.std.proofs.Common.{◌≡◌, ℕ, List, [], ◌∷◌, Ok, refl, sym
 use Rattle.std.specs.Prelude.{codes}
 use Rattle.deny_text.specs.declared.span.Span.{Span}
 use Rattle.deny_text.specs.declared.span.Spanned.{Spanned}
-use Rattle.toml_shapes.specs.Shaped.{ShapeReading, AnswersShape, TellsFaults, shaped_of, shaped_then}
-use Rattle.toml_shapes.specs.Shapes.{Fault}
+use Rattle.toml_subset.specs.shapes.Shaped.{ShapeReading, AnswersShape, TellsFaults, shaped_of, shaped_then}
+use Rattle.toml_subset.specs.shapes.Shapes.{Fault}
 use Rattle.toml_subset.specs.Data.{Entries}
 use Rattle.policy_toml.specs.HelperState.{state_of, without_key}
 use Rattle.policy_toml.specs.Readings.{text_of, u32_of, spanned_of}
-use Rattle.toml_rows.specs.Rows.{needed, shaped_by, table_faults}
-use Rattle.toml_rows.proofs.RowLemmas.{begun, finished}
+use Rattle.policy_toml.specs.rows.Rows.{needed, shaped_by, table_faults}
+use Rattle.policy_toml.proofs.rows.RowLemmas.{begun, finished}
 use Rattle.policy_parts.specs.Values.{file_source_at}
 use Rattle.policy_parts.specs.declared.file_source.FileSource.{FileSource}
 use Rattle.policy_parts.proofs.NeededKeys.{needed_behind, refused_then}

@@ -2,12 +2,12 @@
 use Rattle.std.proofs.Common.{◌≡◌, ℕ, Bool, false, List, [], ◌∷◌, Option, refl, ap, subst, ◌∙◌}
 use Rattle.std.specs.Prelude.{codes, unwrap_or}
 use Rattle.deny_text.specs.declared.span.Spanned.{Spanned}
-use Rattle.toml_shapes.specs.Shaped.{AnswersShape, shaped_of}
-use Rattle.toml_shapes.specs.Shapes.{Fault}
+use Rattle.toml_subset.specs.shapes.Shaped.{AnswersShape, shaped_of}
+use Rattle.toml_subset.specs.shapes.Shapes.{Fault}
 use Rattle.policy_toml.specs.HelperState.{HelperState, state_of}
 use Rattle.policy_toml.specs.Readings.{text_of, boolean_of, list_of, spanned_of}
-use Rattle.toml_rows.specs.Rows.{key, table_faults}
-use Rattle.toml_rows.proofs.RowLemmas.{after_row, begun, field, finished}
+use Rattle.policy_toml.specs.rows.Rows.{key, table_faults}
+use Rattle.policy_toml.proofs.rows.RowLemmas.{after_row, begun, field, finished}
 use Rattle.policy_parts.specs.Tables.{private_rows}
 use Rattle.policy_parts.specs.declared.private.Private.{Private}
 use Rattle.policy_parts.proofs.private.PrivateFromKeys.read_keys.Goals as goal

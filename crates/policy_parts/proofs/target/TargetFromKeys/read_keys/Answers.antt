@@ -2,13 +2,13 @@
 use Rattle.std.proofs.Common.{◌≡◌, ℕ, List, [], ◌∷◌, Option, refl, sym, ap, subst, ◌∙◌}
 use Rattle.std.specs.Prelude.{codes, unwrap_or}
 use Rattle.deny_text.specs.declared.span.Spanned.{Spanned}
-use Rattle.toml_shapes.specs.Shaped.{AnswersShape, shaped_of, shaped_then}
-use Rattle.toml_shapes.specs.Shapes.{Fault}
+use Rattle.toml_subset.specs.shapes.Shaped.{AnswersShape, shaped_of, shaped_then}
+use Rattle.toml_subset.specs.shapes.Shapes.{Fault}
 use Rattle.toml_subset.specs.Data.{Entries}
 use Rattle.policy_toml.specs.HelperState.{HelperState, state_of, without_key}
 use Rattle.policy_toml.specs.Readings.{text_of, list_of, spanned_of}
-use Rattle.toml_rows.specs.Rows.{KeyRow, key, given, shaped_by, table_faults}
-use Rattle.toml_rows.proofs.RowLemmas.{after_row, begun, field, finished}
+use Rattle.policy_toml.specs.rows.Rows.{KeyRow, key, given, shaped_by, table_faults}
+use Rattle.policy_toml.proofs.rows.RowLemmas.{after_row, begun, field, finished}
 use Rattle.policy_parts.specs.declared.target.Target.{Target}
 use Rattle.policy_parts.proofs.NeededKeys.{needed_behind}
 use Rattle.policy_parts.proofs.target.TargetFromKeys.read_keys.Goals as goal

@@ -1,5 +1,5 @@
 use Rattle.std.proofs.Common.{◌∙◌, ap}
-use Rattle.spdx_catalog.specs.Catalog.{names_of}
+use Rattle.spdx_terms.specs.catalog.Catalog.{names_of}
 use Rattle.spdx_listing.specs.File.{is_among}
 use Rattle.spdx_listing.proofs.IndexLemmas.{found_entry}
 use Rattle.spdx_listing.proofs.entries.LicenseList.has.Goals as goal

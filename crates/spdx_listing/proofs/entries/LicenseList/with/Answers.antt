@@ -1,7 +1,7 @@
 use Rattle.std.proofs.Common.{ℕ, List, [], ◌∷◌, ◌++◌, sym, ap, subst, ◌∙◌}
 use Rattle.std.specs.FinMap.{insert}
-use Rattle.spdx_catalog.specs.Catalog.{entry_of}
-use Rattle.spdx_catalog.specs.declared.catalog.LicenseEntry.{LicenseEntry}
+use Rattle.spdx_terms.specs.catalog.Catalog.{entry_of}
+use Rattle.spdx_terms.specs.declared.catalog.catalog.LicenseEntry.{LicenseEntry}
 use Rattle.spdx_listing.specs.Index.{HasEntries}
 use Rattle.spdx_listing.specs.IndexView.{entries_listed}
 use Rattle.spdx_listing.proofs.IndexLemmas.{entries_push, one_more_entry}

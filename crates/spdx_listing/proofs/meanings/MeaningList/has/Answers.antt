@@ -1,7 +1,7 @@
 use Rattle.std.proofs.Common.{◌∙◌, ap}
 use Rattle.std.specs.List.{list_any}
 use Rattle.std.specs.Str.{str_eq_ignore_ascii_case}
-use Rattle.spdx_catalog.specs.Catalog.{names_of}
+use Rattle.spdx_terms.specs.catalog.Catalog.{names_of}
 use Rattle.spdx_listing.specs.File.{is_among}
 use Rattle.spdx_listing.specs.IndexView.{meanings_listed, texts_lowered}
 use Rattle.spdx_listing.proofs.FormLemmas.{lowered_among}

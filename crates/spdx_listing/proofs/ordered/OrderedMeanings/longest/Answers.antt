@@ -1,5 +1,5 @@
 use Rattle.std.proofs.Common.{ℕ, List, sym, subst}
-use Rattle.spdx_catalog.specs.Catalog.{BeginsNone, IsLongestImprecise}
+use Rattle.spdx_terms.specs.catalog.Catalog.{BeginsNone, IsLongestImprecise}
 use Rattle.spdx_listing.specs.IndexView.{meanings_listed}
 use Rattle.spdx_listing.specs.Ordered.{AreInOrder}
 use Rattle.spdx_listing.specs.declared.meanings.Meaning.{Meaning}

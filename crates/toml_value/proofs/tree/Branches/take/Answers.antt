@@ -1,5 +1,5 @@
 use Rattle.std.proofs.Common.{ap, ◌∙◌}
-use Rattle.toml_frames.specs.Levels.{replaced}
+use Rattle.toml_subset.specs.frames.Levels.{replaced}
 use Rattle.toml_value.specs.BranchViews.{branches_view}
 use Rattle.toml_value.proofs.LevelLemmas.{put_back-view, put_back-whole}
 use Rattle.toml_value.proofs.tree.Branches.take.Goals as goal

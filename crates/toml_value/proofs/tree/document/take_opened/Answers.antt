@@ -1,7 +1,7 @@
 use Rattle.std.proofs.Common.{◌≡◌, ℕ, Err, option_map, sym, ap, ◌∙◌}
 use Rattle.toml_subset.specs.Tables.{Node}
 use Rattle.toml_subset.proofs.Law.Basics.{is_some}
-use Rattle.toml_frames.specs.Levels.{opened}
+use Rattle.toml_subset.specs.frames.Levels.{opened}
 use Rattle.toml_value.specs.AroundViews.{opened_view, or_redefined}
 use Rattle.toml_value.specs.BranchViews.{node_view, is_whole_node}
 use Rattle.toml_value.proofs.LevelLemmas.{place_within, node_found}

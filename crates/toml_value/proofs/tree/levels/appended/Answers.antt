@@ -1,8 +1,8 @@
 use Rattle.std.proofs.Common.{[], ◌∷◌, ◌++◌, Some, map, sym, ap, ◌∙◌}
 use Rattle.std.specs.List.{list_all}
 use Rattle.toml_subset.specs.Tables.{Branches}
-use Rattle.toml_frames.specs.Levels.{behind, opened}
-use Rattle.toml_frames.specs.declared.part.HeaderPart.TheVariants.{Array}
+use Rattle.toml_subset.specs.frames.Levels.{behind, opened}
+use Rattle.toml_subset.specs.declared.frames.part.HeaderPart.TheVariants.{Array}
 use Rattle.toml_value.specs.BranchViews.{node_view, branches_view, body_view, is_whole, is_whole_node, is_whole_body}
 use Rattle.toml_value.proofs.LevelLemmas.{node_view-tables, is_whole-tables, array_tables, body_view-is, bodies_more, bodies_whole, both_whole}
 use Rattle.toml_value.proofs.tree.levels.appended.Goals as goal

@@ -1,6 +1,6 @@
 use Rattle.std.proofs.Common.{map, sym, ap, ◌∙◌}
-use Rattle.toml_frames.specs.Levels.{opened}
-use Rattle.toml_frames.specs.declared.part.HeaderPart.TheVariants.{Through}
+use Rattle.toml_subset.specs.frames.Levels.{opened}
+use Rattle.toml_subset.specs.declared.frames.part.HeaderPart.TheVariants.{Through}
 use Rattle.toml_value.specs.BranchViews.{node_view, branches_view, body_view}
 use Rattle.toml_value.proofs.LevelLemmas.{node_view-tables, through_tables}
 use Rattle.toml_value.proofs.tree.levels.opened_through.Goals as goal

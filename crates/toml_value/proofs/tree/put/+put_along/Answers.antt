@@ -2,7 +2,7 @@ use Rattle.std.proofs.Common.{◌≡◌, ◌∷◌, ◌<◌, List, length, Some,
 use Rattle.std.proofs.lemmas.Result.{IfOk-weaker}
 use Rattle.toml_subset.specs.Tables.{Branches, dotted, growing, put}
 use Rattle.toml_subset.specs.declared.string.Key.{Key}
-use Rattle.toml_frames.specs.Levels.{found_at}
+use Rattle.toml_subset.specs.frames.Levels.{found_at}
 use Rattle.toml_value.specs.BelowViews.{placed}
 use Rattle.toml_value.specs.BranchViews.{branches_view, shut}
 use Rattle.toml_value.specs.declared.value.Value.{Value}

@@ -1,5 +1,5 @@
 use Rattle.std.proofs.Common.{sym, ◌∙◌, refl}
-use Rattle.toml_frames.specs.Levels.{found_at}
+use Rattle.toml_subset.specs.frames.Levels.{found_at}
 use Rattle.toml_value.specs.BranchViews.{branches_view}
 use Rattle.toml_value.proofs.LevelLemmas.{place_found, missing_from}
 use Rattle.toml_value.proofs.tree.put.take_below.Goals as goal

@@ -1,5 +1,5 @@
 use Rattle.std.proofs.Common.{◌<◌, subst, arith}
-use Rattle.toml_frames.specs.Levels.{size}
+use Rattle.toml_subset.specs.frames.Levels.{size}
 use Rattle.toml_value.specs.BelowViews.{HasRoom}
 use Rattle.toml_value.specs.BranchViews.{branches_view}
 use Rattle.toml_value.proofs.LevelLemmas.{sized}

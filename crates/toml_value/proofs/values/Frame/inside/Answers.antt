@@ -1,6 +1,6 @@
 use Rattle.std.proofs.Common.{subst, arith}
-use Rattle.toml_frames.proofs.Goings.{inside_shallow}
-use Rattle.toml_frames.specs.Frames.{in_table, IsShallowFrame}
+use Rattle.toml_subset.proofs.frames.Goings.{inside_shallow}
+use Rattle.toml_subset.specs.frames.Frames.{in_table, IsShallowFrame}
 use Rattle.toml_value.specs.StackViews.{frame_view}
 use Rattle.toml_value.specs.TreeViews.{tree_view}
 use Rattle.toml_value.proofs.values.Frame.inside.Goals as goal

@@ -1,5 +1,5 @@
 use Rattle.std.proofs.Common.{map, ap, ◌∙◌}
-use Rattle.toml_frames.specs.Levels.{all_plugged}
+use Rattle.toml_subset.specs.frames.Levels.{all_plugged}
 use Rattle.toml_value.specs.BranchViews.{branches_view}
 use Rattle.toml_value.specs.LevelViews.{level_view}
 use Rattle.toml_value.proofs.LevelLemmas.{level_back}

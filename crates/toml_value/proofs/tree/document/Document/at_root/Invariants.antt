@@ -1,5 +1,5 @@
 use Rattle.std.proofs.Common.{◌≡◌, map, length, IsTrue}
-use Rattle.toml_frames.specs.Levels.{all_plugged}
+use Rattle.toml_subset.specs.frames.Levels.{all_plugged}
 use Rattle.toml_value.specs.BranchViews.{branches_view, is_whole}
 use Rattle.toml_value.specs.LevelViews.{level_view}
 use Rattle.toml_value.specs.TreeViews.{tree_view}

@@ -1,5 +1,5 @@
 use Rattle.std.proofs.Common.{sym, ◌∙◌}
-use Rattle.toml_frames.specs.Levels.{found_at}
+use Rattle.toml_subset.specs.frames.Levels.{found_at}
 use Rattle.toml_value.specs.TreeViews.{tree_view}
 use Rattle.toml_value.proofs.LevelLemmas.{missing_from}
 use Rattle.toml_value.proofs.tree.document.Document.enter.Goals as goal

@@ -1,7 +1,7 @@
 use Rattle.std.proofs.Common.{◌≡◌, ◌<◌, length, ap, ◌∙◌, arith}
 use Rattle.toml_subset.specs.Tables.{has_key}
-use Rattle.toml_frames.specs.Levels.{size}
-use Rattle.toml_frames.proofs.Levels.{is_missing}
+use Rattle.toml_subset.specs.frames.Levels.{size}
+use Rattle.toml_subset.proofs.frames.Levels.{is_missing}
 use Rattle.toml_value.specs.BranchViews.{branches_view, node_view}
 use Rattle.toml_value.specs.LevelViews.{cursor_view}
 use Rattle.toml_value.proofs.LevelLemmas.{sized, size_added}

@@ -1,8 +1,8 @@
 use Rattle.std.proofs.Common.{◌≡◌, ℕ, Some, Ok, option_map, refl, sym, ap, ◌∙◌, arith}
 use Rattle.toml_subset.specs.Tables.{Node, Branches}
 use Rattle.toml_subset.specs.declared.string.Key.{Key}
-use Rattle.toml_frames.specs.Levels.{found_at, hole, opened, replaced, size}
-use Rattle.toml_frames.proofs.Levels.{old_room}
+use Rattle.toml_subset.specs.frames.Levels.{found_at, hole, opened, replaced, size}
+use Rattle.toml_subset.proofs.frames.Levels.{old_room}
 use Rattle.toml_value.specs.AroundViews.{around_view, opened_view}
 use Rattle.toml_value.specs.BranchViews.{branches_view}
 use Rattle.toml_value.specs.LevelViews.{cursor_view}

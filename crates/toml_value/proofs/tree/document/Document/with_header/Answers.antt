@@ -1,7 +1,7 @@
 use Rattle.std.proofs.Common.{◌∷◌, sym, ap, subst, ◌∙◌, length, arith}
-use Rattle.toml_frames.proofs.Levels.{part_low}
-use Rattle.toml_frames.specs.Levels.{at_root, into_parts}
-use Rattle.toml_frames.specs.declared.part.HeaderPart.TheVariants.{Through}
+use Rattle.toml_subset.proofs.frames.Levels.{part_low}
+use Rattle.toml_subset.specs.frames.Levels.{at_root, into_parts}
+use Rattle.toml_subset.specs.declared.frames.part.HeaderPart.TheVariants.{Through}
 use Rattle.toml_value.specs.LevelViews.{cursor_view, IsShallowCursor}
 use Rattle.toml_value.proofs.LevelLemmas.{header_step, header_stops, header_last}
 use Rattle.toml_value.proofs.tree.document.Document.with_header.Goals as goal

@@ -1,5 +1,5 @@
 use Rattle.std.proofs.Common.{◌≡◌, ◌∷◌, length}
-use Rattle.toml_frames.specs.Levels.{into_header, into_parts}
+use Rattle.toml_subset.specs.frames.Levels.{into_header, into_parts}
 use Rattle.toml_value.specs.LevelViews.{cursor_view, IsShallowCursor}
 use Rattle.toml_value.proofs.tree.document.Document.with_header.Given as goal
 

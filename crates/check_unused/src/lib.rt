@@ -1,9 +1,0 @@
-//! What of a policy no crate needed: the allowed licensees and the exceptions that allow no term.
-#![tactic(auto)]
-
-pub mod encountered;
-pub mod laws;
-pub mod unused;
-
-pub use encountered::EntryHits;
-pub use unused::last_pack;

@@ -1,5 +1,0 @@
-use Rattle.gather_findings.proofs.LicenseLemmas.{stands_grown}
-use Rattle.check_verdicts.proofs.laws.stands_on.Goals as goal
-
-pub returns : goal.returns
-returns c = λ files more nfo words stands. stands_grown files more nfo.file_id nfo.offset nfo.whole words stands

@@ -1,8 +1,0 @@
-use Rattle.std.proofs.Common.{◌≡◌, ◌++◌, map, take}
-use Rattle.std.specs.List.{zip}
-use Rattle.gather_findings.specs.Findings.{failure}
-use Rattle.gather_findings.specs.Views.{behind}
-use Rattle.gather_findings.proofs.findings.push_failures.Given as goal
-
-abbrev pub invariant-words : goal.invariant-words
-invariant-words l = l.diags ≡ l.fn.diags ++ map (failure l.file) (zip (map behind (take l.place l.words)) l.spans)

@@ -1,0 +1,7 @@
+//! The licence expression of a crate's field, and what its licence files are identified as.
+
+pub mod files;
+pub mod taken;
+
+pub use files::{FileResult, IdentifiedName, ScannedFile, scan_pack};
+pub use taken::{field, joined};

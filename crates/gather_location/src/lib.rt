@@ -1,7 +1,0 @@
-//! Where the licence field of a crate stands in its manifest.
-#![tactic(auto)]
-
-pub mod location;
-mod search;
-
-pub use location::{LocatedField, locate};

@@ -1,0 +1,12 @@
+//! The crates of a workspace that are checked: those that walks from its roots reach.
+
+pub mod exclude;
+pub mod krates;
+mod marks;
+pub mod selection;
+mod standing;
+
+pub use crate::{DepKind, Edge, Edges, Kinds, Krate, Metadata};
+pub use exclude::{ExcludeSpec, ExcludeSpecs, has_uncarried, read_specs};
+pub use krates::{KrateRefs, Krates};
+pub use selection::{BuildError, Include, Selection};

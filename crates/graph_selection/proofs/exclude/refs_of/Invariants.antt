@@ -1,6 +1,0 @@
-use Rattle.std.proofs.Common.{◌≡◌, map, take}
-use Rattle.graph_selection.proofs.exclude.refs_of.Given as goal
-
--- references to the specs so far
-abbrev pub invariant-specs : goal.invariant-specs
-invariant-specs l = map (λ spec. spec.now) l.refs.items ≡ take l.spec-index l.specs

@@ -1,7 +1,0 @@
--- The text has the pairs so far, but `branch=master`.
-use Rattle.std.proofs.Common.{◌≡◌, [], take, fold, string_bytes}
-use Rattle.graph_source.specs.Git.{with_kept}
-use Rattle.graph_source.proofs.query.QueryPairs.text_without_master.Given as goal
-
-abbrev pub invariant-pairs : goal.invariant-pairs
-invariant-pairs l = string_bytes l.text ≡ fold with_kept [] (take l.pair-index l.pair-items)

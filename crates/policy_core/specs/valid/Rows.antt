@@ -1,0 +1,111 @@
+-- Rows of policies, terms of a crate named `a`, and what allows each, worked out by hand from the rules.
+use Rattle.std.specs.Prelude.{ℕ, false, true, Bool, List, [], ◌∷◌, codes, Option, Some, None}
+use Rattle.graph_core.specs.Krate.{Record}
+use Rattle.spdx_terms.specs.declared.term.LicenseItem.TheVariants.{Spdx, Reference}
+use Rattle.spdx_terms.specs.declared.term.LicenseReq.{LicenseReq}
+use Rattle.spdx_core.specs.declared.certificates.verdict.Hit.{Hit}
+use Rattle.spdx_core.specs.declared.certificates.verdict.Hit.TheVariants.{Allowed, Exception}
+use Rattle.policy_core.specs.valid.Policy.{Grant, Policy, hit_of}
+
+abbrev pub crate_a : Record
+crate_a = record {
+  name = codes "a";
+  id = codes "a 1.0.0";
+  version = (1, 0, 0, [], []);
+  source = None;
+  authors = [];
+  repository = None;
+  description = None;
+  manifest_path = codes "/w/a/Cargo.toml";
+  license = None;
+  license_file = None;
+  features = [];
+  publish = None;
+  rust_version = None;
+}
+
+-- ---- terms and licensees
+
+abbrev alone : List ℕ → ℕ → LicenseReq
+alone name family = record { item = Spdx name family 0 false false; exception = None }
+
+abbrev pub mit : LicenseReq
+mit = alone (codes "MIT") 1
+
+abbrev pub isc : LicenseReq
+isc = alone (codes "ISC") 2
+
+abbrev pub zlib : LicenseReq
+zlib = alone (codes "Zlib") 3
+
+abbrev x11 : LicenseReq
+x11 = alone (codes "X11") 4
+
+abbrev mit_with : LicenseReq
+mit_with = record { item = Spdx (codes "MIT") 1 0 false false; exception = Some (codes "Classpath-exception-2.0") }
+
+abbrev gpl : List ℕ → ℕ → Bool → LicenseReq
+gpl name rank later = record { item = Spdx name 5 rank later false; exception = None }
+
+abbrev gpl2_only : LicenseReq
+gpl2_only = gpl (codes "GPL-2.0-only") 20 false
+
+abbrev gpl2_or_later : LicenseReq
+gpl2_or_later = gpl (codes "GPL-2.0-or-later") 20 true
+
+abbrev gpl3_only : LicenseReq
+gpl3_only = gpl (codes "GPL-3.0-only") 30 false
+
+abbrev reference : Option (List ℕ) → List ℕ → LicenseReq
+reference doc id = record { item = Reference doc id; exception = None }
+
+-- ---- policies
+
+abbrev pub grant : List ℕ → List LicenseReq → Grant
+grant name licensees = record { spec = record { name = name; span = record { start = 0; end = 0 }; requirement = None }; allowed = licensees }
+
+abbrev pub policy : List LicenseReq → List Grant → Policy
+policy licensees grants = record { ignores = false; registries = []; ignore_sources = []; allowed = licensees; exceptions = grants }
+
+pub record HitRow : Type 0 where
+  pub policy : Policy
+  pub term : LicenseReq
+  pub hit : Option Hit
+
+-- what the definition makes of a row
+abbrev pub computed : HitRow → HitRow
+computed row = record { policy = row.policy; term = row.term; hit = hit_of row.policy crate_a row.term }
+
+abbrev row : List LicenseReq → List Grant → LicenseReq → Option Hit → HitRow
+row licensees grants term hit = record { policy = policy licensees grants; term = term; hit = hit }
+
+abbrev pub rows : List HitRow
+rows =
+    -- allowed, by its place in the list
+    row (mit ∷ zlib ∷ []) (grant (codes "a") (isc ∷ []) ∷ []) mit (Some (Allowed 0))
+    ∷ row (mit ∷ zlib ∷ []) (grant (codes "a") (isc ∷ []) ∷ []) zlib (Some (Allowed 1))
+    ∷ row (mit ∷ zlib ∷ []) (grant (codes "a") (isc ∷ []) ∷ []) x11 None
+    -- the exception of the crate comes first, by the place of its entry
+    ∷ row (mit ∷ zlib ∷ []) (grant (codes "a") (isc ∷ []) ∷ []) isc (Some (Exception 0 0))
+    ∷ row (mit ∷ zlib ∷ []) (grant (codes "a") (mit ∷ []) ∷ []) mit (Some (Exception 0 0))
+    ∷ row (mit ∷ []) (grant (codes "b") (isc ∷ []) ∷ grant (codes "a") (zlib ∷ isc ∷ isc ∷ []) ∷ []) isc (Some (Exception 1 1))
+    -- that of another crate is none
+    ∷ row (mit ∷ []) (grant (codes "ab") (isc ∷ []) ∷ []) isc None
+    -- a second exception of the crate is not asked, also where the first has an empty list
+    ∷ row (mit ∷ []) (grant (codes "a") [] ∷ grant (codes "a") (isc ∷ []) ∷ []) isc None
+    ∷ row (mit ∷ []) (grant (codes "a") [] ∷ grant (codes "a") (isc ∷ []) ∷ []) mit (Some (Allowed 0))
+    -- of two that satisfy the first in sorted order, whatever the policy wrote first
+    ∷ row (gpl2_or_later ∷ gpl3_only ∷ []) [] gpl2_or_later (Some (Allowed 0))
+    -- a later version satisfies a term that takes it; a licensee that takes later ones wants a term that does
+    ∷ row (gpl3_only ∷ []) [] gpl2_or_later (Some (Allowed 0))
+    ∷ row (gpl3_only ∷ []) [] gpl2_only None
+    ∷ row (gpl2_or_later ∷ []) [] gpl2_only None
+    ∷ row (gpl2_only ∷ []) [] (gpl (codes "GPL-3.0-or-later") 30 true) None
+    -- with the same exception alone
+    ∷ row (mit ∷ mit_with ∷ []) [] mit_with (Some (Allowed 1))
+    ∷ row (mit_with ∷ []) [] mit None
+    -- the same reference alone
+    ∷ row (reference None (codes "x") ∷ []) [] (reference None (codes "x")) (Some (Allowed 0))
+    ∷ row (reference (Some (codes "d")) (codes "x") ∷ []) [] (reference None (codes "x")) None
+    ∷ row (mit ∷ []) [] (reference None (codes "MIT")) None
+    ∷ []

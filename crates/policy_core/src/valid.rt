@@ -1,0 +1,9 @@
+//! Valid policies: what is left of a policy once the findings of its load are told, and what it says of
+//! crates and terms.
+
+pub mod laws;
+pub mod policy;
+
+pub use policy::{
+    Urls, ValidClarification, ValidClarifications, ValidConfig, ValidException, ValidExceptions,
+};

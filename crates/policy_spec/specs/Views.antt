@@ -1,6 +1,0 @@
--- What the pieces of a string stand for.
-use Rattle.policy_spec.specs.Grammar as grammar
-use Rattle.policy_spec.specs.declared.text.Split.{Split}
-
-abbrev pub split_view : Split → grammar.Split
-split_view split = record { name = split.name.now; rest = split.rest.now; exact = split.exact }

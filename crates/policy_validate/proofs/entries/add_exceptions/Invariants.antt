@@ -1,7 +1,0 @@
--- the exceptions so far
-use Rattle.std.proofs.Common.{◌≡◌, ◌++◌, map}
-use Rattle.policy_validate.specs.Valid.{exception_in}
-use Rattle.policy_validate.proofs.entries.add_exceptions.Given as goal
-
-abbrev pub invariant-exceptions : goal.invariant-exceptions
-invariant-exceptions l = l.valid ≡ l.fn.valid ++ map (exception_in l.file) l.yielded

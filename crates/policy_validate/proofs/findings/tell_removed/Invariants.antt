@@ -1,7 +1,0 @@
--- what was told so far
-use Rattle.std.proofs.Common.{◌≡◌, ◌++◌, map, take}
-use Rattle.policy_validate.specs.Valid.{removed_key}
-use Rattle.policy_validate.proofs.findings.tell_removed.Given as goal
-
-abbrev pub invariant-keys : goal.invariant-keys
-invariant-keys l = l.found ≡ l.fn.found ++ map (removed_key l.file) (take l.key-index l.keys)

@@ -1,9 +1,0 @@
-use Rattle.policy_validate.specs.Order.{by_printed}
-use Rattle.policy_validate.proofs.SortLemmas.{puts_in_order}
-use Rattle.policy_validate.proofs.order.sort_licensees.Goals as goal
-
-pub returns : goal.returns
-returns c =
-    let sorts = c.in_ok-sort.ensures in
-    puts_in_order by_printed c.args.licensees c.into_vec-items.result.items c.sort.new.self.items c.from.result c.into_vec-items.ensures c.from.ensures
-    sorts.permutation sorts.sorted sorts.stable

@@ -1,0 +1,3 @@
+//! The places of a policy: what its load ensures of them is what gathering and the check ask.
+
+pub mod laws;

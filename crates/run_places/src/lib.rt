@@ -1,4 +1,0 @@
-//! The places of a policy: what its load ensures of them is what gathering and the check ask.
-#![tactic(auto)]
-
-pub mod laws;

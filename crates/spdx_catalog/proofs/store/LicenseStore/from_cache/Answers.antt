@@ -1,7 +1,0 @@
-use Rattle.std.proofs.Common.{◌∙◌}
-use Rattle.spdx_catalog.specs.BuiltIn.{isc_body, mit_body}
-use Rattle.spdx_catalog.proofs.store.LicenseStore.from_cache.Goals as goal
-
-pub returns : goal.returns
-unfolding isc_body mit_body
-returns c = c.in_ok-store.ensures ∙ c.in_ok-texts.ensures

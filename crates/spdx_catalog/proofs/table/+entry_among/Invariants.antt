@@ -1,5 +1,0 @@
-use Rattle.std.proofs.Common.{length}
-use Rattle.spdx_catalog.proofs.table.+entry_among.Given as goal
-
-abbrev pub decreases-entry_among : goal.decreases-entry_among
-decreases-entry_among l = length l.licences.now

@@ -1,5 +1,0 @@
-use Rattle.std.proofs.Common.{length}
-use Rattle.toml_frames.proofs.scalar.+shared_len.Given as goal
-
-abbrev pub decreases-shared_len : goal.decreases-shared_len
-decreases-shared_len l = length l.word.now

@@ -1,5 +1,0 @@
-//! The laws of the subset: the first fault of a text, and where its values and keys stand in it.
-#![tactic(auto)]
-
-pub mod faults;
-pub mod places;

@@ -1,9 +1,0 @@
--- What is said where a type was not read from a value.
-use Rattle.std.specs.Prelude.{ℕ, List, codes}
-use Rattle.toml_shapes.specs.Shapes.{faults_text}
-use Rattle.toml_shapes.specs.declared.shape.DeserError.{DeserError}
-use Rattle.toml_shapes.specs.declared.shape.DeserError.TheVariants.{Faults, Memory}
-
-abbrev pub deser_text : DeserError → List ℕ
-deser_text (Faults faults) = faults_text faults
-deser_text Memory = codes "out of memory"

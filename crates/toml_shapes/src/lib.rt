@@ -1,8 +1,0 @@
-//! What may be wrong with the shape of a value: the words for it, and how an answer tells it.
-#![tactic(auto)]
-
-pub mod shape;
-
-pub use shape::{
-    DeserError, ErrorKind, ShapeError, ShapeErrors, ValueKind, answer, one_fault, refuse,
-};

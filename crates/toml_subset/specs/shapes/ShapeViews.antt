@@ -1,0 +1,16 @@
+-- What the faults of the program stand for. Two texts that are equal may be two for the program; here they are one.
+use Rattle.toml_subset.specs.shapes.Shapes.{ShapeReason, Fault, wanted, missing, unexpected_keys, unexpected_value, custom, out_of_range}
+use Rattle.toml_subset.specs.declared.shapes.shape.ErrorKind.{ErrorKind}
+use Rattle.toml_subset.specs.declared.shapes.shape.ErrorKind.TheVariants.{Wanted, MissingField, UnexpectedKeys, UnexpectedValue, Custom, OutOfRange}
+use Rattle.toml_subset.specs.declared.shapes.shape.ShapeError.{ShapeError}
+
+abbrev pub reason_of : ErrorKind → ShapeReason
+reason_of (Wanted expected found) = wanted expected.now found.now
+reason_of (MissingField name) = missing name.now
+reason_of (UnexpectedKeys names) = unexpected_keys names
+reason_of (UnexpectedValue names) = unexpected_value names
+reason_of (Custom text) = custom text
+reason_of (OutOfRange type) = out_of_range type.now
+
+abbrev pub fault_of : ShapeError → Fault
+fault_of error = record { reason = reason_of error.kind; span = error.span }
