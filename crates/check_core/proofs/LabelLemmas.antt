@@ -30,10 +30,10 @@ use Rattle.check_core.specs.evaluate.Evaluation.{is_allowed, term_hits}
 use Rattle.check_core.specs.unused.Laws.{EntriesLie, EntryLabelsLie}
 use Rattle.check_core.specs.unused.Unused.{last_pack, unused_findings}
 use Rattle.check_core.proofs.unused.LawLemmas.{labels_lie}
-use Rattle.check_core.specs.verdicts.Findings as findings
-use Rattle.check_core.specs.verdicts.Laws.{term_text}
-use Rattle.check_core.specs.verdicts.Places.{LabelPoints, PointsBy}
-use Rattle.check_core.proofs.verdicts.PointLemmas.{labels_point}
+use Rattle.check_core.specs.findings.Findings as findings
+use Rattle.check_core.specs.findings.Laws.{term_text}
+use Rattle.check_core.specs.findings.Places.{LabelPoints, PointsBy}
+use Rattle.check_core.proofs.findings.PointLemmas.{labels_point}
 use Rattle.check_core.specs.Check.{HasFront, all_hits, findings_of, gained, packs_of}
 use Rattle.check_core.specs.Labels.{FindingLies, GainLies, InfoPoints, PackLies, VerdictPoints}
 use Rattle.check_core.specs.declared.report.CrateReport.{CrateReport}

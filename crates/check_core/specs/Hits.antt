@@ -13,7 +13,7 @@ use Rattle.policy_core.specs.declared.valid.policy.ValidConfig.{ValidConfig}
 use Rattle.policy_core.specs.valid.Policy.{Policy, hit_of}
 use Rattle.policy_core.specs.valid.View.{policy_of}
 use Rattle.check_core.specs.evaluate.Evaluation.{term_hits}
-use Rattle.check_core.specs.verdicts.Findings.{term_label, term_labels}
+use Rattle.check_core.specs.findings.Findings.{term_label, term_labels}
 use Rattle.check_core.specs.unused.Laws.{ExceptionIsHit, LicenseIsHit, TellUnused}
 use Rattle.check_core.specs.unused.Unused.{unused_findings}
 use Rattle.check_core.specs.Check.{all_hits}

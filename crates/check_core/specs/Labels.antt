@@ -10,7 +10,7 @@ use Rattle.gather_core.specs.declared.findings.license.LicenseInfo.{LicenseInfo}
 use Rattle.gather_core.specs.declared.findings.license.LicenseInfo.TheVariants.{SpdxExpression, Unlicensed}
 use Rattle.policy_core.specs.valid.Policy.{Policy}
 use Rattle.check_core.specs.evaluate.Evaluation.{term_hits}
-use Rattle.check_core.specs.verdicts.Laws.{LabelsPoint}
+use Rattle.check_core.specs.findings.Laws.{LabelsPoint}
 use Rattle.check_core.specs.Turns.{GatheredCrate}
 
 -- each label of each finding lies in its file, between characters

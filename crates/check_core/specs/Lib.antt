@@ -9,6 +9,6 @@ pub mod Steps
 pub mod Summary
 pub mod Turns
 pub mod Verdicts
-pub mod verdicts
+pub mod findings
 pub mod evaluate
 pub mod unused

@@ -14,7 +14,7 @@ use Rattle.gather_core.specs.declared.findings.license.LicenseInfo.{LicenseInfo}
 use Rattle.gather_core.specs.declared.findings.license.LicenseInfo.TheVariants.{SpdxExpression, Unlicensed}
 use Rattle.policy_core.specs.valid.Policy.{Grant, Policy}
 use Rattle.policy_core.specs.valid.Rows.{crate_a, grant, isc, mit, policy, zlib}
-use Rattle.check_core.specs.verdicts.Findings.{finding}
+use Rattle.check_core.specs.findings.Findings.{finding}
 use Rattle.check_core.specs.Turns.{GatheredCrate, expression_of, findings_by, hits_by}
 use Rattle.check_core.specs.Verdicts.{Judgement, skipped, unlicensed, accepted, rejected, verdict_of}
 

@@ -6,7 +6,7 @@ use Rattle.gather_core.specs.declared.findings.license.LicenseInfo.{LicenseInfo}
 use Rattle.gather_core.specs.declared.findings.license.LicenseInfo.TheVariants.{SpdxExpression, Unlicensed}
 use Rattle.gather_core.specs.Gathered.{krate_of}
 use Rattle.gather_core.specs.declared.summary.KrateLicense.{KrateLicense}
-use Rattle.check_core.specs.verdicts.Places.{PlaceFits}
+use Rattle.check_core.specs.findings.Places.{PlaceFits}
 use Rattle.check_core.specs.Turns.{GatheredCrate}
 
 abbrev pub gathered_of_license : KrateLicense → GatheredCrate

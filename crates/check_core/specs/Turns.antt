@@ -13,8 +13,8 @@ use Rattle.check_core.specs.evaluate.Entries.{EntryFamilies}
 use Rattle.check_core.specs.evaluate.Evaluation.{is_allowed, term_hits}
 use Rattle.check_core.specs.unused.Flags.{Flags}
 use Rattle.check_core.specs.unused.Unused.{hits_in}
-use Rattle.check_core.specs.verdicts.Findings as findings
-use Rattle.check_core.specs.verdicts.Findings.{verdict_labels, judged, pack_of}
+use Rattle.check_core.specs.findings.Findings as findings
+use Rattle.check_core.specs.findings.Findings.{verdict_labels, judged, pack_of}
 
 -- a crate, its licence, what was found on the way to that, and what is noted
 pub record GatheredCrate : Type 0 where

@@ -12,7 +12,7 @@ ghost use Rattle.check_core.specs.evaluate.Private.{private_numbers};
 ghost use Rattle.check_core.specs.unused.Flags.{flags_by};
 ghost use Rattle.check_core.specs.unused.Laws.{EntriesLie};
 ghost use Rattle.check_core.specs.unused.Unused as unused;
-ghost use Rattle.check_core.specs.verdicts.Places.{PlaceFits};
+ghost use Rattle.check_core.specs.findings.Places.{PlaceFits};
 ghost use Rattle.gather_core.specs.findings.License.{InfoStands, Stands};
 ghost use Rattle.gather_core.specs.Premises.{IsPlacedAt};
 ghost use Rattle.check_core.specs.Check.{AreVerdicts, HasFront, all_hits, findings_of, gained, packs_of};

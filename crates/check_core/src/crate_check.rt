@@ -12,8 +12,8 @@ ghost use Rattle.check_core.specs.evaluate.Evaluation.{exception_numbers};
 ghost use Rattle.check_core.specs.evaluate.Private.{private_numbers};
 ghost use Rattle.check_core.specs.unused.Flags.{flags_by};
 ghost use Rattle.check_core.specs.unused.Unused as unused;
-ghost use Rattle.check_core.specs.verdicts.Findings as findings;
-ghost use Rattle.check_core.specs.verdicts.Places.{PlaceFits};
+ghost use Rattle.check_core.specs.findings.Findings as findings;
+ghost use Rattle.check_core.specs.findings.Places.{PlaceFits};
 ghost use Rattle.check_core.specs.Reports.{report_of};
 ghost use Rattle.check_core.specs.Steps.{entries_for, entries_of_info};
 ghost use Rattle.check_core.specs.Summary.{InfoFits, gathered_of_license, nodes_in};
@@ -21,9 +21,9 @@ ghost use Rattle.check_core.specs.Turns.{expression_of, hits_by, hits_of, pack_b
 ghost use Rattle.check_core.specs.Verdicts.{IsCertifiedOrUnlicensed, IsCertified, IsVerdict, is_skipped};
 
 use crate::evaluate::{Evaluator, PrivateIndex, Verdict};
+use crate::findings::{judged, pack_of, skipped, unlicensed};
 use crate::report::{CrateReport, report_on};
 use crate::unused::{EntryHits, last_pack};
-use crate::verdicts::{judged, pack_of, skipped, unlicensed};
 use deny_text::Steps;
 use diag_core::{Diag, Pack};
 use gather_core::{Diags, KrateLicense, LicenseExprInfo, LicenseInfo};

@@ -4,10 +4,10 @@
 pub mod check;
 pub mod crate_check;
 pub mod evaluate;
+pub mod findings;
 pub mod laws;
 pub mod report;
 pub mod unused;
-pub mod verdicts;
 
 pub use check::{CheckCtx, judge_all};
 pub use crate_check::{Checker, JudgedCrate};

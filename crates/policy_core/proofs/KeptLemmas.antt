@@ -10,17 +10,17 @@ use Rattle.std.proofs.lemmas.List.Sorted.{All-permutation}
 use Rattle.spdx_terms.specs.catalog.Catalog.{CatalogLists, IsCatalog}
 use Rattle.deny_text.specs.declared.span.Span.{Span}
 use Rattle.diag_core.specs.File.{File, source_of_file}
-use Rattle.policy_core.proofs.places.EntryPlaces.{exceptions_file_stays}
-use Rattle.policy_core.specs.places.Entries.{ClarificationKeeps, ExceptionKeeps, exceptions_file_keeps, licensee_keeps}
-use Rattle.policy_core.specs.places.Policies.{ConfigKeeps}
+use Rattle.policy_core.proofs.place_laws.EntryPlaces.{exceptions_file_stays}
+use Rattle.policy_core.specs.place_laws.Entries.{ClarificationKeeps, ExceptionKeeps, exceptions_file_keeps, licensee_keeps}
+use Rattle.policy_core.specs.place_laws.Policies.{ConfigKeeps}
 use Rattle.policy_core.specs.declared.config.config.Config.{Config}
 use Rattle.policy_parts.specs.entries.Exceptions.{exceptions_file_of}
 use Rattle.policy_parts.specs.declared.entries.clarification.Clarification.{Clarification}
 use Rattle.policy_parts.specs.declared.entries.exception.Exception.{Exception}
 use Rattle.policy_parts.specs.declared.entries.exception.ExceptionsFile.{ExceptionsFile}
 use Rattle.policy_parts.specs.declared.entries.licensee.Licensee.{Licensee}
-use Rattle.policy_core.specs.places.Parts.{file_source_keeps}
-use Rattle.policy_core.specs.places.Places.{StaysIn, keeps_its_span}
+use Rattle.policy_core.specs.place_laws.Parts.{file_source_keeps}
+use Rattle.policy_core.specs.place_laws.Places.{StaysIn, keeps_its_span}
 use Rattle.spdx_core.proofs.SpellingLemmas.{is_spelled}
 use Rattle.spdx_core.specs.Reading.{ExpressionView, expression_of_text}
 use Rattle.spdx_terms.specs.Faults.{first_fault}

@@ -11,10 +11,10 @@ use Rattle.deny_text.specs.declared.span.Spanned.{Spanned}
 use Rattle.diag_core.specs.File.{File, source_of_file}
 use Rattle.diag_core.specs.declared.diagnostic.Diagnostic.{Diagnostic}
 use Rattle.diag_core.specs.declared.label.Label.{Label}
-use Rattle.policy_core.proofs.places.Borders.{part_is_text, moved_lies}
-use Rattle.policy_core.proofs.places.EntryPlaces.{exceptions_file_stays}
-use Rattle.policy_core.specs.places.Entries.{ClarificationKeeps, exceptions_file_keeps}
-use Rattle.policy_core.specs.places.Policies.{ConfigKeeps, RootKeeps}
+use Rattle.policy_core.proofs.place_laws.Borders.{part_is_text, moved_lies}
+use Rattle.policy_core.proofs.place_laws.EntryPlaces.{exceptions_file_stays}
+use Rattle.policy_core.specs.place_laws.Entries.{ClarificationKeeps, exceptions_file_keeps}
+use Rattle.policy_core.specs.place_laws.Policies.{ConfigKeeps, RootKeeps}
 use Rattle.policy_core.specs.config.Config.{no_config}
 use Rattle.policy_core.specs.declared.config.config.Config.{Config}
 use Rattle.policy_core.specs.declared.config.root.RootConfig.{RootConfig}
@@ -22,8 +22,8 @@ use Rattle.policy_parts.specs.entries.Exceptions.{exceptions_file_of}
 use Rattle.policy_parts.specs.entries.Licensees.{moved}
 use Rattle.policy_parts.specs.declared.entries.clarification.Clarification.{Clarification}
 use Rattle.policy_parts.specs.declared.entries.exception.ExceptionsFile.{ExceptionsFile}
-use Rattle.policy_core.specs.places.Parts.{target_keeps}
-use Rattle.policy_core.specs.places.Places.{IsToldIn, StaysIn, keeps_its_span, keeps_where}
+use Rattle.policy_core.specs.place_laws.Parts.{target_keeps}
+use Rattle.policy_core.specs.place_laws.Places.{IsToldIn, StaysIn, keeps_its_span, keeps_where}
 use Rattle.graph_core.specs.source.Reading.{SourceReading as AddressRead, address_of}
 use Rattle.spdx_core.proofs.FaultSpans.{fault_lies}
 use Rattle.spdx_core.specs.Reading.{ExpressionView, expression_of_text}

@@ -3,7 +3,7 @@ use Rattle.std.specs.Prelude.{◌≡◌, ℕ, List, ◌++◌, Some}
 use Rattle.spdx_terms.specs.catalog.Catalog.{CatalogLists, IsCatalog}
 use Rattle.diag_core.specs.File.{File, source_of_file}
 use Rattle.diag_core.specs.declared.diagnostic.Diagnostic.{Diagnostic}
-use Rattle.policy_core.specs.places.Policies.{ConfigKeeps}
+use Rattle.policy_core.specs.place_laws.Policies.{ConfigKeeps}
 use Rattle.policy_core.specs.declared.config.config.Config.{Config}
 use Rattle.policy_core.specs.declared.config.root.RootConfig.{RootConfig}
 use Rattle.policy_core.specs.declared.valid.policy.ValidConfig.{ValidConfig}

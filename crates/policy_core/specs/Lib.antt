@@ -8,6 +8,6 @@ pub mod Policy
 pub mod Places
 pub mod config
 pub mod valid
-pub mod places
+pub mod place_laws
 pub mod validate
 pub mod text

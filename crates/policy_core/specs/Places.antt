@@ -12,7 +12,7 @@ use Rattle.policy_parts.specs.declared.file_source.FileSource.{FileSource}
 use Rattle.policy_core.specs.declared.valid.policy.ValidClarification.{ValidClarification}
 use Rattle.policy_core.specs.declared.valid.policy.ValidConfig.{ValidConfig}
 use Rattle.policy_core.specs.declared.valid.policy.ValidException.{ValidException}
-use Rattle.policy_core.specs.places.Policies.{RootKeeps}
+use Rattle.policy_core.specs.place_laws.Policies.{RootKeeps}
 use Rattle.policy_core.specs.Heard.{IsFileText}
 
 -- a place lies in the text of the file of that number, between characters

@@ -8,7 +8,7 @@ mod exceptions_text;
 pub mod findings;
 pub mod laws;
 pub mod load;
-pub mod places;
+pub mod place_laws;
 pub mod text;
 pub mod valid;
 pub mod validate;

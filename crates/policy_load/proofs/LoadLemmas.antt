@@ -11,7 +11,7 @@ use Rattle.policy_core.specs.declared.text.error.ConfigError.{ConfigError}
 use Rattle.policy_core.specs.declared.text.error.ConfigError.TheVariants as config
 use Rattle.policy_core.specs.declared.config.config.Config.{Config}
 use Rattle.policy_core.specs.declared.config.root.RootConfig.{RootConfig}
-use Rattle.policy_core.specs.places.Policies.{ConfigKeeps}
+use Rattle.policy_core.specs.place_laws.Policies.{ConfigKeeps}
 use Rattle.policy_core.specs.declared.valid.policy.ValidConfig.{ValidConfig}
 use Rattle.policy_core.specs.validate.Order.{PutsPolicyInOrder}
 use Rattle.policy_core.specs.validate.Valid.{valid_part, validation_findings}

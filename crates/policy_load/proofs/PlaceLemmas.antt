@@ -22,11 +22,11 @@ use Rattle.diag_core.specs.declared.diagnostic.Diagnostic.{Diagnostic}
 use Rattle.diag_core.specs.declared.label.Label.{Label}
 use Rattle.diag_core.specs.declared.label.LabelStyle.TheVariants.{Primary}
 use Rattle.diag_print.specs.Places.{LabelIsInside, LabelsAreInside, source_under}
-use Rattle.policy_core.specs.places.Places.{IsToldIn, StaysIn}
+use Rattle.policy_core.specs.place_laws.Places.{IsToldIn, StaysIn}
 use Rattle.policy_core.specs.config.Root.{root_of}
 use Rattle.policy_core.specs.declared.config.root.RootConfig.{RootConfig}
-use Rattle.policy_core.specs.places.Policies.{RootKeeps}
-use Rattle.policy_core.proofs.places.PolicyPlaces.{root_stays}
+use Rattle.policy_core.specs.place_laws.Policies.{RootKeeps}
+use Rattle.policy_core.proofs.place_laws.PolicyPlaces.{root_stays}
 use Rattle.policy_core.specs.Exceptions.{shape_diagnostic}
 use Rattle.policy_core.specs.Places.{IsConfigPlaced, LabelPointsInFile, PointInto}
 use Rattle.graph_core.specs.selection.Choice.{is_uncarried}

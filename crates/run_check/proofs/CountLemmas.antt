@@ -16,7 +16,7 @@ use Rattle.spdx_core.specs.declared.certificates.verdict.Verdict.TheVariants.{Ac
 use Rattle.check_core.specs.evaluate.Evaluation.{is_allowed}
 use Rattle.graph_core.specs.Krate.{Record}
 use Rattle.policy_core.specs.valid.Policy.{Policy}
-use Rattle.check_core.specs.verdicts.Findings.{judged}
+use Rattle.check_core.specs.findings.Findings.{judged}
 use Rattle.check_core.specs.Check.{AreVerdicts, packs_of}
 use Rattle.check_core.specs.Turns.{GatheredCrate, expression_of, pack_by, verdict_finding}
 use Rattle.check_core.specs.Verdicts.{IsVerdict, accepted, is_skipped, rejected, unlicensed, verdict_of}

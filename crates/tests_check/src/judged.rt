@@ -3,8 +3,8 @@
 ghost use Rattle.std.specs.Prelude.{◌≡◌, ◌<◌};
 
 use check_core::evaluate::{Evaluator, Hit, Hits, TermPlaces, Verdict};
+use check_core::findings::{finding, fits, judged, pack_of, skipped, unlicensed};
 use check_core::unused::{EntryHits, last_pack};
-use check_core::verdicts::{finding, fits, judged, pack_of, skipped, unlicensed};
 use deny_text::{Steps, Text, Texts};
 use diag_core::licenses::Code;
 use diag_core::{Diag, Files, Label, Labels, LevelFilter, Notes, Pack, Severity};

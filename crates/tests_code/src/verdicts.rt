@@ -3,8 +3,8 @@ ghost use Rattle.std.specs.Prelude.{◌≡◌, map, take};
 ghost use Rattle.check_core.specs.Rows.{judged_row, rows};
 ghost use Rattle.check_core.specs.unused.Rows.{reported_row, unused_rows};
 ghost use Rattle.policy_core.specs.valid.Rows as hits;
-ghost use Rattle.check_core.specs.verdicts.Rows.{findings_meant, findings_said, label_rows, labelled};
-ghost use Rattle.check_core.specs.verdicts.Rows.{source_rows, worded};
+ghost use Rattle.check_core.specs.findings.Rows.{findings_meant, findings_said, label_rows, labelled};
+ghost use Rattle.check_core.specs.findings.Rows.{source_rows, worded};
 
 /// Does nothing: the definitions make of each row what was worked out by hand. Findings that name a crate are left
 /// out.

@@ -19,7 +19,7 @@ use Rattle.policy_parts.specs.declared.names.LintLevel.{LintLevel}
 use Rattle.policy_parts.specs.declared.names.LintLevel.TheVariants.{Allow, Warn, Deny}
 use Rattle.policy_core.specs.declared.valid.policy.ValidConfig.{ValidConfig}
 use Rattle.policy_core.specs.declared.valid.policy.ValidException.{ValidException}
-use Rattle.check_core.specs.verdicts.Findings.{finding}
+use Rattle.check_core.specs.findings.Findings.{finding}
 
 -- ---- hits
 

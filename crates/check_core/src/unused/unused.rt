@@ -6,8 +6,8 @@ ghost use Rattle.check_core.specs.unused.Unused as spec;
 ghost use Rattle.check_core.specs.unused.Unused.{exception_findings, license_findings, own_findings};
 ghost use Rattle.check_core.specs.unused.Unused.{severity_asked, unhit, unused_exception, unused_license};
 
+use crate::findings::finding;
 use crate::unused::encountered::EntryHits;
-use crate::verdicts::finding;
 use diag_core::licenses::Code;
 use diag_core::{Check, Diag, FileId, Label, Labels, Notes, Pack, Severity};
 use policy_core::valid::{ValidConfig, ValidException};

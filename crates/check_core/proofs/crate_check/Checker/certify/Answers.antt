@@ -3,8 +3,8 @@ use Rattle.graph_core.specs.Krate.{record_of}
 use Rattle.spdx_core.specs.declared.certificates.verdict.Hit.{Hit}
 use Rattle.policy_core.specs.valid.View.{policy_of}
 use Rattle.check_core.specs.evaluate.Evaluation.{Evaluation, term_hits}
-use Rattle.check_core.specs.verdicts.Findings as findings
-use Rattle.check_core.specs.verdicts.Findings.{verdict_labels}
+use Rattle.check_core.specs.findings.Findings as findings
+use Rattle.check_core.specs.findings.Findings.{verdict_labels}
 use Rattle.check_core.proofs.crate_check.Checker.certify.Goals as goal
 
 pub returns-clause-told : goal.returns-clause-told

@@ -1,0 +1,42 @@
+//! What an expression was retrieved via, in words.
+ghost use Rattle.std.specs.Prelude.{◌≡◌, ◌++◌, IfOk, OnOk, string_bytes, codes};
+ghost use Rattle.check_core.specs.findings.Sources as spec;
+ghost use Rattle.check_core.specs.findings.Sources.{with_commas};
+
+use deny_text::Text;
+use gather_core::findings::LicenseExprSource;
+use std::alloc::{AllocError, Global};
+
+/// Appends paths with a comma and a blank between.
+fn push_paths(text: &mut String, paths: &[Text]) -> Result<(), AllocError>
+    ensures { OnOk result (string_bytes text.new ≡ string_bytes text.old ++ with_commas paths.now) }
+{
+    let Some((first, rest)) = paths.split_first() else {
+        return Ok(());
+    };
+    text.push_str(first.as_str())?;
+    'rest: for path in rest {
+        text.push_str(", ")?;
+        text.push_str(path.as_str())?;
+    }
+    Ok(())
+}
+
+fn files_text(alloc: Global, paths: &[Text]) -> Result<Text, AllocError>
+    ensures { IfOk result (λ text. text ≡ codes "license files: " ++ with_commas paths.now) }
+{
+    let mut text = String::from_str(alloc, "license files: ")?;
+    push_paths(&mut text, paths)?;
+    Ok(Text::from(text))
+}
+
+/// What an expression was retrieved via: the manifest's field, the policy, or the licence files by their paths.
+pub fn source_text(alloc: Global, source: &LicenseExprSource) -> Result<Text, AllocError>
+    ensures { IfOk result (λ text. text ≡ spec.source_text source.now) }
+{
+    match source {
+        LicenseExprSource::Metadata(_) => Text::copy(alloc, "Cargo.toml `license`"),
+        LicenseExprSource::UserOverride => Text::copy(alloc, "user override"),
+        LicenseExprSource::LicenseFiles(paths) => files_text(alloc, paths.items()),
+    }
+}
