@@ -1,5 +1,6 @@
 -- A check and its summary: which calls were made, how it ends over lawful input, and what it is never refused with.
-use Rattle.std.proofs.Common.{◌≡◌, ◌⊎◌, ◌≤◌, inl, inr, refl, sym, subst, ℕ, Bool, List, Option, Result, Ok, Err, arith, ⊤}
+use Rattle.std.proofs.Common.{◌≡◌, ◌⊎◌, ◌≤◌, inl, inr, refl, sym, subst, ℕ, Bool, List, Option, Result, Ok, Err, arith}
+use Rattle.std.specs.Prelude.{⊤}
 use Rattle.tree_core.specs.Faults.{Rose}
 use Rattle.tree_core.specs.Script.{OutputSink, RefusedBy, Script, SinkTexts, to_err, to_out}
 use Rattle.tree_core.proofs.MadeLemmas.{some_made}

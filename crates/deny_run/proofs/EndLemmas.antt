@@ -1,5 +1,6 @@
 -- How a run ends, by what a command answers.
-use Rattle.std.proofs.Common.{◌≡◌, ◌∙◌, ◌⊎◌, inl, inr, refl, sym, ap, subst, Result, Ok, Err, IfErr, IfOk, ⊤}
+use Rattle.std.proofs.Common.{◌≡◌, ◌∙◌, ◌⊎◌, inl, inr, refl, sym, ap, subst, Result, Ok, Err, IfErr, IfOk}
+use Rattle.std.specs.Prelude.{⊤}
 use Rattle.run_found.specs.declared.error.Error.{Error}
 use Rattle.deny_run.specs.declared.outcome.RunEnd.{RunEnd}
 use Rattle.deny_run.specs.declared.outcome.RunEnd.TheVariants.{Checked, Listed, Sampled, Recorded, Verified, Shown, Usage, Refused}

@@ -121,7 +121,7 @@ module _ (given : RunArguments) (seen : RunSeen) (outcome : Outcome) (is : IsOut
 
   -- ---- the status
 
-  no_error : (errors : Bool) → (if errors then 4 else 0) ≡ 0 → errors ≡ false
+  no_error : (errors : Bool) → ◌≡◌ {A = ℕ} (if errors then 4 else 0) 0 → errors ≡ false
   no_error true e = absurd (cc)
   no_error false e = refl
 

@@ -12,7 +12,7 @@ use Rattle.run_request.specs.declared.request.Request.{Request}
 use Rattle.run_request.specs.declared.request.Subcommand.{Subcommand}
 use Rattle.run_request.specs.declared.request.Subcommand.TheVariants.{Check, List as Listing, Sample, Record, Verify}
 use Rattle.run_found.specs.declared.error.Error.{Error}
-use Rattle.run_found.specs.declared.error.Error.TheVariants.{ConfigRead, NotCarried}
+use Rattle.run_found.specs.declared.error.Error.TheVariants.{ConfigRead, Memory, NotCarried}
 use Rattle.run_found.specs.declared.reads.CrateRead.{CrateRead}
 use Rattle.run_found.specs.Error.{cause_of}
 use Rattle.run_found.specs.Hearing.{HasMade, TreeSeen}
@@ -28,7 +28,7 @@ use Rattle.run_list.specs.Listing.{IsListing}
 use Rattle.run_record.specs.Recorded.{IsRecorded, file_in, reads_in}
 use Rattle.run_record.specs.declared.verdicts.VerifiedCrates.{VerifiedCrates}
 use Rattle.deny_run.specs.declared.outcome.RunEnd.{RunEnd}
-use Rattle.deny_run.specs.declared.outcome.RunEnd.TheVariants.{Checked, Listed, Sampled, Recorded, Verified, Refused}
+use Rattle.deny_run.specs.declared.outcome.RunEnd.TheVariants.{Checked, Listed, Sampled, Recorded, Verified, Shown, Usage, Refused}
 use Rattle.deny_run.specs.Check.{Checks}
 use Rattle.deny_run.specs.Complete.{AsksCommand}
 use Rattle.deny_run.specs.Ends.{Answers, AnswersOf, IsEndBy, ListsAs, RecordsAs, RunsAs, VerifiesAs, as_end, end_of}
@@ -130,8 +130,17 @@ module _ (lists : CatalogLists) (match_of : List ℕ → Match) (request : Reque
 
 -- ---- of words
 
+shown_apart : Shown ≡ Refused (ConfigRead Absent) → ⊥
+shown_apart e = absurd (cc)
+
+usage_apart : Usage ≡ Refused (ConfigRead Absent) → ⊥
+usage_apart e = absurd (cc)
+
+memory_apart : Refused Memory ≡ Refused (ConfigRead Absent) → ⊥
+memory_apart e = absurd (cc)
+
 none_never : (given : RunArguments) (seen : RunSeen) (answer : Result RunEnd Error) → AnswersNone given seen answer → end_of answer ≡ Refused (ConfigRead Absent) → ⊥
-none_never given seen answer (shown may text gained still is) e = absurd (cc)
+none_never given seen answer (shown may text gained still is) e = absurd (shown_apart (sym (ap end_of is) ∙ e))
 none_never given seen answer (unshown may text error cut still is) e = by_error error cut (same_error (sym (ap end_of is) ∙ e))
   where
     same_error : Refused error ≡ Refused (ConfigRead Absent) → error ≡ ConfigRead Absent
@@ -139,8 +148,8 @@ none_never given seen answer (unshown may text error cut still is) e = by_error 
 
     by_error : (own : Error) → IsUnshown seen.out text own → own ≡ ConfigRead Absent → ⊥
     by_error own own_cut own_is = subst (λ one. IsUnshown seen.out text one) own_is own_cut
-none_never given seen answer (mistaken may text line silent is) e = absurd (cc)
-none_never given seen answer (lost silent still is) e = absurd (cc)
+none_never given seen answer (mistaken may text line silent is) e = absurd (usage_apart (sym (ap end_of is) ∙ e))
+none_never given seen answer (lost silent still is) e = absurd (memory_apart (sym (ap end_of is) ∙ e))
 
 none_ends : (given : RunArguments) (seen : RunSeen) (answer : Result RunEnd Error) → AnswersNone given seen answer → (own : RunEnd) (error : Error) → answer ≡ Ok own → own ≡ Refused error → ⊥
 none_ends given seen answer (shown may text gained still found) own error is own_is = absurd (cc)

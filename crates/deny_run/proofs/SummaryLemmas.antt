@@ -1,8 +1,11 @@
 -- A summary that was not all written.
-use Rattle.std.proofs.Common.{◌≡◌, ◌∙◌, inl, inr, refl, sym, ap, ℕ, ◌≤◌, List, [], ◌∷◌, ◌++◌, arith}
+use Rattle.std.proofs.Common.{◌≡◌, ◌∙◌, inl, inr, refl, sym, ap, ℕ, ◌≤◌, List, [], ◌∷◌, ◌++◌, Option, arith}
 use Rattle.tree_core.specs.Faults.{Rose}
 use Rattle.tree_core.specs.Script.{OutputSink, to_out, to_err, Script, RefusedBy, SinkTexts}
+use Rattle.tree_core.specs.texts.Cause.{Cause, no_memory, told, failed_read, refused_write}
 use Rattle.diag_stats.specs.Summary.{IsCutShort, count_of, piece_of, sink_counts}
+use Rattle.run_found.specs.Written.{SinkSeen, sink_seen}
+use Rattle.deny_run.specs.Check.{CutsSummary}
 
 abbrev first_target : OutputSink → Script → OutputSink
 first_target target [] = target
@@ -46,3 +49,11 @@ since_begun target text out_before out_after begun err_before err_after before a
     refused_by to_out to_err same refused = absurd (cc)
     refused_by to_err to_out same refused = absurd (cc)
     refused_by to_err to_err same refused = (refl, refused.1, wider refused.2 refused.0)
+
+-- of what the sink held before, only its count bears on what was cut
+pub cut_from : (target : OutputSink) (out : SinkSeen) (held mid new : Option (List ℕ)) (begun after : ℕ) (old : SinkTexts) (script : Script) (cause : Cause)
+    → CutsSummary target out (sink_seen mid new begun after) old script cause → CutsSummary target out (sink_seen held new begun after) old script cause
+cut_from target out held mid new begun after old script no_memory cut = cut
+cut_from target out held mid new begun after old script told cut = cut
+cut_from target out held mid new begun after old script (failed_read first last) cut = cut
+cut_from target out held mid new begun after old script (refused_write first last) cut = cut

@@ -1,5 +1,6 @@
 -- Verifying: which calls were made, how it ends over lawful input, and what it is never refused with.
-use Rattle.std.proofs.Common.{◌≡◌, ◌⊎◌, inl, inr, ℕ, List, Result, Ok, Err, ⊤}
+use Rattle.std.proofs.Common.{◌≡◌, ◌⊎◌, inl, inr, ℕ, List, Result, Ok, Err}
+use Rattle.std.specs.Prelude.{⊤}
 use Rattle.tree_core.specs.Call.{CallAnswer}
 use Rattle.tree_core.specs.Faults.{Rose}
 use Rattle.tree_core.proofs.MadeLemmas.{some_made}

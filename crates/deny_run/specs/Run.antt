@@ -54,25 +54,25 @@ RefusesUncarried given seen outcome =
     → (outcome.ended ≡ Refused (NotCarried what)) × IsUntouched seen.tree
 
 -- What a run over words promises.
-pub record IsRun (given : RunArguments) (seen : RunSeen) (outcome : Outcome) : Type 0 where
+pub record IsRun (given : RunArguments) (seen : RunSeen) (result : Outcome) : Type 0 where
   -- The request that is told is that of the words, where they are taken and have one; what it asks for is answered, by what was heard and
   -- nothing else, each refusal by its cause, and written. Else help and the version are shown, mistakes are told, and no call is made.
-  pub outcome : IsOutcome given seen outcome.request outcome.ended
+  pub outcome : IsOutcome given seen result.request result.ended
   -- Words that have a request have it told, and help and mistakes are answered so, but for want of memory and a refused write of help.
-  pub words : AnswersWords given outcome.request outcome.ended
+  pub words : AnswersWords given result.request result.ended
   -- Where a part of the request is not carried, that is the refusal, and no call is made.
-  pub uncarried : RefusesUncarried given seen outcome
+  pub uncarried : RefusesUncarried given seen result
   -- No refusal says that a policy is not there: where none is, the one without entries is taken.
-  pub policy : outcome.ended ≡ Refused (ConfigRead Absent) → ⊥
+  pub policy : result.ended ≡ Refused (ConfigRead Absent) → ⊥
   -- Calls were made on the tree, and nothing else came of it; no count of a sink fell.
   pub later : IsLater seen
   -- A failed read is told with the tree's counts, between which it rose.
-  pub counts : (error : Error) → outcome.ended ≡ Refused error → ReadCounts seen.tree.count_before seen.tree.count_before seen.tree.count_after (cause_of error)
+  pub counts : (error : Error) → result.ended ≡ Refused error → ReadCounts seen.tree.count_before seen.tree.count_before seen.tree.count_after (cause_of error)
   -- Each label of each finding lies in the text of its file, between characters.
-  pub labels : HasLabels outcome.ended
+  pub labels : HasLabels result.ended
   -- The status is that of the end.
-  pub status : outcome.status ≡ exit_status outcome.ended
+  pub status : result.status ≡ exit_status result.ended
   -- The headline, in the words of policies, records and verdicts: by what was read, and by the content where the tree tells it.
-  pub headline : Headline given seen outcome
+  pub headline : Headline given seen result
   -- Lawful input without a fault ends as its command ends, but for want of memory.
-  pub complete : IsComplete given seen outcome
+  pub complete : IsComplete given seen result

@@ -1,9 +1,10 @@
 //! What is written where there is no request.
 ghost use Rattle.std.specs.Prelude.{◌≡◌, ◌≤◌, Ok, IfErr, OnOk};
 ghost use Rattle.tree_core.specs.Faults.{Gained};
+ghost use Rattle.run_found.specs.Error.{cause_of};
 ghost use Rattle.run_found.specs.Written.{sink_between};
 ghost use Rattle.deny_run.specs.Seen.{HasLine};
-ghost use Rattle.deny_run.specs.Words.{IsUnshown};
+ghost use Rattle.deny_run.specs.Words.{IsShownBy, IsUnshown};
 
 use crate::outcome::RunEnd;
 use run_found::Error;
@@ -21,6 +22,7 @@ pub(crate) fn write_usage<E: Sink>(err: &mut E, text: &str)
 pub(crate) fn show<O: Sink>(out: &mut O, text: &str) -> Result<RunEnd, Error>
     ensures ok { OnOk result ((result ≡ Ok RunEnd.Shown) × Gained (O.written out.old) (O.written out.new) text.now) }
     ensures refused { IfErr result (IsUnshown (sink_between O.written O.fault_count out.old out.new) text.now) }
+    ensures cause { IfErr result (λ error. IsShownBy (cause_of error)) }
     ensures later { O.fault_count out.old ≤ O.fault_count out.new }
 {
     let before = out.faults();

@@ -14,13 +14,13 @@ use Rattle.deny_run.proofs.commands.record_request.Goals as goal
 pub returns-in-Err-clause-runs : goal.returns-in-Err-clause-runs
 returns-in-Err-clause-runs g c =
     let options = plain_options c.args.request.now.log_ctx c.args.request.now.krate_ctx in
-    stopped c.in-Err.error (c.in-Err.ensures.comes options (sym c.uncarried_in.ensures)) refl refl refl
+    stopped c.in-Err.error (c.in-Err.ensures.comes options (sym c.uncarried_in-uncarried.ensures)) refl refl refl
 
 pub returns-in-Ok-clause-runs : goal.returns-in-Ok-clause-runs
 returns-in-Ok-clause-runs g c =
     let options = plain_options c.args.request.now.log_ctx c.args.request.now.krate_ctx in
     let had = lists_given (lists_chosen g.C.Catalog.lists c.in-Ok.found.catalog) (texts_chosen g.I.Identifier.match_of c.in-Ok.found.identifier) in
-    came (g.T.Tree.content c.lists_of_request.new.tree) (g.T.Tree.fault_count c.lists_of_request.new.tree) (g.T.Tree.trace c.lists_of_request.new.tree) had (c.in-Ok.ensures.comes options (sym c.uncarried_in.ensures)) c.record_since.ensures.records
+    came (g.T.Tree.content c.lists_of_request.new.tree) (g.T.Tree.fault_count c.lists_of_request.new.tree) (g.T.Tree.trace c.lists_of_request.new.tree) had (c.in-Ok.ensures.comes options (sym c.uncarried_in-uncarried.ensures)) c.record_since.ensures.records
 
 pub returns-in-Ok-clause-counts : goal.returns-in-Ok-clause-counts
 returns-in-Ok-clause-counts g c =
@@ -29,7 +29,7 @@ returns-in-Ok-clause-counts g c =
     let options = plain_options c.args.request.now.log_ctx c.args.request.now.krate_ctx in
     let had = lists_given (lists_chosen g.C.Catalog.lists c.in-Ok.found.catalog) (texts_chosen g.I.Identifier.match_of c.in-Ok.found.identifier) in
     let asked = command_asked (g.C.Catalog.lists c.args.catalog.now) (g.I.Identifier.match_of c.args.identifier.now) c.args.request.now options in
-    subst (λ (n : ℕ). IfErr c.record_since.result (λ error. ReadCounts n n (g.T.Tree.fault_count c.record_since.new.tree) (cause_of error))) (comes_still asked way had (c.in-Ok.ensures.comes options (sym c.uncarried_in.ensures))) c.record_since.ensures.counts
+    subst (λ (n : ℕ). IfErr c.record_since.result (λ error. ReadCounts n n (g.T.Tree.fault_count c.record_since.new.tree) (cause_of error))) (comes_still asked way had (c.in-Ok.ensures.comes options (sym c.uncarried_in-uncarried.ensures))) c.record_since.ensures.counts
 
 pub record_since-requires : goal.record_since-requires
 record_since-requires g c =
@@ -38,4 +38,4 @@ record_since-requires g c =
     let options = plain_options c.args.request.now.log_ctx c.args.request.now.krate_ctx in
     let had = lists_given (lists_chosen g.C.Catalog.lists c.in-Ok.found.catalog) (texts_chosen g.I.Identifier.match_of c.in-Ok.found.identifier) in
     let asked = command_asked (g.C.Catalog.lists c.args.catalog.now) (g.I.Identifier.match_of c.args.identifier.now) c.args.request.now options in
-    comes_carried asked way had (c.in-Ok.ensures.comes options (sym c.uncarried_in.ensures))
+    comes_carried asked way had (c.in-Ok.ensures.comes options (sym c.uncarried_in-uncarried.ensures))
